@@ -1,0 +1,46 @@
+-- A machine to which nothing has happened.
+use Rattle.std.proofs.Common.{ℕ, ◌≡◌, ◌+◌, ◌≤◌, ◌<◌, List, [], length, get_or, replicate, refl, ap, sym, ◌∙◌, arith, zero, suc}
+use Rattle.std.proofs.Math.ListN.{length-replicate}
+use Rattle.fj_model.specs.declared.event.Event.{Event}
+use Rattle.fj_model.specs.declared.owner.Owner.{Owner}
+use Rattle.fj_model.specs.declared.status.Status.TheVariants.{Undone}
+use Rattle.fj_model.specs.Bounds.{Pool, IsWithin, queues_in, owner_at}
+use Rattle.fj_machine.specs.Rows.{Lists, row_at}
+use Rattle.fj_model.specs.History.{accepted, tasks, queue, pushed, left, taken, stack, status, status_from}
+use Rattle.fj_model.specs.Runs.{IsHistory}
+use Rattle.fj_machine.specs.Holds.{Holds}
+
+no_queue : (o : Owner) → queue [] o ≡ []
+unfolding queue pushed left taken
+no_queue o = refl
+
+no_stack : (w : ℕ) → stack [] w ≡ []
+unfolding stack
+no_stack w = refl
+
+none_accepted : accepted [] ≡ 0
+unfolding accepted tasks
+none_accepted = refl
+
+empty_row : (n i : ℕ) → get_or (replicate {A = List ℕ} n []) i [] ≡ []
+empty_row zero i = refl
+empty_row (suc n) zero = refl
+empty_row (suc n) (suc i) = empty_row n i
+
+pub fresh_holds : (pool : Pool) → IsWithin pool.limits.workers pool.limits.submitters pool.limits.tasks pool.limits.events
+    → Holds pool [] (record { rows = replicate (queues_in pool.limits) []; room = pool.limits.tasks }) (record { rows = replicate pool.limits.workers []; room = pool.limits.tasks }) []
+fresh_holds pool within = record {
+  within = within;
+  run = ([], [], refl);
+  plain = refl;
+  fits = omega arith;
+  queue_count = length-replicate (queues_in pool.limits) [];
+  queue_room = refl;
+  each_queue = λ i inside. empty_row (queues_in pool.limits) i ∙ sym (no_queue (owner_at pool.limits i));
+  stack_count = length-replicate pool.limits.workers [];
+  stack_room = refl;
+  each_stack = λ w inside. empty_row pool.limits.workers w ∙ sym (no_stack w);
+  status_count = sym none_accepted;
+  few_tasks = omega (arith, none_accepted);
+  each_status = λ t inside. absurd (omega (arith, none_accepted));
+}

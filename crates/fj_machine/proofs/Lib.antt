@@ -1,0 +1,10 @@
+pub mod PlainHistories
+pub mod RowWrites
+pub mod Submitting
+pub mod Fresh
+pub mod Choosing
+pub mod Taking
+pub mod Polling
+pub mod EndingOk
+pub mod NotYets
+pub mod Running

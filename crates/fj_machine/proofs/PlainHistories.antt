@@ -1,0 +1,124 @@
+-- Histories of plain tasks, to which nothing was closed, released or fired.
+use Rattle.std.proofs.Common.{ℕ, ◌≡◌, ◌+◌, ◌≤◌, ◌<◌, Bool, true, false, cond, not, ◌&&◌, ◌||◌, List, [], ◌∷◌, ◌++◌, length, Option, Some, None, refl, ap, sym, ◌∙◌, arith}
+use Rattle.std.specs.Prelude.{◌==◌}
+use Rattle.std.specs.List.{filter, filter_map, list_any, list_all, cons_option, fold}
+use Rattle.std.proofs.lemmas.Bool.{and_parts}
+use Rattle.fj_model.specs.declared.event.Event.{Event}
+use Rattle.fj_model.specs.declared.event.Event.TheVariants.{Acc, Make, Out, Skip, End, Add, Dec, Fire, Pass, Hooked, Settle, Close, Stop, Rel}
+use Rattle.fj_model.specs.declared.kind.Kind.{Kind}
+use Rattle.fj_model.specs.declared.mode.Mode.{Mode}
+use Rattle.fj_model.specs.declared.mode.Mode.TheVariants.{Async, Joining}
+use Rattle.fj_model.specs.declared.owner.Owner.{Owner}
+use Rattle.fj_model.specs.declared.owner.Owner.TheVariants.{Sub, Work}
+use Rattle.fj_model.specs.Choices.{own_choice, first_of}
+use Rattle.fj_model.specs.Headline.{keeps_order}
+use Rattle.fj_model.specs.declared.kind.Kind.TheVariants.{Plain, Completer}
+use Rattle.fj_model.specs.History.{is_in, pushed, pushed_by, queue, left, tasks, accepted, released, released_by, is_kept, live, kind, kind_by, is_completer, is_completer_kind, or_else, first, Hooks, hooks, hooks_after, no_hooks, hand, completer_of}
+use Rattle.fj_model.specs.Allowed.{is_close, is_stop, is_closed, is_stopped}
+use Rattle.fj_machine.specs.Holds.{is_plain}
+use Rattle.fj_model.proofs.Members.{filter_all}
+
+abbrev pub IsPlain : List Event → Type 0
+IsPlain h = list_all is_plain h ≡ true
+
+-- events of which each passes no test pass none
+none_pass : (test : Event → Bool) → ((e : Event) → is_plain e ≡ true → test e ≡ false) → (h : List Event) → IsPlain h → list_any test h ≡ false
+none_pass test fails [] plain = refl
+none_pass test fails (e ∷ h) plain =
+    let parts = and_parts (is_plain e) (list_all is_plain h) plain in rw (fails e parts.0) (none_pass test fails h parts.1)
+
+none_say : (says : Event → Option ℕ) → ((e : Event) → is_plain e ≡ true → says e ≡ None) → (h : List Event) → IsPlain h → filter_map says h ≡ []
+none_say says silent [] plain = refl
+none_say says silent (e ∷ h) plain =
+    let parts = and_parts (is_plain e) (list_all is_plain h) plain in rw (silent e parts.0) (none_say says silent h parts.1)
+
+no_close : (e : Event) → is_plain e ≡ true → is_close e ≡ false
+no_close Close plain = absurd cc
+no_close _ plain = refl
+
+no_stop : (e : Event) → is_plain e ≡ true → is_stop e ≡ false
+no_stop Stop plain = absurd cc
+no_stop _ plain = refl
+
+no_release : (e : Event) → is_plain e ≡ true → released_by e ≡ None
+no_release (Rel t) plain = absurd cc
+no_release _ plain = refl
+
+pub never_closed : (h : List Event) → IsPlain h → is_closed h ≡ false
+unfolding is_closed
+never_closed h plain = none_pass is_close no_close h plain
+
+pub never_stopped : (h : List Event) → IsPlain h → is_stopped h ≡ false
+unfolding is_stopped
+never_stopped h plain = none_pass is_stop no_stop h plain
+
+never_released : (h : List Event) → IsPlain h → released h ≡ []
+unfolding released
+never_released h plain = none_say released_by no_release h plain
+
+all_kept : (h : List Event) → IsPlain h → (t : ℕ) → is_in t (tasks h) ≡ true → is_kept h t ≡ true
+unfolding is_kept
+all_kept h plain t there = rw (there, never_released h plain) refl
+
+pub all_live : (h : List Event) → IsPlain h → live h ≡ accepted h
+unfolding live accepted
+all_live h plain = ap length (filter_all (is_kept h) (tasks h) (all_kept h plain))
+
+hooks_kept : (s : Hooks) (e : Event) → is_plain e ≡ true → s.inhand ≡ [] → (hooks_after s e).inhand ≡ []
+hooks_kept s (Acc t o k) plain none = none
+hooks_kept s (Out t w) plain none = none
+hooks_kept s (Skip t w) plain none = none
+hooks_kept s (End t w) plain none = none
+hooks_kept s (Settle t status) plain none = none
+hooks_kept s _ plain none = absurd cc
+
+hooks_none : (s : Hooks) (h : List Event) → IsPlain h → s.inhand ≡ [] → (fold hooks_after s h).inhand ≡ []
+hooks_none s [] plain none = none
+hooks_none s (e ∷ h) plain none =
+    let parts = and_parts (is_plain e) (list_all is_plain h) plain in hooks_none (hooks_after s e) h parts.1 (hooks_kept s e parts.0 none)
+
+pub empty_hand : (h : List Event) (w : ℕ) → IsPlain h → hand h w ≡ None
+unfolding hand hooks
+empty_hand h w plain = rw (hooks_none no_hooks h plain refl) refl
+
+plain_kind : (t : ℕ) (e : Event) → is_plain e ≡ true → is_completer_kind (kind_by t e) ≡ false
+plain_kind t (Acc u (Sub s) Plain) plain = elim (u == t) as (λ b. is_completer_kind (cond b (Some Plain) None) ≡ false) [ true ↦ refl | false ↦ refl ]
+plain_kind t (Acc u (Sub s) (Completer parent count relay)) plain = absurd cc
+plain_kind t (Acc u (Work w) k) plain = absurd cc
+plain_kind t (Make u k) plain = absurd cc
+plain_kind t _ plain = refl
+
+no_completer_kind : (t : ℕ) (h : List Event) → IsPlain h → is_completer_kind (first (kind_by t) h) ≡ false
+no_completer_kind t [] plain = refl
+no_completer_kind t (e ∷ h) plain =
+    let parts = and_parts (is_plain e) (list_all is_plain h) plain in
+    either (kind_by t e) (plain_kind t e parts.0) (no_completer_kind t h parts.1)
+  where
+    either : (k : Option Kind) → is_completer_kind k ≡ false → is_completer_kind (first (kind_by t) h) ≡ false → is_completer_kind (or_else k (first (kind_by t) h)) ≡ false
+    either (Some k) here later = here
+    either None here later = later
+
+pub no_completer : (h : List Event) (t : ℕ) → IsPlain h → is_completer h t ≡ false
+unfolding is_completer kind
+no_completer h t plain = no_completer_kind t h plain
+
+no_fork : (w : ℕ) (e : Event) → is_plain e ≡ true → pushed_by (Work w) e ≡ None
+no_fork w (Acc t (Sub s) k) plain = refl
+no_fork w (Acc t (Work v) k) plain = absurd cc
+no_fork w _ plain = refl
+
+-- nothing was forked
+pub empty_own : (h : List Event) (w : ℕ) → IsPlain h → queue h (Work w) ≡ []
+unfolding queue pushed
+empty_own h w plain = rw (none_say (pushed_by (Work w)) (no_fork w) h plain) refl
+
+-- of an empty queue both modes take nothing
+pub none_own : (m : Mode) → own_choice m [] ≡ None
+none_own Async = refl
+none_own Joining = refl
+
+-- a queue with a task is a submitter's, whose order each mode keeps
+pub filled_ordered : (m : Mode) (h : List Event) (o : Owner) (t : ℕ) → IsPlain h → first_of (queue h o) ≡ Some t → keeps_order m o ≡ true
+filled_ordered Async h o t plain filled = refl
+filled_ordered Joining h (Sub s) t plain filled = refl
+filled_ordered Joining h (Work w) t plain filled = let none : None ≡ Some t = ap first_of (sym (empty_own h w plain)) ∙ filled in absurd cc

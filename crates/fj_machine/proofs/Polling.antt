@@ -1,0 +1,42 @@
+-- What a poll is answered.
+use Rattle.std.proofs.Common.{ℕ, ◌≡◌, ◌≢◌, ◌+◌, ◌≤◌, ◌<◌, Bool, true, false, cond, not, List, [], ◌∷◌, ◌++◌, length, Option, Some, None, refl, ap, sym, ◌∙◌, arith, subst}
+use Rattle.std.specs.Prelude.{nat_lt, nat_le, if◌then◌else◌}
+use Rattle.std.proofs.lemmas.Bool.{le-leb, lt-leb, le-ltb, lt-ltb}
+use Rattle.fj_model.specs.declared.event.Event.{Event}
+use Rattle.fj_model.specs.declared.event.Event.TheVariants as event
+use Rattle.fj_model.specs.declared.step.Step.TheVariants.{Poll}
+use Rattle.fj_model.specs.declared.refusal.Refusal.TheVariants.{NoSuch, NotIdle, LogFull}
+use Rattle.fj_model.specs.Bounds.{Pool}
+use Rattle.fj_model.specs.History.{is_empty, stack, hand, status, is_undone}
+use Rattle.fj_model.specs.Choices.{choice}
+use Rattle.fj_model.specs.Answers.{answer, refusal_of, standing, events_of, reply_of, taking, taking_says}
+use Rattle.fj_machine.proofs.PlainHistories.{IsPlain, empty_hand}
+use Rattle.fj_machine.proofs.Submitting.{allowed}
+
+pub poll_no_such : (pool : Pool) (h : List Event) (w r : ℕ) → pool.limits.workers ≤ w → refusal_of pool h (Poll w r) ≡ Some NoSuch
+unfolding refusal_of standing
+poll_no_such pool h w r over = rw (le-leb pool.limits.workers w over) refl
+
+pub poll_not_idle : (pool : Pool) (h : List Event) (w r : ℕ) → IsPlain h → w < pool.limits.workers → is_empty (stack h w) ≡ false → refusal_of pool h (Poll w r) ≡ Some NotIdle
+unfolding refusal_of standing
+poll_not_idle pool h w r plain within busy = rw (lt-leb pool.limits.workers w within, empty_hand h w plain, busy) refl
+
+pub poll_log_full : (pool : Pool) (h : List Event) (w r : ℕ) → IsPlain h → w < pool.limits.workers → is_empty (stack h w) ≡ true
+    → pool.limits.events < length h + length (taking h w (choice pool h w r)) → refusal_of pool h (Poll w r) ≡ Some LogFull
+unfolding refusal_of standing events_of
+poll_log_full pool h w r plain within idle full =
+    rw (lt-leb pool.limits.workers w within, empty_hand h w plain, idle, lt-ltb pool.limits.events (length h + length (taking h w (choice pool h w r))) full) refl
+
+pub poll_stands : (pool : Pool) (h : List Event) (w r : ℕ) → IsPlain h → w < pool.limits.workers → is_empty (stack h w) ≡ true
+    → length h + length (taking h w (choice pool h w r)) ≤ pool.limits.events → refusal_of pool h (Poll w r) ≡ None
+unfolding refusal_of standing events_of
+poll_stands pool h w r plain within idle fits =
+    rw (lt-leb pool.limits.workers w within, empty_hand h w plain, idle, le-ltb pool.limits.events (length h + length (taking h w (choice pool h w r))) fits) refl
+
+pub poll_answer : (pool : Pool) (h : List Event) (w r : ℕ) (t : Option ℕ) → choice pool h w r ≡ t → refusal_of pool h (Poll w r) ≡ None
+    → answer pool h (Poll w r) ≡ (taking_says h t, taking h w t)
+unfolding events_of reply_of
+poll_answer pool h w r t is none = allowed pool h (Poll w r) none ∙ ap (λ o. (taking_says h o, taking h w o)) is
+
+pub taking_one : (h : List Event) (w t : ℕ) → length (taking h w (Some t)) ≡ 1
+taking_one h w t = refl

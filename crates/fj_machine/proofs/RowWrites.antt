@@ -1,0 +1,42 @@
+-- One of several lists is changed.
+use Rattle.fj_machine.specs.Rows.{first_filled}
+use Rattle.std.specs.List.{range_with_len}
+use Rattle.fj_model.specs.History.{is_empty}
+use Rattle.std.proofs.Common.{arith, cond, suc, ◌+◌, ◌-◌, ◌%◌, Some, slice_get, true, false, ◌∷◌, ℕ, ◌≡◌, ◌<◌, List, [], length, get_or, map, refl, ap, sym, ◌∙◌}
+use Rattle.std.proofs.Math.ListN.{set}
+use Rattle.std.proofs.lemmas.List.{map-set, get_or-map}
+
+-- what is seen of the lists after a write, by what is seen of the one that was written
+pub row_written : {V : Type 0} (items : V → List ℕ) (change : List ℕ → List ℕ) (vs : List V) (i : ℕ) (old new : V)
+    → i < length vs → old ≡ get_or vs i old → items new ≡ change (items old)
+    → map items (set vs i new) ≡ set (map items vs) i (change (get_or (map items vs) i []))
+row_written items change vs i old new within is now =
+    map-set items vs i new
+    ∙ ap (set (map items vs) i) (now ∙ ap change (ap items is ∙ sym (get_or-map items vs i old [] within)))
+
+-- what is seen of a list that is read
+pub row_read : {V : Type 0} (items : V → List ℕ) (vs : List V) (i : ℕ) (v : V) → i < length vs → v ≡ get_or vs i v → items v ≡ get_or (map items vs) i []
+row_read items vs i v within is = ap items is ∙ sym (get_or-map items vs i v [] within)
+
+pub first_is : (xs : List ℕ) (x : ℕ) → 0 < length xs → x ≡ get_or xs 0 x → Some x ≡ slice_get xs 0
+first_is [] x some is = absurd (omega arith)
+first_is (y ∷ xs) x some is = ap Some is
+
+pub is_empty_no : (xs : List ℕ) → 0 < length xs → is_empty xs ≡ false
+is_empty_no [] some = absurd (omega arith)
+is_empty_no (x ∷ xs) some = refl
+
+pub is_empty_yes : (xs : List ℕ) → length xs ≡ 0 → is_empty xs ≡ true
+is_empty_yes [] none = refl
+is_empty_yes (x ∷ xs) none = absurd (omega arith)
+
+-- the scan from a place on looks there first
+pub scan_step : (rows : List (List ℕ)) (start count i : ℕ) → i < count
+    → first_filled rows (map (λ k. (start + k) % count) (range_with_len i (count - i)))
+    ≡ cond (is_empty (get_or rows ((start + i) % count) [])) (first_filled rows (map (λ k. (start + k) % count) (range_with_len (i + 1) (count - (i + 1))))) (Some ((start + i) % count))
+scan_step rows start count i within =
+    let more : count - i ≡ suc (count - (i + 1)) = omega arith in rw more refl
+
+pub first_some : (xs : List ℕ) → 0 < length xs → (t : ℕ) × (slice_get xs 0 ≡ Some t)
+first_some [] some = absurd (omega arith)
+first_some (x ∷ xs) some = (x, refl)

@@ -1,0 +1,116 @@
+-- What is kept after a task was taken from a queue.
+use Rattle.std.proofs.Common.{zero, suc, ℕ, ◌≡◌, ◌≢◌, ◌+◌, ◌-◌, ◌≤◌, ◌<◌, Bool, true, false, cond, not, List, [], ◌∷◌, ◌++◌, length, drop, get_or, Option, Some, None, refl, ap, sym, ◌∙◌, arith, subst, ⊎_elim, append_assoc, length-append}
+use Rattle.std.specs.Prelude.{◌==◌, nat_lt, if◌then◌else◌}
+use Rattle.std.specs.List.{list_all, cons_option}
+use Rattle.std.proofs.Math.ListN.{set, length-set}
+use Rattle.std.proofs.lemmas.List.{append-nil, get_or-set_same, get_or-set_other}
+use Rattle.std.proofs.lemmas.Bool.{le-ltb, lt-ltb, eqb-true, eqb-false, eq-eqb, ne_eqb, cases_eq, cases_lt, ltb-true, ltb-false, true≢false}
+use Rattle.fj_model.specs.declared.event.Event.{Event}
+use Rattle.fj_model.specs.declared.event.Event.TheVariants as event
+use Rattle.fj_model.specs.declared.owner.Owner.{Owner}
+use Rattle.fj_model.specs.declared.owner.Owner.TheVariants.{Sub, Work}
+use Rattle.fj_model.specs.declared.mode.Mode.TheVariants.{Async}
+use Rattle.fj_model.specs.declared.status.Status.{Status}
+use Rattle.fj_model.specs.declared.status.Status.TheVariants.{Undone}
+use Rattle.fj_model.specs.Bounds.{Bounds, Pool, queues_in, owner_at}
+use Rattle.fj_machine.specs.Rows.{Lists, row_at, with_row}
+use Rattle.fj_model.specs.History.{is_in, accepted, accepted_by, queue, stack, status, status_by, pushed, pushed_by, taken_by, ended_by, out_by, number_if}
+use Rattle.fj_model.specs.Allowed.{Allowed, AllowedFrom}
+use Rattle.fj_model.specs.Choices.{first_of}
+use Rattle.fj_model.specs.Headline.{keeps_order}
+use Rattle.fj_model.specs.Runs.{IsHistory}
+use Rattle.fj_machine.specs.Holds.{Holds, is_plain}
+use Rattle.fj_model.proofs.Members.{first_is_in}
+use Rattle.fj_model.proofs.Growth.{stack_same, stack_more, without_none, accepted_more}
+use Rattle.fj_model.proofs.Lawful.{queued_pushed, pushed_known, is_numbered}
+use Rattle.fj_model.proofs.Statuses.{status_same}
+use Rattle.fj_model.proofs.AnswersAllowed.{history_allowed}
+use Rattle.fj_model.proofs.Queues.{queue_take, queue_other}
+use Rattle.fj_machine.proofs.Submitting.{list_all_append, new_row}
+use Rattle.fj_machine.proofs.PlainHistories.{filled_ordered}
+use Rattle.fj_model.proofs.Owners.{owners_apart}
+
+-- the last of allowed events was allowed
+last_allowed : (pool : Pool) (before h : List Event) (e : Event) → AllowedFrom pool before (h ++ e ∷ []) → Allowed pool (before ++ h) e
+last_allowed pool before [] e so = rw append-nil (so.0)
+last_allowed pool before (f ∷ h) e so = rw append_assoc at (last_allowed pool (before ++ f ∷ []) h e so.1)
+
+-- an event that takes a task and leaves all but the queues and the stacks as they were
+pub record Takes (h : List Event) (e : Event) (t : ℕ) : Type 0 where
+  pub takes : taken_by e ≡ Some t
+  pub accepts : accepted_by e ≡ None
+  pub pushes : (o : Owner) → pushed_by o e ≡ None
+  pub says : (u : ℕ) (b : Bool) → status_by u b e ≡ None
+  pub plain : is_plain e ≡ true
+
+pub taken_holds : (pool : Pool) (h : List Event) (queues stacks stacks' : Lists) (statuses : List Status) (q t : ℕ) (e : Event)
+    → Holds pool h queues stacks statuses → q < queues_in pool.limits → first_of (queue h (owner_at pool.limits q)) ≡ Some t
+    → Takes h e t → IsHistory pool (h ++ e ∷ []) → length h < pool.limits.events
+    → length stacks'.rows ≡ pool.limits.workers → stacks'.room ≡ pool.limits.tasks → ((w : ℕ) → w < pool.limits.workers → row_at stacks' w ≡ stack (h ++ e ∷ []) w)
+    → Holds pool (h ++ e ∷ []) (with_row queues q (drop 1 (row_at queues q))) stacks' statuses
+taken_holds pool h queues stacks stacks' statuses q t e holds within first ev run fits count room each =
+    let so = history_allowed pool h holds.run in
+    let may : Allowed pool h e = last_allowed pool [] h e (history_allowed pool (h ++ e ∷ []) run) in
+    let o = owner_at pool.limits q in
+    let new = drop 1 (row_at queues q) in
+    let keeps : keeps_order pool.mode o ≡ true = filled_ordered pool.mode h o t holds.plain first in
+    let q_within : q < length queues.rows = omega (arith, holds.queue_count) in
+    let same : accepted (h ++ e ∷ []) ≡ accepted h = accepted_more h e ∙ rw ev.accepts (omega arith) in
+    record {
+      within = holds.within;
+      run = run;
+      plain = list_all_append is_plain h (e ∷ []) holds.plain (rw ev.plain refl);
+      fits = omega (arith, length-append h (e ∷ []));
+      queue_count = length-set queues.rows q new ∙ holds.queue_count;
+      queue_room = holds.queue_room;
+      each_queue = λ i inside. ⊎_elim
+          (λ here. new_row queues.rows i q new q_within here
+          ∙ ap (drop 1) (holds.each_queue q within)
+          ∙ sym (queue_take pool h e o t so may keeps (ev.pushes o) ev.takes first)
+          ∙ ap (queue (h ++ e ∷ [])) (ap (owner_at pool.limits) (sym here)))
+          (λ other. get_or-set_other queues.rows q i new [] other ∙ holds.each_queue i inside
+          ∙ sym (queue_other pool h e (owner_at pool.limits i) o t so (ev.pushes (owner_at pool.limits i)) ev.takes
+          (queued_pushed h o t (first_is_in t (queue h o) first)) (λ is. other (owners_apart pool.limits i q is))))
+          (cases_eq i q);
+      stack_count = count;
+      stack_room = room;
+      each_stack = each;
+      status_count = holds.status_count ∙ sym same;
+      few_tasks = omega (arith, same, holds.few_tasks);
+      each_status = λ u inside. holds.each_status u (omega (arith, same)) ∙ sym (status_same h e u (ev.says u));
+    }
+
+pub skip_takes : (h : List Event) (t w : ℕ) → Takes h (event.Skip t w) t
+skip_takes h t w = record { takes = refl; accepts = refl; pushes = λ o. refl; says = λ u b. refl; plain = refl }
+
+pub out_takes_it : (h : List Event) (t w : ℕ) → Takes h (event.Out t w) t
+out_takes_it h t w = record { takes = refl; accepts = refl; pushes = λ o. refl; says = λ u b. refl; plain = refl }
+
+-- a task that is handed out stands on top of the worker's stack, and the other stacks stay
+pub out_stacks : (h : List Event) (stacks : Lists) (count w t v : ℕ) → length stacks.rows ≡ count → ((v : ℕ) → v < count → row_at stacks v ≡ stack h v) → w < count → v < count
+    → row_at (with_row stacks w (row_at stacks w ++ t ∷ [])) v ≡ stack (h ++ event.Out t w ∷ []) v
+out_stacks h stacks count w t v is each within inside = ⊎_elim
+    (λ here. new_row stacks.rows v w (row_at stacks w ++ t ∷ []) (omega arith) here
+    ∙ ap (λ ts. ts ++ t ∷ []) (each w within)
+    ∙ sym (ap (stack (h ++ event.Out t w ∷ [])) here ∙ top))
+    (λ other. get_or-set_other stacks.rows w v (row_at stacks w ++ t ∷ []) [] other ∙ each v inside
+    ∙ sym (stack_same h v (event.Out t w) refl (rw (ne_eqb v w other) refl)))
+    (cases_eq v w)
+  where
+    top : stack (h ++ event.Out t w ∷ []) w ≡ stack h w ++ t ∷ []
+    top = stack_more h w (event.Out t w) ∙ rw (eq-eqb w w refl, without_none) refl
+
+-- a queued task is one of those accepted
+pub queued_number : (pool : Pool) (h : List Event) (o : Owner) (t : ℕ) → AllowedFrom pool [] h → first_of (queue h o) ≡ Some t → t < accepted h
+queued_number pool h o t so first =
+    ltb-true t (accepted h) (sym (is_numbered pool h so t) ∙ pushed_known h o t (queued_pushed h o t (first_is_in t (queue h o) first)))
+
+pub get_or_any : {A : Type 0} (xs : List A) (k : ℕ) (d e : A) → k < length xs → get_or xs k d ≡ get_or xs k e
+get_or_any [] k d e within = absurd (omega arith)
+get_or_any (x ∷ xs) zero d e within = refl
+get_or_any (x ∷ xs) (suc k) d e within = get_or_any xs k d e (omega arith)
+
+-- what is read of the statuses is the task's
+pub status_read : (pool : Pool) (h : List Event) (queues stacks : Lists) (statuses : List Status) (t : ℕ) (s : Status)
+    → Holds pool h queues stacks statuses → t < accepted h → s ≡ get_or statuses t s → s ≡ status h t
+status_read pool h queues stacks statuses t s holds within is = is ∙ get_or_any statuses t s Undone (omega (arith, holds.status_count)) ∙ holds.each_status t within

@@ -1,0 +1,106 @@
+ghost use Rattle.std.specs.Prelude.{◌≡◌, ◌<◌, ◌≤◌, ◌∷◌, [], ◌++◌, length, drop, IfOk, replicate, ◌^◌, ◌≢◌, ◌-◌, take};
+ghost use Rattle.fj_machine.specs.Rows.{row_at, with_row, first_filled, places_from};
+ghost use Rattle.fj_model.specs.Choices.{first_of};
+
+use fj_model::Serial;
+use std::alloc::{AllocError, Global};
+use std::marker::Model;
+
+/// Several lists of task numbers, with room for as many in each, which is taken when they are made.
+#[derive(Drop)]
+pub struct Rows {
+    rows: Vec<Vec<Serial>>,
+    room: usize,
+}
+
+impl Model for Rows {
+    ghost use Rattle.std.specs.Prelude.{ℕ, ◌≤◌, ◌<◌, ◌^◌, vec_capacity, vec_len, All, List, map};
+    ghost use Rattle.fj_machine.specs.Rows.{Lists};
+
+    ghost Value = { Lists };
+
+    ghost view = { λ r. record { rows = map (λ v. v.items) r.rows.items; room = r.room } };
+
+    ghost invariant = { λ r. All (λ v. r.room ≤ vec_capacity v) r.rows.items };
+}
+
+impl Rows {
+    /// So many empty lists.
+    pub fn new(alloc: Global, count: usize, room: usize) -> Result<Rows, AllocError>
+        ensures { IfOk result (λ r. r ≡ record { rows = replicate count []; room = room }) }
+    {
+        let mut rows = Vec::with_capacity(alloc, count)?;
+        for _i in 0..count {
+            rows.push(Vec::with_capacity(alloc, room)?)?;
+        }
+        Ok(Rows { rows, room })
+    }
+
+    /// The list at a place.
+    pub fn row(&self, i: usize) -> &[Serial]
+        requires { i < length self.now.rows }
+        ensures { result.now ≡ row_at self.now i }
+    {
+        self.rows[i].as_slice()
+    }
+
+    /// Puts a number at the end of a list.
+    pub fn push(&mut self, i: usize, t: Serial)
+        requires within { i < length self.old.rows }
+        requires room { length (row_at self.old i) < self.old.room }
+        ensures { self.new ≡ with_row self.old i (row_at self.old i ++ t ∷ []) }
+    {
+        self.rows[i].push_reserved(t);
+    }
+
+    /// Takes the first number of a list.
+    pub fn take_first(&mut self, i: usize) -> Serial
+        requires within { i < length self.old.rows }
+        requires filled { 0 < length (row_at self.old i) }
+        ensures taken { Some result ≡ first_of (row_at self.old i) }
+        ensures rest { self.new ≡ with_row self.old i (drop 1 (row_at self.old i)) }
+    {
+        self.rows[i].remove(0)
+    }
+
+    /// Takes the last number of a list, which is that one.
+    pub fn take_last(&mut self, i: usize)
+        requires within { i < length self.old.rows }
+        requires filled { 0 < length (row_at self.old i) }
+        ensures { self.new ≡ with_row self.old i (take (length (row_at self.old i) - 1) (row_at self.old i)) }
+    {
+        let row = &mut self.rows[i];
+        row.truncate(row.len() - 1);
+    }
+
+    /// The first list that is not empty from a place on, round past the last one.
+    pub fn first_from(&self, start: usize) -> Option<usize>
+        requires some { 0 < length self.now.rows }
+        requires few { length self.now.rows < 2 ^ 32 }
+        requires small { start < 2 ^ 32 }
+        ensures { result ≡ first_filled self.now.rows (places_from (length self.now.rows) start) }
+    {
+        let count = self.rows.len();
+        for i in 0..count {
+            let at = (start + i) % count;
+            if !self.rows[at].is_empty() {
+                return Some(at);
+            }
+        }
+        None
+    }
+
+    /// The place itself, if its list is not empty, and else the first one from another place on.
+    pub fn first_at(&self, own: usize, start: usize) -> Option<usize>
+        requires own { own < length self.now.rows }
+        requires few { length self.now.rows < 2 ^ 32 }
+        requires small { start < 2 ^ 32 }
+        ensures { result ≡ first_filled self.now.rows (own ∷ places_from (length self.now.rows) start) }
+    {
+        if self.rows[own].is_empty() {
+            self.first_from(start)
+        } else {
+            Some(own)
+        }
+    }
+}

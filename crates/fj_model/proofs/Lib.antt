@@ -1,0 +1,13 @@
+pub mod Members
+pub mod Growth
+pub mod Owners
+pub mod Lawful
+pub mod Statuses
+pub mod AnswersAllowed
+pub mod Queues
+pub mod Ends
+pub mod GoneTasks
+pub mod OnePlace
+pub mod Firings
+pub mod AllowedTest
+pub mod WorkedRows

@@ -1,0 +1,320 @@
+-- What the machine answers to a step, and which events it appends.
+use Rattle.std.specs.Prelude.{ℕ, ◌≡◌, Bool, true, false, ◌&&◌, ◌||◌, not, ◌+◌, ◌-◌, ◌==◌, nat_lt, nat_le, if◌then◌else◌, List, [], ◌∷◌, ◌++◌, length, drop, map, Option, Some, None, is_some, is_none}
+use Rattle.std.specs.List.{list_all}
+use Rattle.fj_model.specs.declared.event.Event.{Event}
+use Rattle.fj_model.specs.declared.event.Event.TheVariants as event
+use Rattle.fj_model.specs.declared.event.Event.TheVariants.{Acc, Make, Out, Hooked, Dec, Settle, Rel}
+use Rattle.fj_model.specs.declared.owner.Owner.TheVariants.{Sub, Work}
+use Rattle.fj_model.specs.declared.kind.Kind.{Kind}
+use Rattle.fj_model.specs.declared.kind.Kind.TheVariants.{Plain, Completer}
+use Rattle.fj_model.specs.declared.status.Status.{Status}
+use Rattle.fj_model.specs.declared.status.Status.TheVariants as status_is
+use Rattle.fj_model.specs.declared.status.Status.TheVariants.{Undone}
+use Rattle.fj_model.specs.declared.place.Place.{Place}
+use Rattle.fj_model.specs.declared.step.Ending.{Ending}
+use Rattle.fj_model.specs.declared.step.Ending.TheVariants.{Ok, Quiet, Try, Pass, Complete, Fail}
+use Rattle.fj_model.specs.declared.event.How.TheVariants as how
+use Rattle.fj_model.specs.declared.step.Step.{Step}
+use Rattle.fj_model.specs.declared.step.Step.TheVariants.{Submit, Fork, Trigger, Poll, Help, Join, End, HookDone, Add, QuietRoot, Fault, Cancel, Shutdown, Stop, IsQuiescent, State, Release}
+use Rattle.fj_model.specs.declared.refusal.Refusal.{Refusal}
+use Rattle.fj_model.specs.declared.refusal.Refusal.TheVariants.{Closed, TooManyTasks, LogFull, NoSuch, Unknown, NotRunning, OwnStack, NotCompleter, NotDone, CountTooLarge, NotIdle, NotYet}
+use Rattle.fj_model.specs.declared.said.Said.{Said}
+use Rattle.fj_model.specs.declared.said.Said.TheVariants as says
+use Rattle.fj_model.specs.Bounds.{Bounds, Pool, owners, workers}
+use Rattle.fj_model.specs.History.{is_in, is_empty, accepted, is_kept, live, is_completer, parent, parent_in, count_in, queue, stack, hand, status, is_undone, pending, is_spent, or_else}
+use Rattle.fj_model.specs.Places.{place, is_gone}
+use Rattle.fj_model.specs.Choices.{choice, last_of}
+use Rattle.fj_model.specs.Climbs.{Arrival, arrival, path, passed, relayed}
+use Rattle.fj_model.specs.Climbs as climb
+use Rattle.fj_model.specs.Allowed.{is_closed, is_stopped, has_kept_child, is_completed}
+
+-- all queues, stacks and hands are empty
+unfoldable pub is_quiet : Bounds → List Event → Bool
+is_quiet l h =
+    list_all (λ o. is_empty (queue h o)) (owners l)
+    && list_all (λ w. is_empty (stack h w) && is_none (hand h w)) (workers l)
+
+-- the running task of a worker
+abbrev pub running : List Event → ℕ → Option ℕ
+running h w = last_of (stack h w)
+
+-- ---- events
+
+-- how a chosen task leaves its queue
+abbrev pub taking : List Event → ℕ → Option ℕ → List Event
+taking h w None = []
+taking h w (Some t) = (if is_undone (status h t) then event.Out t w else event.Skip t w) ∷ []
+
+-- the event of an arrival
+abbrev pub arriving : ℕ → Arrival → List Event
+arriving c climb.Spent = []
+arriving c climb.Counted = event.Dec c ∷ []
+arriving c climb.Early = []
+arriving c climb.Fires = event.Fire c how.Zero ∷ []
+
+-- a task gets a status, if it is undone
+abbrev pub settling : List Event → ℕ → Status → List Event
+settling h t s = if is_undone (status h t) then event.Settle t s ∷ [] else []
+
+-- the task gets the code, and each to whom it is relayed
+abbrev pub failing : List Event → ℕ → ℕ → List Event
+failing h t code =
+    if is_undone (status h t) then map (λ u. event.Settle u (status_is.Exceptional code)) (relayed h t) else []
+
+-- the root of a way, if it has a member
+abbrev pub top : List ℕ → Option ℕ
+top way = last_of way
+
+abbrev pub settling_root : List Event → Option ℕ → List Event
+settling_root h (Some c) = event.Settle c status_is.Normal ∷ []
+settling_root h None = []
+
+-- where a climb ends: at a member of the way, or past the root
+abbrev pub pass_end : List Event → List ℕ → Option ℕ → List Event
+pass_end h (c ∷ above) root = arriving c (arrival h c)
+pass_end h [] root = settling_root h root
+
+-- the events of the climb from t
+abbrev pub passing : List Event → ℕ → List Event
+passing h t =
+    let way = path h t in
+    map event.Pass (passed h t) ++ pass_end h (drop (length (passed h t)) way) (top way)
+
+-- the events after the end of the body of t, read where it has ended
+abbrev pub after_end : List Event → ℕ → Ending → List Event
+after_end h t Ok = settling h t status_is.Normal
+after_end h t Quiet = []
+after_end h t Try = arriving t (arrival h t)
+after_end h t Pass = passing h t
+after_end h t Complete = if is_spent h t then [] else event.Fire t how.Complete ∷ []
+after_end h t (Fail code) = failing h t code
+
+abbrev pub ending_events : List Event → ℕ → Ending → Option ℕ → List Event
+ending_events h w ending None = []
+ending_events h w ending (Some t) = event.End t w ∷ after_end (h ++ event.End t w ∷ []) t ending
+
+-- what follows the end of a hook of c: first by its own completion, then at its parent or at itself
+abbrev pub completing : List Event → ℕ → List Event
+completing h c = if is_completed h c then settling h c status_is.Normal else []
+
+abbrev pub above_hook : List Event → ℕ → Option ℕ → List Event
+above_hook h c (Some p) = arriving p (arrival h p)
+above_hook h c None = settling h c status_is.Normal
+
+abbrev pub hook_events : List Event → Option ℕ → List Event
+hook_events h None = []
+hook_events h (Some c) =
+    let ended = h ++ event.Hooked c ∷ [] in
+    let own = completing ended c in
+    event.Hooked c ∷ own ++ above_hook (ended ++ own) c (parent h c)
+
+abbrev pub root_events : List Event → Option ℕ → List Event
+root_events h None = []
+root_events h (Some root) = settling h root status_is.Normal
+
+-- the events of a step that is not refused
+unfoldable pub events_of : Pool → List Event → Step → List Event
+events_of pool h (Submit s k) = event.Acc (accepted h) (Sub s) k ∷ []
+events_of pool h (Fork w k) = event.Acc (accepted h) (Work w) k ∷ []
+events_of pool h (Trigger w count) = event.Make (accepted h) (Completer None count true) ∷ []
+events_of pool h (Poll w r) = taking h w (choice pool h w r)
+events_of pool h (Help w r) = taking h w (choice pool h w r)
+events_of pool h (Join w t r) = if is_undone (status h t) then taking h w (choice pool h w r) else []
+events_of pool h (End w ending) = ending_events h w ending (running h w)
+events_of pool h (HookDone w) = hook_events h (hand h w)
+events_of pool h (Add w c n) = event.Add c n ∷ []
+events_of pool h (QuietRoot w t) = root_events h (top (path h t))
+events_of pool h (Fault t code) = failing h t code
+events_of pool h (Cancel t) = settling h t status_is.Cancelled
+events_of pool h Shutdown = if is_closed h || is_stopped h then [] else event.Close ∷ []
+events_of pool h Stop = if is_stopped h then [] else event.Stop ∷ []
+events_of pool h IsQuiescent = []
+events_of pool h (State t) = []
+events_of pool h (Release t) = event.Rel t ∷ []
+
+-- ---- replies
+
+abbrev pub taking_says : List Event → Option ℕ → Said
+taking_says h None = says.None
+taking_says h (Some t) = if is_undone (status h t) then says.Run t else says.Skip t
+
+abbrev pub status_says : Status → Said
+status_says status_is.Undone = says.None
+status_says status_is.Normal = says.Normal
+status_says (status_is.Exceptional code) = says.Exceptional code
+status_says status_is.Cancelled = says.Cancelled
+
+abbrev pub arriving_says : ℕ → Arrival → Said
+arriving_says c climb.Spent = says.Spent c
+arriving_says c climb.Counted = says.Counted c
+arriving_says c climb.Early = says.Early c
+arriving_says c climb.Fires = says.Hook c
+
+abbrev pub root_says : Option ℕ → Said
+root_says (Some c) = says.Root c
+root_says None = says.Done
+
+abbrev pub pass_says : List Event → List ℕ → Option ℕ → Said
+pass_says h (c ∷ above) root = arriving_says c (arrival h c)
+pass_says h [] root = root_says root
+
+abbrev pub end_says : List Event → ℕ → Ending → Said
+end_says h t Ok = says.Done
+end_says h t Quiet = says.Done
+end_says h t Try = arriving_says t (arrival h t)
+end_says h t Pass = pass_says h (drop (length (passed h t)) (path h t)) (top (path h t))
+end_says h t Complete = if is_spent h t then says.Spent t else says.Hook t
+end_says h t (Fail code) = says.Done
+
+abbrev pub ending_says : List Event → ℕ → Ending → Option ℕ → Said
+ending_says h w ending None = says.Done
+ending_says h w ending (Some t) = end_says (h ++ event.End t w ∷ []) t ending
+
+-- at a completer without a parent: root if this step made it normal
+abbrev pub hook_says : List Event → List Event → ℕ → Option ℕ → Said
+hook_says before after c (Some p) = arriving_says p (arrival after p)
+hook_says before after c None = if is_undone (status before c) then says.Root c else says.Spent c
+
+abbrev pub hook_done_says : List Event → Option ℕ → Said
+hook_done_says h None = says.Done
+hook_done_says h (Some c) =
+    let ended = h ++ event.Hooked c ∷ [] in hook_says h (ended ++ completing ended c) c (parent h c)
+
+abbrev pub quiet_root_says : List Event → Option ℕ → Said
+quiet_root_says h None = says.Done
+quiet_root_says h (Some root) = if is_undone (status h root) then says.Root root else says.Spent root
+
+abbrev pub cancel_says : Status → Said
+cancel_says status_is.Undone = says.Yes
+cancel_says status_is.Normal = says.No
+cancel_says (status_is.Exceptional code) = says.No
+cancel_says status_is.Cancelled = says.Yes
+
+-- the reply to a step that is not refused
+unfoldable pub reply_of : Pool → List Event → Step → Said
+reply_of pool h (Submit s k) = says.Task (accepted h)
+reply_of pool h (Fork w k) = says.Task (accepted h)
+reply_of pool h (Trigger w count) = says.Task (accepted h)
+reply_of pool h (Poll w r) = taking_says h (choice pool h w r)
+reply_of pool h (Help w r) = taking_says h (choice pool h w r)
+reply_of pool h (Join w t r) = if is_undone (status h t) then taking_says h (choice pool h w r) else status_says (status h t)
+reply_of pool h (End w ending) = ending_says h w ending (running h w)
+reply_of pool h (HookDone w) = hook_done_says h (hand h w)
+reply_of pool h (Add w c n) = says.Count (pending h c + n)
+reply_of pool h (QuietRoot w t) = quiet_root_says h (top (path h t))
+reply_of pool h (Fault t code) = if is_undone (status h t) then says.Yes else says.No
+reply_of pool h (Cancel t) = cancel_says (status h t)
+reply_of pool h Shutdown = says.Done
+reply_of pool h Stop = says.Done
+reply_of pool h IsQuiescent = if is_quiet pool.limits h then says.Yes else says.No
+reply_of pool h (State t) = says.State (place h t) (status h t)
+reply_of pool h (Release t) = says.Done
+
+-- ---- refusals
+
+-- the first that stands
+abbrev pub first_standing : List (Bool × Refusal) → Option Refusal
+first_standing [] = None
+first_standing (test ∷ tests) = if test.0 then Some test.1 else first_standing tests
+
+abbrev pub names_unknown : List Event → Option ℕ → Bool
+names_unknown h None = false
+names_unknown h (Some p) = not (is_kept h p)
+
+abbrev pub names_plain : List Event → Option ℕ → Bool
+names_plain h None = false
+names_plain h (Some p) = not (is_completer h p)
+
+-- Ok is for plain tasks, and each other ending but Fail for completers
+abbrev pub is_misfit : List Event → Ending → Option ℕ → Bool
+is_misfit h ending None = false
+is_misfit h Ok (Some t) = is_completer h t
+is_misfit h Quiet (Some t) = not (is_completer h t)
+is_misfit h Try (Some t) = not (is_completer h t)
+is_misfit h Pass (Some t) = not (is_completer h t)
+is_misfit h Complete (Some t) = not (is_completer h t)
+is_misfit h (Fail code) (Some t) = false
+
+abbrev pub no_worker : Pool → ℕ → Bool × Refusal
+no_worker pool w = (nat_le pool.limits.workers w, NoSuch)
+
+abbrev pub has_hook : List Event → ℕ → Bool × Refusal
+has_hook h w = (is_some (hand h w), NotIdle)
+
+abbrev pub not_running : List Event → ℕ → Bool × Refusal
+not_running h w = (is_empty (stack h w), NotRunning)
+
+abbrev pub not_known : List Event → ℕ → Bool × Refusal
+not_known h t = (not (is_kept h t), Unknown)
+
+abbrev pub not_completer : List Event → ℕ → Bool × Refusal
+not_completer h t = (not (is_completer h t), NotCompleter)
+
+abbrev pub too_large : ℕ → Bool × Refusal
+too_large count = (nat_lt 65535 count, CountTooLarge)
+
+abbrev pub no_room : Pool → List Event → Bool × Refusal
+no_room pool h = (live h == pool.limits.tasks, TooManyTasks)
+
+-- the tests of a step but the last, in the order in which they are made
+abbrev pub tests_of : Pool → List Event → Step → List (Bool × Refusal)
+tests_of pool h (Submit s k) =
+    (nat_le pool.limits.submitters s, NoSuch) ∷ (is_closed h || is_stopped h, Closed) ∷ too_large (count_in (Some k)) ∷ no_room pool h ∷ []
+tests_of pool h (Fork w k) =
+    no_worker pool w ∷ has_hook h w ∷ not_running h w ∷ (names_unknown h (parent_in (Some k)), Unknown) ∷ (names_plain h (parent_in (Some k)), NotCompleter)
+    ∷ (is_stopped h, Closed) ∷ too_large (count_in (Some k)) ∷ no_room pool h ∷ []
+tests_of pool h (Trigger w count) =
+    no_worker pool w ∷ has_hook h w ∷ not_running h w ∷ (is_stopped h, Closed) ∷ too_large count ∷ no_room pool h ∷ []
+tests_of pool h (Poll w r) = no_worker pool w ∷ has_hook h w ∷ (not (is_empty (stack h w)), NotIdle) ∷ []
+tests_of pool h (Help w r) = no_worker pool w ∷ has_hook h w ∷ not_running h w ∷ []
+tests_of pool h (Join w t r) =
+    no_worker pool w ∷ has_hook h w ∷ not_running h w ∷ not_known h t ∷ (is_undone (status h t) && is_in t (stack h w), OwnStack) ∷ []
+tests_of pool h (End w ending) =
+    no_worker pool w ∷ has_hook h w ∷ not_running h w ∷ (is_misfit h ending (running h w), NotCompleter) ∷ []
+tests_of pool h (HookDone w) = no_worker pool w ∷ (is_none (hand h w), NotRunning) ∷ []
+tests_of pool h (Add w c n) =
+    no_worker pool w ∷ has_hook h w ∷ not_running h w ∷ not_known h c ∷ not_completer h c ∷ too_large (pending h c + n) ∷ []
+tests_of pool h (QuietRoot w t) = no_worker pool w ∷ has_hook h w ∷ not_running h w ∷ not_known h t ∷ not_completer h t ∷ []
+tests_of pool h (Fault t code) = not_known h t ∷ []
+tests_of pool h (Cancel t) = not_known h t ∷ []
+tests_of pool h Shutdown = []
+tests_of pool h Stop = []
+tests_of pool h IsQuiescent = []
+tests_of pool h (State t) = not_known h t ∷ []
+tests_of pool h (Release t) = not_known h t ∷ (not (is_gone (place h t)) || has_kept_child h t, NotDone) ∷ []
+
+-- whether the events of the step do not fit into the history
+abbrev pub is_too_long : Pool → List Event → Step → Bool
+is_too_long pool h asked = nat_lt pool.limits.events (length h + length (events_of pool h asked))
+
+-- whether the machine makes this step at all
+abbrev pub is_built_ending : Ending → Bool
+is_built_ending Ok = true
+is_built_ending Quiet = false
+is_built_ending Try = false
+is_built_ending Pass = false
+is_built_ending Complete = false
+is_built_ending (Fail code) = false
+
+abbrev pub is_built : Step → Bool
+is_built (Submit s Plain) = true
+is_built (Poll w r) = true
+is_built (End w ending) = is_built_ending ending
+is_built _ = false
+
+-- why a step that is built is refused, if it is
+unfoldable pub standing : Pool → List Event → Step → Option Refusal
+standing pool h asked = or_else (first_standing (tests_of pool h asked)) (if is_too_long pool h asked then Some LogFull else None)
+
+-- why the step is refused, if it is
+unfoldable pub refusal_of : Pool → List Event → Step → Option Refusal
+refusal_of pool h asked = if is_built asked then standing pool h asked else Some NotYet
+
+-- what a refused step, and one that is not refused, replies and appends
+abbrev pub answer_of : Pool → List Event → Step → Option Refusal → Said × List Event
+answer_of pool h asked (Some refusal) = (says.Refused refusal, [])
+answer_of pool h asked None = (reply_of pool h asked, events_of pool h asked)
+
+-- the one reply to the step, and the events that it appends
+unfoldable pub answer : Pool → List Event → Step → Said × List Event
+answer pool h asked = answer_of pool h asked (refusal_of pool h asked)

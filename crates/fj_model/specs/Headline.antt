@@ -1,0 +1,95 @@
+-- What holds of the history of every run.
+use Rattle.std.specs.Prelude.{ℕ, ◌≡◌, Bool, true, false, ◌==◌, ◌≤◌, ◌<◌, ◌⊎◌, nat_lt, if◌then◌else◌, List, [], ◌∷◌, ◌++◌, Option, Some, None}
+use Rattle.std.specs.List.{flat_map, filter_map, count_by}
+use mathlib.Core.List.{IsPrefix}
+use Rattle.fj_model.specs.declared.event.Event.{Event}
+use Rattle.fj_model.specs.declared.event.Event.TheVariants.{Acc, Out, Fire}
+use Rattle.fj_model.specs.declared.owner.Owner.{Owner}
+use Rattle.fj_model.specs.declared.owner.Owner.TheVariants.{Sub, Work}
+use Rattle.fj_model.specs.declared.mode.Mode.{Mode}
+use Rattle.fj_model.specs.declared.mode.Mode.TheVariants.{Async, Joining}
+use Rattle.std.specs.Prelude.{◌||◌, ◌↔◌, Contains}
+use Rattle.fj_model.specs.declared.kind.Kind.{Kind}
+use Rattle.fj_model.specs.declared.event.How.{How}
+use Rattle.fj_model.specs.declared.event.How.TheVariants.{Zero, Complete}
+use Rattle.fj_model.specs.declared.step.Step.{Step}
+use Rattle.fj_model.specs.declared.step.Step.TheVariants as ask
+use Rattle.fj_model.specs.declared.step.Ending.TheVariants as ending
+use Rattle.fj_model.specs.declared.said.Said.TheVariants as says
+use Rattle.fj_model.specs.Allowed.{is_closed, is_stopped}
+use Rattle.fj_model.specs.Answers.{answer, running}
+use Rattle.fj_model.specs.Bounds.{Bounds, Pool, owners, workers}
+use Rattle.fj_model.specs.History.{accepted, pushed, left, queue, stack, pending}
+use Rattle.fj_model.specs.Places.{open_tasks, gone}
+
+-- how often the number stands in the list
+abbrev pub times_in : ℕ → List ℕ → ℕ
+times_in t ts = count_by (λ u. u == t) ts
+
+-- the lists of all places, joined
+unfoldable pub all_places : Bounds → List Event → List ℕ
+all_places l h = flat_map (queue h) (owners l) ++ flat_map (stack h) (workers l) ++ open_tasks h ++ gone h
+
+-- each accepted task is in exactly one place, and nothing else is anywhere
+abbrev pub IsInOnePlace : Bounds → List Event → Type 0
+IsInOnePlace l h = (t : ℕ) → times_in t (all_places l h) ≡ (if nat_lt t (accepted h) then 1 else 0)
+
+abbrev pub handed_by : Event → Option ℕ
+handed_by (Out t w) = Some t
+handed_by _ = None
+
+-- the tasks that were handed out, in order
+unfoldable pub handed_out : List Event → List ℕ
+handed_out h = filter_map handed_by h
+
+-- each task was handed out at most once
+abbrev pub IsHandedOutOnce : List Event → Type 0
+IsHandedOutOnce h = (t : ℕ) → times_in t (handed_out h) ≤ 1
+
+-- whether the tasks of this queue leave it in the order pushed: all in async mode, a submitter's in joining mode
+abbrev pub keeps_order : Mode → Owner → Bool
+keeps_order Async o = true
+keeps_order Joining (Sub s) = true
+keeps_order Joining (Work w) = false
+
+-- what left each such queue is a beginning of what was pushed there
+abbrev pub LeftInOrder : Mode → List Event → Type 0
+LeftInOrder mode h = (o : Owner) → keeps_order mode o ≡ true → IsPrefix (left h o) (pushed h o)
+
+-- whether the history is closed to submitters
+abbrev pub is_ended : List Event → Bool
+is_ended h = is_closed h || is_stopped h
+
+-- no task of a submitter was accepted after a `Close` or a `Stop`
+abbrev pub NoneAfterShutdown : List Event → Type 0
+NoneAfterShutdown h =
+    (before later : List Event) (t s : ℕ) (k : Kind) → h ≡ before ++ Acc t (Sub s) k ∷ later → is_ended before ≡ false
+
+abbrev pub fired_by : Event → Option ℕ
+fired_by (Fire c how) = Some c
+fired_by _ = None
+
+-- the completers whose hook was handed out, in order
+unfoldable pub fired : List Event → List ℕ
+fired h = filter_map fired_by h
+
+-- each completer's hook was handed out at most once
+abbrev pub IsFiredOnce : List Event → Type 0
+IsFiredOnce h = (c : ℕ) → times_in c (fired h) ≤ 1
+
+-- a hook that was not handed out by Complete was handed out at pending count zero
+abbrev pub FiredAtZero : List Event → Type 0
+FiredAtZero h = (before later : List Event) (c : ℕ) → h ≡ before ++ Fire c Zero ∷ later → pending before c ≡ 0
+
+-- a hook is handed out by Complete only where a worker ends the completer's body so, as the one that it runs
+abbrev pub CompletesOwn : Pool → Type 0
+CompletesOwn pool =
+    (h : List Event) (asked : Step) (c : ℕ) → Contains (answer pool h asked).1 (Fire c Complete)
+    → (w : ℕ) × (asked ≡ ask.End w ending.Complete) × (running h w ≡ Some c)
+
+-- the reply run stands exactly where a task is handed out, and the reply hook exactly where a hook is
+abbrev pub RepliesTell : Pool → Type 0
+RepliesTell pool =
+    (h : List Event) (asked : Step) (t : ℕ)
+    → (((answer pool h asked).0 ≡ says.Run t) ↔ ((w : ℕ) × Contains (answer pool h asked).1 (Out t w)))
+    × (((answer pool h asked).0 ≡ says.Hook t) ↔ ((how : How) × Contains (answer pool h asked).1 (Fire t how)))

@@ -1,0 +1,10 @@
+pub mod Bounds
+pub mod History
+pub mod Places
+pub mod Climbs
+pub mod Choices
+pub mod Allowed
+pub mod Answers
+pub mod Runs
+pub mod Headline
+pub mod Lines

@@ -1,0 +1,106 @@
+ghost use Rattle.std.specs.Prelude.{◌≡◌, ◌↔◌, IsOk, IfOk, OnErr};
+
+use crate::owner::Owner;
+use crate::refusal::Refusal;
+use std::marker::Model;
+
+/// How large a pool may grow.
+#[derive(Clone, Copy, Debug, PartialEq, Eq)]
+pub struct Limits {
+    workers: u32,
+    submitters: u32,
+    tasks: u32,
+    events: u32,
+}
+
+impl Model for Limits {
+    ghost use Rattle.fj_model.specs.Bounds.{Bounds, IsWithin};
+
+    ghost Value = { Bounds };
+
+    ghost view = { λ l. record {
+      workers = l.workers;
+      submitters = l.submitters;
+      tasks = l.tasks;
+      events = l.events;
+    } };
+
+    ghost invariant = { λ l. IsWithin l.workers l.submitters l.tasks l.events };
+
+    ghost inverse = { λ b. record {
+      workers = b.workers;
+      submitters = b.submitters;
+      tasks = b.tasks;
+      events = b.events;
+    } };
+}
+
+impl Limits {
+    ghost use Rattle.fj_model.specs.Bounds.{IsWithin, Bounds, queue_number};
+
+    /// The limits, if each lies in its range.
+    pub fn new(workers: u32, submitters: u32, tasks: u32, events: u32) -> Result<Limits, Refusal>
+        ensures valid { IsOk result ↔ IsWithin workers submitters tasks events }
+        ensures value { IfOk result (λ l. l ≡ record {
+          workers = workers;
+          submitters = submitters;
+          tasks = tasks;
+          events = events;
+        }) }
+        ensures err { OnErr result (result ≡ Err Refusal.BadLimits) }
+    {
+        if (1..=32).contains(&workers)
+            && (1..=32).contains(&submitters)
+            && (1..=4096).contains(&tasks)
+            && (1..=1_048_576).contains(&events)
+        {
+            Ok(Limits {
+                workers,
+                submitters,
+                tasks,
+                events,
+            })
+        } else {
+            Err(Refusal::BadLimits)
+        }
+    }
+
+    /// How many workers there are.
+    pub fn workers(&self) -> u32
+        ensures number { result ≡ self.now.workers }
+        ensures within { IsWithin self.now.workers self.now.submitters self.now.tasks self.now.events }
+    {
+        self.workers
+    }
+
+    /// How many submitters there are.
+    pub fn submitters(&self) -> u32
+        ensures number { result ≡ self.now.submitters }
+    {
+        self.submitters
+    }
+
+    /// How many tasks may be kept.
+    pub fn tasks(&self) -> u32
+        ensures number { result ≡ self.now.tasks }
+    {
+        self.tasks
+    }
+
+    /// How many events a history may have.
+    pub fn events(&self) -> u32
+        ensures number { result ≡ self.now.events }
+    {
+        self.events
+    }
+
+    /// The number of an owner's queue: first the submitters', then the workers'.
+    pub fn queue_number(&self, owner: Owner) -> usize
+        ensures { result ≡ queue_number self.now owner }
+    {
+        match owner {
+            Owner::Sub(s) => s.0 as usize,
+            Owner::Work(w) => self.submitters as usize + w.0 as usize,
+        }
+    }
+}

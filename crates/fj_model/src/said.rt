@@ -1,0 +1,43 @@
+use crate::ids::Serial;
+use crate::place::Place;
+use crate::refusal::Refusal;
+use crate::status::Status;
+
+/// What the machine replies to a step.
+#[derive(Clone, Copy, Debug, PartialEq, Eq)]
+pub enum Said {
+    /// The task was accepted under this number.
+    Task(Serial),
+    /// There is no task to take.
+    None,
+    /// The task is handed out for running.
+    Run(Serial),
+    /// The task was done already: it left its queue and is not run.
+    Skip(Serial),
+    /// The step was made.
+    Done,
+    /// The pending count of this completer fell by one.
+    Counted(Serial),
+    /// The completion action of this completer is handed out.
+    Hook(Serial),
+    /// This completer had fired, was passed or is done: nothing changed.
+    Spent(Serial),
+    /// This completer's body has not ended yet: nothing changed.
+    Early(Serial),
+    /// This completer without a parent became normal.
+    Root(Serial),
+    /// The new pending count.
+    Count(u32),
+    Yes,
+    No,
+    /// The joined task is done, without a fault.
+    Normal,
+    /// The joined task is done, with a fault of this code.
+    Exceptional(u32),
+    /// The joined task is cancelled.
+    Cancelled,
+    /// The step was refused and changed nothing.
+    Refused(Refusal),
+    /// Where the task is, and how far it has come.
+    State(Place, Status),
+}

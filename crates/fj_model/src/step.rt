@@ -1,0 +1,58 @@
+use crate::ids::{Serial, SubId, WorkerId};
+use crate::kind::Kind;
+
+/// How the body of a running task ends.
+#[derive(Clone, Copy, Debug, PartialEq, Eq)]
+pub enum Ending {
+    /// The end of a plain task's body, which completes it.
+    Ok,
+    /// The end of a completer's body, which completes nothing.
+    Quiet,
+    /// `CountedCompleter.tryComplete`.
+    Try,
+    /// `CountedCompleter.propagateCompletion`.
+    Pass,
+    /// `CountedCompleter.complete`.
+    Complete,
+    /// The body failed, with this code.
+    Fail(u32),
+}
+
+/// What the machine is asked to do.
+#[derive(Clone, Copy, Debug, PartialEq, Eq)]
+pub enum Step {
+    /// A submitter hands in a task of this kind, which has no parent.
+    Submit { s: SubId, kind: Kind },
+    /// The running task of a worker forks a task: `ForkJoinTask.fork`.
+    Fork { w: WorkerId, kind: Kind },
+    /// The running task of a worker makes a completer with this count and no parent, which is never queued.
+    Trigger { w: WorkerId, count: u32 },
+    /// An idle worker asks for its next task. `r` is where its scan of the queues begins.
+    Poll { w: WorkerId, r: u32 },
+    /// A running task helps: one turn of `ForkJoinTask.helpQuiesce`.
+    Help { w: WorkerId, r: u32 },
+    /// A running task waits for another one: `ForkJoinTask.join`.
+    Join { w: WorkerId, t: Serial, r: u32 },
+    /// The body of a worker's running task ends.
+    End { w: WorkerId, ending: Ending },
+    /// The completion action in a worker's hand ends.
+    HookDone { w: WorkerId },
+    /// `CountedCompleter.addToPendingCount`.
+    Add { w: WorkerId, c: Serial, n: u32 },
+    /// `CountedCompleter.quietlyCompleteRoot`.
+    QuietRoot { w: WorkerId, t: Serial },
+    /// `ForkJoinTask.completeExceptionally`, with a code.
+    Fault { t: Serial, code: u32 },
+    /// `ForkJoinTask.cancel`.
+    Cancel { t: Serial },
+    /// `ForkJoinPool.shutdown`.
+    Shutdown,
+    /// `ForkJoinPool.shutdownNow`.
+    Stop,
+    /// `ForkJoinPool.isQuiescent`.
+    IsQuiescent,
+    /// Where a task is and how far it has come.
+    State { t: Serial },
+    /// Forgets a task that is gone.
+    Release { t: Serial },
+}
