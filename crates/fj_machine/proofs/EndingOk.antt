@@ -21,7 +21,9 @@ use Rattle.fj_model.specs.Allowed.{Allowed, AllowedFrom}
 use Rattle.fj_model.specs.Choices.{last_of}
 use Rattle.fj_model.specs.Answers.{answer, refusal_of, standing, events_of, reply_of, running, is_misfit}
 use Rattle.fj_model.specs.Runs.{IsHistory}
-use Rattle.fj_machine.specs.Holds.{Holds, is_plain}
+use Rattle.fj_machine.specs.Holds.{Holds, KeepsStacks, KeepsTasks, is_plain}
+use Rattle.fj_machine.proofs.Parts.{list_all_append, new_row, queues_same, stacks_same, tasks_same}
+use Rattle.fj_machine.proofs.Leaving.{gone_after_end, gone_after_settle}
 use Rattle.fj_model.proofs.Growth.{accepted_more, stack_same}
 use Rattle.fj_model.proofs.Lawful.{is_numbered, taken_known}
 use Rattle.fj_model.proofs.Members.{get_is_in}
@@ -30,7 +32,7 @@ use Rattle.fj_model.proofs.Statuses.{status_same}
 use Rattle.fj_model.proofs.AnswersAllowed.{history_allowed, history_more, stack_taken}
 use Rattle.fj_model.proofs.Queues.{queue_same}
 use Rattle.fj_model.proofs.Ends.{stack_end, stack_end_other, status_settle}
-use Rattle.fj_machine.proofs.Submitting.{allowed, list_all_append, new_row}
+use Rattle.fj_machine.proofs.Submitting.{allowed}
 
 -- the events of the end, where the task is undone or not
 abbrev pub ending_of : Bool → ℕ → ℕ → List Event
@@ -71,28 +73,6 @@ end_answer pool h w t b is undone none =
 
 -- ---- what is kept
 
--- what is kept after events that leave the queues and accept nothing
-pub keep_holds : (pool : Pool) (h h2 : List Event) (queues stacks stacks' : Lists) (statuses statuses' : List Status) → Holds pool h queues stacks statuses
-    → IsHistory pool h2 → IsPlain h2 → length h2 ≤ pool.limits.events → accepted h2 ≡ accepted h → ((o : Owner) → queue h2 o ≡ queue h o)
-    → length stacks'.rows ≡ pool.limits.workers → stacks'.room ≡ pool.limits.tasks → ((w : ℕ) → w < pool.limits.workers → row_at stacks' w ≡ stack h2 w)
-    → length statuses' ≡ length statuses → ((t : ℕ) → t < accepted h → get_or statuses' t Undone ≡ status h2 t)
-    → Holds pool h2 queues stacks' statuses'
-keep_holds pool h h2 queues stacks stacks' statuses statuses' holds run plain fits same queues_same count room each long each_status = record {
-  within = holds.within;
-  run = run;
-  plain = plain;
-  fits = fits;
-  queue_count = holds.queue_count;
-  queue_room = holds.queue_room;
-  each_queue = λ i inside. holds.each_queue i inside ∙ sym (queues_same (owner_at pool.limits i));
-  stack_count = count;
-  stack_room = room;
-  each_stack = each;
-  status_count = long ∙ holds.status_count ∙ sym same;
-  few_tasks = omega (arith, same, holds.few_tasks);
-  each_status = λ t inside. each_status t (omega (arith, same));
-}
-
 -- the beginning of allowed events was allowed
 allowed_front : (pool : Pool) (before xs ys : List Event) → AllowedFrom pool before (xs ++ ys) → AllowedFrom pool before xs
 allowed_front pool before [] ys so = tt
@@ -108,64 +88,88 @@ get_is [] k t within is = absurd (omega arith)
 get_is (x ∷ xs) zero t within is = ap Some (sym is)
 get_is (x ∷ xs) (suc k) t within is = get_is xs k t (omega arith) is
 
--- the stacks after the last of one left it
-end_stacks : (pool : Pool) (h : List Event) (stacks : Lists) (w t v : ℕ) → AllowedFrom pool [] h → length stacks.rows ≡ pool.limits.workers → ((v : ℕ) → v < pool.limits.workers → row_at stacks v ≡ stack h v)
-    → w < pool.limits.workers → last_of (stack h w) ≡ Some t → v < pool.limits.workers
-    → row_at (with_row stacks w (take (length (row_at stacks w) - 1) (row_at stacks w))) v ≡ stack (h ++ event.End t w ∷ []) v
-end_stacks pool h stacks w t v so count each within last inside = ⊎_elim
-    (λ here. new_row stacks.rows v w (take (length (row_at stacks w) - 1) (row_at stacks w)) (omega arith) here
-    ∙ ap (λ (ts : List ℕ). take (length ts - 1) ts) (each w within)
-    ∙ sym (ap (stack (h ++ event.End t w ∷ [])) here ∙ stack_end pool h w t so last))
-    (λ other. get_or-set_other stacks.rows w v (take (length (row_at stacks w) - 1) (row_at stacks w)) [] other ∙ each v inside ∙ sym (stack_end_other h v w t other))
-    (cases_eq v w)
+-- the last task of a stack leaves it, and the other stacks stay
+stacks_after_end : (pool : Pool) (h : List Event) (stacks : Lists) (w t : ℕ) → AllowedFrom pool [] h → w < pool.limits.workers → last_of (stack h w) ≡ Some t
+    → KeepsStacks pool.limits h stacks → KeepsStacks pool.limits (h ++ event.End t w ∷ []) (with_row stacks w (take (length (row_at stacks w) - 1) (row_at stacks w)))
+stacks_after_end pool h stacks w t so within last keeps =
+    let row = take (length (row_at stacks w) - 1) (row_at stacks w) in
+    record {
+      count = length-set stacks.rows w row ∙ keeps.count;
+      room = keeps.room;
+      each = λ v inside. ⊎_elim
+          (λ here. new_row stacks.rows v w row (omega (arith, keeps.count)) here
+          ∙ ap (λ (ts : List ℕ). take (length ts - 1) ts) (keeps.each w within)
+          ∙ sym (ap (stack (h ++ event.End t w ∷ [])) here ∙ stack_end pool h w t so last))
+          (λ other. get_or-set_other stacks.rows w v row [] other ∙ keeps.each v inside ∙ sym (stack_end_other h v w t other))
+          (cases_eq v w);
+    }
+
+-- an undone task gets its status, and the other tasks keep theirs
+tasks_after_settle : (pool : Pool) (h : List Event) (statuses : List Status) (t : ℕ) (s : Status) → AllowedFrom pool [] h → is_undone (status h t) ≡ true → t < accepted h
+    → KeepsTasks pool.limits h statuses → KeepsTasks pool.limits (h ++ event.Settle t s ∷ []) (set statuses t s)
+tasks_after_settle pool h statuses t s so undone known keeps =
+    let f = event.Settle t s in
+    record {
+      count = length-set statuses t s ∙ keeps.count ∙ sym (omega (arith, accepted_more h f));
+      few = omega (arith, accepted_more h f, keeps.few);
+      each = λ u inside. ⊎_elim
+          (λ here. ap (λ k. get_or (set statuses t s) k Undone) here ∙ get_or-set_same statuses t s Undone (omega (arith, keeps.count))
+          ∙ sym (ap (status (h ++ f ∷ [])) here ∙ status_settle pool h t s so undone))
+          (λ other. get_or-set_other statuses t u s Undone other ∙ keeps.each u (omega (arith, accepted_more h f))
+          ∙ sym (status_same h f u (λ b. rw (ne_eqb t u (λ is. other (sym is))) refl)))
+          (cases_eq u t);
+    }
 
 pub end_history : (pool : Pool) (h : List Event) (w t : ℕ) (b : Bool) → IsHistory pool h → answer pool h (End w ending.Ok) ≡ (says.Done, ending_of b t w) → IsHistory pool (h ++ ending_of b t w)
 end_history pool h w t b run is = subst (λ es. IsHistory pool (h ++ es)) (ap (λ a. a.1) is) (history_more pool h (End w ending.Ok) run)
 
-pub ended_holds : (pool : Pool) (h : List Event) (queues stacks : Lists) (statuses : List Status) (w t : ℕ) → Holds pool h queues stacks statuses
+-- what is kept after the body of a done task has ended
+pub ended_holds : (pool : Pool) (h : List Event) (queues stacks : Lists) (statuses : List Status) (gones : List ℕ) (w t : ℕ) → Holds pool h queues stacks statuses gones
     → w < pool.limits.workers → last_of (stack h w) ≡ Some t → answer pool h (End w ending.Ok) ≡ (says.Done, ending_of false t w) → length h + 1 ≤ pool.limits.events
-    → Holds pool (h ++ event.End t w ∷ []) queues (with_row stacks w (take (length (row_at stacks w) - 1) (row_at stacks w))) statuses
-ended_holds pool h queues stacks statuses w t holds within last is fits =
+    → Holds pool (h ++ event.End t w ∷ []) queues (with_row stacks w (take (length (row_at stacks w) - 1) (row_at stacks w))) statuses (gones ++ t ∷ [])
+ended_holds pool h queues stacks statuses gones w t holds within last is fits =
     let so = history_allowed pool h holds.run in
     let e = event.End t w in
-    let row = take (length (row_at stacks w) - 1) (row_at stacks w) in
-    keep_holds pool h (h ++ e ∷ []) queues stacks (with_row stacks w row) statuses statuses holds
-    (end_history pool h w t false holds.run is)
-    (list_all_append is_plain h (e ∷ []) holds.plain refl)
-    (omega (arith, length-append h (e ∷ [])))
-    (omega (arith, accepted_more h e))
-    (λ o. queue_same h e o refl refl)
-    (length-set stacks.rows w row ∙ holds.stack_count)
-    holds.stack_room
-    (λ v inside. end_stacks pool h stacks w t v so holds.stack_count holds.each_stack within last inside)
-    refl
-    (λ u inside. holds.each_status u inside ∙ sym (status_same h e u (λ b. refl)))
+    let run = end_history pool h w t false holds.run is in
+    let plain2 = list_all_append is_plain h (e ∷ []) holds.plain refl in
+    let may : Allowed pool h e = (last, empty_hand h w holds.plain) in
+    record {
+      within = holds.within;
+      run = run;
+      plain = plain2;
+      fits = omega (arith, length-append h (e ∷ []));
+      queues_kept = queues_same pool.limits h (h ++ e ∷ []) queues (λ o. queue_same h e o refl refl) holds.queues_kept;
+      stacks_kept = stacks_after_end pool h stacks w t so within last holds.stacks_kept;
+      tasks_kept = tasks_same pool.limits h (h ++ e ∷ []) statuses (omega (arith, accepted_more h e)) (λ u. status_same h e u (λ b. refl)) holds.tasks_kept;
+      gone_kept = gone_after_end pool h gones t w so may holds.plain plain2 last holds.gone_kept;
+    }
 
-pub settled_holds : (pool : Pool) (h : List Event) (queues stacks : Lists) (statuses : List Status) (w t : ℕ) → Holds pool h queues stacks statuses
+-- what is kept after the body of an undone task has ended, which completes it
+pub settled_holds : (pool : Pool) (h : List Event) (queues stacks : Lists) (statuses : List Status) (gones : List ℕ) (w t : ℕ) → Holds pool h queues stacks statuses gones
     → w < pool.limits.workers → last_of (stack h w) ≡ Some t → is_undone (status h t) ≡ true → t < accepted h
     → answer pool h (End w ending.Ok) ≡ (says.Done, ending_of true t w) → length h + 2 ≤ pool.limits.events
-    → Holds pool ((h ++ event.End t w ∷ []) ++ event.Settle t Normal ∷ []) queues (with_row stacks w (take (length (row_at stacks w) - 1) (row_at stacks w))) (set statuses t Normal)
-settled_holds pool h queues stacks statuses w t holds within last undone known is fits =
+    → Holds pool ((h ++ event.End t w ∷ []) ++ event.Settle t Normal ∷ []) queues (with_row stacks w (take (length (row_at stacks w) - 1) (row_at stacks w))) (set statuses t Normal) (gones ++ t ∷ [])
+settled_holds pool h queues stacks statuses gones w t holds within last undone known is fits =
+    let l = pool.limits in
     let so = history_allowed pool h holds.run in
     let e = event.End t w in
     let f = event.Settle t Normal in
     let h1 = h ++ e ∷ [] in
     let joined : h ++ ending_of true t w ≡ h1 ++ f ∷ [] = sym (append_assoc h (e ∷ []) (f ∷ [])) in
     let run = subst (IsHistory pool) joined (end_history pool h w t true holds.run is) in
+    let so1 = allowed_front pool [] h1 (f ∷ []) (history_allowed pool (h1 ++ f ∷ []) run) in
+    let plain1 = list_all_append is_plain h (e ∷ []) holds.plain refl in
     let row = take (length (row_at stacks w) - 1) (row_at stacks w) in
-    keep_holds pool h (h1 ++ f ∷ []) queues stacks (with_row stacks w row) statuses (set statuses t Normal) holds
-    run
-    (list_all_append is_plain h1 (f ∷ []) (list_all_append is_plain h (e ∷ []) holds.plain refl) refl)
-    (omega (arith, length-append h (e ∷ []), length-append h1 (f ∷ [])))
-    (omega (arith, accepted_more h e, accepted_more h1 f))
-    (λ o. queue_same h1 f o refl refl ∙ queue_same h e o refl refl)
-    (length-set stacks.rows w row ∙ holds.stack_count)
-    holds.stack_room
-    (λ v inside. end_stacks pool h stacks w t v so holds.stack_count holds.each_stack within last inside ∙ sym (stack_same h1 v f refl refl))
-    (length-set statuses t Normal)
-    (λ u inside. ⊎_elim
-    (λ here. ap (λ k. get_or (set statuses t Normal) k Undone) here ∙ get_or-set_same statuses t Normal Undone (omega (arith, holds.status_count))
-    ∙ sym (ap (status (h1 ++ f ∷ [])) here ∙ status_settle pool h1 t Normal (allowed_front pool [] h1 (f ∷ []) (history_allowed pool (h1 ++ f ∷ []) run)) (ap is_undone (status_same h e t (λ b. refl)) ∙ undone)))
-    (λ other. get_or-set_other statuses t u Normal Undone other ∙ holds.each_status u inside
-    ∙ sym (status_same h1 f u (λ b. rw (ne_eqb t u (λ is. other (sym is))) refl) ∙ status_same h e u (λ b. refl)))
-    (cases_eq u t))
+    let known1 : t < accepted h1 = omega (arith, accepted_more h e) in
+    let tasks1 = tasks_same l h h1 statuses (omega (arith, accepted_more h e)) (λ u. status_same h e u (λ b. refl)) holds.tasks_kept in
+    let may : Allowed pool h e = (last, empty_hand h w holds.plain) in
+    record {
+      within = holds.within;
+      run = run;
+      plain = list_all_append is_plain h1 (f ∷ []) plain1 refl;
+      fits = omega (arith, length-append h (e ∷ []), length-append h1 (f ∷ []));
+      queues_kept = queues_same l h1 (h1 ++ f ∷ []) queues (λ o. queue_same h1 f o refl refl) (queues_same l h h1 queues (λ o. queue_same h e o refl refl) holds.queues_kept);
+      stacks_kept = stacks_same l h1 (h1 ++ f ∷ []) (with_row stacks w row) (λ v. stack_same h1 v f refl refl) (stacks_after_end pool h stacks w t so within last holds.stacks_kept);
+      tasks_kept = tasks_after_settle pool h1 statuses t Normal so1 (ap is_undone (status_same h e t (λ b. refl)) ∙ undone) known1 tasks1;
+      gone_kept = gone_after_settle pool h1 (gones ++ t ∷ []) t Normal so1 plain1 (gone_after_end pool h gones t w so may holds.plain plain1 last holds.gone_kept);
+    }

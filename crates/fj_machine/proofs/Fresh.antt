@@ -7,6 +7,7 @@ use Rattle.fj_model.specs.declared.status.Status.TheVariants.{Undone}
 use Rattle.fj_model.specs.Bounds.{Pool, IsWithin, queues_in, owner_at}
 use Rattle.fj_machine.specs.Rows.{Lists, row_at}
 use Rattle.fj_model.specs.History.{accepted, tasks, queue, pushed, left, taken, stack, status, status_from}
+use Rattle.fj_model.specs.Places.{gone, gone_from}
 use Rattle.fj_model.specs.Runs.{IsHistory}
 use Rattle.fj_machine.specs.Holds.{Holds}
 
@@ -28,19 +29,27 @@ empty_row (suc n) zero = refl
 empty_row (suc n) (suc i) = empty_row n i
 
 pub fresh_holds : (pool : Pool) → IsWithin pool.limits.workers pool.limits.submitters pool.limits.tasks pool.limits.events
-    → Holds pool [] (record { rows = replicate (queues_in pool.limits) []; room = pool.limits.tasks }) (record { rows = replicate pool.limits.workers []; room = pool.limits.tasks }) []
+    → Holds pool [] (record { rows = replicate (queues_in pool.limits) []; room = pool.limits.tasks }) (record { rows = replicate pool.limits.workers []; room = pool.limits.tasks }) [] []
+unfolding gone gone_from
 fresh_holds pool within = record {
   within = within;
   run = ([], [], refl);
   plain = refl;
   fits = omega arith;
-  queue_count = length-replicate (queues_in pool.limits) [];
-  queue_room = refl;
-  each_queue = λ i inside. empty_row (queues_in pool.limits) i ∙ sym (no_queue (owner_at pool.limits i));
-  stack_count = length-replicate pool.limits.workers [];
-  stack_room = refl;
-  each_stack = λ w inside. empty_row pool.limits.workers w ∙ sym (no_stack w);
-  status_count = sym none_accepted;
-  few_tasks = omega (arith, none_accepted);
-  each_status = λ t inside. absurd (omega (arith, none_accepted));
+  queues_kept = record {
+    count = length-replicate (queues_in pool.limits) [];
+    room = refl;
+    each = λ i inside. empty_row (queues_in pool.limits) i ∙ sym (no_queue (owner_at pool.limits i));
+  };
+  stacks_kept = record {
+    count = length-replicate pool.limits.workers [];
+    room = refl;
+    each = λ w inside. empty_row pool.limits.workers w ∙ sym (no_stack w);
+  };
+  tasks_kept = record {
+    count = sym none_accepted;
+    few = omega (arith, none_accepted);
+    each = λ t inside. absurd (omega (arith, none_accepted));
+  };
+  gone_kept = record { list = refl; few = omega arith };
 }

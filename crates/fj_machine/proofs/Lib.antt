@@ -1,5 +1,7 @@
 pub mod PlainHistories
 pub mod RowWrites
+pub mod Parts
+pub mod Leaving
 pub mod Submitting
 pub mod Fresh
 pub mod Choosing
@@ -8,3 +10,4 @@ pub mod Polling
 pub mod EndingOk
 pub mod NotYets
 pub mod Running
+pub mod Refusing

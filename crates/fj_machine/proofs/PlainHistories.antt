@@ -16,7 +16,8 @@ use Rattle.fj_model.specs.declared.kind.Kind.TheVariants.{Plain, Completer}
 use Rattle.fj_model.specs.History.{is_in, pushed, pushed_by, queue, left, tasks, accepted, released, released_by, is_kept, live, kind, kind_by, is_completer, is_completer_kind, or_else, first, Hooks, hooks, hooks_after, no_hooks, hand, completer_of}
 use Rattle.fj_model.specs.Allowed.{is_close, is_stop, is_closed, is_stopped}
 use Rattle.fj_machine.specs.Holds.{is_plain}
-use Rattle.fj_model.proofs.Members.{filter_all}
+use Rattle.fj_model.specs.Places.{open_tasks, opened, place, place_of, queued_in, held_by, is_open}
+use Rattle.fj_model.proofs.Members.{filter_all, filter_none}
 
 abbrev pub IsPlain : List Event → Type 0
 IsPlain h = list_all is_plain h ≡ true
@@ -122,3 +123,13 @@ pub filled_ordered : (m : Mode) (h : List Event) (o : Owner) (t : ℕ) → IsPla
 filled_ordered Async h o t plain filled = refl
 filled_ordered Joining h (Sub s) t plain filled = refl
 filled_ordered Joining h (Work w) t plain filled = let none : None ≡ Some t = ap first_of (sym (empty_own h w plain)) ∙ filled in absurd cc
+
+-- no task is open
+pub none_open : (h : List Event) → IsPlain h → open_tasks h ≡ []
+unfolding open_tasks place
+none_open h plain = filter_none (λ t. is_open (place h t)) (opened h) (λ t there. rw (no_completer h t plain) (shut (queued_in h t) (held_by h t)))
+  where
+    shut : (q : Option Owner) (v : Option ℕ) → is_open (place_of q v false) ≡ false
+    shut (Some o) v = refl
+    shut None (Some w) = refl
+    shut None None = refl

@@ -5,7 +5,7 @@ use Rattle.std.specs.List.{list_all, cons_option}
 use Rattle.std.proofs.Math.ListN.{set, length-set}
 use Rattle.std.proofs.lemmas.List.{append-nil, get_or-set_same, get_or-set_other, get_or_append_left}
 use Rattle.std.proofs.Math.Seq.{get_or-append_seam}
-use Rattle.std.proofs.lemmas.Bool.{and_parts, and_from, le-leb, lt-leb, eq-eqb, ne_eqb, le-ltb, lt-ltb, eqb-true, eqb-false, cases_eq, cases_lt, ltb-true, ltb-false}
+use Rattle.std.proofs.lemmas.Bool.{or_right, and_parts, and_from, le-leb, lt-leb, eq-eqb, ne_eqb, le-ltb, lt-ltb, eqb-true, eqb-false, cases_eq, cases_lt, ltb-true, ltb-false}
 use Rattle.fj_model.specs.declared.event.Event.{Event}
 use Rattle.fj_model.specs.declared.event.Event.TheVariants as event
 use Rattle.fj_model.specs.declared.owner.Owner.{Owner}
@@ -25,7 +25,10 @@ use Rattle.fj_model.specs.History.{is_in, tasks, accepted, accepted_by, live, qu
 use Rattle.fj_model.specs.Allowed.{Allowed, AllowedFrom, is_closed, is_stopped}
 use Rattle.fj_model.specs.Answers.{answer, answer_of, refusal_of, standing, events_of, reply_of}
 use Rattle.fj_model.specs.Runs.{Past, Steps, grown, IsHistory}
-use Rattle.fj_machine.specs.Holds.{Holds, is_plain}
+use Rattle.fj_machine.specs.Holds.{Holds, KeepsQueues, KeepsTasks, is_plain}
+use Rattle.fj_machine.proofs.Parts.{list_all_append, new_row, stacks_same}
+use Rattle.fj_machine.proofs.Leaving.{gone_after_submit}
+use Rattle.fj_model.proofs.Members.{is_in_append}
 use Rattle.fj_model.proofs.Growth.{stack_same, accepted_more}
 use Rattle.fj_machine.proofs.PlainHistories.{IsPlain, never_closed, never_stopped, all_live}
 use Rattle.fj_model.proofs.Statuses.{status_same, unknown_status}
@@ -87,11 +90,6 @@ submit_answer pool h s none = allowed pool h (Submit s Plain) none
 
 -- ---- what is kept
 
-pub list_all_append : (test : Event → Bool) (xs ys : List Event) → list_all test xs ≡ true → list_all test ys ≡ true → list_all test (xs ++ ys) ≡ true
-list_all_append test [] ys all more = more
-list_all_append test (x ∷ xs) ys all more =
-    let parts = and_parts (test x) (list_all test xs) all in and_from (test x) (list_all test (xs ++ ys)) parts.0 (list_all_append test xs ys parts.1 more)
-
 -- and no other one is
 other_owner : (l : Bounds) (i s : ℕ) → i ≢ s → is_same (owner_at l i) (Sub s) ≡ false
 other_owner l i s other = go (nat_lt i l.submitters)
@@ -100,45 +98,60 @@ other_owner l i s other = go (nat_lt i l.submitters)
     go true = ne_eqb i s other
     go false = refl
 
-pub new_row : (rows : List (List ℕ)) (i s : ℕ) (new : List ℕ) → s < length rows → i ≡ s → get_or (set rows s new) i [] ≡ new
-new_row rows i s new within here = rw here (get_or-set_same rows s new [] within)
+pub queues_after_submit : (pool : Pool) (h : List Event) (queues : Lists) (s t : ℕ) → AllowedFrom pool [] h → Allowed pool h (event.Acc t (Sub s) Plain) → s < pool.limits.submitters
+    → KeepsQueues pool.limits h queues → KeepsQueues pool.limits (h ++ event.Acc t (Sub s) Plain ∷ []) (with_row queues s (row_at queues s ++ t ∷ []))
+queues_after_submit pool h queues s t so may within keeps =
+    let e = event.Acc t (Sub s) Plain in
+    let new = row_at queues s ++ t ∷ [] in
+    let queue_within : s < length queues.rows = omega (arith, keeps.count) in
+    record {
+      count = length-set queues.rows s new ∙ keeps.count;
+      room = keeps.room;
+      each = λ i inside. ⊎_elim
+          (λ here. new_row queues.rows i s new queue_within here
+          ∙ ap (λ ts. ts ++ t ∷ []) (keeps.each s (omega arith) ∙ ap (queue h) (sub_owner pool.limits s within))
+          ∙ sym (queue_push pool h e (Sub s) t so may (rw (eq-eqb s s refl) refl) refl)
+          ∙ ap (queue (h ++ e ∷ [])) (sym (sub_owner pool.limits s within) ∙ ap (owner_at pool.limits) (sym here)))
+          (λ other. get_or-set_other queues.rows s i new [] other ∙ keeps.each i inside
+          ∙ sym (queue_same h e (owner_at pool.limits i) (rw (other_owner pool.limits i s other) refl) refl))
+          (cases_eq i s);
+    }
 
-pub submit_holds : (pool : Pool) (h : List Event) (queues stacks : Lists) (statuses : List Status) (s : ℕ)
-    → Holds pool h queues stacks statuses → s < pool.limits.submitters → accepted h ≢ pool.limits.tasks → length h < pool.limits.events
-    → Holds pool (h ++ event.Acc (accepted h) (Sub s) Plain ∷ []) (with_row queues s (row_at queues s ++ accepted h ∷ [])) stacks (statuses ++ Undone ∷ [])
-submit_holds pool h queues stacks statuses s holds within room fits =
+tasks_after_submit : (pool : Pool) (h : List Event) (statuses : List Status) (s : ℕ) → AllowedFrom pool [] h → accepted h ≢ pool.limits.tasks
+    → KeepsTasks pool.limits h statuses → KeepsTasks pool.limits (h ++ event.Acc (accepted h) (Sub s) Plain ∷ []) (statuses ++ Undone ∷ [])
+tasks_after_submit pool h statuses s so room keeps =
+    let e = event.Acc (accepted h) (Sub s) Plain in
+    record {
+      count = length-append statuses (Undone ∷ []) ∙ ap (λ n. n + 1) keeps.count ∙ sym (accepted_more h e);
+      few = omega (arith, accepted_more h e, keeps.few);
+      each = λ u inside. ⊎_elim
+          (λ old. get_or_append_left statuses (Undone ∷ []) Undone u (omega (arith, keeps.count)) ∙ keeps.each u old ∙ sym (status_same h e u (λ b. refl)))
+          (λ last.
+          let at_end : length statuses ≡ u = omega (arith, keeps.count, accepted_more h e) in
+          ap (λ n. get_or (statuses ++ Undone ∷ []) n Undone) (sym at_end) ∙ get_or-append_seam statuses Undone [] Undone
+          ∙ sym (status_same h e u (λ b. refl) ∙ unknown_status pool h u so last))
+          (cases_lt u (accepted h));
+    }
+
+pub submit_holds : (pool : Pool) (h : List Event) (queues stacks : Lists) (statuses : List Status) (gones : List ℕ) (s : ℕ)
+    → Holds pool h queues stacks statuses gones → s < pool.limits.submitters → accepted h ≢ pool.limits.tasks → length h < pool.limits.events
+    → Holds pool (h ++ event.Acc (accepted h) (Sub s) Plain ∷ []) (with_row queues s (row_at queues s ++ accepted h ∷ [])) stacks (statuses ++ Undone ∷ []) gones
+submit_holds pool h queues stacks statuses gones s holds within room fits =
     let t = accepted h in
     let e = event.Acc t (Sub s) Plain in
     let is : answer pool h (Submit s Plain) ≡ (says.Task t, e ∷ []) = submit_answer pool h s (submit_stands pool h s holds.plain within room fits) in
     let so = history_allowed pool h holds.run in
     let may : Allowed pool h e = (subst (AllowedFrom pool h) (ap (λ a. a.1) is) (answer_allowed pool h (Submit s Plain) so)).0 in
-    let new = row_at queues s ++ t ∷ [] in
-    let queue_within : s < length queues.rows = omega (arith, holds.queue_count) in
+    let pushed_now : queue (h ++ e ∷ []) (Sub s) ≡ queue h (Sub s) ++ t ∷ [] = queue_push pool h e (Sub s) t so may (rw (eq-eqb s s refl) refl) refl in
+    let queued : is_in t (queue (h ++ e ∷ []) (Sub s)) ≡ true =
+    ap (is_in t) pushed_now ∙ is_in_append t (queue h (Sub s)) (t ∷ []) ∙ or_right (is_in t (queue h (Sub s))) (is_in t (t ∷ [])) (rw (eq-eqb t t refl) refl) in
     record {
       within = holds.within;
       run = subst (λ es. IsHistory pool (h ++ es)) (ap (λ a. a.1) is) (history_more pool h (Submit s Plain) holds.run);
       plain = list_all_append is_plain h (e ∷ []) holds.plain refl;
       fits = omega (arith, length-append h (e ∷ []));
-      queue_count = length-set queues.rows s new ∙ holds.queue_count;
-      queue_room = holds.queue_room;
-      each_queue = λ i inside. ⊎_elim
-          (λ here. new_row queues.rows i s new queue_within here
-          ∙ ap (λ ts. ts ++ t ∷ []) (holds.each_queue s (omega arith) ∙ ap (queue h) (sub_owner pool.limits s within))
-          ∙ sym (queue_push pool h e (Sub s) t so may (rw (eq-eqb s s refl) refl) refl)
-          ∙ ap (queue (h ++ e ∷ [])) (sym (sub_owner pool.limits s within) ∙ ap (owner_at pool.limits) (sym here)))
-          (λ other. get_or-set_other queues.rows s i new [] other ∙ holds.each_queue i inside
-          ∙ sym (queue_same h e (owner_at pool.limits i) (rw (other_owner pool.limits i s other) refl) refl))
-          (cases_eq i s);
-      stack_count = holds.stack_count;
-      stack_room = holds.stack_room;
-      each_stack = λ w inside. holds.each_stack w inside ∙ sym (stack_same h w e refl refl);
-      status_count = length-append statuses (Undone ∷ []) ∙ ap (λ n. n + 1) holds.status_count ∙ sym (accepted_more h e);
-      few_tasks = omega (arith, accepted_more h e, holds.few_tasks);
-      each_status = λ u inside. ⊎_elim
-          (λ old. get_or_append_left statuses (Undone ∷ []) Undone u (omega (arith, holds.status_count)) ∙ holds.each_status u old ∙ sym (status_same h e u (λ b. refl)))
-          (λ last.
-          let at_end : length statuses ≡ u = omega (arith, holds.status_count, accepted_more h e) in
-          ap (λ n. get_or (statuses ++ Undone ∷ []) n Undone) (sym at_end) ∙ get_or-append_seam statuses Undone [] Undone
-          ∙ sym (status_same h e u (λ b. refl) ∙ unknown_status pool h u so last))
-          (cases_lt u (accepted h));
+      queues_kept = queues_after_submit pool h queues s t so may within holds.queues_kept;
+      stacks_kept = stacks_same pool.limits h (h ++ e ∷ []) stacks (λ w. stack_same h w e refl refl) holds.stacks_kept;
+      tasks_kept = tasks_after_submit pool h statuses s so room holds.tasks_kept;
+      gone_kept = gone_after_submit pool h gones s t so holds.plain queued holds.gone_kept;
     }

@@ -4,7 +4,7 @@ use Rattle.std.specs.Prelude.{◌==◌, nat_lt, if◌then◌else◌}
 use Rattle.std.specs.List.{list_all, cons_option}
 use Rattle.std.proofs.Math.ListN.{set, length-set}
 use Rattle.std.proofs.lemmas.List.{append-nil, get_or-set_same, get_or-set_other}
-use Rattle.std.proofs.lemmas.Bool.{le-ltb, lt-ltb, eqb-true, eqb-false, eq-eqb, ne_eqb, cases_eq, cases_lt, ltb-true, ltb-false, true≢false}
+use Rattle.std.proofs.lemmas.Bool.{or_right, le-ltb, lt-ltb, eqb-true, eqb-false, eq-eqb, ne_eqb, cases_eq, cases_lt, ltb-true, ltb-false, true≢false}
 use Rattle.fj_model.specs.declared.event.Event.{Event}
 use Rattle.fj_model.specs.declared.event.Event.TheVariants as event
 use Rattle.fj_model.specs.declared.owner.Owner.{Owner}
@@ -19,15 +19,16 @@ use Rattle.fj_model.specs.Allowed.{Allowed, AllowedFrom}
 use Rattle.fj_model.specs.Choices.{first_of}
 use Rattle.fj_model.specs.Headline.{keeps_order}
 use Rattle.fj_model.specs.Runs.{IsHistory}
-use Rattle.fj_machine.specs.Holds.{Holds, is_plain}
-use Rattle.fj_model.proofs.Members.{first_is_in}
+use Rattle.fj_machine.specs.Holds.{Holds, KeepsQueues, KeepsStacks, KeepsTasks, KeepsGone, is_plain}
+use Rattle.fj_model.proofs.Members.{first_is_in, is_in_append}
 use Rattle.fj_model.proofs.Growth.{stack_same, stack_more, without_none, accepted_more}
 use Rattle.fj_model.proofs.Lawful.{queued_pushed, pushed_known, is_numbered}
 use Rattle.fj_model.proofs.Statuses.{status_same}
 use Rattle.fj_model.proofs.AnswersAllowed.{history_allowed}
 use Rattle.fj_model.proofs.Queues.{queue_take, queue_other}
-use Rattle.fj_machine.proofs.Submitting.{list_all_append, new_row}
-use Rattle.fj_machine.proofs.PlainHistories.{filled_ordered}
+use Rattle.fj_machine.proofs.Parts.{list_all_append, new_row, stacks_same, tasks_same}
+use Rattle.fj_machine.proofs.Leaving.{gone_after_out, gone_after_skip}
+use Rattle.fj_machine.proofs.PlainHistories.{IsPlain, filled_ordered}
 use Rattle.fj_model.proofs.Owners.{owners_apart}
 
 -- the last of allowed events was allowed
@@ -43,62 +44,98 @@ pub record Takes (h : List Event) (e : Event) (t : ℕ) : Type 0 where
   pub says : (u : ℕ) (b : Bool) → status_by u b e ≡ None
   pub plain : is_plain e ≡ true
 
-pub taken_holds : (pool : Pool) (h : List Event) (queues stacks stacks' : Lists) (statuses : List Status) (q t : ℕ) (e : Event)
-    → Holds pool h queues stacks statuses → q < queues_in pool.limits → first_of (queue h (owner_at pool.limits q)) ≡ Some t
-    → Takes h e t → IsHistory pool (h ++ e ∷ []) → length h < pool.limits.events
-    → length stacks'.rows ≡ pool.limits.workers → stacks'.room ≡ pool.limits.tasks → ((w : ℕ) → w < pool.limits.workers → row_at stacks' w ≡ stack (h ++ e ∷ []) w)
-    → Holds pool (h ++ e ∷ []) (with_row queues q (drop 1 (row_at queues q))) stacks' statuses
-taken_holds pool h queues stacks stacks' statuses q t e holds within first ev run fits count room each =
-    let so = history_allowed pool h holds.run in
-    let may : Allowed pool h e = last_allowed pool [] h e (history_allowed pool (h ++ e ∷ []) run) in
+queues_after_take : (pool : Pool) (h : List Event) (queues : Lists) (q t : ℕ) (e : Event) → AllowedFrom pool [] h → Allowed pool h e → IsPlain h → q < queues_in pool.limits
+    → first_of (queue h (owner_at pool.limits q)) ≡ Some t → Takes h e t
+    → KeepsQueues pool.limits h queues → KeepsQueues pool.limits (h ++ e ∷ []) (with_row queues q (drop 1 (row_at queues q)))
+queues_after_take pool h queues q t e so may plain within first ev keeps =
     let o = owner_at pool.limits q in
     let new = drop 1 (row_at queues q) in
-    let keeps : keeps_order pool.mode o ≡ true = filled_ordered pool.mode h o t holds.plain first in
-    let q_within : q < length queues.rows = omega (arith, holds.queue_count) in
-    let same : accepted (h ++ e ∷ []) ≡ accepted h = accepted_more h e ∙ rw ev.accepts (omega arith) in
+    let ordered : keeps_order pool.mode o ≡ true = filled_ordered pool.mode h o t plain first in
+    let q_within : q < length queues.rows = omega (arith, keeps.count) in
+    record {
+      count = length-set queues.rows q new ∙ keeps.count;
+      room = keeps.room;
+      each = λ i inside. ⊎_elim
+          (λ here. new_row queues.rows i q new q_within here
+          ∙ ap (drop 1) (keeps.each q within)
+          ∙ sym (queue_take pool h e o t so may ordered (ev.pushes o) ev.takes first)
+          ∙ ap (queue (h ++ e ∷ [])) (ap (owner_at pool.limits) (sym here)))
+          (λ other. get_or-set_other queues.rows q i new [] other ∙ keeps.each i inside
+          ∙ sym (queue_other pool h e (owner_at pool.limits i) o t so (ev.pushes (owner_at pool.limits i)) ev.takes
+          (queued_pushed h o t (first_is_in t (queue h o) first)) (λ is. other (owners_apart pool.limits i q is))))
+          (cases_eq i q);
+    }
+
+taken_holds : (pool : Pool) (h : List Event) (queues stacks stacks2 : Lists) (statuses : List Status) (gones gones2 : List ℕ) (q t : ℕ) (e : Event)
+    → Holds pool h queues stacks statuses gones → q < queues_in pool.limits → first_of (queue h (owner_at pool.limits q)) ≡ Some t
+    → Takes h e t → IsHistory pool (h ++ e ∷ []) → length h < pool.limits.events
+    → KeepsStacks pool.limits (h ++ e ∷ []) stacks2 → KeepsGone (h ++ e ∷ []) gones2
+    → Holds pool (h ++ e ∷ []) (with_row queues q (drop 1 (row_at queues q))) stacks2 statuses gones2
+taken_holds pool h queues stacks stacks2 statuses gones gones2 q t e holds within first ev run fits stacks_kept gone_kept =
+    let so = history_allowed pool h holds.run in
+    let may : Allowed pool h e = last_allowed pool [] h e (history_allowed pool (h ++ e ∷ []) run) in
     record {
       within = holds.within;
       run = run;
       plain = list_all_append is_plain h (e ∷ []) holds.plain (rw ev.plain refl);
       fits = omega (arith, length-append h (e ∷ []));
-      queue_count = length-set queues.rows q new ∙ holds.queue_count;
-      queue_room = holds.queue_room;
-      each_queue = λ i inside. ⊎_elim
-          (λ here. new_row queues.rows i q new q_within here
-          ∙ ap (drop 1) (holds.each_queue q within)
-          ∙ sym (queue_take pool h e o t so may keeps (ev.pushes o) ev.takes first)
-          ∙ ap (queue (h ++ e ∷ [])) (ap (owner_at pool.limits) (sym here)))
-          (λ other. get_or-set_other queues.rows q i new [] other ∙ holds.each_queue i inside
-          ∙ sym (queue_other pool h e (owner_at pool.limits i) o t so (ev.pushes (owner_at pool.limits i)) ev.takes
-          (queued_pushed h o t (first_is_in t (queue h o) first)) (λ is. other (owners_apart pool.limits i q is))))
-          (cases_eq i q);
-      stack_count = count;
-      stack_room = room;
-      each_stack = each;
-      status_count = holds.status_count ∙ sym same;
-      few_tasks = omega (arith, same, holds.few_tasks);
-      each_status = λ u inside. holds.each_status u (omega (arith, same)) ∙ sym (status_same h e u (ev.says u));
+      queues_kept = queues_after_take pool h queues q t e so may holds.plain within first ev holds.queues_kept;
+      stacks_kept = stacks_kept;
+      tasks_kept = tasks_same pool.limits h (h ++ e ∷ []) statuses (accepted_more h e ∙ rw ev.accepts (omega arith)) (λ u. status_same h e u (ev.says u)) holds.tasks_kept;
+      gone_kept = gone_kept;
     }
 
-pub skip_takes : (h : List Event) (t w : ℕ) → Takes h (event.Skip t w) t
+skip_takes : (h : List Event) (t w : ℕ) → Takes h (event.Skip t w) t
 skip_takes h t w = record { takes = refl; accepts = refl; pushes = λ o. refl; says = λ u b. refl; plain = refl }
 
-pub out_takes_it : (h : List Event) (t w : ℕ) → Takes h (event.Out t w) t
+out_takes_it : (h : List Event) (t w : ℕ) → Takes h (event.Out t w) t
 out_takes_it h t w = record { takes = refl; accepts = refl; pushes = λ o. refl; says = λ u b. refl; plain = refl }
 
--- a task that is handed out stands on top of the worker's stack, and the other stacks stay
-pub out_stacks : (h : List Event) (stacks : Lists) (count w t v : ℕ) → length stacks.rows ≡ count → ((v : ℕ) → v < count → row_at stacks v ≡ stack h v) → w < count → v < count
-    → row_at (with_row stacks w (row_at stacks w ++ t ∷ [])) v ≡ stack (h ++ event.Out t w ∷ []) v
-out_stacks h stacks count w t v is each within inside = ⊎_elim
-    (λ here. new_row stacks.rows v w (row_at stacks w ++ t ∷ []) (omega arith) here
-    ∙ ap (λ ts. ts ++ t ∷ []) (each w within)
-    ∙ sym (ap (stack (h ++ event.Out t w ∷ [])) here ∙ top))
-    (λ other. get_or-set_other stacks.rows w v (row_at stacks w ++ t ∷ []) [] other ∙ each v inside
-    ∙ sym (stack_same h v (event.Out t w) refl (rw (ne_eqb v w other) refl)))
-    (cases_eq v w)
-  where
-    top : stack (h ++ event.Out t w ∷ []) w ≡ stack h w ++ t ∷ []
-    top = stack_more h w (event.Out t w) ∙ rw (eq-eqb w w refl, without_none) refl
+-- a task that is handed out stands on top of the worker's stack
+stack_out : (h : List Event) (w t : ℕ) → stack (h ++ event.Out t w ∷ []) w ≡ stack h w ++ t ∷ []
+stack_out h w t = stack_more h w (event.Out t w) ∙ rw (eq-eqb w w refl, without_none) refl
+
+-- and the other stacks stay
+stacks_after_out : (l : Bounds) (h : List Event) (stacks : Lists) (w t : ℕ) → w < l.workers → KeepsStacks l h stacks → KeepsStacks l (h ++ event.Out t w ∷ []) (with_row stacks w (row_at stacks w ++ t ∷ []))
+stacks_after_out l h stacks w t within keeps = record {
+  count = length-set stacks.rows w (row_at stacks w ++ t ∷ []) ∙ keeps.count;
+  room = keeps.room;
+  each = λ v inside. ⊎_elim
+      (λ here. new_row stacks.rows v w (row_at stacks w ++ t ∷ []) (omega (arith, keeps.count)) here
+      ∙ ap (λ ts. ts ++ t ∷ []) (keeps.each w within)
+      ∙ sym (ap (stack (h ++ event.Out t w ∷ [])) here ∙ stack_out h w t))
+      (λ other. get_or-set_other stacks.rows w v (row_at stacks w ++ t ∷ []) [] other ∙ keeps.each v inside
+      ∙ sym (stack_same h v (event.Out t w) refl (rw (ne_eqb v w other) refl)))
+      (cases_eq v w);
+}
+
+-- what is kept after the first task of a queue was skipped
+pub skipped_holds : (pool : Pool) (h : List Event) (queues stacks : Lists) (statuses : List Status) (gones : List ℕ) (q t w : ℕ)
+    → Holds pool h queues stacks statuses gones → q < queues_in pool.limits → first_of (queue h (owner_at pool.limits q)) ≡ Some t
+    → IsHistory pool (h ++ event.Skip t w ∷ []) → length h < pool.limits.events
+    → Holds pool (h ++ event.Skip t w ∷ []) (with_row queues q (drop 1 (row_at queues q))) stacks statuses (gones ++ t ∷ [])
+skipped_holds pool h queues stacks statuses gones q t w holds within first run fits =
+    let e = event.Skip t w in
+    let so = history_allowed pool h holds.run in
+    let may : Allowed pool h e = last_allowed pool [] h e (history_allowed pool (h ++ e ∷ []) run) in
+    let o = owner_at pool.limits q in
+    taken_holds pool h queues stacks stacks statuses gones (gones ++ t ∷ []) q t e holds within first (skip_takes h t w) run fits
+    (stacks_same pool.limits h (h ++ e ∷ []) stacks (λ v. stack_same h v e refl refl) holds.stacks_kept)
+    (gone_after_skip pool h gones t w o so may holds.plain (list_all_append is_plain h (e ∷ []) holds.plain refl) (first_is_in t (queue h o) first) holds.gone_kept)
+
+-- what is kept after the first task of a queue was handed out
+pub handed_holds : (pool : Pool) (h : List Event) (queues stacks : Lists) (statuses : List Status) (gones : List ℕ) (q t w : ℕ)
+    → Holds pool h queues stacks statuses gones → q < queues_in pool.limits → first_of (queue h (owner_at pool.limits q)) ≡ Some t → w < pool.limits.workers
+    → IsHistory pool (h ++ event.Out t w ∷ []) → length h < pool.limits.events
+    → Holds pool (h ++ event.Out t w ∷ []) (with_row queues q (drop 1 (row_at queues q))) (with_row stacks w (row_at stacks w ++ t ∷ [])) statuses gones
+handed_holds pool h queues stacks statuses gones q t w holds within first worker run fits =
+    let e = event.Out t w in
+    let so = history_allowed pool h holds.run in
+    let held : is_in t (stack (h ++ e ∷ []) w) ≡ true =
+    ap (is_in t) (stack_out h w t) ∙ is_in_append t (stack h w) (t ∷ []) ∙ or_right (is_in t (stack h w)) (is_in t (t ∷ [])) (rw (eq-eqb t t refl) refl) in
+    taken_holds pool h queues stacks (with_row stacks w (row_at stacks w ++ t ∷ [])) statuses gones gones q t e holds within first (out_takes_it h t w) run fits
+    (stacks_after_out pool.limits h stacks w t worker holds.stacks_kept)
+    (gone_after_out pool h gones t w so holds.plain held holds.gone_kept)
 
 -- a queued task is one of those accepted
 pub queued_number : (pool : Pool) (h : List Event) (o : Owner) (t : ℕ) → AllowedFrom pool [] h → first_of (queue h o) ≡ Some t → t < accepted h
@@ -111,6 +148,6 @@ get_or_any (x ∷ xs) zero d e within = refl
 get_or_any (x ∷ xs) (suc k) d e within = get_or_any xs k d e (omega arith)
 
 -- what is read of the statuses is the task's
-pub status_read : (pool : Pool) (h : List Event) (queues stacks : Lists) (statuses : List Status) (t : ℕ) (s : Status)
-    → Holds pool h queues stacks statuses → t < accepted h → s ≡ get_or statuses t s → s ≡ status h t
-status_read pool h queues stacks statuses t s holds within is = is ∙ get_or_any statuses t s Undone (omega (arith, holds.status_count)) ∙ holds.each_status t within
+pub status_read : (pool : Pool) (h : List Event) (statuses : List Status) (t : ℕ) (s : Status)
+    → KeepsTasks pool.limits h statuses → t < accepted h → s ≡ get_or statuses t s → s ≡ status h t
+status_read pool h statuses t s keeps within is = is ∙ get_or_any statuses t s Undone (omega (arith, keeps.count)) ∙ keeps.each t within

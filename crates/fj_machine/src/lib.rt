@@ -1,8 +1,13 @@
-//! A pool's scheduler as single steps, with the history of what happened.
+//! The scheduler of a fork-join pool as single steps, with the history of what happened.
+//!
+//! A [`Machine`] is known by its history alone: what stands in its queues and on its stacks, how far each task has come and what is
+//! answered to a step are definitions over the history, which stand in `fj_model`. Nothing here waits or starts a thread.
 #![tactic(auto)]
 
 mod log;
 mod machine;
 mod rows;
+mod runs;
 
-pub use machine::{Machine, run};
+pub use machine::Machine;
+pub use runs::run;

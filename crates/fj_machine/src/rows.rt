@@ -36,6 +36,14 @@ impl Rows {
         Ok(Rows { rows, room })
     }
 
+    /// A list without members.
+    pub fn none<'a>() -> &'a [Serial]
+        ensures { result.now ≡ [] }
+    {
+        let none: &'a [Serial] = &[];
+        none
+    }
+
     /// The list at a place.
     pub fn row(&self, i: usize) -> &[Serial]
         requires { i < length self.now.rows }

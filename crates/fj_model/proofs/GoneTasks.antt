@@ -27,7 +27,7 @@ use Rattle.fj_model.proofs.AnswersAllowed.{unless_cases, out_takes}
 -- ---- where a task is not
 
 -- what was pushed and not taken is in the queue
-in_queue : (h : List Event) (o : Owner) (t : ℕ) → is_in t (pushed h o) ≡ true → is_in t (taken h) ≡ false → is_in t (queue h o) ≡ true
+pub in_queue : (h : List Event) (o : Owner) (t : ℕ) → is_in t (pushed h o) ≡ true → is_in t (taken h) ≡ false → is_in t (queue h o) ≡ true
 unfolding queue
 in_queue h o t there absent = is_in_filter (λ u. not (is_in u (left h o))) t (pushed h o) ∙ rw (there, left_of_taken h o t absent) refl
 

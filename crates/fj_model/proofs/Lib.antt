@@ -9,5 +9,9 @@ pub mod Ends
 pub mod GoneTasks
 pub mod OnePlace
 pub mod Firings
+pub mod Replies
+pub mod Headlines
 pub mod AllowedTest
 pub mod WorkedRows
+pub mod GoneList
+pub mod Absent

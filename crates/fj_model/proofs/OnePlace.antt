@@ -102,7 +102,7 @@ queues_one pool h t o so there =
 abbrev IsStackApart : Pool → List Event → Type 0
 IsStackApart pool h = (t w v : ℕ) → is_in t (stack h w) ≡ true → is_in t (stack h v) ≡ true → (w ≡ v) × (w < pool.limits.workers)
 
-stack_before : (h : List Event) (e : Event) (w t : ℕ) → is_in t (stack (h ++ e ∷ []) w) ≡ true → ((is_in t (stack h w) ≡ true) × (is_in t (cons_option (ended_by w e) []) ≡ false)) ⊎ (out_by w e ≡ Some t)
+pub stack_before : (h : List Event) (e : Event) (w t : ℕ) → is_in t (stack (h ++ e ∷ []) w) ≡ true → ((is_in t (stack h w) ≡ true) × (is_in t (cons_option (ended_by w e) []) ≡ false)) ⊎ (out_by w e ≡ Some t)
 stack_before h e w t there =
     ⊎_elim
     (λ old. let parts = and_parts (is_in t (stack h w)) (not (is_in t (cons_option (ended_by w e) []))) (sym (is_in_filter (λ u. not (is_in u (cons_option (ended_by w e) []))) t (stack h w)) ∙ old) in
@@ -164,14 +164,14 @@ pub record IsOut (h : List Event) (t : ℕ) : Type 0 where
 abbrev pub IsOpenedOut : List Event → Type 0
 IsOpenedOut h = (t : ℕ) → is_in t (opened h) ≡ true → IsOut h t
 
-never : (b : Bool) → (b ≡ true → ⊥) → b ≡ false
+pub never : (b : Bool) → (b ≡ true → ⊥) → b ≡ false
 never true h = absurd (h refl)
 never false h = refl
 
-accepted_now : (h : List Event) (e : Event) (t : ℕ) → accepted_by e ≡ Some t → is_in t (tasks (h ++ e ∷ [])) ≡ true
+pub accepted_now : (h : List Event) (e : Event) (t : ℕ) → accepted_by e ≡ Some t → is_in t (tasks (h ++ e ∷ [])) ≡ true
 accepted_now h e t is = rw (tasks_more, is, is_in_append t (tasks h) (t ∷ [])) (or_right (is_in t (tasks h)) (is_in t (t ∷ [])) (rw (eq-eqb t t refl) refl))
 
-out_new : (pool : Pool) (h : List Event) (e : Event) (t : ℕ) → AllowedFrom pool [] h → Allowed pool h e → opened_by e ≡ Some t → IsOut (h ++ e ∷ []) t
+pub out_new : (pool : Pool) (h : List Event) (e : Event) (t : ℕ) → AllowedFrom pool [] h → Allowed pool h e → opened_by e ≡ Some t → IsOut (h ++ e ∷ []) t
 out_new pool h (Make u k) t so may is =
     let e = Make u k in
     let fresh = is_new pool h e t so may is in

@@ -8,15 +8,16 @@ use Rattle.fj_model.specs.declared.owner.Owner.{Owner}
 use Rattle.fj_model.specs.declared.owner.Owner.TheVariants.{Sub, Work}
 use Rattle.fj_model.specs.declared.mode.Mode.{Mode}
 use Rattle.fj_model.specs.declared.mode.Mode.TheVariants.{Async, Joining}
-use Rattle.std.specs.Prelude.{◌||◌, ◌↔◌, Contains}
+use Rattle.std.specs.Prelude.{◌||◌, Contains}
 use Rattle.fj_model.specs.declared.kind.Kind.{Kind}
 use Rattle.fj_model.specs.declared.event.How.{How}
 use Rattle.fj_model.specs.declared.event.How.TheVariants.{Zero, Complete}
 use Rattle.fj_model.specs.declared.step.Step.{Step}
 use Rattle.fj_model.specs.declared.step.Step.TheVariants as ask
 use Rattle.fj_model.specs.declared.step.Ending.TheVariants as ending
+use Rattle.fj_model.specs.declared.said.Said.{Said}
 use Rattle.fj_model.specs.declared.said.Said.TheVariants as says
-use Rattle.fj_model.specs.Allowed.{is_closed, is_stopped}
+use Rattle.fj_model.specs.Allowed.{is_closed, is_stopped, AllowedFrom}
 use Rattle.fj_model.specs.Answers.{answer, running}
 use Rattle.fj_model.specs.Bounds.{Bounds, Pool, owners, workers}
 use Rattle.fj_model.specs.History.{accepted, pushed, left, queue, stack, pending}
@@ -87,9 +88,26 @@ CompletesOwn pool =
     (h : List Event) (asked : Step) (c : ℕ) → Contains (answer pool h asked).1 (Fire c Complete)
     → (w : ℕ) × (asked ≡ ask.End w ending.Complete) × (running h w ≡ Some c)
 
--- the reply run stands exactly where a task is handed out, and the reply hook exactly where a hook is
-abbrev pub RepliesTell : Pool → Type 0
-RepliesTell pool =
-    (h : List Event) (asked : Step) (t : ℕ)
-    → (((answer pool h asked).0 ≡ says.Run t) ↔ ((w : ℕ) × Contains (answer pool h asked).1 (Out t w)))
-    × (((answer pool h asked).0 ≡ says.Hook t) ↔ ((how : How) × Contains (answer pool h asked).1 (Fire t how)))
+-- the task that a reply hands out for running, and the completer whose hook a reply hands out
+abbrev pub run_in : Said → Option ℕ
+run_in (says.Run t) = Some t
+run_in _ = None
+
+abbrev pub hook_in : Said → Option ℕ
+hook_in (says.Hook c) = Some c
+hook_in _ = None
+
+-- the replies `run` are for the tasks that were handed out, and the replies `hook` for the hooks, one for one
+pub record RepliesTell (h : List Event) (replies : List Said) : Type 0 where
+  pub runs : handed_out h ≡ filter_map run_in replies
+  pub hooks : fired h ≡ filter_map hook_in replies
+
+-- what holds of the history of every run
+pub record Headline (pool : Pool) (h : List Event) : Type 0 where
+  pub allowed : AllowedFrom pool [] h
+  pub place : IsInOnePlace pool.limits h
+  pub handed_once : IsHandedOutOnce h
+  pub order : LeftInOrder pool.mode h
+  pub shutdown : NoneAfterShutdown h
+  pub fired_once : IsFiredOnce h
+  pub fired_at_zero : FiredAtZero h

@@ -1,4 +1,4 @@
-ghost use Rattle.std.specs.Prelude.{◌≡◌, ◌↔◌, IsOk, IfOk, OnErr};
+ghost use Rattle.std.specs.Prelude.{◌≡◌, ◌↔◌, IsOk, IfOk, OnErr, MatchOption};
 
 use crate::owner::Owner;
 use crate::refusal::Refusal;
@@ -36,7 +36,7 @@ impl Model for Limits {
 }
 
 impl Limits {
-    ghost use Rattle.fj_model.specs.Bounds.{IsWithin, Bounds, queue_number};
+    ghost use Rattle.fj_model.specs.Bounds.{IsWithin, IsOwner, queue_number};
 
     /// The limits, if each lies in its range.
     pub fn new(workers: u32, submitters: u32, tasks: u32, events: u32) -> Result<Limits, Refusal>
@@ -101,6 +101,17 @@ impl Limits {
         match owner {
             Owner::Sub(s) => s.0 as usize,
             Owner::Work(w) => self.submitters as usize + w.0 as usize,
+        }
+    }
+
+    /// The number of an owner's queue, if the owner is one of the pool's.
+    pub fn find_queue(&self, owner: Owner) -> Option<usize>
+        ensures { MatchOption result (¬ IsOwner self.now owner) (λ n. IsOwner self.now owner × (n ≡ queue_number self.now owner)) }
+    {
+        match owner {
+            Owner::Sub(s) if s.0 < self.submitters => Some(s.0 as usize),
+            Owner::Work(w) if w.0 < self.workers => Some(self.submitters as usize + w.0 as usize),
+            Owner::Sub(_) | Owner::Work(_) => None,
         }
     }
 }

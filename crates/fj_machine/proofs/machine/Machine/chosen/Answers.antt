@@ -15,5 +15,5 @@ returns c =
     let places : c.first_at.result ≡ first_filled rows ((l.submitters + c.args.w) ∷ places_from (queues_in l) c.args.r) =
     c.first_at.ensures
     ∙ ap (λ i. first_filled rows (i ∷ places_from (length rows) c.args.r)) c.queue_number-own.ensures
-    ∙ ap (λ n. first_filled rows ((l.submitters + c.args.w) ∷ places_from n c.args.r)) holds.queue_count in
-    rw (← c.self.view_is, places) (choice_found pool c.self.inside.log.events rows c.args.w c.args.r holds.plain within holds.each_queue)
+    ∙ ap (λ n. first_filled rows ((l.submitters + c.args.w) ∷ places_from n c.args.r)) holds.queues_kept.count in
+    rw (← c.self.view_is, places) (choice_found pool c.self.inside.log.events rows c.args.w c.args.r holds.plain within holds.queues_kept.each)

@@ -26,7 +26,7 @@ returns-then-not-is_empty c =
     let r = c.args.r in
     let holds = c.self.invariant.0 in
     let within : w < c.self.inside.limits.workers = omega arith in
-    let row : c.row.result.now ≡ stack h w = c.row.ensures ∙ holds.each_stack c.w.inside.0 (omega arith) ∙ ap (stack h) c.w.view_is in
+    let row : c.row.result.now ≡ stack h w = c.row.ensures ∙ holds.stacks_kept.each c.w.inside.0 (omega arith) ∙ ap (stack h) c.w.view_is in
     let some : length c.row.result.now ≢ 0 = eqb-false (length c.row.result.now) 0 (sym c.is_empty.ensures ∙ c.if-not-is_empty.true) in
     let busy : is_empty (stack h w) ≡ false = ap is_empty (sym row) ∙ is_empty_no c.row.result.now (omega arith) in
     rw (← c.self.view_is) (told _ (Poll w r) _ (refused pool h (Poll w r) _ (poll_not_idle pool h w r holds.plain within busy)))
@@ -39,7 +39,7 @@ returns-in-None c =
     let r = c.args.r in
     let holds = c.self.invariant.0 in
     let within : w < c.self.inside.limits.workers = omega arith in
-    let row : c.row.result.now ≡ stack h w = c.row.ensures ∙ holds.each_stack c.w.inside.0 (omega arith) ∙ ap (stack h) c.w.view_is in
+    let row : c.row.result.now ≡ stack h w = c.row.ensures ∙ holds.stacks_kept.each c.w.inside.0 (omega arith) ∙ ap (stack h) c.w.view_is in
     let empty : length c.row.result.now ≡ 0 = eqb-true (length c.row.result.now) 0 (sym c.is_empty.ensures ∙ c.if-not-is_empty.false) in
     let idle : is_empty (stack h w) ≡ true = ap is_empty (sym row) ∙ is_empty_yes c.row.result.now empty in
     let none : choice pool h w r ≡ None = subst (λ (p : Past). choice p.pool p.events w r ≡ None) (sym c.self.view_is) c.in-None.ensures in
@@ -54,7 +54,7 @@ returns-then-is_full c =
     let r = c.args.r in
     let holds = c.self.invariant.0 in
     let within : w < c.self.inside.limits.workers = omega arith in
-    let row : c.row.result.now ≡ stack h w = c.row.ensures ∙ holds.each_stack c.w.inside.0 (omega arith) ∙ ap (stack h) c.w.view_is in
+    let row : c.row.result.now ≡ stack h w = c.row.ensures ∙ holds.stacks_kept.each c.w.inside.0 (omega arith) ∙ ap (stack h) c.w.view_is in
     let empty : length c.row.result.now ≡ 0 = eqb-true (length c.row.result.now) 0 (sym c.is_empty.ensures ∙ c.if-not-is_empty.false) in
     let idle : is_empty (stack h w) ≡ true = ap is_empty (sym row) ∙ is_empty_yes c.row.result.now empty in
     let from : IsChosenFrom (record { pool = pool; events = h }) w r c.in-Some.q = subst (λ (p : Past). IsChosenFrom p w r c.in-Some.q) (sym c.self.view_is) c.in-Some.ensures in
@@ -72,7 +72,7 @@ take-requires-clause-history c =
     let r = c.args.r in
     let holds = c.self.invariant.0 in
     let within : w < c.self.inside.limits.workers = omega arith in
-    let row : c.row.result.now ≡ stack h w = c.row.ensures ∙ holds.each_stack c.w.inside.0 (omega arith) ∙ ap (stack h) c.w.view_is in
+    let row : c.row.result.now ≡ stack h w = c.row.ensures ∙ holds.stacks_kept.each c.w.inside.0 (omega arith) ∙ ap (stack h) c.w.view_is in
     let empty : length c.row.result.now ≡ 0 = eqb-true (length c.row.result.now) 0 (sym c.is_empty.ensures ∙ c.if-not-is_empty.false) in
     let idle : is_empty (stack h w) ≡ true = ap is_empty (sym row) ∙ is_empty_yes c.row.result.now empty in
     let from : IsChosenFrom (record { pool = pool; events = h }) w r c.in-Some.q = subst (λ (p : Past). IsChosenFrom p w r c.in-Some.q) (sym c.self.view_is) c.in-Some.ensures in
@@ -92,7 +92,7 @@ returns-else-is_full c =
     let r = c.args.r in
     let holds = c.self.invariant.0 in
     let within : w < c.self.inside.limits.workers = omega arith in
-    let row : c.row.result.now ≡ stack h w = c.row.ensures ∙ holds.each_stack c.w.inside.0 (omega arith) ∙ ap (stack h) c.w.view_is in
+    let row : c.row.result.now ≡ stack h w = c.row.ensures ∙ holds.stacks_kept.each c.w.inside.0 (omega arith) ∙ ap (stack h) c.w.view_is in
     let empty : length c.row.result.now ≡ 0 = eqb-true (length c.row.result.now) 0 (sym c.is_empty.ensures ∙ c.if-not-is_empty.false) in
     let idle : is_empty (stack h w) ≡ true = ap is_empty (sym row) ∙ is_empty_yes c.row.result.now empty in
     let from : IsChosenFrom (record { pool = pool; events = h }) w r c.in-Some.q = subst (λ (p : Past). IsChosenFrom p w r c.in-Some.q) (sym c.self.view_is) c.in-Some.ensures in

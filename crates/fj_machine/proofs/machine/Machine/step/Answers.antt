@@ -1,30 +1,18 @@
-use Rattle.std.proofs.Common.{◌≡◌, false, refl, ◌⊎◌, ⊎_elim, ap, ◌∙◌}
-use Rattle.fj_model.specs.declared.step.Step.TheVariants as ask
-use Rattle.fj_model.specs.Answers.{is_built, is_built_ending}
-use Rattle.fj_machine.proofs.NotYets.{steps_not_yet}
+use Rattle.std.proofs.Common.{subst}
+use Rattle.fj_model.specs.Allowed.{AllowedFrom}
+use Rattle.fj_model.specs.Answers.{answer}
+use Rattle.fj_model.specs.Bounds.{Pool}
+use Rattle.fj_model.specs.Runs.{Past}
+use Rattle.fj_model.proofs.AnswersAllowed.{history_allowed, answer_allowed}
+use Rattle.fj_machine.proofs.Refusing.{refused_same}
 use Rattle.fj_machine.proofs.machine.Machine.step.Goals as goal
 
-pub returns-in-Completer : goal.returns-in-Completer
-returns-in-Completer c = steps_not_yet c.args.self.now c.args.asked.now (rw (c.in-Submit.is, c.in-Completer.is) refl)
+pub returns-clause-allowed : goal.returns-clause-allowed
+returns-clause-allowed c =
+    let pool : Pool = record { mode = c.self.inside.mode; limits = c.self.inside.limits } in
+    let h = c.self.inside.log.events in
+    subst (λ (p : Past). AllowedFrom p.pool p.events (answer p.pool p.events c.args.asked.now).1) c.self.view_is
+    (answer_allowed pool h c.args.asked.now (history_allowed pool h c.self.invariant.0.run))
 
-pub returns-in-Quiet : goal.returns-in-Quiet
-returns-in-Quiet c =
-    let none : is_built_ending c.in-End.ending ≡ false =
-    ⊎_elim (λ is. rw is refl) (λ rest. ⊎_elim (λ is. rw is refl) (λ rest. ⊎_elim (λ is. rw is refl) (λ rest. ⊎_elim (λ is. rw is refl) (λ is. rw is.1 refl) rest) rest) rest) c.in-Quiet.is in
-    steps_not_yet c.args.self.now c.args.asked.now (rw c.in-End.is none)
-
-pub returns-in-Fork : goal.returns-in-Fork
-returns-in-Fork c = steps_not_yet c.args.self.now c.args.asked.now
-    (⊎_elim (λ is. rw is.2 refl) (λ rest.
-    ⊎_elim (λ is. rw is.2 refl) (λ rest.
-    ⊎_elim (λ is. rw is.2 refl) (λ rest.
-    ⊎_elim (λ is. rw is.3 refl) (λ rest.
-    ⊎_elim (λ is. rw is.1 refl) (λ rest.
-    ⊎_elim (λ is. rw is.3 refl) (λ rest.
-    ⊎_elim (λ is. rw is.2 refl) (λ rest.
-    ⊎_elim (λ is. rw is.2 refl) (λ rest.
-    ⊎_elim (λ is. rw is.1 refl) (λ rest.
-    ⊎_elim (λ is. rw is refl) (λ rest.
-    ⊎_elim (λ is. rw is refl) (λ rest.
-    ⊎_elim (λ is. rw is refl) (λ rest.
-    ⊎_elim (λ is. rw is.1 refl) (λ is. rw is.1 refl) rest) rest) rest) rest) rest) rest) rest) rest) rest) rest) rest) rest) c.in-Fork.is)
+pub returns-clause-refused : goal.returns-clause-refused
+returns-clause-refused c = refused_same _ _ c.args.asked.now _ c.dispatch.ensures

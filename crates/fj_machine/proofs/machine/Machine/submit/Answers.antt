@@ -18,7 +18,7 @@ returns-then-accepted-tasks c =
     let pool : Pool = record { mode = c.self.inside.mode; limits = c.self.inside.limits } in
     let h = c.self.inside.log.events in
     let holds = c.self.invariant.0 in
-    let full : accepted h ≡ c.self.inside.limits.tasks = omega (arith, holds.status_count, c.self.inside.statuses.ok.0) in
+    let full : accepted h ≡ c.self.inside.limits.tasks = omega (arith, holds.tasks_kept.count, c.self.inside.statuses.ok.0) in
     rw (← c.self.view_is) (told _ (Submit c.args.s Plain) _ (refused pool h (Submit c.args.s Plain) _ (submit_too_many pool h c.args.s holds.plain (omega arith) full)))
 
 pub returns-then-len-events : goal.returns-then-len-events
@@ -26,7 +26,7 @@ returns-then-len-events c =
     let pool : Pool = record { mode = c.self.inside.mode; limits = c.self.inside.limits } in
     let h = c.self.inside.log.events in
     let holds = c.self.invariant.0 in
-    let room : accepted h ≢ c.self.inside.limits.tasks = omega (arith, holds.status_count, c.self.inside.statuses.ok.0) in
+    let room : accepted h ≢ c.self.inside.limits.tasks = omega (arith, holds.tasks_kept.count, c.self.inside.statuses.ok.0) in
     let full : c.self.inside.limits.events ≤ length h = omega (arith) in
     rw (← c.self.view_is) (told _ (Submit c.args.s Plain) _ (refused pool h (Submit c.args.s Plain) _ (submit_log_full pool h c.args.s holds.plain (omega arith) room full)))
 
@@ -35,20 +35,21 @@ push-requires-2-clause-room c =
     let h = c.self.inside.log.events in
     let holds = c.self.invariant.0 in
     let s = c.s-2.inside.0 in
-    omega (arith, holds.status_count, c.self.inside.statuses.ok.0, holds.queue_room, holds.few_tasks, ap length (holds.each_queue s (omega arith)), queue_short h (owner_at c.self.inside.limits s))
+    omega (arith, holds.tasks_kept.count, c.self.inside.statuses.ok.0, holds.queues_kept.room, holds.tasks_kept.few, ap length (holds.queues_kept.each s (omega arith)), queue_short h (owner_at c.self.inside.limits s))
 
 pub invariant_of-self : goal.invariant_of-self
 invariant_of-self c =
     let pool : Pool = record { mode = c.self.inside.mode; limits = c.self.inside.limits } in
     let h = c.self.inside.log.events in
     let holds = c.self.invariant.0 in
-    let t : c.len-accepted.result ≡ accepted h = omega (arith, holds.status_count, c.self.inside.statuses.ok.0) in
+    let t : c.len-accepted.result ≡ accepted h = omega (arith, holds.tasks_kept.count, c.self.inside.statuses.ok.0) in
     let room : accepted h ≢ c.self.inside.limits.tasks = omega arith in
     let fits : length h < c.self.inside.limits.events = omega (arith, holds.fits) in (
       rw (c.push.ensures, c.push-2.ensures, c.push_reserved.ensures.items, t, c.s-2.view_is)
-          (submit_holds pool h c.self.inside.queues c.self.inside.stacks c.self.inside.statuses.items c.args.s holds (omega arith) room fits),
+          (submit_holds pool h c.self.inside.queues c.self.inside.stacks c.self.inside.statuses.items c.self.inside.gone.items c.args.s holds (omega arith) room fits),
       rw c.push.ensures (c.self.invariant.1),
       omega (arith, c.push_reserved.ensures.capacity, c.self.invariant.2),
+      c.self.invariant.3,
     )
 
 pub returns : goal.returns
@@ -56,7 +57,7 @@ returns c =
     let pool : Pool = record { mode = c.self.inside.mode; limits = c.self.inside.limits } in
     let h = c.self.inside.log.events in
     let holds = c.self.invariant.0 in
-    let t : c.len-accepted.result ≡ accepted h = omega (arith, holds.status_count, c.self.inside.statuses.ok.0) in
+    let t : c.len-accepted.result ≡ accepted h = omega (arith, holds.tasks_kept.count, c.self.inside.statuses.ok.0) in
     let room : accepted h ≢ c.self.inside.limits.tasks = omega arith in
     let fits : length h < c.self.inside.limits.events = omega (arith, holds.fits) in
     rw (← c.self.view_is, submit_answer pool h c.args.s (submit_stands pool h c.args.s holds.plain (omega arith) room fits), c.push.ensures, t) (refl, refl)

@@ -10,7 +10,7 @@ use Rattle.std.proofs.Math.ListN.{length-set}
 use Rattle.fj_model.proofs.Growth.{stack_same}
 use Rattle.fj_model.specs.Runs.{Past, IsHistory, first_in}
 use Rattle.fj_model.proofs.AnswersAllowed.{history_allowed}
-use Rattle.fj_machine.proofs.Taking.{queued_number, status_read, taken_holds, skip_takes, out_takes_it, out_stacks}
+use Rattle.fj_machine.proofs.Taking.{queued_number, status_read, skipped_holds, handed_holds}
 use Rattle.fj_machine.proofs.machine.Machine.take.Goals as goal
 use Rattle.fj_machine.proofs.machine.Machine.take.Goals.{After-take_first-t, After-is_undone}
 
@@ -18,7 +18,7 @@ use Rattle.fj_machine.proofs.machine.Machine.take.Goals.{After-take_first-t, Aft
 first_task : (c : After-take_first-t) → first_of (queue c.self.inside.log.events (owner_at c.self.inside.limits c.args.q)) ≡ Some c.take_first-t.result
 first_task c =
     let within : c.args.q < queues_in c.self.inside.limits = omega (arith, c.requires.queue, ap (λ (p : Past). queues_in p.pool.limits) c.self.view_is) in
-    ap first_of (sym (c.self.invariant.0.each_queue c.args.q within)) ∙ sym c.take_first-t.ensures.taken
+    ap first_of (sym (c.self.invariant.0.queues_kept.each c.args.q within)) ∙ sym c.take_first-t.ensures.taken
 
 number : (c : After-take_first-t) → c.take_first-t.result < accepted c.self.inside.log.events
 number c =
@@ -28,7 +28,7 @@ number c =
 pub index-requires : goal.index-requires
 index-requires c =
     let n = number (goal.at.index-requires c).After-take_first-t in
-    omega (arith, n, c.self.invariant.0.status_count, c.self.inside.statuses.ok.0)
+    omega (arith, n, c.self.invariant.0.tasks_kept.count, c.self.inside.statuses.ok.0)
 
 -- the history with the event of that task
 history : (c : After-take_first-t) (b : Bool) → is_undone (status c.self.inside.log.events c.take_first-t.result) ≡ b
@@ -41,7 +41,7 @@ undone : (c : After-is_undone) → c.take_first-t.result < accepted c.self.insid
 undone c n b is =
     let pool : Pool = record { mode = c.self.inside.mode; limits = c.self.inside.limits } in
     let read = rw c.t.view_is at c.index.ensures in
-    ap is_undone (sym (status_read pool c.self.inside.log.events c.self.inside.queues c.self.inside.stacks c.self.inside.statuses.items c.take_first-t.result c.index.result.now c.self.invariant.0 n read)) ∙ sym c.is_undone.ensures ∙ is
+    ap is_undone (sym (status_read pool c.self.inside.log.events c.self.inside.statuses.items c.take_first-t.result c.index.result.now c.self.invariant.0.tasks_kept n read)) ∙ sym c.is_undone.ensures ∙ is
 
 pub invariant_of-self : goal.invariant_of-self
 invariant_of-self c =
@@ -53,12 +53,12 @@ invariant_of-self c =
     let within : c.args.q < queues_in c.self.inside.limits = omega (arith, c.requires.queue, ap (λ (p : Past). queues_in p.pool.limits) c.self.view_is) in
     let fits : length h < c.self.inside.limits.events = omega (arith, c.requires.fits, ap (λ (p : Past). length p.events) c.self.view_is, ap (λ (p : Past). p.pool.limits.events) c.self.view_is) in
     let done = undone (goal.at.invariant_of-self c).After-is_undone (number start) false c.if-not-is_undone.true in (
-      rw (c.push.ensures, c.take_first-t.ensures.rest)
-          (taken_holds pool h c.self.inside.queues c.self.inside.stacks c.self.inside.stacks c.self.inside.statuses.items c.args.q t (event.Skip t c.args.w) holds within
-          (first_task start) (skip_takes h t c.args.w) (history start false done) fits holds.stack_count holds.stack_room
-          (λ v inside. holds.each_stack v inside ∙ sym (stack_same h v (event.Skip t c.args.w) refl refl))),
+      rw (c.push.ensures, c.take_first-t.ensures.rest, c.push_reserved.ensures.items)
+          (skipped_holds pool h c.self.inside.queues c.self.inside.stacks c.self.inside.statuses.items c.self.inside.gone.items c.args.q t c.args.w holds within
+          (first_task start) (history start false done) fits),
       rw c.push.ensures (c.self.invariant.1),
       c.self.invariant.2,
+      omega (arith, c.push_reserved.ensures.capacity, c.self.invariant.3),
     )
 
 pub returns-then-not-is_undone-clause-said : goal.returns-then-not-is_undone-clause-said
@@ -84,13 +84,13 @@ invariant_of-self-2 c =
     let worker : w < c.self.inside.limits.workers = omega (arith, c.requires.worker, ap (λ (p : Past). p.pool.limits.workers) c.self.view_is) in
     let fits : length h < c.self.inside.limits.events = omega (arith, c.requires.fits, ap (λ (p : Past). length p.events) c.self.view_is, ap (λ (p : Past). p.pool.limits.events) c.self.view_is) in
     let done = undone (goal.at.invariant_of-self-2 c).After-is_undone (number start) true c.if-not-is_undone.false in
-    let row = row_at stacks w ++ t ∷ [] in (
+    (
       rw (c.push-2.ensures, c.take_first-t.ensures.rest, c.push-3.ensures, c.w.view_is)
-          (taken_holds pool h c.self.inside.queues stacks (with_row stacks w row) c.self.inside.statuses.items c.args.q t (event.Out t w) holds within
-          (first_task start) (out_takes_it h t w) (history start true done) fits (length-set stacks.rows w row ∙ holds.stack_count) holds.stack_room
-          (λ v inside. out_stacks h stacks c.self.inside.limits.workers w t v holds.stack_count holds.each_stack worker inside)),
+          (handed_holds pool h c.self.inside.queues stacks c.self.inside.statuses.items c.self.inside.gone.items c.args.q t w holds within
+          (first_task start) worker (history start true done) fits),
       rw c.push-2.ensures (c.self.invariant.1),
       c.self.invariant.2,
+      c.self.invariant.3,
     )
 
 pub returns-clause-said : goal.returns-clause-said

@@ -1,0 +1,23 @@
+-- The headline holds of the history of every run.
+use Rattle.std.proofs.Common.{List}
+use Rattle.fj_model.specs.declared.event.Event.{Event}
+use Rattle.fj_model.specs.Bounds.{Pool}
+use Rattle.fj_model.specs.Headline.{Headline}
+use Rattle.fj_model.specs.Runs.{IsHistory}
+use Rattle.fj_model.proofs.AnswersAllowed.{history_allowed}
+use Rattle.fj_model.proofs.Lawful.{handed_once, left_in_order}
+use Rattle.fj_model.proofs.OnePlace.{one_place}
+use Rattle.fj_model.proofs.Firings.{none_after_shutdown, fired_once, fired_at_zero}
+
+pub headline : (pool : Pool) (h : List Event) → IsHistory pool h → Headline pool h
+headline pool h run =
+    let so = history_allowed pool h run in
+    record {
+      allowed = so;
+      place = one_place pool h so;
+      handed_once = handed_once pool h so;
+      order = left_in_order pool h so;
+      shutdown = none_after_shutdown pool h so;
+      fired_once = fired_once pool h so;
+      fired_at_zero = fired_at_zero pool h so;
+    }
