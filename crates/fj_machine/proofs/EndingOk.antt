@@ -42,25 +42,39 @@ pub end_no_such : (pool : Pool) (h : List Event) (w : ℕ) → pool.limits.worke
 unfolding refusal_of standing
 end_no_such pool h w over = rw (le-leb pool.limits.workers w over) refl
 
-pub end_not_running : (pool : Pool) (h : List Event) (w : ℕ) → IsPlain h → w < pool.limits.workers → is_empty (stack h w) ≡ true → refusal_of pool h (End w ending.Ok) ≡ Some NotRunning
+some_at : (ts : List ℕ) (k : ℕ) → k < length ts → slice_get ts k ≡ None → ⊥
+some_at [] k inside none = absurd (omega arith)
+some_at (t ∷ ts) zero inside none = cc
+some_at (t ∷ ts) (suc k) inside none = some_at ts k (omega arith) none
+
+-- a list with a last member is not empty, and one without has none
+busy : (ts : List ℕ) (t : ℕ) → last_of ts ≡ Some t → is_empty ts ≡ false
+busy [] t last = absurd cc
+busy (u ∷ ts) t last = refl
+
+idle : (ts : List ℕ) → last_of ts ≡ None → is_empty ts ≡ true
+idle [] none = refl
+idle (u ∷ ts) none = absurd (some_at (u ∷ ts) (length (u ∷ ts) - 1) (omega arith) none)
+
+pub end_not_running : (pool : Pool) (h : List Event) (w : ℕ) → IsPlain h → w < pool.limits.workers → running h w ≡ None → refusal_of pool h (End w ending.Ok) ≡ Some NotRunning
 unfolding refusal_of standing
-end_not_running pool h w plain within idle = rw (lt-leb pool.limits.workers w within, empty_hand h w plain, idle) refl
+end_not_running pool h w plain within none = rw (lt-leb pool.limits.workers w within, empty_hand h w plain, idle (stack h w) none) refl
 
 pub ending_is : (pool : Pool) (h : List Event) (w t : ℕ) (b : Bool) → running h w ≡ Some t → is_undone (status h t) ≡ b → events_of pool h (End w ending.Ok) ≡ ending_of b t w
 unfolding events_of
 ending_is pool h w t b is undone = rw (is, status_same h (event.End t w) t (λ b. refl), undone) refl
 
-pub end_log_full : (pool : Pool) (h : List Event) (w t : ℕ) (b : Bool) → IsPlain h → w < pool.limits.workers → is_empty (stack h w) ≡ false → running h w ≡ Some t → is_undone (status h t) ≡ b
+pub end_log_full : (pool : Pool) (h : List Event) (w t : ℕ) (b : Bool) → IsPlain h → w < pool.limits.workers → running h w ≡ Some t → is_undone (status h t) ≡ b
     → pool.limits.events < length h + length (ending_of b t w) → refusal_of pool h (End w ending.Ok) ≡ Some LogFull
 unfolding refusal_of standing
-end_log_full pool h w t b plain within busy is undone full =
-    rw (ending_is pool h w t b is undone, lt-leb pool.limits.workers w within, empty_hand h w plain, busy, is, no_completer h t plain, lt-ltb pool.limits.events (length h + length (ending_of b t w)) full) refl
+end_log_full pool h w t b plain within is undone full =
+    rw (ending_is pool h w t b is undone, lt-leb pool.limits.workers w within, empty_hand h w plain, busy (stack h w) t is, is, no_completer h t plain, lt-ltb pool.limits.events (length h + length (ending_of b t w)) full) refl
 
-pub end_stands : (pool : Pool) (h : List Event) (w t : ℕ) (b : Bool) → IsPlain h → w < pool.limits.workers → is_empty (stack h w) ≡ false → running h w ≡ Some t → is_undone (status h t) ≡ b
+pub end_stands : (pool : Pool) (h : List Event) (w t : ℕ) (b : Bool) → IsPlain h → w < pool.limits.workers → running h w ≡ Some t → is_undone (status h t) ≡ b
     → length h + length (ending_of b t w) ≤ pool.limits.events → refusal_of pool h (End w ending.Ok) ≡ None
 unfolding refusal_of standing
-end_stands pool h w t b plain within busy is undone fits =
-    rw (ending_is pool h w t b is undone, lt-leb pool.limits.workers w within, empty_hand h w plain, busy, is, no_completer h t plain, le-ltb pool.limits.events (length h + length (ending_of b t w)) fits) refl
+end_stands pool h w t b plain within is undone fits =
+    rw (ending_is pool h w t b is undone, lt-leb pool.limits.workers w within, empty_hand h w plain, busy (stack h w) t is, is, no_completer h t plain, le-ltb pool.limits.events (length h + length (ending_of b t w)) fits) refl
 
 end_says_done : (pool : Pool) (h : List Event) (w t : ℕ) → running h w ≡ Some t → reply_of pool h (End w ending.Ok) ≡ says.Done
 unfolding reply_of

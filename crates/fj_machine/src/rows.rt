@@ -1,6 +1,7 @@
-ghost use Rattle.std.specs.Prelude.{◌≡◌, ◌<◌, ◌≤◌, ◌∷◌, [], ◌++◌, length, drop, IfOk, replicate, ◌^◌, ◌≢◌, ◌-◌, take};
+ghost use Rattle.std.specs.Prelude.{◌≡◌, ◌<◌, ◌≤◌, ◌∷◌, [], ◌++◌, None, Some, length, drop, IfOk, replicate, ◌^◌, ◌≢◌, ◌-◌, take};
 ghost use Rattle.fj_machine.specs.Rows.{row_at, with_row, first_filled, places_from};
-ghost use Rattle.fj_model.specs.Choices.{first_of};
+ghost use Rattle.fj_model.specs.History.{is_empty};
+ghost use Rattle.fj_model.specs.Choices.{first_of, last_of};
 
 use fj_model::Serial;
 use std::alloc::{AllocError, Global};
@@ -50,6 +51,26 @@ impl Rows {
         ensures { result.now ≡ row_at self.now i }
     {
         self.rows[i].as_slice()
+    }
+
+    /// Whether a list has no member.
+    pub fn is_empty(&self, i: usize) -> bool
+        requires { i < length self.now.rows }
+        ensures { result ≡ is_empty (row_at self.now i) }
+    {
+        self.row(i).is_empty()
+    }
+
+    /// The last number of a list, if it has one.
+    pub fn last(&self, i: usize) -> Option<Serial>
+        requires { i < length self.now.rows }
+        ensures { result ≡ last_of (row_at self.now i) }
+    {
+        let row = self.row(i);
+        if row.is_empty() {
+            return None;
+        }
+        Some(row[row.len() - 1])
     }
 
     /// Puts a number at the end of a list.

@@ -13,11 +13,9 @@ impl Machine {
         if self.limits.workers() <= w.0 {
             return Said::Refused(Refusal::NoSuch);
         }
-        let row = self.stacks.row(w.0 as usize);
-        if row.is_empty() {
+        let Some(t) = self.stacks.last(w.0 as usize) else {
             return Said::Refused(Refusal::NotRunning);
-        }
-        let t = row[row.len() - 1];
+        };
         let free = self.limits.events() as usize - self.log.len();
         if !self.statuses[t.0 as usize].is_undone() {
             if free < 1 {

@@ -17,7 +17,7 @@ impl Machine {
         if self.limits.workers() <= w.0 {
             return Said::Refused(Refusal::NoSuch);
         }
-        if !self.stacks.row(w.0 as usize).is_empty() {
+        if !self.stacks.is_empty(w.0 as usize) {
             return Said::Refused(Refusal::NotIdle);
         }
         match self.chosen(w, r) {

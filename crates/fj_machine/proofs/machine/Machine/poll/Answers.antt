@@ -1,5 +1,6 @@
-use Rattle.std.proofs.Common.{◌≡◌, ◌≢◌, ◌+◌, ◌<◌, ◌≤◌, ◌∷◌, [], ◌++◌, ◌∙◌, ap, sym, refl, arith, length, ℕ, Some, None, true, false, subst}
+use Rattle.std.proofs.Common.{◌≡◌, ◌≢◌, ◌+◌, ◌<◌, ◌≤◌, ◌∷◌, [], ◌++◌, ◌∙◌, ap, sym, refl, arith, length, ℕ, Bool, List, Some, None, true, false, subst}
 use Rattle.std.proofs.lemmas.Bool.{eqb-true, eqb-false, iff_false}
+use Rattle.fj_model.specs.declared.event.Event.{Event}
 use Rattle.fj_model.specs.declared.step.Step.TheVariants.{Poll}
 use Rattle.fj_model.specs.Bounds.{Pool, owner_at}
 use Rattle.fj_model.specs.Choices.{choice, first_of}
@@ -11,6 +12,10 @@ use Rattle.fj_model.proofs.AnswersAllowed.{history_more}
 use Rattle.fj_machine.proofs.Submitting.{told, refused}
 use Rattle.fj_machine.proofs.Polling.{poll_no_such, poll_not_idle, poll_log_full, poll_stands, poll_answer, taking_one}
 use Rattle.fj_machine.proofs.machine.Machine.poll.Goals as goal
+
+-- what was asked is whether the worker's stack is empty
+empty_row : (h : List Event) (w v : ℕ) (row : List ℕ) (told b : Bool) → v ≡ w → stack h v ≡ row → told ≡ is_empty row → told ≡ b → is_empty (stack h w) ≡ b
+empty_row h w v row told b same is asked test = ap (λ u. is_empty (stack h u)) (sym same) ∙ ap is_empty is ∙ sym asked ∙ test
 
 pub returns-then-workers-w : goal.returns-then-workers-w
 returns-then-workers-w c =
@@ -26,9 +31,8 @@ returns-then-not-is_empty c =
     let r = c.args.r in
     let holds = c.self.invariant.0 in
     let within : w < c.self.inside.limits.workers = omega arith in
-    let row : c.row.result.now ≡ stack h w = c.row.ensures ∙ holds.stacks_kept.each c.w.inside.0 (omega arith) ∙ ap (stack h) c.w.view_is in
-    let some : length c.row.result.now ≢ 0 = eqb-false (length c.row.result.now) 0 (sym c.is_empty.ensures ∙ c.if-not-is_empty.true) in
-    let busy : is_empty (stack h w) ≡ false = ap is_empty (sym row) ∙ is_empty_no c.row.result.now (omega arith) in
+    let busy : is_empty (stack h w) ≡ false =
+    empty_row h w c.w.inside.0 _ _ false c.w.view_is (sym (holds.stacks_kept.each c.w.inside.0 (omega arith))) c.is_empty.ensures c.if-not-is_empty.true in
     rw (← c.self.view_is) (told _ (Poll w r) _ (refused pool h (Poll w r) _ (poll_not_idle pool h w r holds.plain within busy)))
 
 pub returns-in-None : goal.returns-in-None
@@ -39,9 +43,8 @@ returns-in-None c =
     let r = c.args.r in
     let holds = c.self.invariant.0 in
     let within : w < c.self.inside.limits.workers = omega arith in
-    let row : c.row.result.now ≡ stack h w = c.row.ensures ∙ holds.stacks_kept.each c.w.inside.0 (omega arith) ∙ ap (stack h) c.w.view_is in
-    let empty : length c.row.result.now ≡ 0 = eqb-true (length c.row.result.now) 0 (sym c.is_empty.ensures ∙ c.if-not-is_empty.false) in
-    let idle : is_empty (stack h w) ≡ true = ap is_empty (sym row) ∙ is_empty_yes c.row.result.now empty in
+    let idle : is_empty (stack h w) ≡ true =
+    empty_row h w c.w.inside.0 _ _ true c.w.view_is (sym (holds.stacks_kept.each c.w.inside.0 (omega arith))) c.is_empty.ensures c.if-not-is_empty.false in
     let none : choice pool h w r ≡ None = subst (λ (p : Past). choice p.pool p.events w r ≡ None) (sym c.self.view_is) c.in-None.ensures in
     let fits : length h + length (taking h w (choice pool h w r)) ≤ c.self.inside.limits.events = rw none (omega (arith, holds.fits)) in
     rw (← c.self.view_is) (told _ (Poll w r) _ (poll_answer pool h w r None none (poll_stands pool h w r holds.plain within idle fits)))
@@ -54,9 +57,8 @@ returns-then-is_full c =
     let r = c.args.r in
     let holds = c.self.invariant.0 in
     let within : w < c.self.inside.limits.workers = omega arith in
-    let row : c.row.result.now ≡ stack h w = c.row.ensures ∙ holds.stacks_kept.each c.w.inside.0 (omega arith) ∙ ap (stack h) c.w.view_is in
-    let empty : length c.row.result.now ≡ 0 = eqb-true (length c.row.result.now) 0 (sym c.is_empty.ensures ∙ c.if-not-is_empty.false) in
-    let idle : is_empty (stack h w) ≡ true = ap is_empty (sym row) ∙ is_empty_yes c.row.result.now empty in
+    let idle : is_empty (stack h w) ≡ true =
+    empty_row h w c.w.inside.0 _ _ true c.w.view_is (sym (holds.stacks_kept.each c.w.inside.0 (omega arith))) c.is_empty.ensures c.if-not-is_empty.false in
     let from : IsChosenFrom (record { pool = pool; events = h }) w r c.in-Some.q = subst (λ (p : Past). IsChosenFrom p w r c.in-Some.q) (sym c.self.view_is) c.in-Some.ensures in
     let task = first_some (queue h (owner_at c.self.inside.limits c.in-Some.q)) from.2 in
     let is : choice pool h w r ≡ Some task.0 = from.1 ∙ task.1 in
@@ -72,9 +74,8 @@ take-requires-clause-history c =
     let r = c.args.r in
     let holds = c.self.invariant.0 in
     let within : w < c.self.inside.limits.workers = omega arith in
-    let row : c.row.result.now ≡ stack h w = c.row.ensures ∙ holds.stacks_kept.each c.w.inside.0 (omega arith) ∙ ap (stack h) c.w.view_is in
-    let empty : length c.row.result.now ≡ 0 = eqb-true (length c.row.result.now) 0 (sym c.is_empty.ensures ∙ c.if-not-is_empty.false) in
-    let idle : is_empty (stack h w) ≡ true = ap is_empty (sym row) ∙ is_empty_yes c.row.result.now empty in
+    let idle : is_empty (stack h w) ≡ true =
+    empty_row h w c.w.inside.0 _ _ true c.w.view_is (sym (holds.stacks_kept.each c.w.inside.0 (omega arith))) c.is_empty.ensures c.if-not-is_empty.false in
     let from : IsChosenFrom (record { pool = pool; events = h }) w r c.in-Some.q = subst (λ (p : Past). IsChosenFrom p w r c.in-Some.q) (sym c.self.view_is) c.in-Some.ensures in
     let task = first_some (queue h (owner_at c.self.inside.limits c.in-Some.q)) from.2 in
     let is : choice pool h w r ≡ Some task.0 = from.1 ∙ task.1 in
@@ -92,9 +93,8 @@ returns-else-is_full c =
     let r = c.args.r in
     let holds = c.self.invariant.0 in
     let within : w < c.self.inside.limits.workers = omega arith in
-    let row : c.row.result.now ≡ stack h w = c.row.ensures ∙ holds.stacks_kept.each c.w.inside.0 (omega arith) ∙ ap (stack h) c.w.view_is in
-    let empty : length c.row.result.now ≡ 0 = eqb-true (length c.row.result.now) 0 (sym c.is_empty.ensures ∙ c.if-not-is_empty.false) in
-    let idle : is_empty (stack h w) ≡ true = ap is_empty (sym row) ∙ is_empty_yes c.row.result.now empty in
+    let idle : is_empty (stack h w) ≡ true =
+    empty_row h w c.w.inside.0 _ _ true c.w.view_is (sym (holds.stacks_kept.each c.w.inside.0 (omega arith))) c.is_empty.ensures c.if-not-is_empty.false in
     let from : IsChosenFrom (record { pool = pool; events = h }) w r c.in-Some.q = subst (λ (p : Past). IsChosenFrom p w r c.in-Some.q) (sym c.self.view_is) c.in-Some.ensures in
     let task = first_some (queue h (owner_at c.self.inside.limits c.in-Some.q)) from.2 in
     let is : choice pool h w r ≡ Some task.0 = from.1 ∙ task.1 in
