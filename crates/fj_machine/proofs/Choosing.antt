@@ -8,8 +8,9 @@ use Rattle.fj_model.specs.declared.owner.Owner.{Owner}
 use Rattle.fj_model.specs.declared.owner.Owner.TheVariants.{Work}
 use Rattle.fj_model.specs.Bounds.{Bounds, Pool, queues_in, owner_at}
 use Rattle.fj_machine.specs.Rows.{first_filled, places_from}
-use Rattle.fj_model.specs.History.{is_empty, or_else, queue}
-use Rattle.fj_model.specs.Choices.{choice, own_choice, first_of, first_queued, scan_order}
+use Rattle.fj_model.specs.Lists.{is_empty, or_else, first_of}
+use Rattle.fj_model.specs.Queues.{queue}
+use Rattle.fj_model.specs.Choices.{choice, own_choice, first_queued, scan_order}
 use Rattle.fj_model.proofs.Owners.{work_owner}
 use Rattle.fj_machine.proofs.PlainHistories.{IsPlain, empty_own, none_own}
 

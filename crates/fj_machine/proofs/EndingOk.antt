@@ -16,10 +16,14 @@ use Rattle.fj_model.specs.declared.refusal.Refusal.TheVariants.{NoSuch, NotRunni
 use Rattle.fj_model.specs.declared.said.Said.TheVariants as says
 use Rattle.fj_model.specs.Bounds.{Pool, queues_in, owner_at}
 use Rattle.fj_machine.specs.Rows.{Lists, row_at, with_row}
-use Rattle.fj_model.specs.History.{is_empty, is_in, accepted, accepted_by, queue, stack, hand, status, status_by, is_undone, is_completer}
+use Rattle.fj_model.specs.Lists.{is_empty, is_in, last_of}
+use Rattle.fj_model.specs.Tasks.{accepted, accepted_by, is_completer}
+use Rattle.fj_model.specs.Queues.{queue}
+use Rattle.fj_model.specs.Stacks.{stack}
+use Rattle.fj_model.specs.Hooks.{hand}
+use Rattle.fj_model.specs.Statuses.{status, status_by, is_undone}
 use Rattle.fj_model.specs.Allowed.{Allowed, AllowedFrom}
-use Rattle.fj_model.specs.Choices.{last_of}
-use Rattle.fj_model.specs.Answers.{answer, refusal_of, standing, events_of, reply_of, running, is_misfit}
+use Rattle.fj_model.specs.Answers.{answer, refusal_of, refusal_standing, events_of, reply_of, running, is_misfit}
 use Rattle.fj_model.specs.Runs.{IsHistory}
 use Rattle.fj_machine.specs.Holds.{Holds, KeepsStacks, KeepsTasks, is_plain}
 use Rattle.fj_machine.proofs.Parts.{list_all_append, new_row, queues_same, stacks_same, tasks_same}
@@ -39,7 +43,7 @@ abbrev pub ending_of : Bool → ℕ → ℕ → List Event
 ending_of undone t w = event.End t w ∷ (if undone then event.Settle t Normal ∷ [] else [])
 
 pub end_no_such : (pool : Pool) (h : List Event) (w : ℕ) → pool.limits.workers ≤ w → refusal_of pool h (End w ending.Ok) ≡ Some NoSuch
-unfolding refusal_of standing
+unfolding refusal_of refusal_standing
 end_no_such pool h w over = rw (le-leb pool.limits.workers w over) refl
 
 some_at : (ts : List ℕ) (k : ℕ) → k < length ts → slice_get ts k ≡ None → ⊥
@@ -57,7 +61,7 @@ idle [] none = refl
 idle (u ∷ ts) none = absurd (some_at (u ∷ ts) (length (u ∷ ts) - 1) (omega arith) none)
 
 pub end_not_running : (pool : Pool) (h : List Event) (w : ℕ) → IsPlain h → w < pool.limits.workers → running h w ≡ None → refusal_of pool h (End w ending.Ok) ≡ Some NotRunning
-unfolding refusal_of standing
+unfolding refusal_of refusal_standing
 end_not_running pool h w plain within none = rw (lt-leb pool.limits.workers w within, empty_hand h w plain, idle (stack h w) none) refl
 
 pub ending_is : (pool : Pool) (h : List Event) (w t : ℕ) (b : Bool) → running h w ≡ Some t → is_undone (status h t) ≡ b → events_of pool h (End w ending.Ok) ≡ ending_of b t w
@@ -66,13 +70,13 @@ ending_is pool h w t b is undone = rw (is, status_same h (event.End t w) t (λ b
 
 pub end_log_full : (pool : Pool) (h : List Event) (w t : ℕ) (b : Bool) → IsPlain h → w < pool.limits.workers → running h w ≡ Some t → is_undone (status h t) ≡ b
     → pool.limits.events < length h + length (ending_of b t w) → refusal_of pool h (End w ending.Ok) ≡ Some LogFull
-unfolding refusal_of standing
+unfolding refusal_of refusal_standing
 end_log_full pool h w t b plain within is undone full =
     rw (ending_is pool h w t b is undone, lt-leb pool.limits.workers w within, empty_hand h w plain, busy (stack h w) t is, is, no_completer h t plain, lt-ltb pool.limits.events (length h + length (ending_of b t w)) full) refl
 
 pub end_stands : (pool : Pool) (h : List Event) (w t : ℕ) (b : Bool) → IsPlain h → w < pool.limits.workers → running h w ≡ Some t → is_undone (status h t) ≡ b
     → length h + length (ending_of b t w) ≤ pool.limits.events → refusal_of pool h (End w ending.Ok) ≡ None
-unfolding refusal_of standing
+unfolding refusal_of refusal_standing
 end_stands pool h w t b plain within is undone fits =
     rw (ending_is pool h w t b is undone, lt-leb pool.limits.workers w within, empty_hand h w plain, busy (stack h w) t is, is, no_completer h t plain, le-ltb pool.limits.events (length h + length (ending_of b t w)) fits) refl
 
@@ -158,7 +162,7 @@ ended_holds pool h queues stacks statuses gones w t holds within last is fits =
       gone_kept = gone_after_end pool h gones t w so may holds.plain plain2 last holds.gone_kept;
     }
 
--- what is kept after the body of an undone task has ended, which completes it
+-- what is kept after the body of an undone task has ended, which fires_by_complete it
 pub settled_holds : (pool : Pool) (h : List Event) (queues stacks : Lists) (statuses : List Status) (gones : List ℕ) (w t : ℕ) → Holds pool h queues stacks statuses gones
     → w < pool.limits.workers → last_of (stack h w) ≡ Some t → is_undone (status h t) ≡ true → t < accepted h
     → answer pool h (End w ending.Ok) ≡ (says.Done, ending_of true t w) → length h + 2 ≤ pool.limits.events

@@ -6,7 +6,10 @@ use Rattle.fj_model.specs.declared.owner.Owner.{Owner}
 use Rattle.fj_model.specs.declared.status.Status.TheVariants.{Undone}
 use Rattle.fj_model.specs.Bounds.{Pool, IsWithin, queues_in, owner_at}
 use Rattle.fj_machine.specs.Rows.{Lists, row_at}
-use Rattle.fj_model.specs.History.{accepted, tasks, queue, pushed, left, taken, stack, status, status_from}
+use Rattle.fj_model.specs.Tasks.{accepted, tasks}
+use Rattle.fj_model.specs.Queues.{queue, pushed, left, taken}
+use Rattle.fj_model.specs.Stacks.{stack}
+use Rattle.fj_model.specs.Statuses.{status, status_from}
 use Rattle.fj_model.specs.Places.{gone, gone_from}
 use Rattle.fj_model.specs.Runs.{IsHistory}
 use Rattle.fj_machine.specs.Holds.{Holds}

@@ -11,10 +11,12 @@ use Rattle.fj_model.specs.declared.owner.Owner.TheVariants.{Sub}
 use Rattle.fj_model.specs.declared.kind.Kind.TheVariants.{Plain}
 use Rattle.fj_model.specs.declared.status.Status.{Status}
 use Rattle.fj_model.specs.Bounds.{Pool}
-use Rattle.fj_model.specs.History.{is_in, is_same, tasks, accepted_by, taken, taken_by, queue, stack, ended_by, out_by, is_completer}
+use Rattle.fj_model.specs.Lists.{is_in, last_of}
+use Rattle.fj_model.specs.Queues.{is_same, taken, taken_by, queue}
+use Rattle.fj_model.specs.Tasks.{tasks, accepted_by, is_completer}
+use Rattle.fj_model.specs.Stacks.{stack, ended_by, out_by}
 use Rattle.fj_model.specs.Places.{place, is_gone, gone}
 use Rattle.fj_model.specs.Allowed.{Allowed, AllowedFrom}
-use Rattle.fj_model.specs.Choices.{last_of}
 use Rattle.fj_model.proofs.Members.{is_in_append, get_is_in}
 use Rattle.fj_model.proofs.Growth.{tasks_more, taken_more, stack_more, with}
 use Rattle.fj_model.proofs.Lawful.{allowed_more, is_in_with, is_new, known_more, number_if_is, queued_fresh, queued_pushed, pushed_known, taken_known}

@@ -8,7 +8,10 @@ use Rattle.fj_model.specs.declared.event.Event.{Event}
 use Rattle.fj_model.specs.declared.owner.Owner.{Owner}
 use Rattle.fj_model.specs.declared.status.Status.{Status}
 use Rattle.fj_model.specs.Bounds.{Bounds, owner_at}
-use Rattle.fj_model.specs.History.{accepted, queue, stack, status}
+use Rattle.fj_model.specs.Tasks.{accepted}
+use Rattle.fj_model.specs.Queues.{queue}
+use Rattle.fj_model.specs.Stacks.{stack}
+use Rattle.fj_model.specs.Statuses.{status}
 use Rattle.fj_machine.specs.Rows.{Lists}
 use Rattle.fj_machine.specs.Holds.{KeepsQueues, KeepsStacks, KeepsTasks}
 

@@ -10,10 +10,13 @@ use Rattle.fj_model.specs.declared.mode.Mode.{Mode}
 use Rattle.fj_model.specs.declared.mode.Mode.TheVariants.{Async, Joining}
 use Rattle.fj_model.specs.declared.owner.Owner.{Owner}
 use Rattle.fj_model.specs.declared.owner.Owner.TheVariants.{Sub, Work}
-use Rattle.fj_model.specs.Choices.{own_choice, first_of}
+use Rattle.fj_model.specs.Choices.{own_choice}
+use Rattle.fj_model.specs.Lists.{first_of, is_in, or_else, first_said}
 use Rattle.fj_model.specs.Headline.{keeps_order}
 use Rattle.fj_model.specs.declared.kind.Kind.TheVariants.{Plain, Completer}
-use Rattle.fj_model.specs.History.{is_in, pushed, pushed_by, queue, left, tasks, accepted, released, released_by, is_kept, live, kind, kind_by, is_completer, is_completer_kind, or_else, first, Hooks, hooks, hooks_after, no_hooks, hand, completer_of}
+use Rattle.fj_model.specs.Queues.{pushed, pushed_by, queue, left}
+use Rattle.fj_model.specs.Tasks.{tasks, accepted, released, released_by, is_kept, live, kind, kind_by, is_completer, is_completer_kind}
+use Rattle.fj_model.specs.Hooks.{Hooks, hooks, hooks_after, no_hooks, hand, completer_in}
 use Rattle.fj_model.specs.Allowed.{is_close, is_stop, is_closed, is_stopped}
 use Rattle.fj_machine.specs.Holds.{is_plain}
 use Rattle.fj_model.specs.Places.{open_tasks, opened, place, place_of, queued_in, held_by, is_open}
@@ -65,7 +68,7 @@ pub all_live : (h : List Event) → IsPlain h → live h ≡ accepted h
 unfolding live accepted
 all_live h plain = ap length (filter_all (is_kept h) (tasks h) (all_kept h plain))
 
-hooks_kept : (s : Hooks) (e : Event) → is_plain e ≡ true → s.inhand ≡ [] → (hooks_after s e).inhand ≡ []
+hooks_kept : (s : Hooks) (e : Event) → is_plain e ≡ true → s.in_hands ≡ [] → (hooks_after s e).in_hands ≡ []
 hooks_kept s (Acc t o k) plain none = none
 hooks_kept s (Out t w) plain none = none
 hooks_kept s (Skip t w) plain none = none
@@ -73,7 +76,7 @@ hooks_kept s (End t w) plain none = none
 hooks_kept s (Settle t status) plain none = none
 hooks_kept s _ plain none = absurd cc
 
-hooks_none : (s : Hooks) (h : List Event) → IsPlain h → s.inhand ≡ [] → (fold hooks_after s h).inhand ≡ []
+hooks_none : (s : Hooks) (h : List Event) → IsPlain h → s.in_hands ≡ [] → (fold hooks_after s h).in_hands ≡ []
 hooks_none s [] plain none = none
 hooks_none s (e ∷ h) plain none =
     let parts = and_parts (is_plain e) (list_all is_plain h) plain in hooks_none (hooks_after s e) h parts.1 (hooks_kept s e parts.0 none)
@@ -89,13 +92,13 @@ plain_kind t (Acc u (Work w) k) plain = absurd cc
 plain_kind t (Make u k) plain = absurd cc
 plain_kind t _ plain = refl
 
-no_completer_kind : (t : ℕ) (h : List Event) → IsPlain h → is_completer_kind (first (kind_by t) h) ≡ false
+no_completer_kind : (t : ℕ) (h : List Event) → IsPlain h → is_completer_kind (first_said (kind_by t) h) ≡ false
 no_completer_kind t [] plain = refl
 no_completer_kind t (e ∷ h) plain =
     let parts = and_parts (is_plain e) (list_all is_plain h) plain in
     either (kind_by t e) (plain_kind t e parts.0) (no_completer_kind t h parts.1)
   where
-    either : (k : Option Kind) → is_completer_kind k ≡ false → is_completer_kind (first (kind_by t) h) ≡ false → is_completer_kind (or_else k (first (kind_by t) h)) ≡ false
+    either : (k : Option Kind) → is_completer_kind k ≡ false → is_completer_kind (first_said (kind_by t) h) ≡ false → is_completer_kind (or_else k (first_said (kind_by t) h)) ≡ false
     either (Some k) here later = here
     either None here later = later
 

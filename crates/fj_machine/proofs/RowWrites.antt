@@ -1,7 +1,7 @@
 -- One of several lists is changed.
 use Rattle.fj_machine.specs.Rows.{first_filled}
 use Rattle.std.specs.List.{range_with_len}
-use Rattle.fj_model.specs.History.{is_empty}
+use Rattle.fj_model.specs.Lists.{is_empty}
 use Rattle.std.proofs.Common.{arith, cond, suc, ◌+◌, ◌-◌, ◌%◌, Some, slice_get, true, false, ◌∷◌, ℕ, ◌≡◌, ◌<◌, List, [], length, get_or, map, refl, ap, sym, ◌∙◌}
 use Rattle.std.proofs.Math.ListN.{set}
 use Rattle.std.proofs.lemmas.List.{map-set, get_or-map}

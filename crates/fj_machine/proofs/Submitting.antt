@@ -21,9 +21,13 @@ use Rattle.fj_model.specs.declared.said.Said.{Said}
 use Rattle.fj_model.specs.declared.said.Said.TheVariants as says
 use Rattle.fj_model.specs.Bounds.{Bounds, Pool, queues_in, owner_at}
 use Rattle.fj_machine.specs.Rows.{Lists, row_at, with_row}
-use Rattle.fj_model.specs.History.{is_in, tasks, accepted, accepted_by, live, queue, stack, status, is_same, pushed_by}
+use Rattle.fj_model.specs.Lists.{is_in}
+use Rattle.fj_model.specs.Tasks.{tasks, accepted, accepted_by, live}
+use Rattle.fj_model.specs.Queues.{queue, is_same, pushed_by}
+use Rattle.fj_model.specs.Stacks.{stack}
+use Rattle.fj_model.specs.Statuses.{status}
 use Rattle.fj_model.specs.Allowed.{Allowed, AllowedFrom, is_closed, is_stopped}
-use Rattle.fj_model.specs.Answers.{answer, answer_of, refusal_of, standing, events_of, reply_of}
+use Rattle.fj_model.specs.Answers.{answer, answer_of, refusal_of, refusal_standing, events_of, reply_of}
 use Rattle.fj_model.specs.Runs.{Past, Steps, grown, IsHistory}
 use Rattle.fj_machine.specs.Holds.{Holds, KeepsQueues, KeepsTasks, is_plain}
 use Rattle.fj_machine.proofs.Parts.{list_all_append, new_row, stacks_same}
@@ -53,16 +57,16 @@ allowed pool h asked is = rw is refl
 -- ---- the replies
 
 pub submit_no_such : (pool : Pool) (h : List Event) (s : ℕ) → pool.limits.submitters ≤ s → refusal_of pool h (Submit s Plain) ≡ Some NoSuch
-unfolding refusal_of standing
+unfolding refusal_of refusal_standing
 submit_no_such pool h s over = rw (le-leb pool.limits.submitters s over) refl
 
 pub submit_too_many : (pool : Pool) (h : List Event) (s : ℕ) → IsPlain h → s < pool.limits.submitters → accepted h ≡ pool.limits.tasks → refusal_of pool h (Submit s Plain) ≡ Some TooManyTasks
-unfolding refusal_of standing
+unfolding refusal_of refusal_standing
 submit_too_many pool h s plain within full =
     rw (lt-leb pool.limits.submitters s within, never_closed h plain, never_stopped h plain, eq-eqb (live h) pool.limits.tasks (all_live h plain ∙ full)) refl
 
 pub submit_log_full : (pool : Pool) (h : List Event) (s : ℕ) → IsPlain h → s < pool.limits.submitters → accepted h ≢ pool.limits.tasks → pool.limits.events ≤ length h → refusal_of pool h (Submit s Plain) ≡ Some LogFull
-unfolding refusal_of standing events_of
+unfolding refusal_of refusal_standing events_of
 submit_log_full pool h s plain within room full =
     rw (
       lt-leb pool.limits.submitters s within,
@@ -73,7 +77,7 @@ submit_log_full pool h s plain within room full =
     ) refl
 
 pub submit_stands : (pool : Pool) (h : List Event) (s : ℕ) → IsPlain h → s < pool.limits.submitters → accepted h ≢ pool.limits.tasks → length h < pool.limits.events → refusal_of pool h (Submit s Plain) ≡ None
-unfolding refusal_of standing events_of
+unfolding refusal_of refusal_standing events_of
 submit_stands pool h s plain within room fits =
     rw (
       lt-leb pool.limits.submitters s within,

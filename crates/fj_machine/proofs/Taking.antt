@@ -14,9 +14,12 @@ use Rattle.fj_model.specs.declared.status.Status.{Status}
 use Rattle.fj_model.specs.declared.status.Status.TheVariants.{Undone}
 use Rattle.fj_model.specs.Bounds.{Bounds, Pool, queues_in, owner_at}
 use Rattle.fj_machine.specs.Rows.{Lists, row_at, with_row}
-use Rattle.fj_model.specs.History.{is_in, accepted, accepted_by, queue, stack, status, status_by, pushed, pushed_by, taken_by, ended_by, out_by, number_if}
+use Rattle.fj_model.specs.Lists.{is_in, number_if, first_of}
+use Rattle.fj_model.specs.Tasks.{accepted, accepted_by}
+use Rattle.fj_model.specs.Queues.{queue, pushed, pushed_by, taken_by}
+use Rattle.fj_model.specs.Stacks.{stack, ended_by, out_by}
+use Rattle.fj_model.specs.Statuses.{status, status_by}
 use Rattle.fj_model.specs.Allowed.{Allowed, AllowedFrom}
-use Rattle.fj_model.specs.Choices.{first_of}
 use Rattle.fj_model.specs.Headline.{keeps_order}
 use Rattle.fj_model.specs.Runs.{IsHistory}
 use Rattle.fj_machine.specs.Holds.{Holds, KeepsQueues, KeepsStacks, KeepsTasks, KeepsGone, is_plain}

@@ -8,7 +8,10 @@ use Rattle.fj_model.specs.declared.kind.Kind.TheVariants.{Plain}
 use Rattle.fj_model.specs.declared.status.Status.{Status}
 use Rattle.fj_model.specs.declared.status.Status.TheVariants.{Undone}
 use Rattle.fj_model.specs.Bounds.{Bounds, Pool, IsWithin, queues_in, owner_at}
-use Rattle.fj_model.specs.History.{accepted, queue, stack, status}
+use Rattle.fj_model.specs.Tasks.{accepted}
+use Rattle.fj_model.specs.Queues.{queue}
+use Rattle.fj_model.specs.Stacks.{stack}
+use Rattle.fj_model.specs.Statuses.{status}
 use Rattle.fj_model.specs.Places.{gone}
 use Rattle.fj_model.specs.Runs.{IsHistory}
 use Rattle.fj_machine.specs.Rows.{Lists, row_at}
@@ -40,7 +43,7 @@ pub record KeepsTasks (l : Bounds) (h : List Event) (statuses : List Status) : T
   pub few : accepted h ≤ l.tasks
   pub each : (t : ℕ) → t < accepted h → get_or statuses t Undone ≡ status h t
 
--- the gone tasks, of which no event made more than one
+-- the gone tasks
 pub record KeepsGone (h : List Event) (gones : List ℕ) : Type 0 where
   pub list : gones ≡ gone h
   pub few : length gones ≤ length h

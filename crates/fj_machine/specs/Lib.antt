@@ -1,3 +1,4 @@
 pub mod Rows
 pub mod Logs
 pub mod Holds
+pub mod Chosen

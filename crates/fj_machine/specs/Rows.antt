@@ -2,7 +2,7 @@
 use Rattle.std.specs.Prelude.{ℕ, ◌≡◌, ◌≤◌, ◌<◌, List, [], ◌∷◌, ◌++◌, length, get_or, slice_set}
 use Rattle.std.specs.Prelude.{Bool, true, false, Option, Some, None, map, ◌+◌, ◌%◌, if◌then◌else◌}
 use Rattle.std.specs.List.{range_with_len}
-use Rattle.fj_model.specs.History.{is_empty}
+use Rattle.fj_model.specs.Lists.{is_empty}
 
 -- the lists, and for how many members each has room
 pub record Lists : Type 0 where

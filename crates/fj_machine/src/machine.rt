@@ -1,10 +1,11 @@
-ghost use Rattle.std.specs.Prelude.{◌≡◌, ◌≤◌, ◌↔◌, IfOk, OnErr, IsTrue, length};
-ghost use Rattle.fj_model.specs.History.{queue, stack};
+ghost use Rattle.std.specs.Prelude.{◌≡◌, ◌≤◌, ◌↔◌, IfOk, OnErr, IsTrue, length, ◌∷◌, []};
+ghost use Rattle.fj_model.specs.Queues.{queue};
+ghost use Rattle.fj_model.specs.Stacks.{stack};
 ghost use Rattle.fj_model.specs.Places.{open_tasks, gone};
 ghost use Rattle.fj_model.specs.Allowed.{AllowedFrom};
 ghost use Rattle.fj_model.specs.Answers.{answer};
 ghost use Rattle.fj_model.specs.Runs.{Steps, IsHistory, fresh};
-ghost use Rattle.fj_model.specs.Headline.{Headline};
+ghost use Rattle.fj_model.specs.Headline.{Headline, RepliesTell};
 ghost use Rattle.fj_model.specs.declared.refusal.Refusal.{Refusal as RefusalCase};
 
 mod endings;
@@ -127,6 +128,8 @@ impl Machine {
         ensures step { Steps self.old asked.now result self.new }
         // Each event may follow those before it.
         ensures allowed { AllowedFrom self.old.pool self.old.events (answer self.old.pool self.old.events asked.now).1 }
+        // The reply `task`, `run` or `hook` is given exactly where a task is accepted, a task or a hook is handed out.
+        ensures tells { RepliesTell (answer self.old.pool self.old.events asked.now).1 (result ∷ []) }
         ensures refused { (r : RefusalCase) → result ≡ Said.Refused r → self.new ≡ self.old }
     {
         let _ = &self.log;

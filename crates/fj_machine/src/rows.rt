@@ -1,7 +1,6 @@
 ghost use Rattle.std.specs.Prelude.{◌≡◌, ◌<◌, ◌≤◌, ◌∷◌, [], ◌++◌, None, Some, length, drop, IfOk, replicate, ◌^◌, ◌≢◌, ◌-◌, take};
 ghost use Rattle.fj_machine.specs.Rows.{row_at, with_row, first_filled, places_from};
-ghost use Rattle.fj_model.specs.History.{is_empty};
-ghost use Rattle.fj_model.specs.Choices.{first_of, last_of};
+ghost use Rattle.fj_model.specs.Lists.{is_empty, first_of, last_of};
 
 use fj_model::Serial;
 use std::alloc::{AllocError, Global};

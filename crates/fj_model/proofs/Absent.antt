@@ -5,7 +5,9 @@ use Rattle.std.proofs.lemmas.Bool.{eq-eqb}
 use Rattle.fj_model.specs.declared.event.Event.{Event}
 use Rattle.fj_model.specs.declared.owner.Owner.{Owner}
 use Rattle.fj_model.specs.Bounds.{Pool, IsOwner}
-use Rattle.fj_model.specs.History.{is_in, queue, stack}
+use Rattle.fj_model.specs.Lists.{is_in}
+use Rattle.fj_model.specs.Queues.{queue}
+use Rattle.fj_model.specs.Stacks.{stack}
 use Rattle.fj_model.specs.Allowed.{AllowedFrom}
 use Rattle.fj_model.proofs.Lawful.{queued_pushed}
 use Rattle.fj_model.proofs.OnePlace.{is_owned, stack_apart}

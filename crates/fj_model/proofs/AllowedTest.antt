@@ -8,12 +8,17 @@ use Rattle.fj_model.specs.declared.status.Status.{Status}
 use Rattle.fj_model.specs.declared.status.Status.TheVariants.{Undone, Normal, Exceptional, Cancelled}
 use Rattle.fj_model.specs.declared.event.How.TheVariants.{Zero, Complete}
 use Rattle.fj_model.specs.Bounds.{Pool, queues_in, workers}
-use Rattle.fj_model.specs.History.{is_in, tasks, accepted, is_kept, live, is_completer, is_completer_kind, parent, parent_in, count_in, stack, hand, status, is_undone, pending, is_spent}
+use Rattle.fj_model.specs.Lists.{is_in, last_of, times_in}
+use Rattle.fj_model.specs.Tasks.{tasks, accepted, is_kept, live, is_completer, is_completer_kind, parent, parent_in, count_in}
+use Rattle.fj_model.specs.Stacks.{stack}
+use Rattle.fj_model.specs.Hooks.{hand}
+use Rattle.fj_model.specs.Statuses.{status, is_undone}
+use Rattle.fj_model.specs.Completers.{pending, is_spent}
 use Rattle.fj_model.specs.Places.{place, is_gone}
-use Rattle.fj_model.specs.Choices.{choice, last_of}
+use Rattle.fj_model.specs.Choices.{choice}
 use Rattle.fj_model.specs.Climbs.{Arrival, Spent, Counted, Early, Fires, arrival, does_fire}
-use Rattle.fj_model.specs.Allowed.{is_shut, is_closed, is_stopped, has_kept_child, is_completed, newest, ends_task, ends_hook}
-use Rattle.fj_model.specs.Headline.{times_in, all_places}
+use Rattle.fj_model.specs.Allowed.{is_shut, is_closed, is_stopped, has_kept_child, is_fired_by_complete, newest, ends_task, ends_hook}
+use Rattle.fj_model.specs.Headline.{all_places}
 
 abbrev pub is_number : Option ℕ → ℕ → Bool
 is_number None t = false
@@ -37,7 +42,7 @@ may_take pool h t w = nat_lt w pool.limits.workers && list_any (λ r. is_number 
 
 abbrev pub may_be_normal : List Event → ℕ → Status → Bool
 may_be_normal h t Normal =
-    (not (is_completer h t) && ends_task t (newest h)) || (is_completer h t && is_none (parent h t)) || (is_completed h t && ends_hook t (newest h))
+    (not (is_completer h t) && ends_task t (newest h)) || (is_completer h t && is_none (parent h t)) || (is_fired_by_complete h t && ends_hook t (newest h))
 may_be_normal h t _ = true
 
 abbrev pub allowed_test : Pool → List Event → Event → Bool

@@ -22,10 +22,15 @@ use Rattle.fj_model.specs.declared.refusal.Refusal.{Refusal}
 use Rattle.fj_model.specs.declared.refusal.Refusal.TheVariants.{LogFull}
 use Rattle.fj_model.specs.declared.said.Said.{Said}
 use Rattle.fj_model.specs.Bounds.{Bounds, Pool, queues_in, owner_at}
-use Rattle.fj_model.specs.History.{is_in, tasks, accepted_by, accepted, released, released_by, is_kept, live, is_undone, status, stack, hand, or_else, is_completer, is_completer_kind, kind, kind_by, queue, taken, taken_by, out_by, ended, unless_ended}
-use Rattle.fj_model.specs.Choices.{choice, scan_order, last_of, own_choice, first_queued}
+use Rattle.fj_model.specs.Lists.{is_in, or_else, last_of}
+use Rattle.fj_model.specs.Tasks.{tasks, accepted_by, accepted, released, released_by, is_kept, live, is_completer, is_completer_kind, kind, kind_by}
+use Rattle.fj_model.specs.Statuses.{is_undone, status}
+use Rattle.fj_model.specs.Stacks.{stack, out_by, ended, unless_ended}
+use Rattle.fj_model.specs.Hooks.{hand}
+use Rattle.fj_model.specs.Queues.{queue, taken, taken_by}
+use Rattle.fj_model.specs.Choices.{choice, scan_order, own_choice, first_queued}
 use Rattle.fj_model.specs.Allowed.{Allowed, AllowedFrom, MayAccept, MayTake, is_closed, is_stopped, newest}
-use Rattle.fj_model.specs.Answers.{answer, answer_of, refusal_of, standing, first_standing, tests_of, is_too_long, events_of, taking, running, settling, ending_events, is_misfit}
+use Rattle.fj_model.specs.Answers.{answer, answer_of, refusal_of, refusal_standing, first_that_stands, refusals_of, does_not_fit, events_of, taking, running, settling, ending_events, is_misfit}
 use Rattle.fj_model.specs.Runs.{Answers, RunsFrom, Runs, IsHistory}
 use Rattle.fj_model.proofs.Members.{is_in_append, get_is_in, filter_agree_in}
 use Rattle.fj_model.proofs.Growth.{with, tasks_more, released_more, kind_more}
@@ -91,11 +96,11 @@ abbrev pub AllFail : List (Bool × Refusal) → Type 0
 AllFail [] = Unit {0}
 AllFail (test ∷ tests) = (test.0 ≡ false) × AllFail tests
 
-pub all_fail : (tests : List (Bool × Refusal)) → first_standing tests ≡ None → AllFail tests
+pub all_fail : (tests : List (Bool × Refusal)) → first_that_stands tests ≡ None → AllFail tests
 all_fail [] none = tt
 all_fail (test ∷ tests) none = go test.0 refl none (all_fail tests)
   where
-    go : (b : Bool) → test.0 ≡ b → (if b then Some test.1 else first_standing tests) ≡ None → (first_standing tests ≡ None → AllFail tests) → (test.0 ≡ false) × AllFail tests
+    go : (b : Bool) → test.0 ≡ b → (if b then Some test.1 else first_that_stands tests) ≡ None → (first_that_stands tests ≡ None → AllFail tests) → (test.0 ≡ false) × AllFail tests
     go true is none rest = absurd cc
     go false is none rest = (is, rest none)
 
@@ -155,14 +160,14 @@ stack_taken h w t there = stack_taken_from w t h there
 
 -- what holds where a step is not refused
 pub record Stands (pool : Pool) (h : List Event) (asked : Step) : Type 0 where
-  pub tests : AllFail (tests_of pool h asked)
-  pub fits : is_too_long pool h asked ≡ false
+  pub tests : AllFail (refusals_of pool h asked)
+  pub fits : does_not_fit pool h asked ≡ false
 
-pub stands : (pool : Pool) (h : List Event) (asked : Step) → standing pool h asked ≡ None → Stands pool h asked
-unfolding standing
+pub stands : (pool : Pool) (h : List Event) (asked : Step) → refusal_standing pool h asked ≡ None → Stands pool h asked
+unfolding refusal_standing
 stands pool h asked none =
-    let parts = neither (first_standing (tests_of pool h asked)) (if is_too_long pool h asked then Some LogFull else None) none in
-    record { tests = all_fail (tests_of pool h asked) parts.0; fits = fitting (is_too_long pool h asked) parts.1 }
+    let parts = neither (first_that_stands (refusals_of pool h asked)) (if does_not_fit pool h asked then Some LogFull else None) none in
+    record { tests = all_fail (refusals_of pool h asked) parts.0; fits = fitting (does_not_fit pool h asked) parts.1 }
   where
     fitting : (b : Bool) → ◌≡◌ {A = Option Refusal} (if b then Some LogFull else None) None → b ≡ false
     fitting true none = absurd cc

@@ -11,10 +11,11 @@ use Rattle.fj_model.specs.declared.event.Event.TheVariants.{Acc, Make, Out, Skip
 use Rattle.fj_model.specs.declared.status.Status.{Status}
 use Rattle.fj_model.specs.declared.status.Status.TheVariants.{Undone, Normal, Exceptional, Cancelled}
 use Rattle.fj_model.specs.Bounds.{Pool}
-use Rattle.fj_model.specs.History.{is_in, without, stack, taken, taken_by, out_by, ended, ended_by, unless_ended, status, status_from, status_by, or_else, or_undone, is_undone, accepts}
+use Rattle.fj_model.specs.Lists.{is_in, without, or_else, last_of, times_in}
+use Rattle.fj_model.specs.Stacks.{stack, out_by, ended, ended_by, unless_ended}
+use Rattle.fj_model.specs.Queues.{taken, taken_by}
+use Rattle.fj_model.specs.Statuses.{status, status_from, status_by, or_undone, is_undone, accepts}
 use Rattle.fj_model.specs.Allowed.{Allowed, AllowedFrom}
-use Rattle.fj_model.specs.Choices.{last_of}
-use Rattle.fj_model.specs.Headline.{times_in}
 use Rattle.fj_model.proofs.Members.{times_in_cons, times_in_append, times_in_some, Once, filter_all}
 use Rattle.fj_model.proofs.Growth.{stack_more, stack_same, status_more, status_from_more}
 use Rattle.fj_model.proofs.Lawful.{by_events, taken_once, front_times, said_times, said_fewer}

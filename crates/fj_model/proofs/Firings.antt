@@ -10,7 +10,9 @@ use Rattle.fj_model.specs.declared.owner.Owner.TheVariants.{Sub}
 use Rattle.fj_model.specs.declared.event.How.{How}
 use Rattle.fj_model.specs.declared.event.How.TheVariants.{Zero, Complete}
 use Rattle.fj_model.specs.Bounds.{Pool}
-use Rattle.fj_model.specs.History.{is_in, pending, is_spent, is_undone, status, fires_or_passes}
+use Rattle.fj_model.specs.Lists.{is_in}
+use Rattle.fj_model.specs.Completers.{pending, is_spent, fires_or_passes}
+use Rattle.fj_model.specs.Statuses.{is_undone, status}
 use Rattle.fj_model.specs.Places.{queued_in, held_by}
 use Rattle.fj_model.specs.Climbs.{Arrival, Spent, Counted, Early, Fires, arrival}
 use Rattle.fj_model.specs.Allowed.{Allowed, AllowedFrom}

@@ -7,10 +7,13 @@ use Rattle.std.proofs.lemmas.Bool.{eqb-true, eqb-false, eq-eqb, ne_eqb, and_part
 use Rattle.fj_model.specs.declared.event.Event.{Event}
 use Rattle.fj_model.specs.declared.owner.Owner.{Owner}
 use Rattle.fj_model.specs.Bounds.{Pool}
-use Rattle.fj_model.specs.History.{is_in, without, tasks, accepted_by, pushed, pushed_by, taken, taken_by, queue, stack, out_by, ended_by, is_completer, is_spent}
+use Rattle.fj_model.specs.Lists.{is_in, without, times_in}
+use Rattle.fj_model.specs.Tasks.{tasks, accepted_by, is_completer}
+use Rattle.fj_model.specs.Queues.{pushed, pushed_by, taken, taken_by, queue}
+use Rattle.fj_model.specs.Stacks.{stack, out_by, ended_by}
+use Rattle.fj_model.specs.Completers.{is_spent}
 use Rattle.fj_model.specs.Places.{opened, place, is_gone, gone, newly_gone}
 use Rattle.fj_model.specs.Allowed.{Allowed, AllowedFrom}
-use Rattle.fj_model.specs.Headline.{times_in}
 use Rattle.fj_model.proofs.Members.{is_in_append, is_in_filter, times_in_cons, times_in_none, times_in_some, filter_none, Once}
 use Rattle.fj_model.proofs.Growth.{with, pushed_more, taken_more, stack_more, gone_more}
 use Rattle.fj_model.proofs.Lawful.{allowed_more, tasks_once, queued_pushed, queued_fresh}

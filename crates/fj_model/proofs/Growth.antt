@@ -9,7 +9,12 @@ use Rattle.fj_model.specs.declared.event.Event.{Event}
 use Rattle.fj_model.specs.declared.owner.Owner.{Owner}
 use Rattle.fj_model.specs.declared.kind.Kind.{Kind}
 use Rattle.fj_model.specs.declared.status.Status.{Status}
-use Rattle.fj_model.specs.History.{is_in, without, or_else, first, tasks, accepted_by, accepted, released, released_by, kind, kind_by, pushed, pushed_by, taken, taken_by, left, queue, stack, out_by, ended, ended_by, unless_ended, hooks, hooks_after, status, status_from, status_by, or_undone, is_undone, accepts}
+use Rattle.fj_model.specs.Lists.{is_in, without, or_else, first_said}
+use Rattle.fj_model.specs.Tasks.{tasks, accepted_by, accepted, released, released_by, kind, kind_by}
+use Rattle.fj_model.specs.Queues.{pushed, pushed_by, taken, taken_by, left, queue}
+use Rattle.fj_model.specs.Stacks.{stack, out_by, ended, ended_by, unless_ended}
+use Rattle.fj_model.specs.Hooks.{hooks, hooks_after}
+use Rattle.fj_model.specs.Statuses.{status, status_from, status_by, or_undone, is_undone, accepts}
 use Rattle.fj_model.proofs.Members.{is_in_append}
 use Rattle.fj_model.specs.Places.{gone, gone_from, newly_gone, opened, opened_by}
 
@@ -44,7 +49,7 @@ pub opened_more : (h : List Event) (e : Event) → opened (h ++ e ∷ []) ≡ wi
 unfolding opened
 opened_more h e = filter_map_more opened_by h e
 
--- the first says what it says, and the one more only where nothing was said
+-- the first_said says what it says, and the one more only where nothing was said
 or_else_assoc : {A : Type 0} (a b c : Option A) → or_else (or_else a b) c ≡ or_else a (or_else b c)
 or_else_assoc (Some x) b c = refl
 or_else_assoc None b c = refl
@@ -53,9 +58,9 @@ or_else_none : {A : Type 0} (a : Option A) → or_else a None ≡ a
 or_else_none (Some x) = refl
 or_else_none None = refl
 
-pub first_more : {A : Type 0} (says : Event → Option A) (h : List Event) (e : Event) → first says (h ++ e ∷ []) ≡ or_else (first says h) (says e)
+pub first_more : {A : Type 0} (says : Event → Option A) (h : List Event) (e : Event) → first_said says (h ++ e ∷ []) ≡ or_else (first_said says h) (says e)
 first_more says [] e = or_else_none (says e)
-first_more says (f ∷ h) e = ap (or_else (says f)) (first_more says h e) ∙ sym (or_else_assoc (says f) (first says h) (says e))
+first_more says (f ∷ h) e = ap (or_else (says f)) (first_more says h e) ∙ sym (or_else_assoc (says f) (first_said says h) (says e))
 
 pub kind_more : (h : List Event) (t : ℕ) (e : Event) → kind (h ++ e ∷ []) t ≡ or_else (kind h t) (kind_by t e)
 unfolding kind

@@ -11,10 +11,14 @@ use Rattle.fj_model.specs.declared.owner.Owner.{Owner}
 use Rattle.fj_model.specs.declared.owner.Owner.TheVariants.{Sub, Work}
 use Rattle.fj_model.specs.declared.mode.Mode.TheVariants.{Async, Joining}
 use Rattle.fj_model.specs.Bounds.{Pool, IsOwner}
-use Rattle.fj_model.specs.History.{is_in, without, or_else, first, tasks, accepted_by, accepted, number_if, is_same, pushed, pushed_by, taken, taken_by, left, queue, stack, out_by, ended, ended_by, status_from, status_by, accepts}
-use Rattle.fj_model.specs.Choices.{choice, first_of, last_of, own_choice, first_queued, scan_order}
+use Rattle.fj_model.specs.Lists.{is_in, without, or_else, first_said, number_if, first_of, last_of, times_in}
+use Rattle.fj_model.specs.Tasks.{tasks, accepted_by, accepted}
+use Rattle.fj_model.specs.Queues.{is_same, pushed, pushed_by, taken, taken_by, left, queue}
+use Rattle.fj_model.specs.Stacks.{stack, out_by, ended, ended_by}
+use Rattle.fj_model.specs.Statuses.{status_from, status_by, accepts}
+use Rattle.fj_model.specs.Choices.{choice, own_choice, first_queued, scan_order}
 use Rattle.fj_model.specs.Allowed.{Allowed, AllowedFrom, MayAccept, MayTake}
-use Rattle.fj_model.specs.Headline.{times_in, handed_by, handed_out, keeps_order, IsHandedOutOnce, LeftInOrder}
+use Rattle.fj_model.specs.Headline.{handed_out_by, handed_out, keeps_order, IsHandedOutOnce, LeftInOrder}
 use mathlib.Core.List.{IsPrefix}
 use Rattle.std.proofs.lemmas.List.Elements.{filter-append}
 use Rattle.fj_model.specs.declared.mode.Mode.{Mode}
@@ -256,13 +260,13 @@ taken_known pool = by_events pool IsTakenKnown taken_known_none (taken_known_mor
 
 -- ---- each task is handed out at most once
 
-handed_takes : (e : Event) (t : ℕ) → handed_by e ≡ Some t → taken_by e ≡ Some t
+handed_takes : (e : Event) (t : ℕ) → handed_out_by e ≡ Some t → taken_by e ≡ Some t
 handed_takes (Out u w) t is = is
 handed_takes _ t is = absurd cc
 
 pub handed_once : (pool : Pool) (h : List Event) → AllowedFrom pool [] h → IsHandedOutOnce h
 unfolding handed_out taken
-handed_once pool h so t = omega (arith, filter_map_fewer handed_by taken_by handed_takes t h, taken_once pool h so t)
+handed_once pool h so t = omega (arith, filter_map_fewer handed_out_by taken_by handed_takes t h, taken_once pool h so t)
 
 -- ---- what left is a beginning of what was pushed
 

@@ -5,8 +5,7 @@ use Rattle.std.specs.List.{filter, list_any, count_by, sum_by}
 use Rattle.std.proofs.lemmas.List.Elements.{filter-append}
 use Rattle.std.proofs.lemmas.List.Sums.{sum_by-append}
 use Rattle.std.proofs.lemmas.Bool.{eqb-true, eq-eqb, and_parts, or_parts, or_cases, or_right}
-use Rattle.fj_model.specs.History.{is_in, without}
-use Rattle.fj_model.specs.Headline.{times_in}
+use Rattle.fj_model.specs.Lists.{is_in, without, times_in}
 
 pub is_in_append : (t : ℕ) (xs ys : List ℕ) → is_in t (xs ++ ys) ≡ (is_in t xs || is_in t ys)
 is_in_append t [] ys = refl

@@ -12,9 +12,10 @@ use Rattle.fj_model.specs.declared.event.Event.TheVariants.{Acc, Make, Out, Skip
 use Rattle.fj_model.specs.declared.owner.Owner.{Owner}
 use Rattle.fj_model.specs.declared.kind.Kind.{Kind}
 use Rattle.fj_model.specs.Bounds.{Pool}
-use Rattle.fj_model.specs.History.{is_in, without, number_if, is_same, tasks, accepted_by, accepted, pushed, pushed_by, taken, taken_by, left, queue}
+use Rattle.fj_model.specs.Lists.{is_in, without, number_if, first_of}
+use Rattle.fj_model.specs.Queues.{is_same, pushed, pushed_by, taken, taken_by, left, queue}
+use Rattle.fj_model.specs.Tasks.{tasks, accepted_by, accepted}
 use Rattle.fj_model.specs.Allowed.{Allowed, AllowedFrom}
-use Rattle.fj_model.specs.Choices.{first_of}
 use Rattle.fj_model.specs.Headline.{keeps_order}
 use Rattle.fj_model.proofs.Members.{is_in_append, is_in_filter, filter_agree_in, filter_none, without_front, first_then, first_is_in, Once}
 use Rattle.fj_model.proofs.Growth.{with, tasks_more, pushed_more, taken_more, or_false}

@@ -13,12 +13,13 @@ use Rattle.fj_model.specs.declared.refusal.Refusal.{Refusal}
 use Rattle.fj_model.specs.declared.said.Said.{Said}
 use Rattle.fj_model.specs.declared.said.Said.TheVariants as says
 use Rattle.fj_model.specs.Bounds.{Pool}
-use Rattle.fj_model.specs.History.{status, is_undone}
+use Rattle.fj_model.specs.Tasks.{tasks, accepted_by}
+use Rattle.fj_model.specs.Statuses.{status, is_undone}
 use Rattle.fj_model.specs.Choices.{choice}
-use Rattle.fj_model.specs.Answers.{answer, answer_of, refusal_of, standing, events_of, reply_of, taking, taking_says, running, ending_events, ending_says}
+use Rattle.fj_model.specs.Answers.{answer, answer_of, refusal_of, refusal_standing, events_of, reply_of, taking, taking_says, running, ending_events, ending_says}
 use Rattle.std.proofs.lemmas.List.{append-nil}
 use Rattle.std.proofs.lemmas.List.Elements.{filter_map-append}
-use Rattle.fj_model.specs.Headline.{handed_out, handed_by, fired, fired_by, run_in, hook_in, RepliesTell}
+use Rattle.fj_model.specs.Headline.{handed_out, handed_out_by, fired, fired_by, task_in, run_in, hook_in, RepliesTell}
 use Rattle.fj_model.specs.Runs.{RunsFrom, Runs}
 
 -- ---- one step
@@ -29,30 +30,30 @@ record Tells (reply : Said) (events : List Event) : Type 0 where
   stands : (r : Refusal) → reply ≡ says.Refused r → ⊥
 
 submit_tells : (pool : Pool) (h : List Event) (s : ℕ) → Tells (reply_of pool h (Submit s Plain)) (events_of pool h (Submit s Plain))
-unfolding events_of reply_of handed_out fired
-submit_tells pool h s = record { same = record { runs = refl; hooks = refl }; stands = λ r is. cc }
+unfolding events_of reply_of tasks handed_out fired
+submit_tells pool h s = record { same = record { accepts = refl; runs = refl; hooks = refl }; stands = λ r is. cc }
 
 taking_tells : (h : List Event) (w : ℕ) (t : Option ℕ) → Tells (taking_says h t) (taking h w t)
-unfolding handed_out fired
-taking_tells h w None = record { same = record { runs = refl; hooks = refl }; stands = λ r is. cc }
+unfolding tasks handed_out fired
+taking_tells h w None = record { same = record { accepts = refl; runs = refl; hooks = refl }; stands = λ r is. cc }
 taking_tells h w (Some t) = go (is_undone (status h t))
   where
     go : (b : Bool) → Tells (if b then says.Run t else says.Skip t) ((if b then event.Out t w else event.Skip t w) ∷ [])
-    go true = record { same = record { runs = refl; hooks = refl }; stands = λ r is. cc }
-    go false = record { same = record { runs = refl; hooks = refl }; stands = λ r is. cc }
+    go true = record { same = record { accepts = refl; runs = refl; hooks = refl }; stands = λ r is. cc }
+    go false = record { same = record { accepts = refl; runs = refl; hooks = refl }; stands = λ r is. cc }
 
 poll_tells : (pool : Pool) (h : List Event) (w r : ℕ) → Tells (reply_of pool h (Poll w r)) (events_of pool h (Poll w r))
 unfolding events_of reply_of
 poll_tells pool h w r = taking_tells h w (choice pool h w r)
 
 end_tells : (h : List Event) (w : ℕ) (t : Option ℕ) → Tells (ending_says h w ending.Ok t) (ending_events h w ending.Ok t)
-unfolding handed_out fired
-end_tells h w None = record { same = record { runs = refl; hooks = refl }; stands = λ r is. cc }
+unfolding tasks handed_out fired
+end_tells h w None = record { same = record { accepts = refl; runs = refl; hooks = refl }; stands = λ r is. cc }
 end_tells h w (Some t) = go (is_undone (status (h ++ event.End t w ∷ []) t))
   where
     go : (b : Bool) → Tells says.Done (event.End t w ∷ (if b then event.Settle t status_is.Normal ∷ [] else []))
-    go true = record { same = record { runs = refl; hooks = refl }; stands = λ r is. cc }
-    go false = record { same = record { runs = refl; hooks = refl }; stands = λ r is. cc }
+    go true = record { same = record { accepts = refl; runs = refl; hooks = refl }; stands = λ r is. cc }
+    go false = record { same = record { accepts = refl; runs = refl; hooks = refl }; stands = λ r is. cc }
 
 end_ok_tells : (pool : Pool) (h : List Event) (w : ℕ) → Tells (reply_of pool h (End w ending.Ok)) (events_of pool h (End w ending.Ok))
 unfolding events_of reply_of
@@ -66,13 +67,14 @@ step_tells pool h (End w ending.Ok) none = end_ok_tells pool h w
 step_tells pool h (End w _) none = absurd cc
 step_tells pool h _ none = absurd cc
 
-answer_tells : (pool : Pool) (h : List Event) (asked : Step) → RepliesTell (answer pool h asked).1 ((answer pool h asked).0 ∷ [])
-unfolding answer handed_out fired
+-- the reply and the events of a step tell the same
+pub answer_tells : (pool : Pool) (h : List Event) (asked : Step) → RepliesTell (answer pool h asked).1 ((answer pool h asked).0 ∷ [])
+unfolding answer tasks handed_out fired
 answer_tells pool h asked = go (refusal_of pool h asked) refl
   where
     go : (r : Option Refusal) → refusal_of pool h asked ≡ r → RepliesTell (answer_of pool h asked r).1 ((answer_of pool h asked r).0 ∷ [])
     go None is = (step_tells pool h asked is).same
-    go (Some refusal) is = record { runs = refl; hooks = refl }
+    go (Some refusal) is = record { accepts = refl; runs = refl; hooks = refl }
 
 -- a refused step appends nothing
 pub refused_nothing : (pool : Pool) (h : List Event) (asked : Step) (refusal : Refusal) → (answer pool h asked).0 ≡ says.Refused refusal → (answer pool h asked).1 ≡ []
@@ -90,9 +92,10 @@ joined : (f : Event → Option ℕ) (g : Said → Option ℕ) (h events : List E
 joined f g h events before reply is also = rw (filter_map-append f h events, filter_map-append g before (reply ∷ []), is, also) refl
 
 one_more : (h events : List Event) (before : List Said) (reply : Said) → RepliesTell h before → RepliesTell events (reply ∷ []) → RepliesTell (h ++ events) (before ++ reply ∷ [])
-unfolding handed_out fired
+unfolding tasks handed_out fired
 one_more h events before reply told more = record {
-  runs = joined handed_by run_in h events before reply told.runs more.runs;
+  accepts = joined accepted_by task_in h events before reply told.accepts more.accepts;
+  runs = joined handed_out_by run_in h events before reply told.runs more.runs;
   hooks = joined fired_by hook_in h events before reply told.hooks more.hooks;
 }
 
@@ -106,8 +109,8 @@ runs_tell_from pool start before [] (reply ∷ replies) end told run = absurd ru
 runs_tell_from pool start before (asked ∷ steps) [] end told run = absurd run
 
 nothing_told : RepliesTell [] []
-unfolding handed_out fired
-nothing_told = record { runs = refl; hooks = refl }
+unfolding tasks handed_out fired
+nothing_told = record { accepts = refl; runs = refl; hooks = refl }
 
 -- the replies of a run tell what its history has
 pub runs_tell : (pool : Pool) (steps : List Step) (replies : List Said) (h : List Event) → Runs pool steps replies h → RepliesTell h replies

@@ -8,7 +8,9 @@ use Rattle.fj_model.specs.declared.event.Event.TheVariants.{Acc, Make, Out, Skip
 use Rattle.fj_model.specs.declared.status.Status.{Status}
 use Rattle.fj_model.specs.declared.status.Status.TheVariants.{Undone, Cancelled}
 use Rattle.fj_model.specs.Bounds.{Pool}
-use Rattle.fj_model.specs.History.{is_in, tasks, accepted, accepted_by, or_else, or_undone, status, status_from, status_by, accepts, is_undone}
+use Rattle.fj_model.specs.Lists.{is_in, or_else}
+use Rattle.fj_model.specs.Tasks.{tasks, accepted, accepted_by}
+use Rattle.fj_model.specs.Statuses.{or_undone, status, status_from, status_by, accepts, is_undone}
 use Rattle.fj_model.specs.Allowed.{Allowed, AllowedFrom}
 use Rattle.fj_model.proofs.Members.{is_in_append}
 use Rattle.fj_model.proofs.Growth.{tasks_more, status_from_more, status_more, or_false}

@@ -13,9 +13,14 @@ use Rattle.fj_model.specs.declared.event.How.TheVariants.{Zero, Complete}
 use Rattle.fj_model.specs.declared.place.Place.{Place}
 use Rattle.fj_model.specs.declared.place.Place.TheVariants.{Gone}
 use Rattle.fj_model.specs.Bounds.{Pool, IsOwner, queues_in}
-use Rattle.fj_model.specs.History.{is_in, tasks, accepted, is_kept, live, kind, is_completer, is_completer_kind, parent, parent_in, count_in, stack, hand, status, is_undone, pending, is_spent}
+use Rattle.fj_model.specs.Lists.{is_in, last_of}
+use Rattle.fj_model.specs.Tasks.{tasks, accepted, is_kept, live, kind, is_completer, is_completer_kind, parent, parent_in, count_in}
+use Rattle.fj_model.specs.Stacks.{stack}
+use Rattle.fj_model.specs.Hooks.{hand}
+use Rattle.fj_model.specs.Statuses.{status, is_undone}
+use Rattle.fj_model.specs.Completers.{pending, is_spent}
 use Rattle.fj_model.specs.Places.{place}
-use Rattle.fj_model.specs.Choices.{choice, last_of}
+use Rattle.fj_model.specs.Choices.{choice}
 use Rattle.fj_model.specs.Climbs.{Arrival, Counted, Fires, arrival}
 
 abbrev pub is_close : Event → Bool
@@ -58,13 +63,13 @@ abbrev pub ends_hook : ℕ → Option Event → Bool
 ends_hook t (Some (Hooked c)) = c == t
 ends_hook t _ = false
 
-abbrev pub completes : ℕ → Event → Bool
-completes c (Fire d Complete) = d == c
-completes c _ = false
+abbrev pub fires_by_complete : ℕ → Event → Bool
+fires_by_complete c (Fire d Complete) = d == c
+fires_by_complete c _ = false
 
 -- whether the completer was fired by Complete
-unfoldable pub is_completed : List Event → ℕ → Bool
-is_completed h c = list_any (completes c) h
+unfoldable pub is_fired_by_complete : List Event → ℕ → Bool
+is_fired_by_complete h c = list_any (fires_by_complete c) h
 
 -- a task of this kind may be accepted under this number
 pub record MayAccept (pool : Pool) (h : List Event) (t : ℕ) (k : Kind) : Type 0 where
@@ -84,7 +89,7 @@ abbrev pub MayBeNormal : List Event → ℕ → Status → Type 0
 MayBeNormal h t Normal =
     ((is_completer h t ≡ false) × (ends_task t (newest h) ≡ true))
     ⊎ ((is_completer h t ≡ true) × (parent h t ≡ None))
-    ⊎ ((is_completed h t ≡ true) × (ends_hook t (newest h) ≡ true))
+    ⊎ ((is_fired_by_complete h t ≡ true) × (ends_hook t (newest h) ≡ true))
 MayBeNormal h t _ = Unit {0}
 
 -- the event may follow the history

@@ -21,12 +21,18 @@ use Rattle.fj_model.specs.declared.refusal.Refusal.TheVariants.{Closed, TooManyT
 use Rattle.fj_model.specs.declared.said.Said.{Said}
 use Rattle.fj_model.specs.declared.said.Said.TheVariants as says
 use Rattle.fj_model.specs.Bounds.{Bounds, Pool, owners, workers}
-use Rattle.fj_model.specs.History.{is_in, is_empty, accepted, is_kept, live, is_completer, parent, parent_in, count_in, queue, stack, hand, status, is_undone, pending, is_spent, or_else}
+use Rattle.fj_model.specs.Lists.{is_in, is_empty, or_else, last_of}
+use Rattle.fj_model.specs.Tasks.{accepted, is_kept, live, is_completer, parent, parent_in, count_in}
+use Rattle.fj_model.specs.Queues.{queue}
+use Rattle.fj_model.specs.Stacks.{stack}
+use Rattle.fj_model.specs.Hooks.{hand}
+use Rattle.fj_model.specs.Statuses.{status, is_undone}
+use Rattle.fj_model.specs.Completers.{pending, is_spent}
 use Rattle.fj_model.specs.Places.{place, is_gone}
-use Rattle.fj_model.specs.Choices.{choice, last_of}
+use Rattle.fj_model.specs.Choices.{choice}
 use Rattle.fj_model.specs.Climbs.{Arrival, arrival, path, passed, relayed}
 use Rattle.fj_model.specs.Climbs as climb
-use Rattle.fj_model.specs.Allowed.{is_closed, is_stopped, has_kept_child, is_completed}
+use Rattle.fj_model.specs.Allowed.{is_shut, is_closed, is_stopped, has_kept_child, is_fired_by_complete}
 
 -- all queues, stacks and hands are empty
 unfoldable pub is_quiet : Bounds → List Event → Bool
@@ -61,24 +67,25 @@ abbrev pub failing : List Event → ℕ → ℕ → List Event
 failing h t code =
     if is_undone (status h t) then map (λ u. event.Settle u (status_is.Exceptional code)) (relayed h t) else []
 
--- the root of a way, if it has a member
-abbrev pub top : List ℕ → Option ℕ
-top way = last_of way
+-- the last member of a way, which is its root
+abbrev pub root_of : List ℕ → Option ℕ
+root_of way = last_of way
 
-abbrev pub settling_root : List Event → Option ℕ → List Event
-settling_root h (Some c) = event.Settle c status_is.Normal ∷ []
-settling_root h None = []
+-- past the root, which is undone as it was passed
+abbrev pub settle_root : Option ℕ → List Event
+settle_root (Some c) = event.Settle c status_is.Normal ∷ []
+settle_root None = []
 
 -- where a climb ends: at a member of the way, or past the root
 abbrev pub pass_end : List Event → List ℕ → Option ℕ → List Event
 pass_end h (c ∷ above) root = arriving c (arrival h c)
-pass_end h [] root = settling_root h root
+pass_end h [] root = settle_root root
 
 -- the events of the climb from t
 abbrev pub passing : List Event → ℕ → List Event
 passing h t =
     let way = path h t in
-    map event.Pass (passed h t) ++ pass_end h (drop (length (passed h t)) way) (top way)
+    map event.Pass (passed h t) ++ pass_end h (drop (length (passed h t)) way) (root_of way)
 
 -- the events after the end of the body of t, read where it has ended
 abbrev pub after_end : List Event → ℕ → Ending → List Event
@@ -93,10 +100,11 @@ abbrev pub ending_events : List Event → ℕ → Ending → Option ℕ → List
 ending_events h w ending None = []
 ending_events h w ending (Some t) = event.End t w ∷ after_end (h ++ event.End t w ∷ []) t ending
 
--- what follows the end of a hook of c: first by its own completion, then at its parent or at itself
-abbrev pub completing : List Event → ℕ → List Event
-completing h c = if is_completed h c then settling h c status_is.Normal else []
+-- what follows the end of the hook of c: first, if it was fired by Complete, its own completion
+abbrev pub settling_own : List Event → ℕ → List Event
+settling_own h c = if is_fired_by_complete h c then settling h c status_is.Normal else []
 
+-- then, with a parent, the arrival there; without one c becomes normal if it is still undone
 abbrev pub above_hook : List Event → ℕ → Option ℕ → List Event
 above_hook h c (Some p) = arriving p (arrival h p)
 above_hook h c None = settling h c status_is.Normal
@@ -105,7 +113,7 @@ abbrev pub hook_events : List Event → Option ℕ → List Event
 hook_events h None = []
 hook_events h (Some c) =
     let ended = h ++ event.Hooked c ∷ [] in
-    let own = completing ended c in
+    let own = settling_own ended c in
     event.Hooked c ∷ own ++ above_hook (ended ++ own) c (parent h c)
 
 abbrev pub root_events : List Event → Option ℕ → List Event
@@ -123,7 +131,7 @@ events_of pool h (Join w t r) = if is_undone (status h t) then taking h w (choic
 events_of pool h (End w ending) = ending_events h w ending (running h w)
 events_of pool h (HookDone w) = hook_events h (hand h w)
 events_of pool h (Add w c n) = event.Add c n ∷ []
-events_of pool h (QuietRoot w t) = root_events h (top (path h t))
+events_of pool h (QuietRoot w t) = root_events h (root_of (path h t))
 events_of pool h (Fault t code) = failing h t code
 events_of pool h (Cancel t) = settling h t status_is.Cancelled
 events_of pool h Shutdown = if is_closed h || is_stopped h then [] else event.Close ∷ []
@@ -132,7 +140,7 @@ events_of pool h IsQuiescent = []
 events_of pool h (State t) = []
 events_of pool h (Release t) = event.Rel t ∷ []
 
--- ---- replies
+-- ---- replies. Where a step is refused, what stands here is never given
 
 abbrev pub taking_says : List Event → Option ℕ → Said
 taking_says h None = says.None
@@ -162,7 +170,7 @@ abbrev pub end_says : List Event → ℕ → Ending → Said
 end_says h t Ok = says.Done
 end_says h t Quiet = says.Done
 end_says h t Try = arriving_says t (arrival h t)
-end_says h t Pass = pass_says h (drop (length (passed h t)) (path h t)) (top (path h t))
+end_says h t Pass = pass_says h (drop (length (passed h t)) (path h t)) (root_of (path h t))
 end_says h t Complete = if is_spent h t then says.Spent t else says.Hook t
 end_says h t (Fail code) = says.Done
 
@@ -178,7 +186,7 @@ hook_says before after c None = if is_undone (status before c) then says.Root c 
 abbrev pub hook_done_says : List Event → Option ℕ → Said
 hook_done_says h None = says.Done
 hook_done_says h (Some c) =
-    let ended = h ++ event.Hooked c ∷ [] in hook_says h (ended ++ completing ended c) c (parent h c)
+    let ended = h ++ event.Hooked c ∷ [] in hook_says h (ended ++ settling_own ended c) c (parent h c)
 
 abbrev pub quiet_root_says : List Event → Option ℕ → Said
 quiet_root_says h None = says.Done
@@ -201,7 +209,7 @@ reply_of pool h (Join w t r) = if is_undone (status h t) then taking_says h (cho
 reply_of pool h (End w ending) = ending_says h w ending (running h w)
 reply_of pool h (HookDone w) = hook_done_says h (hand h w)
 reply_of pool h (Add w c n) = says.Count (pending h c + n)
-reply_of pool h (QuietRoot w t) = quiet_root_says h (top (path h t))
+reply_of pool h (QuietRoot w t) = quiet_root_says h (root_of (path h t))
 reply_of pool h (Fault t code) = if is_undone (status h t) then says.Yes else says.No
 reply_of pool h (Cancel t) = cancel_says (status h t)
 reply_of pool h Shutdown = says.Done
@@ -213,17 +221,17 @@ reply_of pool h (Release t) = says.Done
 -- ---- refusals
 
 -- the first that stands
-abbrev pub first_standing : List (Bool × Refusal) → Option Refusal
-first_standing [] = None
-first_standing (test ∷ tests) = if test.0 then Some test.1 else first_standing tests
+abbrev pub first_that_stands : List (Bool × Refusal) → Option Refusal
+first_that_stands [] = None
+first_that_stands (test ∷ tests) = if test.0 then Some test.1 else first_that_stands tests
 
-abbrev pub names_unknown : List Event → Option ℕ → Bool
-names_unknown h None = false
-names_unknown h (Some p) = not (is_kept h p)
+abbrev pub is_unknown_parent : List Event → Option ℕ → Bool
+is_unknown_parent h None = false
+is_unknown_parent h (Some p) = not (is_kept h p)
 
-abbrev pub names_plain : List Event → Option ℕ → Bool
-names_plain h None = false
-names_plain h (Some p) = not (is_completer h p)
+abbrev pub is_plain_parent : List Event → Option ℕ → Bool
+is_plain_parent h None = false
+is_plain_parent h (Some p) = not (is_completer h p)
 
 -- Ok is for plain tasks, and each other ending but Fail for completers
 abbrev pub is_misfit : List Event → Ending → Option ℕ → Bool
@@ -235,59 +243,59 @@ is_misfit h Pass (Some t) = not (is_completer h t)
 is_misfit h Complete (Some t) = not (is_completer h t)
 is_misfit h (Fail code) (Some t) = false
 
-abbrev pub no_worker : Pool → ℕ → Bool × Refusal
-no_worker pool w = (nat_le pool.limits.workers w, NoSuch)
+abbrev pub no_such_worker : Pool → ℕ → Bool × Refusal
+no_such_worker pool w = (nat_le pool.limits.workers w, NoSuch)
 
-abbrev pub has_hook : List Event → ℕ → Bool × Refusal
-has_hook h w = (is_some (hand h w), NotIdle)
+abbrev pub hook_in_hand : List Event → ℕ → Bool × Refusal
+hook_in_hand h w = (is_some (hand h w), NotIdle)
 
-abbrev pub not_running : List Event → ℕ → Bool × Refusal
-not_running h w = (is_empty (stack h w), NotRunning)
+abbrev pub nothing_running : List Event → ℕ → Bool × Refusal
+nothing_running h w = (is_empty (stack h w), NotRunning)
 
-abbrev pub not_known : List Event → ℕ → Bool × Refusal
-not_known h t = (not (is_kept h t), Unknown)
+abbrev pub unknown_task : List Event → ℕ → Bool × Refusal
+unknown_task h t = (not (is_kept h t), Unknown)
 
-abbrev pub not_completer : List Event → ℕ → Bool × Refusal
-not_completer h t = (not (is_completer h t), NotCompleter)
+abbrev pub not_a_completer : List Event → ℕ → Bool × Refusal
+not_a_completer h t = (not (is_completer h t), NotCompleter)
 
-abbrev pub too_large : ℕ → Bool × Refusal
-too_large count = (nat_lt 65535 count, CountTooLarge)
+abbrev pub count_too_large : ℕ → Bool × Refusal
+count_too_large count = (nat_lt 65535 count, CountTooLarge)
 
-abbrev pub no_room : Pool → List Event → Bool × Refusal
-no_room pool h = (live h == pool.limits.tasks, TooManyTasks)
+abbrev pub too_many_tasks : Pool → List Event → Bool × Refusal
+too_many_tasks pool h = (live h == pool.limits.tasks, TooManyTasks)
 
--- the tests of a step but the last, in the order in which they are made
-abbrev pub tests_of : Pool → List Event → Step → List (Bool × Refusal)
-tests_of pool h (Submit s k) =
-    (nat_le pool.limits.submitters s, NoSuch) ∷ (is_closed h || is_stopped h, Closed) ∷ too_large (count_in (Some k)) ∷ no_room pool h ∷ []
-tests_of pool h (Fork w k) =
-    no_worker pool w ∷ has_hook h w ∷ not_running h w ∷ (names_unknown h (parent_in (Some k)), Unknown) ∷ (names_plain h (parent_in (Some k)), NotCompleter)
-    ∷ (is_stopped h, Closed) ∷ too_large (count_in (Some k)) ∷ no_room pool h ∷ []
-tests_of pool h (Trigger w count) =
-    no_worker pool w ∷ has_hook h w ∷ not_running h w ∷ (is_stopped h, Closed) ∷ too_large count ∷ no_room pool h ∷ []
-tests_of pool h (Poll w r) = no_worker pool w ∷ has_hook h w ∷ (not (is_empty (stack h w)), NotIdle) ∷ []
-tests_of pool h (Help w r) = no_worker pool w ∷ has_hook h w ∷ not_running h w ∷ []
-tests_of pool h (Join w t r) =
-    no_worker pool w ∷ has_hook h w ∷ not_running h w ∷ not_known h t ∷ (is_undone (status h t) && is_in t (stack h w), OwnStack) ∷ []
-tests_of pool h (End w ending) =
-    no_worker pool w ∷ has_hook h w ∷ not_running h w ∷ (is_misfit h ending (running h w), NotCompleter) ∷ []
-tests_of pool h (HookDone w) = no_worker pool w ∷ (is_none (hand h w), NotRunning) ∷ []
-tests_of pool h (Add w c n) =
-    no_worker pool w ∷ has_hook h w ∷ not_running h w ∷ not_known h c ∷ not_completer h c ∷ too_large (pending h c + n) ∷ []
-tests_of pool h (QuietRoot w t) = no_worker pool w ∷ has_hook h w ∷ not_running h w ∷ not_known h t ∷ not_completer h t ∷ []
-tests_of pool h (Fault t code) = not_known h t ∷ []
-tests_of pool h (Cancel t) = not_known h t ∷ []
-tests_of pool h Shutdown = []
-tests_of pool h Stop = []
-tests_of pool h IsQuiescent = []
-tests_of pool h (State t) = not_known h t ∷ []
-tests_of pool h (Release t) = not_known h t ∷ (not (is_gone (place h t)) || has_kept_child h t, NotDone) ∷ []
+-- each refusal that the step can meet but LogFull, with whether it stands, in the order in which they are tested
+abbrev pub refusals_of : Pool → List Event → Step → List (Bool × Refusal)
+refusals_of pool h (Submit s k) =
+    (nat_le pool.limits.submitters s, NoSuch) ∷ (is_shut h (Sub s), Closed) ∷ count_too_large (count_in (Some k)) ∷ too_many_tasks pool h ∷ []
+refusals_of pool h (Fork w k) =
+    no_such_worker pool w ∷ hook_in_hand h w ∷ nothing_running h w ∷ (is_unknown_parent h (parent_in (Some k)), Unknown) ∷ (is_plain_parent h (parent_in (Some k)), NotCompleter)
+    ∷ (is_stopped h, Closed) ∷ count_too_large (count_in (Some k)) ∷ too_many_tasks pool h ∷ []
+refusals_of pool h (Trigger w count) =
+    no_such_worker pool w ∷ hook_in_hand h w ∷ nothing_running h w ∷ (is_stopped h, Closed) ∷ count_too_large count ∷ too_many_tasks pool h ∷ []
+refusals_of pool h (Poll w r) = no_such_worker pool w ∷ hook_in_hand h w ∷ (not (is_empty (stack h w)), NotIdle) ∷ []
+refusals_of pool h (Help w r) = no_such_worker pool w ∷ hook_in_hand h w ∷ nothing_running h w ∷ []
+refusals_of pool h (Join w t r) =
+    no_such_worker pool w ∷ hook_in_hand h w ∷ nothing_running h w ∷ unknown_task h t ∷ (is_undone (status h t) && is_in t (stack h w), OwnStack) ∷ []
+refusals_of pool h (End w ending) =
+    no_such_worker pool w ∷ hook_in_hand h w ∷ nothing_running h w ∷ (is_misfit h ending (running h w), NotCompleter) ∷ []
+refusals_of pool h (HookDone w) = no_such_worker pool w ∷ (is_none (hand h w), NotRunning) ∷ []
+refusals_of pool h (Add w c n) =
+    no_such_worker pool w ∷ hook_in_hand h w ∷ nothing_running h w ∷ unknown_task h c ∷ not_a_completer h c ∷ count_too_large (pending h c + n) ∷ []
+refusals_of pool h (QuietRoot w t) = no_such_worker pool w ∷ hook_in_hand h w ∷ nothing_running h w ∷ unknown_task h t ∷ not_a_completer h t ∷ []
+refusals_of pool h (Fault t code) = unknown_task h t ∷ []
+refusals_of pool h (Cancel t) = unknown_task h t ∷ []
+refusals_of pool h Shutdown = []
+refusals_of pool h Stop = []
+refusals_of pool h IsQuiescent = []
+refusals_of pool h (State t) = unknown_task h t ∷ []
+refusals_of pool h (Release t) = unknown_task h t ∷ (not (is_gone (place h t)) || has_kept_child h t, NotDone) ∷ []
 
--- whether the events of the step do not fit into the history
-abbrev pub is_too_long : Pool → List Event → Step → Bool
-is_too_long pool h asked = nat_lt pool.limits.events (length h + length (events_of pool h asked))
+-- whether the history would pass its limit by the events of the step
+abbrev pub does_not_fit : Pool → List Event → Step → Bool
+does_not_fit pool h asked = nat_lt pool.limits.events (length h + length (events_of pool h asked))
 
--- whether the machine makes this step at all
+-- whether the machine makes this step at all: the others are answered `NotYet`
 abbrev pub is_built_ending : Ending → Bool
 is_built_ending Ok = true
 is_built_ending Quiet = false
@@ -303,12 +311,12 @@ is_built (End w ending) = is_built_ending ending
 is_built _ = false
 
 -- why a step that is built is refused, if it is
-unfoldable pub standing : Pool → List Event → Step → Option Refusal
-standing pool h asked = or_else (first_standing (tests_of pool h asked)) (if is_too_long pool h asked then Some LogFull else None)
+unfoldable pub refusal_standing : Pool → List Event → Step → Option Refusal
+refusal_standing pool h asked = or_else (first_that_stands (refusals_of pool h asked)) (if does_not_fit pool h asked then Some LogFull else None)
 
 -- why the step is refused, if it is
 unfoldable pub refusal_of : Pool → List Event → Step → Option Refusal
-refusal_of pool h asked = if is_built asked then standing pool h asked else Some NotYet
+refusal_of pool h asked = if is_built asked then refusal_standing pool h asked else Some NotYet
 
 -- what a refused step, and one that is not refused, replies and appends
 abbrev pub answer_of : Pool → List Event → Step → Option Refusal → Said × List Event

@@ -7,13 +7,8 @@ use Rattle.fj_model.specs.declared.mode.Mode.TheVariants.{Async, Joining}
 use Rattle.fj_model.specs.declared.owner.Owner.{Owner}
 use Rattle.fj_model.specs.declared.owner.Owner.TheVariants.{Work}
 use Rattle.fj_model.specs.Bounds.{Bounds, Pool, queues_in, owner_at}
-use Rattle.fj_model.specs.History.{or_else, queue}
-
-abbrev pub first_of : List ℕ → Option ℕ
-first_of ts = slice_get ts 0
-
-abbrev pub last_of : List ℕ → Option ℕ
-last_of ts = slice_get ts (length ts - 1)
+use Rattle.fj_model.specs.Lists.{or_else, first_of, last_of}
+use Rattle.fj_model.specs.Queues.{queue}
 
 -- from a worker's own queue: the oldest in async mode, the newest in joining mode
 abbrev pub own_choice : Mode → List ℕ → Option ℕ

@@ -2,7 +2,9 @@
 use Rattle.std.specs.Prelude.{ℕ, zero, suc, Bool, true, false, ◌&&◌, ◌||◌, not, ◌==◌, nat_lt, if◌then◌else◌, List, [], ◌∷◌, Option, Some, None, is_some}
 use Rattle.std.specs.List.{take_while}
 use Rattle.fj_model.specs.declared.event.Event.{Event}
-use Rattle.fj_model.specs.History.{kind, parent, relay_in, status, is_undone, is_spent, pending}
+use Rattle.fj_model.specs.Tasks.{kind, parent, relay_in}
+use Rattle.fj_model.specs.Statuses.{status, is_undone}
+use Rattle.fj_model.specs.Completers.{is_spent, pending}
 use Rattle.fj_model.specs.Places.{queued_in, held_by}
 
 -- the task, its parent, the parent's parent and so on, at most so many

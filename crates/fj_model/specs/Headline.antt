@@ -17,15 +17,15 @@ use Rattle.fj_model.specs.declared.step.Step.TheVariants as ask
 use Rattle.fj_model.specs.declared.step.Ending.TheVariants as ending
 use Rattle.fj_model.specs.declared.said.Said.{Said}
 use Rattle.fj_model.specs.declared.said.Said.TheVariants as says
-use Rattle.fj_model.specs.Allowed.{is_closed, is_stopped, AllowedFrom}
+use Rattle.fj_model.specs.Allowed.{is_shut, AllowedFrom}
 use Rattle.fj_model.specs.Answers.{answer, running}
+use Rattle.fj_model.specs.Lists.{times_in}
 use Rattle.fj_model.specs.Bounds.{Bounds, Pool, owners, workers}
-use Rattle.fj_model.specs.History.{accepted, pushed, left, queue, stack, pending}
+use Rattle.fj_model.specs.Tasks.{tasks, accepted}
+use Rattle.fj_model.specs.Queues.{pushed, left, queue}
+use Rattle.fj_model.specs.Stacks.{stack}
+use Rattle.fj_model.specs.Completers.{pending}
 use Rattle.fj_model.specs.Places.{open_tasks, gone}
-
--- how often the number stands in the list
-abbrev pub times_in : ℕ → List ℕ → ℕ
-times_in t ts = count_by (λ u. u == t) ts
 
 -- the lists of all places, joined
 unfoldable pub all_places : Bounds → List Event → List ℕ
@@ -35,13 +35,14 @@ all_places l h = flat_map (queue h) (owners l) ++ flat_map (stack h) (workers l)
 abbrev pub IsInOnePlace : Bounds → List Event → Type 0
 IsInOnePlace l h = (t : ℕ) → times_in t (all_places l h) ≡ (if nat_lt t (accepted h) then 1 else 0)
 
-abbrev pub handed_by : Event → Option ℕ
-handed_by (Out t w) = Some t
-handed_by _ = None
+-- the task that this event hands out
+abbrev pub handed_out_by : Event → Option ℕ
+handed_out_by (Out t w) = Some t
+handed_out_by _ = None
 
 -- the tasks that were handed out, in order
 unfoldable pub handed_out : List Event → List ℕ
-handed_out h = filter_map handed_by h
+handed_out h = filter_map handed_out_by h
 
 -- each task was handed out at most once
 abbrev pub IsHandedOutOnce : List Event → Type 0
@@ -57,14 +58,10 @@ keeps_order Joining (Work w) = false
 abbrev pub LeftInOrder : Mode → List Event → Type 0
 LeftInOrder mode h = (o : Owner) → keeps_order mode o ≡ true → IsPrefix (left h o) (pushed h o)
 
--- whether the history is closed to submitters
-abbrev pub is_ended : List Event → Bool
-is_ended h = is_closed h || is_stopped h
-
 -- no task of a submitter was accepted after a `Close` or a `Stop`
 abbrev pub NoneAfterShutdown : List Event → Type 0
 NoneAfterShutdown h =
-    (before later : List Event) (t s : ℕ) (k : Kind) → h ≡ before ++ Acc t (Sub s) k ∷ later → is_ended before ≡ false
+    (before later : List Event) (t s : ℕ) (k : Kind) → h ≡ before ++ Acc t (Sub s) k ∷ later → is_shut before (Sub s) ≡ false
 
 abbrev pub fired_by : Event → Option ℕ
 fired_by (Fire c how) = Some c
@@ -82,13 +79,17 @@ IsFiredOnce h = (c : ℕ) → times_in c (fired h) ≤ 1
 abbrev pub FiredAtZero : List Event → Type 0
 FiredAtZero h = (before later : List Event) (c : ℕ) → h ≡ before ++ Fire c Zero ∷ later → pending before c ≡ 0
 
--- a hook is handed out by Complete only where a worker ends the completer's body so, as the one that it runs
-abbrev pub CompletesOwn : Pool → Type 0
-CompletesOwn pool =
+-- a `Fire(c, Complete)` is appended only by the ending Complete of a worker whose running task is c
+abbrev pub FiresByCompleteOnlyOwn : Pool → Type 0
+FiresByCompleteOnlyOwn pool =
     (h : List Event) (asked : Step) (c : ℕ) → Contains (answer pool h asked).1 (Fire c Complete)
     → (w : ℕ) × (asked ≡ ask.End w ending.Complete) × (running h w ≡ Some c)
 
--- the task that a reply hands out for running, and the completer whose hook a reply hands out
+-- the task that a reply accepts, the one that it hands out for running, and the completer whose hook it hands out
+abbrev pub task_in : Said → Option ℕ
+task_in (says.Task t) = Some t
+task_in _ = None
+
 abbrev pub run_in : Said → Option ℕ
 run_in (says.Run t) = Some t
 run_in _ = None
@@ -97,8 +98,9 @@ abbrev pub hook_in : Said → Option ℕ
 hook_in (says.Hook c) = Some c
 hook_in _ = None
 
--- the replies `run` are for the tasks that were handed out, and the replies `hook` for the hooks, one for one
+-- the replies `task` are for the tasks that were accepted, `run` for those that were handed out, `hook` for the hooks, one for one
 pub record RepliesTell (h : List Event) (replies : List Said) : Type 0 where
+  pub accepts : tasks h ≡ filter_map task_in replies
   pub runs : handed_out h ≡ filter_map run_in replies
   pub hooks : fired h ≡ filter_map hook_in replies
 

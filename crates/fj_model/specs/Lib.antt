@@ -1,5 +1,11 @@
 pub mod Bounds
-pub mod History
+pub mod Lists
+pub mod Tasks
+pub mod Queues
+pub mod Stacks
+pub mod Hooks
+pub mod Statuses
+pub mod Completers
 pub mod Places
 pub mod Climbs
 pub mod Choices

@@ -6,7 +6,11 @@ use Rattle.fj_model.specs.declared.event.Event.TheVariants.{Acc, Make, Out, End}
 use Rattle.fj_model.specs.declared.owner.Owner.{Owner}
 use Rattle.fj_model.specs.declared.place.Place.{Place}
 use Rattle.fj_model.specs.declared.place.Place.TheVariants.{Queued, Held, Open, Gone}
-use Rattle.fj_model.specs.History.{is_in, tasks, queue, stack, is_completer, is_spent}
+use Rattle.fj_model.specs.Lists.{is_in}
+use Rattle.fj_model.specs.Tasks.{tasks, is_completer}
+use Rattle.fj_model.specs.Queues.{queue}
+use Rattle.fj_model.specs.Stacks.{stack}
+use Rattle.fj_model.specs.Completers.{is_spent}
 
 -- the owner of the queue that this event puts the task into
 abbrev pub owner_by : ℕ → Event → Option Owner
@@ -36,8 +40,8 @@ unfoldable pub opened : List Event → List ℕ
 opened h = filter_map opened_by h
 
 abbrev pub place_of : Option Owner → Option ℕ → Bool → Place
-place_of (Some o) held opened = Queued o
-place_of None (Some w) opened = Held w
+place_of (Some o) held is_opened = Queued o
+place_of None (Some w) is_opened = Held w
 place_of None None true = Open
 place_of None None false = Gone
 
@@ -61,11 +65,11 @@ is_gone Open = false
 unfoldable pub open_tasks : List Event → List ℕ
 open_tasks h = filter (λ t. is_open (place h t)) (opened h)
 
--- the gone tasks that are not among those, by rising number
+-- the tasks that are gone after h and are not in the list, by rising number
 unfoldable pub newly_gone : List Event → List ℕ → List ℕ
 newly_gone h gone = filter (λ t. is_gone (place h t) && not (is_in t gone)) (tasks h)
 
--- the gone tasks after these events, where those before them were gone after the events before
+-- goes through the later events: after each, the tasks newly gone are added at the end
 unfoldable pub gone_from : List Event → List ℕ → List Event → List ℕ
 gone_from before gone [] = gone
 gone_from before gone (e ∷ later) = gone_from (before ++ e ∷ []) (gone ++ newly_gone (before ++ e ∷ []) gone) later

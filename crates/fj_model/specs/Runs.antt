@@ -1,12 +1,10 @@
 -- Whole runs of the machine.
-use Rattle.std.specs.Prelude.{ℕ, ◌≡◌, ◌<◌, length, Option, List, [], ◌∷◌, ◌++◌}
+use Rattle.std.specs.Prelude.{◌≡◌, List, [], ◌∷◌, ◌++◌}
 use Rattle.fj_model.specs.declared.event.Event.{Event}
 use Rattle.fj_model.specs.declared.step.Step.{Step}
 use Rattle.fj_model.specs.declared.said.Said.{Said}
 use Rattle.fj_model.specs.declared.mode.Mode.{Mode}
-use Rattle.fj_model.specs.Bounds.{Bounds, Pool, queues_in, owner_at}
-use Rattle.fj_model.specs.History.{queue}
-use Rattle.fj_model.specs.Choices.{choice, first_of}
+use Rattle.fj_model.specs.Bounds.{Bounds, Pool}
 use Rattle.fj_model.specs.Answers.{answer}
 
 -- to the step after this history there is this reply, and these events are appended
@@ -45,14 +43,3 @@ grown past events = record { pool = past.pool; events = past.events ++ events }
 -- the reply and the past after a step are the ones that the step has
 abbrev pub Steps : Past → Step → Said → Past → Type 0
 Steps old asked reply new = (reply ≡ (answer old.pool old.events asked).0) × (new ≡ grown old (answer old.pool old.events asked).1)
-
--- the first task of the queue with this number
-abbrev pub first_in : Past → ℕ → Option ℕ
-first_in past q = first_of (queue past.events (owner_at past.pool.limits q))
-
--- the worker's choice is the first of the queue with this number
-abbrev pub IsChosenFrom : Past → ℕ → ℕ → ℕ → Type 0
-IsChosenFrom past w r q =
-    (q < queues_in past.pool.limits)
-    × (choice past.pool past.events w r ≡ first_of (queue past.events (owner_at past.pool.limits q)))
-    × (0 < length (queue past.events (owner_at past.pool.limits q)))

@@ -7,7 +7,7 @@ pub enum Kind {
     Plain,
     /// A task with a completion action, as a `CountedCompleter`.
     Completer {
-        /// The completer that is arrived at when this one has completed, if there is one.
+        /// The completer that is arrived at when the completion action of this one has ended, or that a climb goes on to.
         parent: Option<Serial>,
         /// The pending count that it is made with, 0 to 65,535.
         count: u32,

@@ -8,8 +8,8 @@ pub enum Place {
     Queued(Owner),
     /// On this worker's stack: its body has begun and has not ended.
     Held(WorkerId),
-    /// A completer whose body has ended, or that was made without one, and that waits for arrivals.
+    /// A completer whose body has ended, or that was made as a trigger, and that is not spent.
     Open,
-    /// Everything else: nothing more will be done for it.
+    /// Everything else that was accepted: in no queue, on no stack, and waiting for no arrival.
     Gone,
 }

@@ -3,7 +3,8 @@ use thiserror::Error;
 /// Why a call was refused. A refused call changes nothing.
 ///
 /// Where several hold, a step is answered the first in this order: `NoSuch`, `NotIdle`, `NotRunning`, `Unknown`, `NotCompleter`,
-/// `NotDone`, `OwnStack`, `Closed`, `CountTooLarge`, `TooManyTasks`, `LogFull`.
+/// `NotDone`, `OwnStack`, `Closed`, `CountTooLarge`, `TooManyTasks`, `LogFull`. A step that is not built is answered `NotYet` before
+/// all of these.
 #[derive(Clone, Copy, Debug, PartialEq, Eq, Error)]
 pub enum Refusal {
     /// 1: nothing more is accepted.

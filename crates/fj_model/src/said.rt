@@ -20,15 +20,17 @@ pub enum Said {
     Counted(Serial),
     /// The completion action of this completer is handed out.
     Hook(Serial),
-    /// This completer had fired, was passed or is done: nothing changed.
+    /// This completer had fired, was passed or is done: nothing changed at it.
     Spent(Serial),
-    /// This completer's body has not ended yet: nothing changed.
+    /// This completer is still queued or held: nothing changed at it.
     Early(Serial),
     /// This completer without a parent became normal.
     Root(Serial),
     /// The new pending count.
     Count(u32),
+    /// The answer to a question, or that the task is as it was asked to be.
     Yes,
+    /// The opposite.
     No,
     /// The joined task is done, without a fault.
     Normal,

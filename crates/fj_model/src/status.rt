@@ -13,7 +13,7 @@ pub enum Status {
 
 impl Status {
     ghost use Rattle.std.specs.Prelude.{◌≡◌};
-    ghost use Rattle.fj_model.specs.History.{is_undone};
+    ghost use Rattle.fj_model.specs.Statuses.{is_undone};
 
     /// Whether the task is not completed yet: the negation of `ForkJoinTask.isDone`.
     pub fn is_undone(self) -> bool

@@ -1,10 +1,12 @@
 ghost use Rattle.std.specs.Prelude.{◌≡◌, ◌<◌, ◌++◌, [], None, MatchOption, length};
 ghost use Rattle.fj_model.specs.declared.step.Step.TheVariants.{Poll};
 ghost use Rattle.fj_model.specs.Bounds.{queues_in, owner_at};
-ghost use Rattle.fj_model.specs.History.{queue, stack};
+ghost use Rattle.fj_model.specs.Queues.{queue};
+ghost use Rattle.fj_model.specs.Stacks.{stack};
 ghost use Rattle.fj_model.specs.Choices.{choice};
 ghost use Rattle.fj_model.specs.Answers.{taking, taking_says};
-ghost use Rattle.fj_model.specs.Runs.{Steps, IsHistory, IsChosenFrom, first_in, grown};
+ghost use Rattle.fj_model.specs.Runs.{Steps, IsHistory, grown};
+ghost use Rattle.fj_machine.specs.Chosen.{IsChosenFrom, first_in};
 
 use crate::machine::Machine;
 use fj_model::{Event, Owner, Refusal, Said, WorkerId};

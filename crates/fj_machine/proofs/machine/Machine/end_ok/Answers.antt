@@ -5,8 +5,10 @@ use Rattle.fj_model.specs.declared.status.Status.TheVariants.{Normal}
 use Rattle.fj_model.specs.declared.step.Ending.TheVariants as ending
 use Rattle.fj_model.specs.declared.step.Step.TheVariants.{End}
 use Rattle.fj_model.specs.Bounds.{Pool}
-use Rattle.fj_model.specs.Choices.{last_of}
-use Rattle.fj_model.specs.History.{stack, status, is_undone, accepted}
+use Rattle.fj_model.specs.Lists.{last_of}
+use Rattle.fj_model.specs.Stacks.{stack}
+use Rattle.fj_model.specs.Statuses.{status, is_undone}
+use Rattle.fj_model.specs.Tasks.{accepted}
 use Rattle.fj_model.specs.Runs.{Past}
 use Rattle.fj_model.proofs.AnswersAllowed.{history_allowed}
 use Rattle.fj_machine.proofs.Submitting.{told, refused}

@@ -2,7 +2,7 @@ use Rattle.std.proofs.Common.{refl, ◌≡◌, ◌<◌, ◌≤◌, ◌≢◌, �
 use Rattle.fj_model.specs.declared.step.Step.TheVariants.{Submit}
 use Rattle.fj_model.specs.declared.kind.Kind.TheVariants.{Plain}
 use Rattle.fj_model.specs.Bounds.{Pool, owner_at}
-use Rattle.fj_model.specs.History.{accepted}
+use Rattle.fj_model.specs.Tasks.{accepted}
 use Rattle.fj_model.proofs.Queues.{queue_short}
 use Rattle.fj_machine.proofs.Submitting.{told, refused, submit_no_such, submit_too_many, submit_log_full, submit_stands, submit_answer, submit_holds}
 use Rattle.fj_machine.proofs.machine.Machine.submit.Goals as goal

@@ -1,14 +1,17 @@
 use Rattle.std.proofs.Common.{◌≡◌, ◌<◌, ◌∷◌, [], ◌++◌, ◌∙◌, ap, sym, refl, arith, length, ℕ, Some, Bool, true, false, subst}
 use Rattle.fj_model.specs.declared.event.Event.TheVariants as event
 use Rattle.fj_model.specs.Bounds.{Pool, queues_in, owner_at}
-use Rattle.fj_model.specs.Choices.{first_of}
-use Rattle.fj_model.specs.History.{queue, status, is_undone, accepted}
+use Rattle.fj_model.specs.Lists.{first_of}
+use Rattle.fj_model.specs.Queues.{queue}
+use Rattle.fj_model.specs.Statuses.{status, is_undone}
+use Rattle.fj_model.specs.Tasks.{accepted}
 use Rattle.std.specs.Prelude.{if◌then◌else◌}
 use Rattle.fj_model.specs.Answers.{taking}
 use Rattle.fj_machine.specs.Rows.{row_at, with_row}
 use Rattle.std.proofs.Math.ListN.{length-set}
 use Rattle.fj_model.proofs.Growth.{stack_same}
-use Rattle.fj_model.specs.Runs.{Past, IsHistory, first_in}
+use Rattle.fj_model.specs.Runs.{Past, IsHistory}
+use Rattle.fj_machine.specs.Chosen.{first_in}
 use Rattle.fj_model.proofs.AnswersAllowed.{history_allowed}
 use Rattle.fj_machine.proofs.Taking.{queued_number, status_read, skipped_holds, handed_holds}
 use Rattle.fj_machine.proofs.machine.Machine.take.Goals as goal

@@ -1,4 +1,4 @@
-use Rattle.fj_model.specs.History.{is_empty}
+use Rattle.fj_model.specs.Lists.{is_empty}
 use Rattle.std.proofs.Common.{[], ap, ◌<◌, ◌≡◌, ◌≢◌, ◌+◌, ◌%◌, length, arith, List, ℕ, get_or, map, sym, ◌∙◌, true, false, refl, vec_len}
 use Rattle.std.proofs.lemmas.Bool.{eqb-true, eqb-false}
 use Rattle.std.proofs.lemmas.List.{length-map}

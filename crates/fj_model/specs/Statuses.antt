@@ -1,0 +1,37 @@
+-- How far each task has come.
+use Rattle.std.specs.Prelude.{ℕ, Bool, true, false, ◌||◌, ◌==◌, if◌then◌else◌, List, [], ◌∷◌, Option, Some, None}
+use Rattle.fj_model.specs.declared.event.Event.{Event}
+use Rattle.fj_model.specs.declared.event.Event.TheVariants.{Acc, Make, Settle, Stop}
+use Rattle.fj_model.specs.declared.status.Status.{Status}
+use Rattle.fj_model.specs.declared.status.Status.TheVariants.{Undone, Normal, Exceptional, Cancelled}
+use Rattle.fj_model.specs.Lists.{or_else}
+
+abbrev pub accepts : ℕ → Event → Bool
+accepts t (Acc u o k) = u == t
+accepts t (Make u k) = u == t
+accepts t _ = false
+
+-- the status that this event gives the task, which was accepted before it or not
+abbrev pub status_by : ℕ → Bool → Event → Option Status
+status_by t before (Settle u s) = if u == t then Some s else None
+status_by t before Stop = if before then Some Cancelled else None
+status_by t before _ = None
+
+-- what the first of these events says, where the task was accepted before them or not
+unfoldable pub status_from : ℕ → Bool → List Event → Option Status
+status_from t before [] = None
+status_from t before (e ∷ later) = or_else (status_by t before e) (status_from t (before || accepts t e) later)
+
+abbrev pub or_undone : Option Status → Status
+or_undone (Some s) = s
+or_undone None = Undone
+
+-- the first status that the task got, and undone where it got none
+unfoldable pub status : List Event → ℕ → Status
+status h t = or_undone (status_from t false h)
+
+abbrev pub is_undone : Status → Bool
+is_undone Undone = true
+is_undone Normal = false
+is_undone (Exceptional code) = false
+is_undone Cancelled = false
