@@ -11,3 +11,6 @@ mod runs;
 
 pub use machine::Machine;
 pub use runs::run;
+
+#[cfg(test)]
+mod tests;
