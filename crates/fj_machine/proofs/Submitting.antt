@@ -6,6 +6,7 @@ use Rattle.std.proofs.Math.ListN.{set, length-set}
 use Rattle.std.proofs.lemmas.List.{append-nil, get_or-set_same, get_or-set_other, get_or_append_left}
 use Rattle.std.proofs.Math.Seq.{get_or-append_seam}
 use Rattle.std.proofs.lemmas.Bool.{or_right, and_parts, and_from, le-leb, lt-leb, eq-eqb, ne_eqb, le-ltb, lt-ltb, eqb-true, eqb-false, cases_eq, cases_lt, ltb-true, ltb-false}
+use Rattle.fj_model.specs.declared.kind.SubmittedKind.TheVariants as submitted
 use Rattle.fj_model.specs.declared.event.Event.{Event}
 use Rattle.fj_model.specs.declared.event.Event.TheVariants as event
 use Rattle.fj_model.specs.declared.owner.Owner.{Owner}
@@ -56,16 +57,16 @@ allowed pool h asked is = rw is refl
 
 -- ---- the replies
 
-pub submit_no_such : (pool : Pool) (h : List Event) (s : ℕ) → pool.limits.submitters ≤ s → refusal_of pool h (Submit s Plain) ≡ Some NoSuch
+pub submit_no_such : (pool : Pool) (h : List Event) (s : ℕ) → pool.limits.submitters ≤ s → refusal_of pool h (Submit s submitted.Plain) ≡ Some NoSuch
 unfolding refusal_of refusal_standing
 submit_no_such pool h s over = rw (le-leb pool.limits.submitters s over) refl
 
-pub submit_too_many : (pool : Pool) (h : List Event) (s : ℕ) → IsPlain h → s < pool.limits.submitters → accepted h ≡ pool.limits.tasks → refusal_of pool h (Submit s Plain) ≡ Some TooManyTasks
+pub submit_too_many : (pool : Pool) (h : List Event) (s : ℕ) → IsPlain h → s < pool.limits.submitters → accepted h ≡ pool.limits.tasks → refusal_of pool h (Submit s submitted.Plain) ≡ Some TooManyTasks
 unfolding refusal_of refusal_standing
 submit_too_many pool h s plain within full =
     rw (lt-leb pool.limits.submitters s within, never_closed h plain, never_stopped h plain, eq-eqb (live h) pool.limits.tasks (all_live h plain ∙ full)) refl
 
-pub submit_log_full : (pool : Pool) (h : List Event) (s : ℕ) → IsPlain h → s < pool.limits.submitters → accepted h ≢ pool.limits.tasks → pool.limits.events ≤ length h → refusal_of pool h (Submit s Plain) ≡ Some LogFull
+pub submit_log_full : (pool : Pool) (h : List Event) (s : ℕ) → IsPlain h → s < pool.limits.submitters → accepted h ≢ pool.limits.tasks → pool.limits.events ≤ length h → refusal_of pool h (Submit s submitted.Plain) ≡ Some LogFull
 unfolding refusal_of refusal_standing events_of
 submit_log_full pool h s plain within room full =
     rw (
@@ -76,7 +77,7 @@ submit_log_full pool h s plain within room full =
       lt-ltb pool.limits.events (length h + 1) (omega arith),
     ) refl
 
-pub submit_stands : (pool : Pool) (h : List Event) (s : ℕ) → IsPlain h → s < pool.limits.submitters → accepted h ≢ pool.limits.tasks → length h < pool.limits.events → refusal_of pool h (Submit s Plain) ≡ None
+pub submit_stands : (pool : Pool) (h : List Event) (s : ℕ) → IsPlain h → s < pool.limits.submitters → accepted h ≢ pool.limits.tasks → length h < pool.limits.events → refusal_of pool h (Submit s submitted.Plain) ≡ None
 unfolding refusal_of refusal_standing events_of
 submit_stands pool h s plain within room fits =
     rw (
@@ -87,10 +88,10 @@ submit_stands pool h s plain within room fits =
       le-ltb pool.limits.events (length h + 1) (omega arith),
     ) refl
 
-pub submit_answer : (pool : Pool) (h : List Event) (s : ℕ) → refusal_of pool h (Submit s Plain) ≡ None
-    → answer pool h (Submit s Plain) ≡ (says.Task (accepted h), event.Acc (accepted h) (Sub s) Plain ∷ [])
+pub submit_answer : (pool : Pool) (h : List Event) (s : ℕ) → refusal_of pool h (Submit s submitted.Plain) ≡ None
+    → answer pool h (Submit s submitted.Plain) ≡ (says.Task (accepted h), event.Acc (accepted h) (Sub s) Plain ∷ [])
 unfolding events_of reply_of
-submit_answer pool h s none = allowed pool h (Submit s Plain) none
+submit_answer pool h s none = allowed pool h (Submit s submitted.Plain) none
 
 -- ---- what is kept
 
@@ -143,15 +144,15 @@ pub submit_holds : (pool : Pool) (h : List Event) (queues stacks : Lists) (statu
 submit_holds pool h queues stacks statuses gones s holds within room fits =
     let t = accepted h in
     let e = event.Acc t (Sub s) Plain in
-    let is : answer pool h (Submit s Plain) ≡ (says.Task t, e ∷ []) = submit_answer pool h s (submit_stands pool h s holds.plain within room fits) in
+    let is : answer pool h (Submit s submitted.Plain) ≡ (says.Task t, e ∷ []) = submit_answer pool h s (submit_stands pool h s holds.plain within room fits) in
     let so = history_allowed pool h holds.run in
-    let may : Allowed pool h e = (subst (AllowedFrom pool h) (ap (λ a. a.1) is) (answer_allowed pool h (Submit s Plain) so)).0 in
+    let may : Allowed pool h e = (subst (AllowedFrom pool h) (ap (λ a. a.1) is) (answer_allowed pool h (Submit s submitted.Plain) so)).0 in
     let pushed_now : queue (h ++ e ∷ []) (Sub s) ≡ queue h (Sub s) ++ t ∷ [] = queue_push pool h e (Sub s) t so may (rw (eq-eqb s s refl) refl) refl in
     let queued : is_in t (queue (h ++ e ∷ []) (Sub s)) ≡ true =
     ap (is_in t) pushed_now ∙ is_in_append t (queue h (Sub s)) (t ∷ []) ∙ or_right (is_in t (queue h (Sub s))) (is_in t (t ∷ [])) (rw (eq-eqb t t refl) refl) in
     record {
       within = holds.within;
-      run = subst (λ es. IsHistory pool (h ++ es)) (ap (λ a. a.1) is) (history_more pool h (Submit s Plain) holds.run);
+      run = subst (λ es. IsHistory pool (h ++ es)) (ap (λ a. a.1) is) (history_more pool h (Submit s submitted.Plain) holds.run);
       plain = list_all_append is_plain h (e ∷ []) holds.plain refl;
       fits = omega (arith, length-append h (e ∷ []));
       queues_kept = queues_after_submit pool h queues s t so may within holds.queues_kept;

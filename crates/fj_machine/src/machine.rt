@@ -15,7 +15,8 @@ mod take;
 use crate::log::Log;
 use crate::rows::Rows;
 use fj_model::{
-    Ending, Event, Kind, Limits, Mode, Owner, Refusal, Said, Serial, Status, Step, WorkerId,
+    Ending, Event, Limits, Mode, Owner, Refusal, Said, Serial, Status, Step, SubmittedKind,
+    WorkerId,
 };
 use std::alloc::{AllocError, Global};
 use std::marker::Model;
@@ -141,8 +142,8 @@ impl Machine {
     {
         match *asked {
             Step::Submit { s, kind } => match kind {
-                Kind::Plain => self.submit(s),
-                Kind::Completer { .. } => Said::Refused(Refusal::NotYet),
+                SubmittedKind::Plain => self.submit(s),
+                SubmittedKind::Completer { .. } => Said::Refused(Refusal::NotYet),
             },
             Step::Poll { w, r } => self.poll(w, r),
             Step::End { w, ending } => match ending {

@@ -1,7 +1,7 @@
 use crate::{Machine, run};
 use fj_model::{
     Ending, Event, Kind, Limits, Mode, Owner, Refusal, Said, Serial, Status, Step, SubId,
-    WorkerId,
+    SubmittedKind, WorkerId,
 };
 use std::alloc::Global;
 use std::test::Fail;
@@ -9,7 +9,7 @@ use std::test::Fail;
 const fn submit(s: u32) -> Step {
     Step::Submit {
         s: SubId(s),
-        kind: Kind::Plain,
+        kind: SubmittedKind::Plain,
     }
 }
 

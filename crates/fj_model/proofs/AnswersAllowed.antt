@@ -6,6 +6,7 @@ use Rattle.std.proofs.lemmas.List.{append-nil}
 use Rattle.std.proofs.lemmas.List.Elements.{filter-append}
 use Rattle.std.proofs.lemmas.Bool.{eqb-true, eq-eqb, eqb-false, ltb-false, leb-false, or_parts, or_cases, and_parts, not-true, true≢false}
 use Rattle.std.proofs.Math.Nat.{mod-add-mod}
+use Rattle.fj_model.specs.declared.kind.SubmittedKind.TheVariants as submitted
 use Rattle.fj_model.specs.declared.event.Event.{Event}
 use Rattle.fj_model.specs.declared.event.Event.TheVariants as event
 use Rattle.fj_model.specs.declared.owner.Owner.{Owner}
@@ -173,7 +174,7 @@ stands pool h asked none =
     fitting true none = absurd cc
     fitting false none = refl
 
-submit_allowed : (pool : Pool) (h : List Event) (s : ℕ) → AllowedFrom pool [] h → Stands pool h (Submit s Plain) → AllowedFrom pool h (events_of pool h (Submit s Plain))
+submit_allowed : (pool : Pool) (h : List Event) (s : ℕ) → AllowedFrom pool [] h → Stands pool h (Submit s submitted.Plain) → AllowedFrom pool h (events_of pool h (Submit s submitted.Plain))
 unfolding events_of
 submit_allowed pool h s so st =
     let room : live h < pool.limits.tasks = omega (arith, few_live pool h so, eqb-false (live h) pool.limits.tasks st.tests.1.1.1.0) in
@@ -222,7 +223,7 @@ end_allowed pool h w so st = go (running h w) refl st.tests.1.1.1.0
 
 step_allowed : (pool : Pool) (h : List Event) (asked : Step) → AllowedFrom pool [] h → refusal_of pool h asked ≡ None → AllowedFrom pool h (events_of pool h asked)
 unfolding refusal_of
-step_allowed pool h (Submit s Plain) so none = submit_allowed pool h s so (stands pool h (Submit s Plain) none)
+step_allowed pool h (Submit s submitted.Plain) so none = submit_allowed pool h s so (stands pool h (Submit s submitted.Plain) none)
 step_allowed pool h (Poll w r) so none = poll_allowed pool h w r (stands pool h (Poll w r) none)
 step_allowed pool h (End w ending.Ok) so none = end_allowed pool h w so (stands pool h (End w ending.Ok) none)
 step_allowed pool h (End w _) so none = absurd cc

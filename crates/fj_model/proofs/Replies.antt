@@ -2,6 +2,7 @@
 use Rattle.std.proofs.Common.{ℕ, ◌≡◌, Bool, true, false, cond, List, [], ◌∷◌, ◌++◌, length, Option, Some, None, refl, ap, sym, ◌∙◌, subst, append_assoc}
 use Rattle.std.specs.Prelude.{if◌then◌else◌}
 use Rattle.std.specs.List.{filter_map, cons_option}
+use Rattle.fj_model.specs.declared.kind.SubmittedKind.TheVariants as submitted
 use Rattle.fj_model.specs.declared.event.Event.{Event}
 use Rattle.fj_model.specs.declared.event.Event.TheVariants as event
 use Rattle.fj_model.specs.declared.kind.Kind.TheVariants.{Plain}
@@ -29,7 +30,7 @@ record Tells (reply : Said) (events : List Event) : Type 0 where
   same : RepliesTell events (reply ∷ [])
   stands : (r : Refusal) → reply ≡ says.Refused r → ⊥
 
-submit_tells : (pool : Pool) (h : List Event) (s : ℕ) → Tells (reply_of pool h (Submit s Plain)) (events_of pool h (Submit s Plain))
+submit_tells : (pool : Pool) (h : List Event) (s : ℕ) → Tells (reply_of pool h (Submit s submitted.Plain)) (events_of pool h (Submit s submitted.Plain))
 unfolding events_of reply_of tasks handed_out fired
 submit_tells pool h s = record { same = record { accepts = refl; runs = refl; hooks = refl }; stands = λ r is. cc }
 
@@ -61,7 +62,7 @@ end_ok_tells pool h w = end_tells h w (running h w)
 
 step_tells : (pool : Pool) (h : List Event) (asked : Step) → refusal_of pool h asked ≡ None → Tells (reply_of pool h asked) (events_of pool h asked)
 unfolding refusal_of
-step_tells pool h (Submit s Plain) none = submit_tells pool h s
+step_tells pool h (Submit s submitted.Plain) none = submit_tells pool h s
 step_tells pool h (Poll w r) none = poll_tells pool h w r
 step_tells pool h (End w ending.Ok) none = end_ok_tells pool h w
 step_tells pool h (End w _) none = absurd cc

@@ -4,6 +4,7 @@ use Rattle.fj_model.proofs.AllowedTest.{all_allowed, each_placed}
 use Rattle.fj_model.specs.Places.{open_tasks, gone, gone_from, newly_gone}
 use Rattle.fj_model.specs.Headline.{all_places}
 use Rattle.std.specs.Prelude.{ℕ, ◌≡◌, true, false, List, [], ◌∷◌, ◌++◌, Some, None, refl}
+use Rattle.fj_model.specs.declared.kind.SubmittedKind.TheVariants as submitted
 use Rattle.fj_model.specs.declared.event.Event.{Event}
 use Rattle.fj_model.specs.declared.owner.Owner.TheVariants.{Sub, Work}
 use Rattle.fj_model.specs.declared.mode.Mode.{Mode}
@@ -50,154 +51,154 @@ is_sound pool h = all_allowed pool [] h && each_placed pool h
 abbrev pub pool_of : Mode → ℕ → ℕ → ℕ → ℕ → Pool
 pool_of mode w s t e = record { mode = mode; limits = record { workers = w; submitters = s; tasks = t; events = e } }
 
-pub row_1 : replies_after (pool_of Async 1 1 1 4) [] (ask.Submit 0 Plain ∷ ask.Poll 0 0 ∷ ask.End 0 ending.Ok ∷ []) ≡ says.Task 0 ∷ says.Run 0 ∷ says.Done ∷ []
+pub row_1 : replies_after (pool_of Async 1 1 1 4) [] (ask.Submit 0 submitted.Plain ∷ ask.Poll 0 0 ∷ ask.End 0 ending.Ok ∷ []) ≡ says.Task 0 ∷ says.Run 0 ∷ says.Done ∷ []
 unfolding accepted tasks released is_kept live kind is_completer parent pushed taken left queue ended stack hooks hand status_from status pending is_spent queued_in held_by opened place path_up path relayed_along relayed arrival passed owners workers first_queued choice is_closed is_stopped has_kept_child is_fired_by_complete is_quiet events_of reply_of refusal_standing
 row_1 = refl
 
-pub row_1_sound : is_sound (pool_of Async 1 1 1 4) (history_after (pool_of Async 1 1 1 4) [] (ask.Submit 0 Plain ∷ ask.Poll 0 0 ∷ ask.End 0 ending.Ok ∷ [])) ≡ true
+pub row_1_sound : is_sound (pool_of Async 1 1 1 4) (history_after (pool_of Async 1 1 1 4) [] (ask.Submit 0 submitted.Plain ∷ ask.Poll 0 0 ∷ ask.End 0 ending.Ok ∷ [])) ≡ true
 unfolding accepted tasks released is_kept live kind is_completer parent pushed taken left queue ended stack hooks hand status_from status pending is_spent queued_in held_by opened place path_up path relayed_along relayed arrival passed owners workers first_queued choice is_closed is_stopped has_kept_child is_fired_by_complete is_quiet events_of reply_of refusal_standing open_tasks newly_gone gone_from gone all_places
 row_1_sound = refl
 
-pub row_2 : replies_after (pool_of Async 1 1 1 4) [] (ask.Submit 0 Plain ∷ ask.Poll 0 0 ∷ ask.End 0 ending.Ok ∷ ask.Cancel 0 ∷ ask.Release 0 ∷ ask.State 0 ∷ []) ≡ says.Task 0 ∷ says.Run 0 ∷ says.Done ∷ says.No ∷ says.Refused refused.LogFull ∷ says.State at.Gone status_is.Normal ∷ []
+pub row_2 : replies_after (pool_of Async 1 1 1 4) [] (ask.Submit 0 submitted.Plain ∷ ask.Poll 0 0 ∷ ask.End 0 ending.Ok ∷ ask.Cancel 0 ∷ ask.Release 0 ∷ ask.State 0 ∷ []) ≡ says.Task 0 ∷ says.Run 0 ∷ says.Done ∷ says.No ∷ says.Refused refused.LogFull ∷ says.State at.Gone status_is.Normal ∷ []
 unfolding accepted tasks released is_kept live kind is_completer parent pushed taken left queue ended stack hooks hand status_from status pending is_spent queued_in held_by opened place path_up path relayed_along relayed arrival passed owners workers first_queued choice is_closed is_stopped has_kept_child is_fired_by_complete is_quiet events_of reply_of refusal_standing
 row_2 = refl
 
-pub row_2_sound : is_sound (pool_of Async 1 1 1 4) (history_after (pool_of Async 1 1 1 4) [] (ask.Submit 0 Plain ∷ ask.Poll 0 0 ∷ ask.End 0 ending.Ok ∷ ask.Cancel 0 ∷ ask.Release 0 ∷ ask.State 0 ∷ [])) ≡ true
+pub row_2_sound : is_sound (pool_of Async 1 1 1 4) (history_after (pool_of Async 1 1 1 4) [] (ask.Submit 0 submitted.Plain ∷ ask.Poll 0 0 ∷ ask.End 0 ending.Ok ∷ ask.Cancel 0 ∷ ask.Release 0 ∷ ask.State 0 ∷ [])) ≡ true
 unfolding accepted tasks released is_kept live kind is_completer parent pushed taken left queue ended stack hooks hand status_from status pending is_spent queued_in held_by opened place path_up path relayed_along relayed arrival passed owners workers first_queued choice is_closed is_stopped has_kept_child is_fired_by_complete is_quiet events_of reply_of refusal_standing open_tasks newly_gone gone_from gone all_places
 row_2_sound = refl
 
-pub row_4 : replies_after (pool_of Async 2 2 8 64) [] (ask.Submit 1 Plain ∷ ask.Submit 0 Plain ∷ ask.Submit 1 Plain ∷ ask.Poll 0 1 ∷ ask.Poll 1 1 ∷ ask.End 0 ending.Ok ∷ ask.Poll 0 0 ∷ ask.End 0 ending.Ok ∷ ask.Poll 0 3 ∷ []) ≡ says.Task 0 ∷ says.Task 1 ∷ says.Task 2 ∷ says.Run 0 ∷ says.Run 2 ∷ says.Done ∷ says.Run 1 ∷ says.Done ∷ says.None ∷ []
+pub row_4 : replies_after (pool_of Async 2 2 8 64) [] (ask.Submit 1 submitted.Plain ∷ ask.Submit 0 submitted.Plain ∷ ask.Submit 1 submitted.Plain ∷ ask.Poll 0 1 ∷ ask.Poll 1 1 ∷ ask.End 0 ending.Ok ∷ ask.Poll 0 0 ∷ ask.End 0 ending.Ok ∷ ask.Poll 0 3 ∷ []) ≡ says.Task 0 ∷ says.Task 1 ∷ says.Task 2 ∷ says.Run 0 ∷ says.Run 2 ∷ says.Done ∷ says.Run 1 ∷ says.Done ∷ says.None ∷ []
 unfolding accepted tasks released is_kept live kind is_completer parent pushed taken left queue ended stack hooks hand status_from status pending is_spent queued_in held_by opened place path_up path relayed_along relayed arrival passed owners workers first_queued choice is_closed is_stopped has_kept_child is_fired_by_complete is_quiet events_of reply_of refusal_standing
 row_4 = refl
 
-pub row_4_sound : is_sound (pool_of Async 2 2 8 64) (history_after (pool_of Async 2 2 8 64) [] (ask.Submit 1 Plain ∷ ask.Submit 0 Plain ∷ ask.Submit 1 Plain ∷ ask.Poll 0 1 ∷ ask.Poll 1 1 ∷ ask.End 0 ending.Ok ∷ ask.Poll 0 0 ∷ ask.End 0 ending.Ok ∷ ask.Poll 0 3 ∷ [])) ≡ true
+pub row_4_sound : is_sound (pool_of Async 2 2 8 64) (history_after (pool_of Async 2 2 8 64) [] (ask.Submit 1 submitted.Plain ∷ ask.Submit 0 submitted.Plain ∷ ask.Submit 1 submitted.Plain ∷ ask.Poll 0 1 ∷ ask.Poll 1 1 ∷ ask.End 0 ending.Ok ∷ ask.Poll 0 0 ∷ ask.End 0 ending.Ok ∷ ask.Poll 0 3 ∷ [])) ≡ true
 unfolding accepted tasks released is_kept live kind is_completer parent pushed taken left queue ended stack hooks hand status_from status pending is_spent queued_in held_by opened place path_up path relayed_along relayed arrival passed owners workers first_queued choice is_closed is_stopped has_kept_child is_fired_by_complete is_quiet events_of reply_of refusal_standing open_tasks newly_gone gone_from gone all_places
 row_4_sound = refl
 
-pub row_5 : replies_after (pool_of Joining 2 1 8 64) [] (ask.Submit 0 Plain ∷ ask.Poll 0 0 ∷ ask.Fork 0 Plain ∷ ask.Fork 0 Plain ∷ ask.Fork 0 Plain ∷ ask.Help 0 0 ∷ ask.Poll 1 0 ∷ []) ≡ says.Task 0 ∷ says.Run 0 ∷ says.Task 1 ∷ says.Task 2 ∷ says.Task 3 ∷ says.Run 3 ∷ says.Run 1 ∷ []
+pub row_5 : replies_after (pool_of Joining 2 1 8 64) [] (ask.Submit 0 submitted.Plain ∷ ask.Poll 0 0 ∷ ask.Fork 0 Plain ∷ ask.Fork 0 Plain ∷ ask.Fork 0 Plain ∷ ask.Help 0 0 ∷ ask.Poll 1 0 ∷ []) ≡ says.Task 0 ∷ says.Run 0 ∷ says.Task 1 ∷ says.Task 2 ∷ says.Task 3 ∷ says.Run 3 ∷ says.Run 1 ∷ []
 unfolding accepted tasks released is_kept live kind is_completer parent pushed taken left queue ended stack hooks hand status_from status pending is_spent queued_in held_by opened place path_up path relayed_along relayed arrival passed owners workers first_queued choice is_closed is_stopped has_kept_child is_fired_by_complete is_quiet events_of reply_of refusal_standing
 row_5 = refl
 
-pub row_5_sound : is_sound (pool_of Joining 2 1 8 64) (history_after (pool_of Joining 2 1 8 64) [] (ask.Submit 0 Plain ∷ ask.Poll 0 0 ∷ ask.Fork 0 Plain ∷ ask.Fork 0 Plain ∷ ask.Fork 0 Plain ∷ ask.Help 0 0 ∷ ask.Poll 1 0 ∷ [])) ≡ true
+pub row_5_sound : is_sound (pool_of Joining 2 1 8 64) (history_after (pool_of Joining 2 1 8 64) [] (ask.Submit 0 submitted.Plain ∷ ask.Poll 0 0 ∷ ask.Fork 0 Plain ∷ ask.Fork 0 Plain ∷ ask.Fork 0 Plain ∷ ask.Help 0 0 ∷ ask.Poll 1 0 ∷ [])) ≡ true
 unfolding accepted tasks released is_kept live kind is_completer parent pushed taken left queue ended stack hooks hand status_from status pending is_spent queued_in held_by opened place path_up path relayed_along relayed arrival passed owners workers first_queued choice is_closed is_stopped has_kept_child is_fired_by_complete is_quiet events_of reply_of refusal_standing open_tasks newly_gone gone_from gone all_places
 row_5_sound = refl
 
-pub row_5_async : replies_after (pool_of Async 2 1 8 64) [] (ask.Submit 0 Plain ∷ ask.Poll 0 0 ∷ ask.Fork 0 Plain ∷ ask.Fork 0 Plain ∷ ask.Fork 0 Plain ∷ ask.Help 0 0 ∷ ask.Poll 1 0 ∷ []) ≡ says.Task 0 ∷ says.Run 0 ∷ says.Task 1 ∷ says.Task 2 ∷ says.Task 3 ∷ says.Run 1 ∷ says.Run 2 ∷ []
+pub row_5_async : replies_after (pool_of Async 2 1 8 64) [] (ask.Submit 0 submitted.Plain ∷ ask.Poll 0 0 ∷ ask.Fork 0 Plain ∷ ask.Fork 0 Plain ∷ ask.Fork 0 Plain ∷ ask.Help 0 0 ∷ ask.Poll 1 0 ∷ []) ≡ says.Task 0 ∷ says.Run 0 ∷ says.Task 1 ∷ says.Task 2 ∷ says.Task 3 ∷ says.Run 1 ∷ says.Run 2 ∷ []
 unfolding accepted tasks released is_kept live kind is_completer parent pushed taken left queue ended stack hooks hand status_from status pending is_spent queued_in held_by opened place path_up path relayed_along relayed arrival passed owners workers first_queued choice is_closed is_stopped has_kept_child is_fired_by_complete is_quiet events_of reply_of refusal_standing
 row_5_async = refl
 
-pub row_5_async_sound : is_sound (pool_of Async 2 1 8 64) (history_after (pool_of Async 2 1 8 64) [] (ask.Submit 0 Plain ∷ ask.Poll 0 0 ∷ ask.Fork 0 Plain ∷ ask.Fork 0 Plain ∷ ask.Fork 0 Plain ∷ ask.Help 0 0 ∷ ask.Poll 1 0 ∷ [])) ≡ true
+pub row_5_async_sound : is_sound (pool_of Async 2 1 8 64) (history_after (pool_of Async 2 1 8 64) [] (ask.Submit 0 submitted.Plain ∷ ask.Poll 0 0 ∷ ask.Fork 0 Plain ∷ ask.Fork 0 Plain ∷ ask.Fork 0 Plain ∷ ask.Help 0 0 ∷ ask.Poll 1 0 ∷ [])) ≡ true
 unfolding accepted tasks released is_kept live kind is_completer parent pushed taken left queue ended stack hooks hand status_from status pending is_spent queued_in held_by opened place path_up path relayed_along relayed arrival passed owners workers first_queued choice is_closed is_stopped has_kept_child is_fired_by_complete is_quiet events_of reply_of refusal_standing open_tasks newly_gone gone_from gone all_places
 row_5_async_sound = refl
 
-pub row_6 : replies_after (pool_of Async 1 1 4 64) [] (ask.Submit 0 Plain ∷ ask.Submit 0 Plain ∷ ask.Submit 0 Plain ∷ ask.Cancel 1 ∷ ask.State 1 ∷ ask.Poll 0 0 ∷ ask.End 0 ending.Ok ∷ ask.Poll 0 0 ∷ ask.Poll 0 0 ∷ ask.State 1 ∷ []) ≡ says.Task 0 ∷ says.Task 1 ∷ says.Task 2 ∷ says.Yes ∷ says.State (at.Queued (Sub 0)) status_is.Cancelled ∷ says.Run 0 ∷ says.Done ∷ says.Skip 1 ∷ says.Run 2 ∷ says.State at.Gone status_is.Cancelled ∷ []
+pub row_6 : replies_after (pool_of Async 1 1 4 64) [] (ask.Submit 0 submitted.Plain ∷ ask.Submit 0 submitted.Plain ∷ ask.Submit 0 submitted.Plain ∷ ask.Cancel 1 ∷ ask.State 1 ∷ ask.Poll 0 0 ∷ ask.End 0 ending.Ok ∷ ask.Poll 0 0 ∷ ask.Poll 0 0 ∷ ask.State 1 ∷ []) ≡ says.Task 0 ∷ says.Task 1 ∷ says.Task 2 ∷ says.Yes ∷ says.State (at.Queued (Sub 0)) status_is.Cancelled ∷ says.Run 0 ∷ says.Done ∷ says.Skip 1 ∷ says.Run 2 ∷ says.State at.Gone status_is.Cancelled ∷ []
 unfolding accepted tasks released is_kept live kind is_completer parent pushed taken left queue ended stack hooks hand status_from status pending is_spent queued_in held_by opened place path_up path relayed_along relayed arrival passed owners workers first_queued choice is_closed is_stopped has_kept_child is_fired_by_complete is_quiet events_of reply_of refusal_standing
 row_6 = refl
 
-pub row_6_sound : is_sound (pool_of Async 1 1 4 64) (history_after (pool_of Async 1 1 4 64) [] (ask.Submit 0 Plain ∷ ask.Submit 0 Plain ∷ ask.Submit 0 Plain ∷ ask.Cancel 1 ∷ ask.State 1 ∷ ask.Poll 0 0 ∷ ask.End 0 ending.Ok ∷ ask.Poll 0 0 ∷ ask.Poll 0 0 ∷ ask.State 1 ∷ [])) ≡ true
+pub row_6_sound : is_sound (pool_of Async 1 1 4 64) (history_after (pool_of Async 1 1 4 64) [] (ask.Submit 0 submitted.Plain ∷ ask.Submit 0 submitted.Plain ∷ ask.Submit 0 submitted.Plain ∷ ask.Cancel 1 ∷ ask.State 1 ∷ ask.Poll 0 0 ∷ ask.End 0 ending.Ok ∷ ask.Poll 0 0 ∷ ask.Poll 0 0 ∷ ask.State 1 ∷ [])) ≡ true
 unfolding accepted tasks released is_kept live kind is_completer parent pushed taken left queue ended stack hooks hand status_from status pending is_spent queued_in held_by opened place path_up path relayed_along relayed arrival passed owners workers first_queued choice is_closed is_stopped has_kept_child is_fired_by_complete is_quiet events_of reply_of refusal_standing open_tasks newly_gone gone_from gone all_places
 row_6_sound = refl
 
-pub row_7 : replies_after (pool_of Async 1 1 2 16) [] (ask.Submit 0 Plain ∷ ask.Cancel 0 ∷ ask.Cancel 0 ∷ ask.Submit 0 Plain ∷ ask.Submit 0 Plain ∷ ask.Poll 0 0 ∷ ask.Poll 0 0 ∷ ask.End 0 ending.Ok ∷ ask.Cancel 1 ∷ ask.Fault 1 5 ∷ []) ≡ says.Task 0 ∷ says.Yes ∷ says.Yes ∷ says.Task 1 ∷ says.Refused refused.TooManyTasks ∷ says.Skip 0 ∷ says.Run 1 ∷ says.Done ∷ says.No ∷ says.No ∷ []
+pub row_7 : replies_after (pool_of Async 1 1 2 16) [] (ask.Submit 0 submitted.Plain ∷ ask.Cancel 0 ∷ ask.Cancel 0 ∷ ask.Submit 0 submitted.Plain ∷ ask.Submit 0 submitted.Plain ∷ ask.Poll 0 0 ∷ ask.Poll 0 0 ∷ ask.End 0 ending.Ok ∷ ask.Cancel 1 ∷ ask.Fault 1 5 ∷ []) ≡ says.Task 0 ∷ says.Yes ∷ says.Yes ∷ says.Task 1 ∷ says.Refused refused.TooManyTasks ∷ says.Skip 0 ∷ says.Run 1 ∷ says.Done ∷ says.No ∷ says.No ∷ []
 unfolding accepted tasks released is_kept live kind is_completer parent pushed taken left queue ended stack hooks hand status_from status pending is_spent queued_in held_by opened place path_up path relayed_along relayed arrival passed owners workers first_queued choice is_closed is_stopped has_kept_child is_fired_by_complete is_quiet events_of reply_of refusal_standing
 row_7 = refl
 
-pub row_7_sound : is_sound (pool_of Async 1 1 2 16) (history_after (pool_of Async 1 1 2 16) [] (ask.Submit 0 Plain ∷ ask.Cancel 0 ∷ ask.Cancel 0 ∷ ask.Submit 0 Plain ∷ ask.Submit 0 Plain ∷ ask.Poll 0 0 ∷ ask.Poll 0 0 ∷ ask.End 0 ending.Ok ∷ ask.Cancel 1 ∷ ask.Fault 1 5 ∷ [])) ≡ true
+pub row_7_sound : is_sound (pool_of Async 1 1 2 16) (history_after (pool_of Async 1 1 2 16) [] (ask.Submit 0 submitted.Plain ∷ ask.Cancel 0 ∷ ask.Cancel 0 ∷ ask.Submit 0 submitted.Plain ∷ ask.Submit 0 submitted.Plain ∷ ask.Poll 0 0 ∷ ask.Poll 0 0 ∷ ask.End 0 ending.Ok ∷ ask.Cancel 1 ∷ ask.Fault 1 5 ∷ [])) ≡ true
 unfolding accepted tasks released is_kept live kind is_completer parent pushed taken left queue ended stack hooks hand status_from status pending is_spent queued_in held_by opened place path_up path relayed_along relayed arrival passed owners workers first_queued choice is_closed is_stopped has_kept_child is_fired_by_complete is_quiet events_of reply_of refusal_standing open_tasks newly_gone gone_from gone all_places
 row_7_sound = refl
 
-pub row_8 : replies_after (pool_of Async 1 1 4 64) [] (ask.Submit 0 Plain ∷ ask.Poll 0 0 ∷ ask.Trigger 0 1 ∷ ask.Fork 0 (Completer (Some 1) 0 true) ∷ ask.Fork 0 (Completer (Some 1) 0 true) ∷ ask.End 0 ending.Ok ∷ ask.Poll 0 0 ∷ ask.End 0 ending.Try ∷ ask.HookDone 0 ∷ ask.Poll 0 0 ∷ ask.End 0 ending.Try ∷ ask.HookDone 0 ∷ ask.HookDone 0 ∷ ask.State 1 ∷ ask.State 2 ∷ []) ≡ says.Task 0 ∷ says.Run 0 ∷ says.Task 1 ∷ says.Task 2 ∷ says.Task 3 ∷ says.Done ∷ says.Run 2 ∷ says.Hook 2 ∷ says.Counted 1 ∷ says.Run 3 ∷ says.Hook 3 ∷ says.Hook 1 ∷ says.Root 1 ∷ says.State at.Gone status_is.Normal ∷ says.State at.Gone status_is.Undone ∷ []
+pub row_8 : replies_after (pool_of Async 1 1 4 64) [] (ask.Submit 0 submitted.Plain ∷ ask.Poll 0 0 ∷ ask.Trigger 0 1 ∷ ask.Fork 0 (Completer (Some 1) 0 true) ∷ ask.Fork 0 (Completer (Some 1) 0 true) ∷ ask.End 0 ending.Ok ∷ ask.Poll 0 0 ∷ ask.End 0 ending.Try ∷ ask.HookDone 0 ∷ ask.Poll 0 0 ∷ ask.End 0 ending.Try ∷ ask.HookDone 0 ∷ ask.HookDone 0 ∷ ask.State 1 ∷ ask.State 2 ∷ []) ≡ says.Task 0 ∷ says.Run 0 ∷ says.Task 1 ∷ says.Task 2 ∷ says.Task 3 ∷ says.Done ∷ says.Run 2 ∷ says.Hook 2 ∷ says.Counted 1 ∷ says.Run 3 ∷ says.Hook 3 ∷ says.Hook 1 ∷ says.Root 1 ∷ says.State at.Gone status_is.Normal ∷ says.State at.Gone status_is.Undone ∷ []
 unfolding accepted tasks released is_kept live kind is_completer parent pushed taken left queue ended stack hooks hand status_from status pending is_spent queued_in held_by opened place path_up path relayed_along relayed arrival passed owners workers first_queued choice is_closed is_stopped has_kept_child is_fired_by_complete is_quiet events_of reply_of refusal_standing
 row_8 = refl
 
-pub row_8_sound : is_sound (pool_of Async 1 1 4 64) (history_after (pool_of Async 1 1 4 64) [] (ask.Submit 0 Plain ∷ ask.Poll 0 0 ∷ ask.Trigger 0 1 ∷ ask.Fork 0 (Completer (Some 1) 0 true) ∷ ask.Fork 0 (Completer (Some 1) 0 true) ∷ ask.End 0 ending.Ok ∷ ask.Poll 0 0 ∷ ask.End 0 ending.Try ∷ ask.HookDone 0 ∷ ask.Poll 0 0 ∷ ask.End 0 ending.Try ∷ ask.HookDone 0 ∷ ask.HookDone 0 ∷ ask.State 1 ∷ ask.State 2 ∷ [])) ≡ true
+pub row_8_sound : is_sound (pool_of Async 1 1 4 64) (history_after (pool_of Async 1 1 4 64) [] (ask.Submit 0 submitted.Plain ∷ ask.Poll 0 0 ∷ ask.Trigger 0 1 ∷ ask.Fork 0 (Completer (Some 1) 0 true) ∷ ask.Fork 0 (Completer (Some 1) 0 true) ∷ ask.End 0 ending.Ok ∷ ask.Poll 0 0 ∷ ask.End 0 ending.Try ∷ ask.HookDone 0 ∷ ask.Poll 0 0 ∷ ask.End 0 ending.Try ∷ ask.HookDone 0 ∷ ask.HookDone 0 ∷ ask.State 1 ∷ ask.State 2 ∷ [])) ≡ true
 unfolding accepted tasks released is_kept live kind is_completer parent pushed taken left queue ended stack hooks hand status_from status pending is_spent queued_in held_by opened place path_up path relayed_along relayed arrival passed owners workers first_queued choice is_closed is_stopped has_kept_child is_fired_by_complete is_quiet events_of reply_of refusal_standing open_tasks newly_gone gone_from gone all_places
 row_8_sound = refl
 
-pub row_9 : replies_after (pool_of Async 1 1 5 64) [] (ask.Submit 0 Plain ∷ ask.Poll 0 0 ∷ ask.Trigger 0 1 ∷ ask.Fork 0 (Completer (Some 1) 0 true) ∷ ask.Fork 0 (Completer (Some 1) 0 true) ∷ ask.Fork 0 (Completer (Some 1) 0 true) ∷ ask.End 0 ending.Ok ∷ ask.Poll 0 0 ∷ ask.End 0 ending.Try ∷ ask.HookDone 0 ∷ ask.Poll 0 0 ∷ ask.End 0 ending.Try ∷ ask.HookDone 0 ∷ ask.HookDone 0 ∷ ask.State 1 ∷ ask.State 2 ∷ ask.Poll 0 0 ∷ ask.End 0 ending.Try ∷ ask.HookDone 0 ∷ []) ≡ says.Task 0 ∷ says.Run 0 ∷ says.Task 1 ∷ says.Task 2 ∷ says.Task 3 ∷ says.Task 4 ∷ says.Done ∷ says.Run 2 ∷ says.Hook 2 ∷ says.Counted 1 ∷ says.Run 3 ∷ says.Hook 3 ∷ says.Hook 1 ∷ says.Root 1 ∷ says.State at.Gone status_is.Normal ∷ says.State at.Gone status_is.Undone ∷ says.Run 4 ∷ says.Hook 4 ∷ says.Spent 1 ∷ []
+pub row_9 : replies_after (pool_of Async 1 1 5 64) [] (ask.Submit 0 submitted.Plain ∷ ask.Poll 0 0 ∷ ask.Trigger 0 1 ∷ ask.Fork 0 (Completer (Some 1) 0 true) ∷ ask.Fork 0 (Completer (Some 1) 0 true) ∷ ask.Fork 0 (Completer (Some 1) 0 true) ∷ ask.End 0 ending.Ok ∷ ask.Poll 0 0 ∷ ask.End 0 ending.Try ∷ ask.HookDone 0 ∷ ask.Poll 0 0 ∷ ask.End 0 ending.Try ∷ ask.HookDone 0 ∷ ask.HookDone 0 ∷ ask.State 1 ∷ ask.State 2 ∷ ask.Poll 0 0 ∷ ask.End 0 ending.Try ∷ ask.HookDone 0 ∷ []) ≡ says.Task 0 ∷ says.Run 0 ∷ says.Task 1 ∷ says.Task 2 ∷ says.Task 3 ∷ says.Task 4 ∷ says.Done ∷ says.Run 2 ∷ says.Hook 2 ∷ says.Counted 1 ∷ says.Run 3 ∷ says.Hook 3 ∷ says.Hook 1 ∷ says.Root 1 ∷ says.State at.Gone status_is.Normal ∷ says.State at.Gone status_is.Undone ∷ says.Run 4 ∷ says.Hook 4 ∷ says.Spent 1 ∷ []
 unfolding accepted tasks released is_kept live kind is_completer parent pushed taken left queue ended stack hooks hand status_from status pending is_spent queued_in held_by opened place path_up path relayed_along relayed arrival passed owners workers first_queued choice is_closed is_stopped has_kept_child is_fired_by_complete is_quiet events_of reply_of refusal_standing
 row_9 = refl
 
-pub row_9_sound : is_sound (pool_of Async 1 1 5 64) (history_after (pool_of Async 1 1 5 64) [] (ask.Submit 0 Plain ∷ ask.Poll 0 0 ∷ ask.Trigger 0 1 ∷ ask.Fork 0 (Completer (Some 1) 0 true) ∷ ask.Fork 0 (Completer (Some 1) 0 true) ∷ ask.Fork 0 (Completer (Some 1) 0 true) ∷ ask.End 0 ending.Ok ∷ ask.Poll 0 0 ∷ ask.End 0 ending.Try ∷ ask.HookDone 0 ∷ ask.Poll 0 0 ∷ ask.End 0 ending.Try ∷ ask.HookDone 0 ∷ ask.HookDone 0 ∷ ask.State 1 ∷ ask.State 2 ∷ ask.Poll 0 0 ∷ ask.End 0 ending.Try ∷ ask.HookDone 0 ∷ [])) ≡ true
+pub row_9_sound : is_sound (pool_of Async 1 1 5 64) (history_after (pool_of Async 1 1 5 64) [] (ask.Submit 0 submitted.Plain ∷ ask.Poll 0 0 ∷ ask.Trigger 0 1 ∷ ask.Fork 0 (Completer (Some 1) 0 true) ∷ ask.Fork 0 (Completer (Some 1) 0 true) ∷ ask.Fork 0 (Completer (Some 1) 0 true) ∷ ask.End 0 ending.Ok ∷ ask.Poll 0 0 ∷ ask.End 0 ending.Try ∷ ask.HookDone 0 ∷ ask.Poll 0 0 ∷ ask.End 0 ending.Try ∷ ask.HookDone 0 ∷ ask.HookDone 0 ∷ ask.State 1 ∷ ask.State 2 ∷ ask.Poll 0 0 ∷ ask.End 0 ending.Try ∷ ask.HookDone 0 ∷ [])) ≡ true
 unfolding accepted tasks released is_kept live kind is_completer parent pushed taken left queue ended stack hooks hand status_from status pending is_spent queued_in held_by opened place path_up path relayed_along relayed arrival passed owners workers first_queued choice is_closed is_stopped has_kept_child is_fired_by_complete is_quiet events_of reply_of refusal_standing open_tasks newly_gone gone_from gone all_places
 row_9_sound = refl
 
-pub row_10 : replies_after (pool_of Async 2 1 4 64) [] (ask.Submit 0 (Completer None 0 true) ∷ ask.Poll 0 0 ∷ ask.Fork 0 (Completer (Some 0) 0 true) ∷ ask.Poll 1 1 ∷ ask.End 1 ending.Try ∷ ask.HookDone 1 ∷ ask.End 0 ending.Try ∷ ask.HookDone 0 ∷ []) ≡ says.Task 0 ∷ says.Run 0 ∷ says.Task 1 ∷ says.Run 1 ∷ says.Hook 1 ∷ says.Early 0 ∷ says.Hook 0 ∷ says.Root 0 ∷ []
+pub row_10 : replies_after (pool_of Async 2 1 4 64) [] (ask.Submit 0 (submitted.Completer 0 true) ∷ ask.Poll 0 0 ∷ ask.Fork 0 (Completer (Some 0) 0 true) ∷ ask.Poll 1 1 ∷ ask.End 1 ending.Try ∷ ask.HookDone 1 ∷ ask.End 0 ending.Try ∷ ask.HookDone 0 ∷ []) ≡ says.Task 0 ∷ says.Run 0 ∷ says.Task 1 ∷ says.Run 1 ∷ says.Hook 1 ∷ says.Early 0 ∷ says.Hook 0 ∷ says.Root 0 ∷ []
 unfolding accepted tasks released is_kept live kind is_completer parent pushed taken left queue ended stack hooks hand status_from status pending is_spent queued_in held_by opened place path_up path relayed_along relayed arrival passed owners workers first_queued choice is_closed is_stopped has_kept_child is_fired_by_complete is_quiet events_of reply_of refusal_standing
 row_10 = refl
 
-pub row_10_sound : is_sound (pool_of Async 2 1 4 64) (history_after (pool_of Async 2 1 4 64) [] (ask.Submit 0 (Completer None 0 true) ∷ ask.Poll 0 0 ∷ ask.Fork 0 (Completer (Some 0) 0 true) ∷ ask.Poll 1 1 ∷ ask.End 1 ending.Try ∷ ask.HookDone 1 ∷ ask.End 0 ending.Try ∷ ask.HookDone 0 ∷ [])) ≡ true
+pub row_10_sound : is_sound (pool_of Async 2 1 4 64) (history_after (pool_of Async 2 1 4 64) [] (ask.Submit 0 (submitted.Completer 0 true) ∷ ask.Poll 0 0 ∷ ask.Fork 0 (Completer (Some 0) 0 true) ∷ ask.Poll 1 1 ∷ ask.End 1 ending.Try ∷ ask.HookDone 1 ∷ ask.End 0 ending.Try ∷ ask.HookDone 0 ∷ [])) ≡ true
 unfolding accepted tasks released is_kept live kind is_completer parent pushed taken left queue ended stack hooks hand status_from status pending is_spent queued_in held_by opened place path_up path relayed_along relayed arrival passed owners workers first_queued choice is_closed is_stopped has_kept_child is_fired_by_complete is_quiet events_of reply_of refusal_standing open_tasks newly_gone gone_from gone all_places
 row_10_sound = refl
 
-pub row_11 : replies_after (pool_of Async 1 1 4 64) [] (ask.Submit 0 (Completer None 0 true) ∷ ask.Poll 0 0 ∷ ask.Fork 0 (Completer (Some 0) 0 true) ∷ ask.End 0 ending.Quiet ∷ ask.Poll 0 0 ∷ ask.Fork 0 (Completer (Some 1) 0 true) ∷ ask.End 0 ending.Quiet ∷ ask.Poll 0 0 ∷ ask.End 0 ending.Pass ∷ ask.State 0 ∷ ask.State 1 ∷ []) ≡ says.Task 0 ∷ says.Run 0 ∷ says.Task 1 ∷ says.Done ∷ says.Run 1 ∷ says.Task 2 ∷ says.Done ∷ says.Run 2 ∷ says.Root 0 ∷ says.State at.Gone status_is.Normal ∷ says.State at.Gone status_is.Undone ∷ []
+pub row_11 : replies_after (pool_of Async 1 1 4 64) [] (ask.Submit 0 (submitted.Completer 0 true) ∷ ask.Poll 0 0 ∷ ask.Fork 0 (Completer (Some 0) 0 true) ∷ ask.End 0 ending.Quiet ∷ ask.Poll 0 0 ∷ ask.Fork 0 (Completer (Some 1) 0 true) ∷ ask.End 0 ending.Quiet ∷ ask.Poll 0 0 ∷ ask.End 0 ending.Pass ∷ ask.State 0 ∷ ask.State 1 ∷ []) ≡ says.Task 0 ∷ says.Run 0 ∷ says.Task 1 ∷ says.Done ∷ says.Run 1 ∷ says.Task 2 ∷ says.Done ∷ says.Run 2 ∷ says.Root 0 ∷ says.State at.Gone status_is.Normal ∷ says.State at.Gone status_is.Undone ∷ []
 unfolding accepted tasks released is_kept live kind is_completer parent pushed taken left queue ended stack hooks hand status_from status pending is_spent queued_in held_by opened place path_up path relayed_along relayed arrival passed owners workers first_queued choice is_closed is_stopped has_kept_child is_fired_by_complete is_quiet events_of reply_of refusal_standing
 row_11 = refl
 
-pub row_11_sound : is_sound (pool_of Async 1 1 4 64) (history_after (pool_of Async 1 1 4 64) [] (ask.Submit 0 (Completer None 0 true) ∷ ask.Poll 0 0 ∷ ask.Fork 0 (Completer (Some 0) 0 true) ∷ ask.End 0 ending.Quiet ∷ ask.Poll 0 0 ∷ ask.Fork 0 (Completer (Some 1) 0 true) ∷ ask.End 0 ending.Quiet ∷ ask.Poll 0 0 ∷ ask.End 0 ending.Pass ∷ ask.State 0 ∷ ask.State 1 ∷ [])) ≡ true
+pub row_11_sound : is_sound (pool_of Async 1 1 4 64) (history_after (pool_of Async 1 1 4 64) [] (ask.Submit 0 (submitted.Completer 0 true) ∷ ask.Poll 0 0 ∷ ask.Fork 0 (Completer (Some 0) 0 true) ∷ ask.End 0 ending.Quiet ∷ ask.Poll 0 0 ∷ ask.Fork 0 (Completer (Some 1) 0 true) ∷ ask.End 0 ending.Quiet ∷ ask.Poll 0 0 ∷ ask.End 0 ending.Pass ∷ ask.State 0 ∷ ask.State 1 ∷ [])) ≡ true
 unfolding accepted tasks released is_kept live kind is_completer parent pushed taken left queue ended stack hooks hand status_from status pending is_spent queued_in held_by opened place path_up path relayed_along relayed arrival passed owners workers first_queued choice is_closed is_stopped has_kept_child is_fired_by_complete is_quiet events_of reply_of refusal_standing open_tasks newly_gone gone_from gone all_places
 row_11_sound = refl
 
-pub row_12 : replies_after (pool_of Async 1 1 4 64) [] (ask.Submit 0 (Completer None 0 true) ∷ ask.Poll 0 0 ∷ ask.Fork 0 (Completer (Some 0) 0 false) ∷ ask.End 0 ending.Quiet ∷ ask.Poll 0 0 ∷ ask.Fork 0 (Completer (Some 1) 0 true) ∷ ask.End 0 ending.Quiet ∷ ask.Poll 0 0 ∷ ask.Fork 0 (Completer (Some 2) 0 true) ∷ ask.End 0 ending.Quiet ∷ ask.Poll 0 0 ∷ ask.End 0 (ending.Fail 7) ∷ ask.State 3 ∷ ask.State 2 ∷ ask.State 1 ∷ ask.State 0 ∷ []) ≡ says.Task 0 ∷ says.Run 0 ∷ says.Task 1 ∷ says.Done ∷ says.Run 1 ∷ says.Task 2 ∷ says.Done ∷ says.Run 2 ∷ says.Task 3 ∷ says.Done ∷ says.Run 3 ∷ says.Done ∷ says.State at.Gone (status_is.Exceptional 7) ∷ says.State at.Gone (status_is.Exceptional 7) ∷ says.State at.Gone (status_is.Exceptional 7) ∷ says.State at.Open status_is.Undone ∷ []
+pub row_12 : replies_after (pool_of Async 1 1 4 64) [] (ask.Submit 0 (submitted.Completer 0 true) ∷ ask.Poll 0 0 ∷ ask.Fork 0 (Completer (Some 0) 0 false) ∷ ask.End 0 ending.Quiet ∷ ask.Poll 0 0 ∷ ask.Fork 0 (Completer (Some 1) 0 true) ∷ ask.End 0 ending.Quiet ∷ ask.Poll 0 0 ∷ ask.Fork 0 (Completer (Some 2) 0 true) ∷ ask.End 0 ending.Quiet ∷ ask.Poll 0 0 ∷ ask.End 0 (ending.Fail 7) ∷ ask.State 3 ∷ ask.State 2 ∷ ask.State 1 ∷ ask.State 0 ∷ []) ≡ says.Task 0 ∷ says.Run 0 ∷ says.Task 1 ∷ says.Done ∷ says.Run 1 ∷ says.Task 2 ∷ says.Done ∷ says.Run 2 ∷ says.Task 3 ∷ says.Done ∷ says.Run 3 ∷ says.Done ∷ says.State at.Gone (status_is.Exceptional 7) ∷ says.State at.Gone (status_is.Exceptional 7) ∷ says.State at.Gone (status_is.Exceptional 7) ∷ says.State at.Open status_is.Undone ∷ []
 unfolding accepted tasks released is_kept live kind is_completer parent pushed taken left queue ended stack hooks hand status_from status pending is_spent queued_in held_by opened place path_up path relayed_along relayed arrival passed owners workers first_queued choice is_closed is_stopped has_kept_child is_fired_by_complete is_quiet events_of reply_of refusal_standing
 row_12 = refl
 
-pub row_12_sound : is_sound (pool_of Async 1 1 4 64) (history_after (pool_of Async 1 1 4 64) [] (ask.Submit 0 (Completer None 0 true) ∷ ask.Poll 0 0 ∷ ask.Fork 0 (Completer (Some 0) 0 false) ∷ ask.End 0 ending.Quiet ∷ ask.Poll 0 0 ∷ ask.Fork 0 (Completer (Some 1) 0 true) ∷ ask.End 0 ending.Quiet ∷ ask.Poll 0 0 ∷ ask.Fork 0 (Completer (Some 2) 0 true) ∷ ask.End 0 ending.Quiet ∷ ask.Poll 0 0 ∷ ask.End 0 (ending.Fail 7) ∷ ask.State 3 ∷ ask.State 2 ∷ ask.State 1 ∷ ask.State 0 ∷ [])) ≡ true
+pub row_12_sound : is_sound (pool_of Async 1 1 4 64) (history_after (pool_of Async 1 1 4 64) [] (ask.Submit 0 (submitted.Completer 0 true) ∷ ask.Poll 0 0 ∷ ask.Fork 0 (Completer (Some 0) 0 false) ∷ ask.End 0 ending.Quiet ∷ ask.Poll 0 0 ∷ ask.Fork 0 (Completer (Some 1) 0 true) ∷ ask.End 0 ending.Quiet ∷ ask.Poll 0 0 ∷ ask.Fork 0 (Completer (Some 2) 0 true) ∷ ask.End 0 ending.Quiet ∷ ask.Poll 0 0 ∷ ask.End 0 (ending.Fail 7) ∷ ask.State 3 ∷ ask.State 2 ∷ ask.State 1 ∷ ask.State 0 ∷ [])) ≡ true
 unfolding accepted tasks released is_kept live kind is_completer parent pushed taken left queue ended stack hooks hand status_from status pending is_spent queued_in held_by opened place path_up path relayed_along relayed arrival passed owners workers first_queued choice is_closed is_stopped has_kept_child is_fired_by_complete is_quiet events_of reply_of refusal_standing open_tasks newly_gone gone_from gone all_places
 row_12_sound = refl
 
-pub row_13 : replies_after (pool_of Async 1 1 4 64) [] (ask.Submit 0 Plain ∷ ask.Poll 0 0 ∷ ask.Shutdown ∷ ask.Submit 0 Plain ∷ ask.Fork 0 Plain ∷ ask.Shutdown ∷ ask.Stop ∷ ask.Fork 0 Plain ∷ ask.End 0 ending.Ok ∷ ask.Poll 0 0 ∷ ask.IsQuiescent ∷ ask.State 0 ∷ []) ≡ says.Task 0 ∷ says.Run 0 ∷ says.Done ∷ says.Refused refused.Closed ∷ says.Task 1 ∷ says.Done ∷ says.Done ∷ says.Refused refused.Closed ∷ says.Done ∷ says.Skip 1 ∷ says.Yes ∷ says.State at.Gone status_is.Cancelled ∷ []
+pub row_13 : replies_after (pool_of Async 1 1 4 64) [] (ask.Submit 0 submitted.Plain ∷ ask.Poll 0 0 ∷ ask.Shutdown ∷ ask.Submit 0 submitted.Plain ∷ ask.Fork 0 Plain ∷ ask.Shutdown ∷ ask.Stop ∷ ask.Fork 0 Plain ∷ ask.End 0 ending.Ok ∷ ask.Poll 0 0 ∷ ask.IsQuiescent ∷ ask.State 0 ∷ []) ≡ says.Task 0 ∷ says.Run 0 ∷ says.Done ∷ says.Refused refused.Closed ∷ says.Task 1 ∷ says.Done ∷ says.Done ∷ says.Refused refused.Closed ∷ says.Done ∷ says.Skip 1 ∷ says.Yes ∷ says.State at.Gone status_is.Cancelled ∷ []
 unfolding accepted tasks released is_kept live kind is_completer parent pushed taken left queue ended stack hooks hand status_from status pending is_spent queued_in held_by opened place path_up path relayed_along relayed arrival passed owners workers first_queued choice is_closed is_stopped has_kept_child is_fired_by_complete is_quiet events_of reply_of refusal_standing
 row_13 = refl
 
-pub row_13_sound : is_sound (pool_of Async 1 1 4 64) (history_after (pool_of Async 1 1 4 64) [] (ask.Submit 0 Plain ∷ ask.Poll 0 0 ∷ ask.Shutdown ∷ ask.Submit 0 Plain ∷ ask.Fork 0 Plain ∷ ask.Shutdown ∷ ask.Stop ∷ ask.Fork 0 Plain ∷ ask.End 0 ending.Ok ∷ ask.Poll 0 0 ∷ ask.IsQuiescent ∷ ask.State 0 ∷ [])) ≡ true
+pub row_13_sound : is_sound (pool_of Async 1 1 4 64) (history_after (pool_of Async 1 1 4 64) [] (ask.Submit 0 submitted.Plain ∷ ask.Poll 0 0 ∷ ask.Shutdown ∷ ask.Submit 0 submitted.Plain ∷ ask.Fork 0 Plain ∷ ask.Shutdown ∷ ask.Stop ∷ ask.Fork 0 Plain ∷ ask.End 0 ending.Ok ∷ ask.Poll 0 0 ∷ ask.IsQuiescent ∷ ask.State 0 ∷ [])) ≡ true
 unfolding accepted tasks released is_kept live kind is_completer parent pushed taken left queue ended stack hooks hand status_from status pending is_spent queued_in held_by opened place path_up path relayed_along relayed arrival passed owners workers first_queued choice is_closed is_stopped has_kept_child is_fired_by_complete is_quiet events_of reply_of refusal_standing open_tasks newly_gone gone_from gone all_places
 row_13_sound = refl
 
-pub row_18 : replies_after (pool_of Async 1 1 4 64) [] (ask.Submit 0 Plain ∷ ask.Poll 0 0 ∷ ask.Join 0 0 0 ∷ ask.Fork 0 Plain ∷ ask.Fork 0 Plain ∷ ask.Join 0 2 0 ∷ ask.End 0 ending.Ok ∷ ask.Join 0 1 0 ∷ []) ≡ says.Task 0 ∷ says.Run 0 ∷ says.Refused refused.OwnStack ∷ says.Task 1 ∷ says.Task 2 ∷ says.Run 1 ∷ says.Done ∷ says.Normal ∷ []
+pub row_18 : replies_after (pool_of Async 1 1 4 64) [] (ask.Submit 0 submitted.Plain ∷ ask.Poll 0 0 ∷ ask.Join 0 0 0 ∷ ask.Fork 0 Plain ∷ ask.Fork 0 Plain ∷ ask.Join 0 2 0 ∷ ask.End 0 ending.Ok ∷ ask.Join 0 1 0 ∷ []) ≡ says.Task 0 ∷ says.Run 0 ∷ says.Refused refused.OwnStack ∷ says.Task 1 ∷ says.Task 2 ∷ says.Run 1 ∷ says.Done ∷ says.Normal ∷ []
 unfolding accepted tasks released is_kept live kind is_completer parent pushed taken left queue ended stack hooks hand status_from status pending is_spent queued_in held_by opened place path_up path relayed_along relayed arrival passed owners workers first_queued choice is_closed is_stopped has_kept_child is_fired_by_complete is_quiet events_of reply_of refusal_standing
 row_18 = refl
 
-pub row_18_sound : is_sound (pool_of Async 1 1 4 64) (history_after (pool_of Async 1 1 4 64) [] (ask.Submit 0 Plain ∷ ask.Poll 0 0 ∷ ask.Join 0 0 0 ∷ ask.Fork 0 Plain ∷ ask.Fork 0 Plain ∷ ask.Join 0 2 0 ∷ ask.End 0 ending.Ok ∷ ask.Join 0 1 0 ∷ [])) ≡ true
+pub row_18_sound : is_sound (pool_of Async 1 1 4 64) (history_after (pool_of Async 1 1 4 64) [] (ask.Submit 0 submitted.Plain ∷ ask.Poll 0 0 ∷ ask.Join 0 0 0 ∷ ask.Fork 0 Plain ∷ ask.Fork 0 Plain ∷ ask.Join 0 2 0 ∷ ask.End 0 ending.Ok ∷ ask.Join 0 1 0 ∷ [])) ≡ true
 unfolding accepted tasks released is_kept live kind is_completer parent pushed taken left queue ended stack hooks hand status_from status pending is_spent queued_in held_by opened place path_up path relayed_along relayed arrival passed owners workers first_queued choice is_closed is_stopped has_kept_child is_fired_by_complete is_quiet events_of reply_of refusal_standing open_tasks newly_gone gone_from gone all_places
 row_18_sound = refl
 
-pub row_18_joining : replies_after (pool_of Joining 1 1 4 64) [] (ask.Submit 0 Plain ∷ ask.Poll 0 0 ∷ ask.Join 0 0 0 ∷ ask.Fork 0 Plain ∷ ask.Fork 0 Plain ∷ ask.Join 0 2 0 ∷ []) ≡ says.Task 0 ∷ says.Run 0 ∷ says.Refused refused.OwnStack ∷ says.Task 1 ∷ says.Task 2 ∷ says.Run 2 ∷ []
+pub row_18_joining : replies_after (pool_of Joining 1 1 4 64) [] (ask.Submit 0 submitted.Plain ∷ ask.Poll 0 0 ∷ ask.Join 0 0 0 ∷ ask.Fork 0 Plain ∷ ask.Fork 0 Plain ∷ ask.Join 0 2 0 ∷ []) ≡ says.Task 0 ∷ says.Run 0 ∷ says.Refused refused.OwnStack ∷ says.Task 1 ∷ says.Task 2 ∷ says.Run 2 ∷ []
 unfolding accepted tasks released is_kept live kind is_completer parent pushed taken left queue ended stack hooks hand status_from status pending is_spent queued_in held_by opened place path_up path relayed_along relayed arrival passed owners workers first_queued choice is_closed is_stopped has_kept_child is_fired_by_complete is_quiet events_of reply_of refusal_standing
 row_18_joining = refl
 
-pub row_18_joining_sound : is_sound (pool_of Joining 1 1 4 64) (history_after (pool_of Joining 1 1 4 64) [] (ask.Submit 0 Plain ∷ ask.Poll 0 0 ∷ ask.Join 0 0 0 ∷ ask.Fork 0 Plain ∷ ask.Fork 0 Plain ∷ ask.Join 0 2 0 ∷ [])) ≡ true
+pub row_18_joining_sound : is_sound (pool_of Joining 1 1 4 64) (history_after (pool_of Joining 1 1 4 64) [] (ask.Submit 0 submitted.Plain ∷ ask.Poll 0 0 ∷ ask.Join 0 0 0 ∷ ask.Fork 0 Plain ∷ ask.Fork 0 Plain ∷ ask.Join 0 2 0 ∷ [])) ≡ true
 unfolding accepted tasks released is_kept live kind is_completer parent pushed taken left queue ended stack hooks hand status_from status pending is_spent queued_in held_by opened place path_up path relayed_along relayed arrival passed owners workers first_queued choice is_closed is_stopped has_kept_child is_fired_by_complete is_quiet events_of reply_of refusal_standing open_tasks newly_gone gone_from gone all_places
 row_18_joining_sound = refl
 
-pub row_20 : replies_after (pool_of Async 1 1 1 64) [] (ask.Submit 0 (Completer None 5 true) ∷ ask.Poll 0 0 ∷ ask.Add 0 0 2 ∷ ask.Add 0 0 65535 ∷ ask.End 0 ending.Ok ∷ ask.End 0 ending.Complete ∷ ask.Poll 0 0 ∷ ask.HookDone 0 ∷ ask.HookDone 0 ∷ []) ≡ says.Task 0 ∷ says.Run 0 ∷ says.Count 7 ∷ says.Refused refused.CountTooLarge ∷ says.Refused refused.NotCompleter ∷ says.Hook 0 ∷ says.Refused refused.NotIdle ∷ says.Root 0 ∷ says.Refused refused.NotRunning ∷ []
+pub row_20 : replies_after (pool_of Async 1 1 1 64) [] (ask.Submit 0 (submitted.Completer 5 true) ∷ ask.Poll 0 0 ∷ ask.Add 0 0 2 ∷ ask.Add 0 0 65535 ∷ ask.End 0 ending.Ok ∷ ask.End 0 ending.Complete ∷ ask.Poll 0 0 ∷ ask.HookDone 0 ∷ ask.HookDone 0 ∷ []) ≡ says.Task 0 ∷ says.Run 0 ∷ says.Count 7 ∷ says.Refused refused.CountTooLarge ∷ says.Refused refused.NotCompleter ∷ says.Hook 0 ∷ says.Refused refused.NotIdle ∷ says.Root 0 ∷ says.Refused refused.NotRunning ∷ []
 unfolding accepted tasks released is_kept live kind is_completer parent pushed taken left queue ended stack hooks hand status_from status pending is_spent queued_in held_by opened place path_up path relayed_along relayed arrival passed owners workers first_queued choice is_closed is_stopped has_kept_child is_fired_by_complete is_quiet events_of reply_of refusal_standing
 row_20 = refl
 
-pub row_20_sound : is_sound (pool_of Async 1 1 1 64) (history_after (pool_of Async 1 1 1 64) [] (ask.Submit 0 (Completer None 5 true) ∷ ask.Poll 0 0 ∷ ask.Add 0 0 2 ∷ ask.Add 0 0 65535 ∷ ask.End 0 ending.Ok ∷ ask.End 0 ending.Complete ∷ ask.Poll 0 0 ∷ ask.HookDone 0 ∷ ask.HookDone 0 ∷ [])) ≡ true
+pub row_20_sound : is_sound (pool_of Async 1 1 1 64) (history_after (pool_of Async 1 1 1 64) [] (ask.Submit 0 (submitted.Completer 5 true) ∷ ask.Poll 0 0 ∷ ask.Add 0 0 2 ∷ ask.Add 0 0 65535 ∷ ask.End 0 ending.Ok ∷ ask.End 0 ending.Complete ∷ ask.Poll 0 0 ∷ ask.HookDone 0 ∷ ask.HookDone 0 ∷ [])) ≡ true
 unfolding accepted tasks released is_kept live kind is_completer parent pushed taken left queue ended stack hooks hand status_from status pending is_spent queued_in held_by opened place path_up path relayed_along relayed arrival passed owners workers first_queued choice is_closed is_stopped has_kept_child is_fired_by_complete is_quiet events_of reply_of refusal_standing open_tasks newly_gone gone_from gone all_places
 row_20_sound = refl
 
-pub row_21 : replies_after (pool_of Async 1 1 3 64) [] (ask.Submit 0 (Completer None 0 true) ∷ ask.Poll 0 0 ∷ ask.Fork 0 (Completer (Some 0) 0 true) ∷ ask.End 0 ending.Try ∷ ask.HookDone 0 ∷ ask.Release 0 ∷ ask.Cancel 1 ∷ ask.Poll 0 0 ∷ ask.Release 1 ∷ ask.Release 0 ∷ ask.State 0 ∷ ask.Submit 0 Plain ∷ []) ≡ says.Task 0 ∷ says.Run 0 ∷ says.Task 1 ∷ says.Hook 0 ∷ says.Root 0 ∷ says.Refused refused.NotDone ∷ says.Yes ∷ says.Skip 1 ∷ says.Done ∷ says.Done ∷ says.Refused refused.Unknown ∷ says.Task 2 ∷ []
+pub row_21 : replies_after (pool_of Async 1 1 3 64) [] (ask.Submit 0 (submitted.Completer 0 true) ∷ ask.Poll 0 0 ∷ ask.Fork 0 (Completer (Some 0) 0 true) ∷ ask.End 0 ending.Try ∷ ask.HookDone 0 ∷ ask.Release 0 ∷ ask.Cancel 1 ∷ ask.Poll 0 0 ∷ ask.Release 1 ∷ ask.Release 0 ∷ ask.State 0 ∷ ask.Submit 0 submitted.Plain ∷ []) ≡ says.Task 0 ∷ says.Run 0 ∷ says.Task 1 ∷ says.Hook 0 ∷ says.Root 0 ∷ says.Refused refused.NotDone ∷ says.Yes ∷ says.Skip 1 ∷ says.Done ∷ says.Done ∷ says.Refused refused.Unknown ∷ says.Task 2 ∷ []
 unfolding accepted tasks released is_kept live kind is_completer parent pushed taken left queue ended stack hooks hand status_from status pending is_spent queued_in held_by opened place path_up path relayed_along relayed arrival passed owners workers first_queued choice is_closed is_stopped has_kept_child is_fired_by_complete is_quiet events_of reply_of refusal_standing
 row_21 = refl
 
-pub row_21_sound : is_sound (pool_of Async 1 1 3 64) (history_after (pool_of Async 1 1 3 64) [] (ask.Submit 0 (Completer None 0 true) ∷ ask.Poll 0 0 ∷ ask.Fork 0 (Completer (Some 0) 0 true) ∷ ask.End 0 ending.Try ∷ ask.HookDone 0 ∷ ask.Release 0 ∷ ask.Cancel 1 ∷ ask.Poll 0 0 ∷ ask.Release 1 ∷ ask.Release 0 ∷ ask.State 0 ∷ ask.Submit 0 Plain ∷ [])) ≡ true
+pub row_21_sound : is_sound (pool_of Async 1 1 3 64) (history_after (pool_of Async 1 1 3 64) [] (ask.Submit 0 (submitted.Completer 0 true) ∷ ask.Poll 0 0 ∷ ask.Fork 0 (Completer (Some 0) 0 true) ∷ ask.End 0 ending.Try ∷ ask.HookDone 0 ∷ ask.Release 0 ∷ ask.Cancel 1 ∷ ask.Poll 0 0 ∷ ask.Release 1 ∷ ask.Release 0 ∷ ask.State 0 ∷ ask.Submit 0 submitted.Plain ∷ [])) ≡ true
 unfolding accepted tasks released is_kept live kind is_completer parent pushed taken left queue ended stack hooks hand status_from status pending is_spent queued_in held_by opened place path_up path relayed_along relayed arrival passed owners workers first_queued choice is_closed is_stopped has_kept_child is_fired_by_complete is_quiet events_of reply_of refusal_standing open_tasks newly_gone gone_from gone all_places
 row_21_sound = refl
 
-pub row_r5 : replies_after (pool_of Async 1 1 4 64) [] (ask.Submit 0 (Completer None 1 true) ∷ ask.Poll 0 0 ∷ ask.End 0 ending.Quiet ∷ ask.State 0 ∷ ask.Submit 0 Plain ∷ ask.Stop ∷ ask.State 0 ∷ ask.State 1 ∷ ask.Poll 0 0 ∷ ask.IsQuiescent ∷ ask.Stop ∷ ask.Shutdown ∷ ask.Submit 0 Plain ∷ []) ≡ says.Task 0 ∷ says.Run 0 ∷ says.Done ∷ says.State at.Open status_is.Undone ∷ says.Task 1 ∷ says.Done ∷ says.State at.Gone status_is.Cancelled ∷ says.State (at.Queued (Sub 0)) status_is.Cancelled ∷ says.Skip 1 ∷ says.Yes ∷ says.Done ∷ says.Done ∷ says.Refused refused.Closed ∷ []
+pub row_r5 : replies_after (pool_of Async 1 1 4 64) [] (ask.Submit 0 (submitted.Completer 1 true) ∷ ask.Poll 0 0 ∷ ask.End 0 ending.Quiet ∷ ask.State 0 ∷ ask.Submit 0 submitted.Plain ∷ ask.Stop ∷ ask.State 0 ∷ ask.State 1 ∷ ask.Poll 0 0 ∷ ask.IsQuiescent ∷ ask.Stop ∷ ask.Shutdown ∷ ask.Submit 0 submitted.Plain ∷ []) ≡ says.Task 0 ∷ says.Run 0 ∷ says.Done ∷ says.State at.Open status_is.Undone ∷ says.Task 1 ∷ says.Done ∷ says.State at.Gone status_is.Cancelled ∷ says.State (at.Queued (Sub 0)) status_is.Cancelled ∷ says.Skip 1 ∷ says.Yes ∷ says.Done ∷ says.Done ∷ says.Refused refused.Closed ∷ []
 unfolding accepted tasks released is_kept live kind is_completer parent pushed taken left queue ended stack hooks hand status_from status pending is_spent queued_in held_by opened place path_up path relayed_along relayed arrival passed owners workers first_queued choice is_closed is_stopped has_kept_child is_fired_by_complete is_quiet events_of reply_of refusal_standing
 row_r5 = refl
 
-pub row_r5_sound : is_sound (pool_of Async 1 1 4 64) (history_after (pool_of Async 1 1 4 64) [] (ask.Submit 0 (Completer None 1 true) ∷ ask.Poll 0 0 ∷ ask.End 0 ending.Quiet ∷ ask.State 0 ∷ ask.Submit 0 Plain ∷ ask.Stop ∷ ask.State 0 ∷ ask.State 1 ∷ ask.Poll 0 0 ∷ ask.IsQuiescent ∷ ask.Stop ∷ ask.Shutdown ∷ ask.Submit 0 Plain ∷ [])) ≡ true
+pub row_r5_sound : is_sound (pool_of Async 1 1 4 64) (history_after (pool_of Async 1 1 4 64) [] (ask.Submit 0 (submitted.Completer 1 true) ∷ ask.Poll 0 0 ∷ ask.End 0 ending.Quiet ∷ ask.State 0 ∷ ask.Submit 0 submitted.Plain ∷ ask.Stop ∷ ask.State 0 ∷ ask.State 1 ∷ ask.Poll 0 0 ∷ ask.IsQuiescent ∷ ask.Stop ∷ ask.Shutdown ∷ ask.Submit 0 submitted.Plain ∷ [])) ≡ true
 unfolding accepted tasks released is_kept live kind is_completer parent pushed taken left queue ended stack hooks hand status_from status pending is_spent queued_in held_by opened place path_up path relayed_along relayed arrival passed owners workers first_queued choice is_closed is_stopped has_kept_child is_fired_by_complete is_quiet events_of reply_of refusal_standing open_tasks newly_gone gone_from gone all_places
 row_r5_sound = refl
 
-pub row_r5_release : replies_after (pool_of Async 1 1 2 64) [] (ask.Submit 0 (Completer None 0 true) ∷ ask.Poll 0 0 ∷ ask.End 0 ending.Try ∷ ask.Release 0 ∷ ask.Submit 0 Plain ∷ ask.Stop ∷ ask.HookDone 0 ∷ ask.State 0 ∷ ask.State 1 ∷ []) ≡ says.Task 0 ∷ says.Run 0 ∷ says.Hook 0 ∷ says.Done ∷ says.Task 1 ∷ says.Done ∷ says.Spent 0 ∷ says.Refused refused.Unknown ∷ says.State (at.Queued (Sub 0)) status_is.Cancelled ∷ []
+pub row_r5_release : replies_after (pool_of Async 1 1 2 64) [] (ask.Submit 0 (submitted.Completer 0 true) ∷ ask.Poll 0 0 ∷ ask.End 0 ending.Try ∷ ask.Release 0 ∷ ask.Submit 0 submitted.Plain ∷ ask.Stop ∷ ask.HookDone 0 ∷ ask.State 0 ∷ ask.State 1 ∷ []) ≡ says.Task 0 ∷ says.Run 0 ∷ says.Hook 0 ∷ says.Done ∷ says.Task 1 ∷ says.Done ∷ says.Spent 0 ∷ says.Refused refused.Unknown ∷ says.State (at.Queued (Sub 0)) status_is.Cancelled ∷ []
 unfolding accepted tasks released is_kept live kind is_completer parent pushed taken left queue ended stack hooks hand status_from status pending is_spent queued_in held_by opened place path_up path relayed_along relayed arrival passed owners workers first_queued choice is_closed is_stopped has_kept_child is_fired_by_complete is_quiet events_of reply_of refusal_standing
 row_r5_release = refl
 
-pub row_r5_release_sound : is_sound (pool_of Async 1 1 2 64) (history_after (pool_of Async 1 1 2 64) [] (ask.Submit 0 (Completer None 0 true) ∷ ask.Poll 0 0 ∷ ask.End 0 ending.Try ∷ ask.Release 0 ∷ ask.Submit 0 Plain ∷ ask.Stop ∷ ask.HookDone 0 ∷ ask.State 0 ∷ ask.State 1 ∷ [])) ≡ true
+pub row_r5_release_sound : is_sound (pool_of Async 1 1 2 64) (history_after (pool_of Async 1 1 2 64) [] (ask.Submit 0 (submitted.Completer 0 true) ∷ ask.Poll 0 0 ∷ ask.End 0 ending.Try ∷ ask.Release 0 ∷ ask.Submit 0 submitted.Plain ∷ ask.Stop ∷ ask.HookDone 0 ∷ ask.State 0 ∷ ask.State 1 ∷ [])) ≡ true
 unfolding accepted tasks released is_kept live kind is_completer parent pushed taken left queue ended stack hooks hand status_from status pending is_spent queued_in held_by opened place path_up path relayed_along relayed arrival passed owners workers first_queued choice is_closed is_stopped has_kept_child is_fired_by_complete is_quiet events_of reply_of refusal_standing open_tasks newly_gone gone_from gone all_places
 row_r5_release_sound = refl

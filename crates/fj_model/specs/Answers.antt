@@ -6,7 +6,8 @@ use Rattle.fj_model.specs.declared.event.Event.TheVariants as event
 use Rattle.fj_model.specs.declared.event.Event.TheVariants.{Acc, Make, Out, Hooked, Dec, Settle, Rel}
 use Rattle.fj_model.specs.declared.owner.Owner.TheVariants.{Sub, Work}
 use Rattle.fj_model.specs.declared.kind.Kind.{Kind}
-use Rattle.fj_model.specs.declared.kind.Kind.TheVariants.{Plain, Completer}
+use Rattle.fj_model.specs.declared.kind.Kind.TheVariants.{Completer}
+use Rattle.fj_model.specs.declared.kind.SubmittedKind.TheVariants as submitted
 use Rattle.fj_model.specs.declared.status.Status.{Status}
 use Rattle.fj_model.specs.declared.status.Status.TheVariants as status_is
 use Rattle.fj_model.specs.declared.status.Status.TheVariants.{Undone}
@@ -22,7 +23,7 @@ use Rattle.fj_model.specs.declared.said.Said.{Said}
 use Rattle.fj_model.specs.declared.said.Said.TheVariants as says
 use Rattle.fj_model.specs.Bounds.{Bounds, Pool, owners, workers}
 use Rattle.fj_model.specs.Lists.{is_in, is_empty, or_else, last_of}
-use Rattle.fj_model.specs.Tasks.{accepted, is_kept, live, is_completer, parent, parent_in, count_in}
+use Rattle.fj_model.specs.Tasks.{accepted, is_kept, live, is_completer, parent, parent_in, count_in, submitted_kind}
 use Rattle.fj_model.specs.Queues.{queue}
 use Rattle.fj_model.specs.Stacks.{stack}
 use Rattle.fj_model.specs.Hooks.{hand}
@@ -122,7 +123,7 @@ root_events h (Some root) = settling h root status_is.Normal
 
 -- the events of a step that is not refused
 unfoldable pub events_of : Pool → List Event → Step → List Event
-events_of pool h (Submit s k) = event.Acc (accepted h) (Sub s) k ∷ []
+events_of pool h (Submit s k) = event.Acc (accepted h) (Sub s) (submitted_kind k) ∷ []
 events_of pool h (Fork w k) = event.Acc (accepted h) (Work w) k ∷ []
 events_of pool h (Trigger w count) = event.Make (accepted h) (Completer None count true) ∷ []
 events_of pool h (Poll w r) = taking h w (choice pool h w r)
@@ -267,7 +268,7 @@ too_many_tasks pool h = (live h == pool.limits.tasks, TooManyTasks)
 -- each refusal that the step can meet but LogFull, with whether it stands, in the order in which they are tested
 abbrev pub refusals_of : Pool → List Event → Step → List (Bool × Refusal)
 refusals_of pool h (Submit s k) =
-    (nat_le pool.limits.submitters s, NoSuch) ∷ (is_shut h (Sub s), Closed) ∷ count_too_large (count_in (Some k)) ∷ too_many_tasks pool h ∷ []
+    (nat_le pool.limits.submitters s, NoSuch) ∷ (is_shut h (Sub s), Closed) ∷ count_too_large (count_in (Some (submitted_kind k))) ∷ too_many_tasks pool h ∷ []
 refusals_of pool h (Fork w k) =
     no_such_worker pool w ∷ hook_in_hand h w ∷ nothing_running h w ∷ (is_unknown_parent h (parent_in (Some k)), Unknown) ∷ (is_plain_parent h (parent_in (Some k)), NotCompleter)
     ∷ (is_stopped h, Closed) ∷ count_too_large (count_in (Some k)) ∷ too_many_tasks pool h ∷ []
@@ -305,7 +306,7 @@ is_built_ending Complete = false
 is_built_ending (Fail code) = false
 
 abbrev pub is_built : Step → Bool
-is_built (Submit s Plain) = true
+is_built (Submit s submitted.Plain) = true
 is_built (Poll w r) = true
 is_built (End w ending) = is_built_ending ending
 is_built _ = false

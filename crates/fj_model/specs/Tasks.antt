@@ -5,6 +5,8 @@ use Rattle.fj_model.specs.declared.event.Event.{Event}
 use Rattle.fj_model.specs.declared.event.Event.TheVariants.{Acc, Make, Rel}
 use Rattle.fj_model.specs.declared.kind.Kind.{Kind}
 use Rattle.fj_model.specs.declared.kind.Kind.TheVariants.{Plain, Completer}
+use Rattle.fj_model.specs.declared.kind.SubmittedKind.{SubmittedKind}
+use Rattle.fj_model.specs.declared.kind.SubmittedKind.TheVariants as submitted
 use Rattle.fj_model.specs.Lists.{is_in, first_said}
 
 -- the number of a task that this event accepts
@@ -44,6 +46,11 @@ kind_by t _ = None
 
 unfoldable pub kind : List Event → ℕ → Option Kind
 kind h t = first_said (kind_by t) h
+
+-- a submitted task has no parent
+abbrev pub submitted_kind : SubmittedKind → Kind
+submitted_kind submitted.Plain = Plain
+submitted_kind (submitted.Completer count relay) = Completer None count relay
 
 abbrev pub is_completer_kind : Option Kind → Bool
 is_completer_kind (Some (Completer parent count relay)) = true

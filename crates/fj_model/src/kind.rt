@@ -15,3 +15,17 @@ pub enum Kind {
         relay: bool,
     },
 }
+
+/// What a submitted task is: as [`Kind`], but without a parent, since a submitter completes nothing inside the pool.
+#[derive(Clone, Copy, Debug, PartialEq, Eq)]
+pub enum SubmittedKind {
+    /// A task with a result.
+    Plain,
+    /// A task with a completion action, which is the root of its tree.
+    Completer {
+        /// The pending count that it is made with, 0 to 65,535.
+        count: u32,
+        /// The relay word, which a root never uses.
+        relay: bool,
+    },
+}

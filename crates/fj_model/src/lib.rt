@@ -20,7 +20,7 @@ mod step;
 
 pub use event::{Event, How};
 pub use ids::{Serial, SubId, WorkerId};
-pub use kind::Kind;
+pub use kind::{Kind, SubmittedKind};
 pub use limits::Limits;
 pub use memory::OutOfMemory;
 pub use mode::Mode;

@@ -1,5 +1,5 @@
 use crate::ids::{Serial, SubId, WorkerId};
-use crate::kind::Kind;
+use crate::kind::{Kind, SubmittedKind};
 
 /// How the body of a running task ends.
 #[derive(Clone, Copy, Debug, PartialEq, Eq)]
@@ -21,8 +21,8 @@ pub enum Ending {
 /// What the machine is asked to do.
 #[derive(Clone, Copy, Debug, PartialEq, Eq)]
 pub enum Step {
-    /// A submitter hands in a task of this kind, which has no parent.
-    Submit { s: SubId, kind: Kind },
+    /// A submitter hands in a task of this kind: `ForkJoinPool.submit`.
+    Submit { s: SubId, kind: SubmittedKind },
     /// The running task of a worker forks a task: `ForkJoinTask.fork`.
     Fork { w: WorkerId, kind: Kind },
     /// The running task of a worker makes a completer with this count and no parent, which is never queued.

@@ -1,15 +1,14 @@
 ghost use Rattle.std.specs.Prelude.{◌≡◌};
-ghost use Rattle.fj_model.specs.declared.kind.Kind.TheVariants.{Plain};
 ghost use Rattle.fj_model.specs.declared.step.Step.TheVariants.{Submit};
 ghost use Rattle.fj_model.specs.Runs.{Steps};
 
 use crate::machine::Machine;
-use fj_model::{Event, Kind, Owner, Refusal, Said, Serial, Status, SubId};
+use fj_model::{Event, Kind, Owner, Refusal, Said, Serial, Status, SubId, SubmittedKind};
 
 impl Machine {
     /// A submitter hands in a plain task, which goes to the new end of its queue.
     pub(super) fn submit(&mut self, s: SubId) -> Said
-        ensures { Steps self.old (Submit s Plain) result self.new }
+        ensures { Steps self.old (Submit s SubmittedKind.Plain) result self.new }
     {
         if self.limits.submitters() <= s.0 {
             return Said::Refused(Refusal::NoSuch);

@@ -1,4 +1,5 @@
 use Rattle.std.proofs.Common.{refl, ◌≡◌, ◌<◌, ◌≤◌, ◌≢◌, ℕ, ◌∷◌, [], ◌++◌, length, arith, ap, sym, ◌∙◌}
+use Rattle.fj_model.specs.declared.kind.SubmittedKind.TheVariants as submitted
 use Rattle.fj_model.specs.declared.step.Step.TheVariants.{Submit}
 use Rattle.fj_model.specs.declared.kind.Kind.TheVariants.{Plain}
 use Rattle.fj_model.specs.Bounds.{Pool, owner_at}
@@ -11,7 +12,7 @@ pub returns-then-submitters-s : goal.returns-then-submitters-s
 returns-then-submitters-s c =
     let pool : Pool = record { mode = c.self.inside.mode; limits = c.self.inside.limits } in
     let h = c.self.inside.log.events in
-    rw (← c.self.view_is) (told _ (Submit c.args.s Plain) _ (refused pool h (Submit c.args.s Plain) _ (submit_no_such pool h c.args.s (omega arith))))
+    rw (← c.self.view_is) (told _ (Submit c.args.s submitted.Plain) _ (refused pool h (Submit c.args.s submitted.Plain) _ (submit_no_such pool h c.args.s (omega arith))))
 
 pub returns-then-accepted-tasks : goal.returns-then-accepted-tasks
 returns-then-accepted-tasks c =
@@ -19,7 +20,7 @@ returns-then-accepted-tasks c =
     let h = c.self.inside.log.events in
     let holds = c.self.invariant.0 in
     let full : accepted h ≡ c.self.inside.limits.tasks = omega (arith, holds.tasks_kept.count, c.self.inside.statuses.ok.0) in
-    rw (← c.self.view_is) (told _ (Submit c.args.s Plain) _ (refused pool h (Submit c.args.s Plain) _ (submit_too_many pool h c.args.s holds.plain (omega arith) full)))
+    rw (← c.self.view_is) (told _ (Submit c.args.s submitted.Plain) _ (refused pool h (Submit c.args.s submitted.Plain) _ (submit_too_many pool h c.args.s holds.plain (omega arith) full)))
 
 pub returns-then-len-events : goal.returns-then-len-events
 returns-then-len-events c =
@@ -28,7 +29,7 @@ returns-then-len-events c =
     let holds = c.self.invariant.0 in
     let room : accepted h ≢ c.self.inside.limits.tasks = omega (arith, holds.tasks_kept.count, c.self.inside.statuses.ok.0) in
     let full : c.self.inside.limits.events ≤ length h = omega (arith) in
-    rw (← c.self.view_is) (told _ (Submit c.args.s Plain) _ (refused pool h (Submit c.args.s Plain) _ (submit_log_full pool h c.args.s holds.plain (omega arith) room full)))
+    rw (← c.self.view_is) (told _ (Submit c.args.s submitted.Plain) _ (refused pool h (Submit c.args.s submitted.Plain) _ (submit_log_full pool h c.args.s holds.plain (omega arith) room full)))
 
 pub push-requires-2-clause-room : goal.push-requires-2-clause-room
 push-requires-2-clause-room c =
