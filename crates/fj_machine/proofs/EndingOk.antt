@@ -9,6 +9,8 @@ use Rattle.fj_model.specs.declared.event.Event.{Event}
 use Rattle.fj_model.specs.declared.event.Event.TheVariants as event
 use Rattle.fj_model.specs.declared.owner.Owner.{Owner}
 use Rattle.fj_model.specs.declared.step.Ending.TheVariants as ending
+use Rattle.fj_model.specs.declared.place.Place.{Place}
+use Rattle.fj_model.specs.declared.place.Place.TheVariants.{Gone}
 use Rattle.fj_model.specs.declared.status.Status.{Status}
 use Rattle.fj_model.specs.declared.status.Status.TheVariants.{Undone, Normal}
 use Rattle.fj_model.specs.declared.step.Step.TheVariants.{End}
@@ -25,9 +27,12 @@ use Rattle.fj_model.specs.Statuses.{status, status_by, is_undone}
 use Rattle.fj_model.specs.Allowed.{Allowed, AllowedFrom}
 use Rattle.fj_model.specs.Answers.{answer, refusal_of, refusal_standing, events_of, reply_of, running, is_misfit}
 use Rattle.fj_model.specs.Runs.{IsHistory}
-use Rattle.fj_machine.specs.Holds.{Holds, KeepsStacks, KeepsTasks, is_plain}
+use Rattle.fj_machine.specs.Holds.{Holds, KeepsStacks, KeepsTasks, KeepsPlaces, is_plain}
 use Rattle.fj_machine.proofs.Parts.{list_all_append, new_row, queues_same, stacks_same, tasks_same}
-use Rattle.fj_machine.proofs.Leaving.{gone_after_end, gone_after_settle}
+use Rattle.fj_model.proofs.PlacesKept.{place_gone}
+use Rattle.fj_machine.proofs.Leaving.{calm, ends_calm, gone_ended, gone_after_end, gone_after_settle}
+use Rattle.fj_machine.proofs.Moving.{places_moved, places_same}
+use Rattle.fj_machine.proofs.Taking.{last_allowed}
 use Rattle.fj_model.proofs.Growth.{accepted_more, stack_same}
 use Rattle.fj_model.proofs.Lawful.{is_numbered, taken_known}
 use Rattle.fj_model.proofs.Members.{get_is_in}
@@ -96,15 +101,15 @@ allowed_front : (pool : Pool) (before xs ys : List Event) → AllowedFrom pool b
 allowed_front pool before [] ys so = tt
 allowed_front pool before (x ∷ xs) ys so = (so.0, allowed_front pool (before ++ x ∷ []) xs ys so.1)
 
--- a running task is one of those accepted
-pub stack_number : (pool : Pool) (h : List Event) (w t : ℕ) → AllowedFrom pool [] h → last_of (stack h w) ≡ Some t → t < accepted h
-stack_number pool h w t so last =
-    ltb-true t (accepted h) (sym (is_numbered pool h so t) ∙ taken_known pool h so t (stack_taken h w t (get_is_in t (stack h w) (length (stack h w) - 1) last)))
-
 pub get_is : (xs : List ℕ) (k t : ℕ) → k < length xs → t ≡ get_or xs k t → slice_get xs k ≡ Some t
 get_is [] k t within is = absurd (omega arith)
 get_is (x ∷ xs) zero t within is = ap Some (sym is)
 get_is (x ∷ xs) (suc k) t within is = get_is xs k t (omega arith) is
+
+-- a running task is one of those accepted
+pub stack_number : (pool : Pool) (h : List Event) (w t : ℕ) → AllowedFrom pool [] h → last_of (stack h w) ≡ Some t → t < accepted h
+stack_number pool h w t so last =
+    ltb-true t (accepted h) (sym (is_numbered pool h so t) ∙ taken_known pool h so t (stack_taken h w t (get_is_in t (stack h w) (length (stack h w) - 1) last)))
 
 -- the last task of a stack leaves it, and the other stacks stay
 stacks_after_end : (pool : Pool) (h : List Event) (stacks : Lists) (w t : ℕ) → AllowedFrom pool [] h → w < pool.limits.workers → last_of (stack h w) ≡ Some t
@@ -138,14 +143,21 @@ tasks_after_settle pool h statuses t s so undone known keeps =
           (cases_eq u t);
     }
 
+-- the ended task is gone, and the others stay where they are
+places_after_end : (pool : Pool) (h : List Event) (places : List Place) (w t : ℕ) → AllowedFrom pool [] h → Allowed pool h (event.End t w) → IsPlain h → IsPlain (h ++ event.End t w ∷ [])
+    → last_of (stack h w) ≡ Some t → KeepsPlaces h places → KeepsPlaces (h ++ event.End t w ∷ []) (set places t Gone)
+places_after_end pool h places w t so may plain plain2 last keeps =
+    places_moved pool h (event.End t w) places t Gone so may refl (stack_number pool h w t so last)
+    (place_gone (h ++ event.End t w ∷ []) t (gone_ended pool h t w so may plain2)) (λ u other. ends_calm h t w u plain other) keeps
+
 pub end_history : (pool : Pool) (h : List Event) (w t : ℕ) (b : Bool) → IsHistory pool h → answer pool h (End w ending.Ok) ≡ (says.Done, ending_of b t w) → IsHistory pool (h ++ ending_of b t w)
 end_history pool h w t b run is = subst (λ es. IsHistory pool (h ++ es)) (ap (λ a. a.1) is) (history_more pool h (End w ending.Ok) run)
 
 -- what is kept after the body of a done task has ended
-pub ended_holds : (pool : Pool) (h : List Event) (queues stacks : Lists) (statuses : List Status) (gones : List ℕ) (w t : ℕ) → Holds pool h queues stacks statuses gones
+pub ended_holds : (pool : Pool) (h : List Event) (queues stacks : Lists) (statuses : List Status) (places : List Place) (gones : List ℕ) (w t : ℕ) → Holds pool h queues stacks statuses places gones
     → w < pool.limits.workers → last_of (stack h w) ≡ Some t → answer pool h (End w ending.Ok) ≡ (says.Done, ending_of false t w) → length h + 1 ≤ pool.limits.events
-    → Holds pool (h ++ event.End t w ∷ []) queues (with_row stacks w (take (length (row_at stacks w) - 1) (row_at stacks w))) statuses (gones ++ t ∷ [])
-ended_holds pool h queues stacks statuses gones w t holds within last is fits =
+    → Holds pool (h ++ event.End t w ∷ []) queues (with_row stacks w (take (length (row_at stacks w) - 1) (row_at stacks w))) statuses (set places t Gone) (gones ++ t ∷ [])
+ended_holds pool h queues stacks statuses places gones w t holds within last is fits =
     let so = history_allowed pool h holds.run in
     let e = event.End t w in
     let run = end_history pool h w t false holds.run is in
@@ -159,15 +171,16 @@ ended_holds pool h queues stacks statuses gones w t holds within last is fits =
       queues_kept = queues_same pool.limits h (h ++ e ∷ []) queues (λ o. queue_same h e o refl refl) holds.queues_kept;
       stacks_kept = stacks_after_end pool h stacks w t so within last holds.stacks_kept;
       tasks_kept = tasks_same pool.limits h (h ++ e ∷ []) statuses (omega (arith, accepted_more h e)) (λ u. status_same h e u (λ b. refl)) holds.tasks_kept;
+      places_kept = places_after_end pool h places w t so may holds.plain plain2 last holds.places_kept;
       gone_kept = gone_after_end pool h gones t w so may holds.plain plain2 last holds.gone_kept;
     }
 
 -- what is kept after the body of an undone task has ended, which fires_by_complete it
-pub settled_holds : (pool : Pool) (h : List Event) (queues stacks : Lists) (statuses : List Status) (gones : List ℕ) (w t : ℕ) → Holds pool h queues stacks statuses gones
+pub settled_holds : (pool : Pool) (h : List Event) (queues stacks : Lists) (statuses : List Status) (places : List Place) (gones : List ℕ) (w t : ℕ) → Holds pool h queues stacks statuses places gones
     → w < pool.limits.workers → last_of (stack h w) ≡ Some t → is_undone (status h t) ≡ true → t < accepted h
     → answer pool h (End w ending.Ok) ≡ (says.Done, ending_of true t w) → length h + 2 ≤ pool.limits.events
-    → Holds pool ((h ++ event.End t w ∷ []) ++ event.Settle t Normal ∷ []) queues (with_row stacks w (take (length (row_at stacks w) - 1) (row_at stacks w))) (set statuses t Normal) (gones ++ t ∷ [])
-settled_holds pool h queues stacks statuses gones w t holds within last undone known is fits =
+    → Holds pool ((h ++ event.End t w ∷ []) ++ event.Settle t Normal ∷ []) queues (with_row stacks w (take (length (row_at stacks w) - 1) (row_at stacks w))) (set statuses t Normal) (set places t Gone) (gones ++ t ∷ [])
+settled_holds pool h queues stacks statuses places gones w t holds within last undone known is fits =
     let l = pool.limits in
     let so = history_allowed pool h holds.run in
     let e = event.End t w in
@@ -189,5 +202,7 @@ settled_holds pool h queues stacks statuses gones w t holds within last undone k
       queues_kept = queues_same l h1 (h1 ++ f ∷ []) queues (λ o. queue_same h1 f o refl refl) (queues_same l h h1 queues (λ o. queue_same h e o refl refl) holds.queues_kept);
       stacks_kept = stacks_same l h1 (h1 ++ f ∷ []) (with_row stacks w row) (λ v. stack_same h1 v f refl refl) (stacks_after_end pool h stacks w t so within last holds.stacks_kept);
       tasks_kept = tasks_after_settle pool h1 statuses t Normal so1 (ap is_undone (status_same h e t (λ b. refl)) ∙ undone) known1 tasks1;
+      places_kept = places_same pool h1 f (set places t Gone) so1 (last_allowed pool [] h1 f (history_allowed pool (h1 ++ f ∷ []) run)) refl
+          (λ u. calm h1 f u plain1 (λ is. cc) (λ v is. cc)) (places_after_end pool h places w t so may holds.plain plain1 last holds.places_kept);
       gone_kept = gone_after_settle pool h1 (gones ++ t ∷ []) t Normal so1 plain1 (gone_after_end pool h gones t w so may holds.plain plain1 last holds.gone_kept);
     }

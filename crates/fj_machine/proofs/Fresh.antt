@@ -32,7 +32,7 @@ empty_row (suc n) zero = refl
 empty_row (suc n) (suc i) = empty_row n i
 
 pub fresh_holds : (pool : Pool) → IsWithin pool.limits.workers pool.limits.submitters pool.limits.tasks pool.limits.events
-    → Holds pool [] (record { rows = replicate (queues_in pool.limits) []; room = pool.limits.tasks }) (record { rows = replicate pool.limits.workers []; room = pool.limits.tasks }) [] []
+    → Holds pool [] (record { rows = replicate (queues_in pool.limits) []; room = pool.limits.tasks }) (record { rows = replicate pool.limits.workers []; room = pool.limits.tasks }) [] [] []
 unfolding gone gone_from
 fresh_holds pool within = record {
   within = within;
@@ -54,5 +54,6 @@ fresh_holds pool within = record {
     few = omega (arith, none_accepted);
     each = λ t inside. absurd (omega (arith, none_accepted));
   };
+  places_kept = record { count = sym none_accepted; each = λ t inside. absurd (omega (arith, none_accepted)) };
   gone_kept = record { list = refl; few = omega arith };
 }

@@ -28,7 +28,7 @@ use Rattle.fj_machine.specs.Holds.{KeepsGone, is_plain}
 use Rattle.fj_machine.proofs.PlainHistories.{IsPlain, no_completer}
 
 -- in a plain history no task is open
-calm : (h : List Event) (e : Event) (t : ℕ) → IsPlain h → (taken_by e ≡ Some t → ⊥) → ((w : ℕ) → ended_by w e ≡ Some t → ⊥) → IsCalm h e t
+pub calm : (h : List Event) (e : Event) (t : ℕ) → IsPlain h → (taken_by e ≡ Some t → ⊥) → ((w : ℕ) → ended_by w e ≡ Some t → ⊥) → IsCalm h e t
 calm h e t plain untaken unended = record { untaken = untaken; unended = unended; shut = rw (no_completer h t plain) refl }
 
 known_before : (h : List Event) (e : Event) (t : ℕ) → (accepted_by e ≡ Some t → ⊥) → is_in t (tasks (h ++ e ∷ [])) ≡ true → is_in t (tasks h) ≡ true
@@ -72,41 +72,44 @@ gone_after_out pool h gones t w so plain held keeps = same_list h (event.Out t w
         (cases_eq u t)
 
 -- a task that is skipped is gone
-pub gone_after_skip : (pool : Pool) (h : List Event) (gones : List ℕ) (t w : ℕ) (o : Owner) → AllowedFrom pool [] h → Allowed pool h (event.Skip t w) → IsPlain h → IsPlain (h ++ event.Skip t w ∷ [])
-    → is_in t (queue h o) ≡ true → KeepsGone h gones → KeepsGone (h ++ event.Skip t w ∷ []) (gones ++ t ∷ [])
-gone_after_skip pool h gones t w o so may plain plain' queued keeps =
-    let known = pushed_known h o t (queued_pushed h o t queued) in
-    one_more h (event.Skip t w) gones t
-    (gone_gains pool h (event.Skip t w) t so may known (known_more h (event.Skip t w) t known) (queued_here h o t queued) nowhere
-    (λ u other there. was_gone h (event.Skip t w) u plain (λ is. cc) (λ is. other (sym cc)) (λ v is. cc) there))
-    keeps
-  where
-    taken_now : is_in t (taken (h ++ event.Skip t w ∷ [])) ≡ true
-    taken_now = rw taken_more (is_in_append t (taken h) (t ∷ []) ∙ or_right (is_in t (taken h)) (is_in t (t ∷ [])) (rw (eq-eqb t t refl) refl))
-
-    nowhere : is_gone (place (h ++ event.Skip t w ∷ []) t) ≡ true
-    nowhere = nowhere_gone (h ++ event.Skip t w ∷ []) t (record {
+pub gone_skipped : (pool : Pool) (h : List Event) (t w : ℕ) (o : Owner) → IsPlain (h ++ event.Skip t w ∷ []) → is_in t (queue h o) ≡ true → is_gone (place (h ++ event.Skip t w ∷ []) t) ≡ true
+gone_skipped pool h t w o plain queued =
+    let taken_now : is_in t (taken (h ++ event.Skip t w ∷ [])) ≡ true =
+    rw taken_more (is_in_append t (taken h) (t ∷ []) ∙ or_right (is_in t (taken h)) (is_in t (t ∷ [])) (rw (eq-eqb t t refl) refl)) in
+    nowhere_gone (h ++ event.Skip t w ∷ []) t (record {
       queues = λ p. never (is_in t (queue (h ++ event.Skip t w ∷ []) p)) (λ there. true≢false (sym taken_now ∙ queued_fresh (h ++ event.Skip t w ∷ []) p t there));
       stacks = λ v. never (is_in t (stack (h ++ event.Skip t w ∷ []) v)) (λ there.
           ⊎_elim (λ old. true≢false (sym (stack_taken h v t old.0) ∙ queued_fresh h o t queued)) (λ new. absurd cc) (stack_before h (event.Skip t w) v t there));
-      shut = rw (no_completer (h ++ event.Skip t w ∷ []) t plain') refl;
+      shut = rw (no_completer (h ++ event.Skip t w ∷ []) t plain) refl;
     })
 
+pub gone_after_skip : (pool : Pool) (h : List Event) (gones : List ℕ) (t w : ℕ) (o : Owner) → AllowedFrom pool [] h → Allowed pool h (event.Skip t w) → IsPlain h → IsPlain (h ++ event.Skip t w ∷ [])
+    → is_in t (queue h o) ≡ true → KeepsGone h gones → KeepsGone (h ++ event.Skip t w ∷ []) (gones ++ t ∷ [])
+gone_after_skip pool h gones t w o so may plain plain2 queued keeps =
+    let known = pushed_known h o t (queued_pushed h o t queued) in
+    one_more h (event.Skip t w) gones t
+    (gone_gains pool h (event.Skip t w) t so may known (known_more h (event.Skip t w) t known) (queued_here h o t queued) (gone_skipped pool h t w o plain2 queued)
+    (λ u other there. was_gone h (event.Skip t w) u plain (λ is. cc) (λ is. other (sym cc)) (λ v is. cc) there))
+    keeps
+
 -- a plain task whose body has ended is gone
+pub gone_ended : (pool : Pool) (h : List Event) (t w : ℕ) → AllowedFrom pool [] h → Allowed pool h (event.End t w) → IsPlain (h ++ event.End t w ∷ []) → is_gone (place (h ++ event.End t w ∷ []) t) ≡ true
+gone_ended pool h t w so may plain =
+    let out = out_new pool h (event.End t w) t so may refl in
+    nowhere_gone (h ++ event.End t w ∷ []) t (record { queues = out.queues; stacks = out.stacks; shut = rw (no_completer (h ++ event.End t w ∷ []) t plain) refl })
+
+pub ends_calm : (h : List Event) (t w u : ℕ) → IsPlain h → u ≢ t → IsCalm h (event.End t w) u
+ends_calm h t w u plain other = calm h (event.End t w) u plain (λ is. cc) (λ v is. other (sym (number_if_is (v == w) t u is).1))
+
 pub gone_after_end : (pool : Pool) (h : List Event) (gones : List ℕ) (t w : ℕ) → AllowedFrom pool [] h → Allowed pool h (event.End t w) → IsPlain h → IsPlain (h ++ event.End t w ∷ [])
     → last_of (stack h w) ≡ Some t → KeepsGone h gones → KeepsGone (h ++ event.End t w ∷ []) (gones ++ t ∷ [])
-gone_after_end pool h gones t w so may plain plain' last keeps =
+gone_after_end pool h gones t w so may plain plain2 last keeps =
     let held = get_is_in t (stack h w) (length (stack h w) - 1) last in
     let known = taken_known pool h so t (stack_taken h w t held) in
     one_more h (event.End t w) gones t
-    (gone_gains pool h (event.End t w) t so may known (known_more h (event.End t w) t known) (held_here h w t held) nowhere
+    (gone_gains pool h (event.End t w) t so may known (known_more h (event.End t w) t known) (held_here h w t held) (gone_ended pool h t w so may plain2)
     (λ u other there. was_gone h (event.End t w) u plain (λ is. cc) (λ is. cc) (λ v is. other (sym (number_if_is (v == w) t u is).1)) there))
     keeps
-  where
-    nowhere : is_gone (place (h ++ event.End t w ∷ []) t) ≡ true
-    nowhere =
-        let out = out_new pool h (event.End t w) t so may refl in
-        nowhere_gone (h ++ event.End t w ∷ []) t (record { queues = out.queues; stacks = out.stacks; shut = rw (no_completer (h ++ event.End t w ∷ []) t plain') refl })
 
 -- a status moves no plain task
 pub gone_after_settle : (pool : Pool) (h : List Event) (gones : List ℕ) (t : ℕ) (s : Status) → AllowedFrom pool [] h → IsPlain h → KeepsGone h gones → KeepsGone (h ++ event.Settle t s ∷ []) gones

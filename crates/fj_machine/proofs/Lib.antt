@@ -2,6 +2,7 @@ pub mod PlainHistories
 pub mod RowWrites
 pub mod Parts
 pub mod Leaving
+pub mod Moving
 pub mod Submitting
 pub mod Fresh
 pub mod Choosing

@@ -12,6 +12,8 @@ use Rattle.fj_model.specs.declared.event.Event.TheVariants as event
 use Rattle.fj_model.specs.declared.owner.Owner.{Owner}
 use Rattle.fj_model.specs.declared.owner.Owner.TheVariants.{Sub, Work}
 use Rattle.fj_model.specs.declared.kind.Kind.TheVariants.{Plain}
+use Rattle.fj_model.specs.declared.place.Place.{Place}
+use Rattle.fj_model.specs.declared.place.Place.TheVariants.{Queued}
 use Rattle.fj_model.specs.declared.status.Status.{Status}
 use Rattle.fj_model.specs.declared.status.Status.TheVariants.{Undone}
 use Rattle.fj_model.specs.declared.step.Step.{Step}
@@ -32,7 +34,10 @@ use Rattle.fj_model.specs.Answers.{answer, answer_of, refusal_of, refusal_standi
 use Rattle.fj_model.specs.Runs.{Past, Steps, grown, IsHistory}
 use Rattle.fj_machine.specs.Holds.{Holds, KeepsQueues, KeepsTasks, is_plain}
 use Rattle.fj_machine.proofs.Parts.{list_all_append, new_row, stacks_same}
-use Rattle.fj_machine.proofs.Leaving.{gone_after_submit}
+use Rattle.fj_model.proofs.Lawful.{allowed_more}
+use Rattle.fj_model.proofs.PlacesKept.{place_queued}
+use Rattle.fj_machine.proofs.Leaving.{calm, gone_after_submit}
+use Rattle.fj_machine.proofs.Moving.{places_grown}
 use Rattle.fj_model.proofs.Members.{is_in_append}
 use Rattle.fj_model.proofs.Growth.{stack_same, accepted_more}
 use Rattle.fj_machine.proofs.PlainHistories.{IsPlain, never_closed, never_stopped, all_live}
@@ -138,10 +143,10 @@ tasks_after_submit pool h statuses s so room keeps =
           (cases_lt u (accepted h));
     }
 
-pub submit_holds : (pool : Pool) (h : List Event) (queues stacks : Lists) (statuses : List Status) (gones : List ℕ) (s : ℕ)
-    → Holds pool h queues stacks statuses gones → s < pool.limits.submitters → accepted h ≢ pool.limits.tasks → length h < pool.limits.events
-    → Holds pool (h ++ event.Acc (accepted h) (Sub s) Plain ∷ []) (with_row queues s (row_at queues s ++ accepted h ∷ [])) stacks (statuses ++ Undone ∷ []) gones
-submit_holds pool h queues stacks statuses gones s holds within room fits =
+pub submit_holds : (pool : Pool) (h : List Event) (queues stacks : Lists) (statuses : List Status) (places : List Place) (gones : List ℕ) (s : ℕ)
+    → Holds pool h queues stacks statuses places gones → s < pool.limits.submitters → accepted h ≢ pool.limits.tasks → length h < pool.limits.events
+    → Holds pool (h ++ event.Acc (accepted h) (Sub s) Plain ∷ []) (with_row queues s (row_at queues s ++ accepted h ∷ [])) stacks (statuses ++ Undone ∷ []) (places ++ Queued (Sub s) ∷ []) gones
+submit_holds pool h queues stacks statuses places gones s holds within room fits =
     let t = accepted h in
     let e = event.Acc t (Sub s) Plain in
     let is : answer pool h (Submit s submitted.Plain) ≡ (says.Task t, e ∷ []) = submit_answer pool h s (submit_stands pool h s holds.plain within room fits) in
@@ -158,5 +163,7 @@ submit_holds pool h queues stacks statuses gones s holds within room fits =
       queues_kept = queues_after_submit pool h queues s t so may within holds.queues_kept;
       stacks_kept = stacks_same pool.limits h (h ++ e ∷ []) stacks (λ w. stack_same h w e refl refl) holds.stacks_kept;
       tasks_kept = tasks_after_submit pool h statuses s so room holds.tasks_kept;
+      places_kept = places_grown pool h e places (Queued (Sub s)) so may refl (place_queued pool (h ++ e ∷ []) (Sub s) t (allowed_more pool [] h e so may) queued)
+          (λ u. calm h e u holds.plain (λ is. cc) (λ w is. cc)) holds.places_kept;
       gone_kept = gone_after_submit pool h gones s t so holds.plain queued holds.gone_kept;
     }

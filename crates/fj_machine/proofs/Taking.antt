@@ -10,6 +10,8 @@ use Rattle.fj_model.specs.declared.event.Event.TheVariants as event
 use Rattle.fj_model.specs.declared.owner.Owner.{Owner}
 use Rattle.fj_model.specs.declared.owner.Owner.TheVariants.{Sub, Work}
 use Rattle.fj_model.specs.declared.mode.Mode.TheVariants.{Async}
+use Rattle.fj_model.specs.declared.place.Place.{Place}
+use Rattle.fj_model.specs.declared.place.Place.TheVariants.{Held, Gone}
 use Rattle.fj_model.specs.declared.status.Status.{Status}
 use Rattle.fj_model.specs.declared.status.Status.TheVariants.{Undone}
 use Rattle.fj_model.specs.Bounds.{Bounds, Pool, queues_in, owner_at}
@@ -22,7 +24,7 @@ use Rattle.fj_model.specs.Statuses.{status, status_by}
 use Rattle.fj_model.specs.Allowed.{Allowed, AllowedFrom}
 use Rattle.fj_model.specs.Headline.{keeps_order}
 use Rattle.fj_model.specs.Runs.{IsHistory}
-use Rattle.fj_machine.specs.Holds.{Holds, KeepsQueues, KeepsStacks, KeepsTasks, KeepsGone, is_plain}
+use Rattle.fj_machine.specs.Holds.{Holds, KeepsQueues, KeepsStacks, KeepsTasks, KeepsPlaces, KeepsGone, is_plain}
 use Rattle.fj_model.proofs.Members.{first_is_in, is_in_append}
 use Rattle.fj_model.proofs.Growth.{stack_same, stack_more, without_none, accepted_more}
 use Rattle.fj_model.proofs.Lawful.{queued_pushed, pushed_known, is_numbered}
@@ -30,12 +32,14 @@ use Rattle.fj_model.proofs.Statuses.{status_same}
 use Rattle.fj_model.proofs.AnswersAllowed.{history_allowed}
 use Rattle.fj_model.proofs.Queues.{queue_take, queue_other}
 use Rattle.fj_machine.proofs.Parts.{list_all_append, new_row, stacks_same, tasks_same}
-use Rattle.fj_machine.proofs.Leaving.{gone_after_out, gone_after_skip}
+use Rattle.fj_model.proofs.PlacesKept.{place_held, place_gone}
+use Rattle.fj_machine.proofs.Leaving.{calm, gone_skipped, gone_after_out, gone_after_skip}
+use Rattle.fj_machine.proofs.Moving.{places_moved}
 use Rattle.fj_machine.proofs.PlainHistories.{IsPlain, filled_ordered}
 use Rattle.fj_model.proofs.Owners.{owners_apart}
 
 -- the last of allowed events was allowed
-last_allowed : (pool : Pool) (before h : List Event) (e : Event) → AllowedFrom pool before (h ++ e ∷ []) → Allowed pool (before ++ h) e
+pub last_allowed : (pool : Pool) (before h : List Event) (e : Event) → AllowedFrom pool before (h ++ e ∷ []) → Allowed pool (before ++ h) e
 last_allowed pool before [] e so = rw append-nil (so.0)
 last_allowed pool before (f ∷ h) e so = rw append_assoc at (last_allowed pool (before ++ f ∷ []) h e so.1)
 
@@ -69,12 +73,12 @@ queues_after_take pool h queues q t e so may plain within first ev keeps =
           (cases_eq i q);
     }
 
-taken_holds : (pool : Pool) (h : List Event) (queues stacks stacks2 : Lists) (statuses : List Status) (gones gones2 : List ℕ) (q t : ℕ) (e : Event)
-    → Holds pool h queues stacks statuses gones → q < queues_in pool.limits → first_of (queue h (owner_at pool.limits q)) ≡ Some t
+taken_holds : (pool : Pool) (h : List Event) (queues stacks stacks2 : Lists) (statuses : List Status) (places places2 : List Place) (gones gones2 : List ℕ) (q t : ℕ) (e : Event)
+    → Holds pool h queues stacks statuses places gones → q < queues_in pool.limits → first_of (queue h (owner_at pool.limits q)) ≡ Some t
     → Takes h e t → IsHistory pool (h ++ e ∷ []) → length h < pool.limits.events
-    → KeepsStacks pool.limits (h ++ e ∷ []) stacks2 → KeepsGone (h ++ e ∷ []) gones2
-    → Holds pool (h ++ e ∷ []) (with_row queues q (drop 1 (row_at queues q))) stacks2 statuses gones2
-taken_holds pool h queues stacks stacks2 statuses gones gones2 q t e holds within first ev run fits stacks_kept gone_kept =
+    → KeepsStacks pool.limits (h ++ e ∷ []) stacks2 → KeepsPlaces (h ++ e ∷ []) places2 → KeepsGone (h ++ e ∷ []) gones2
+    → Holds pool (h ++ e ∷ []) (with_row queues q (drop 1 (row_at queues q))) stacks2 statuses places2 gones2
+taken_holds pool h queues stacks stacks2 statuses places places2 gones gones2 q t e holds within first ev run fits stacks_kept places_kept gone_kept =
     let so = history_allowed pool h holds.run in
     let may : Allowed pool h e = last_allowed pool [] h e (history_allowed pool (h ++ e ∷ []) run) in
     record {
@@ -85,6 +89,7 @@ taken_holds pool h queues stacks stacks2 statuses gones gones2 q t e holds withi
       queues_kept = queues_after_take pool h queues q t e so may holds.plain within first ev holds.queues_kept;
       stacks_kept = stacks_kept;
       tasks_kept = tasks_same pool.limits h (h ++ e ∷ []) statuses (accepted_more h e ∙ rw ev.accepts (omega arith)) (λ u. status_same h e u (ev.says u)) holds.tasks_kept;
+      places_kept = places_kept;
       gone_kept = gone_kept;
     }
 
@@ -112,38 +117,44 @@ stacks_after_out l h stacks w t within keeps = record {
       (cases_eq v w);
 }
 
--- what is kept after the first task of a queue was skipped
-pub skipped_holds : (pool : Pool) (h : List Event) (queues stacks : Lists) (statuses : List Status) (gones : List ℕ) (q t w : ℕ)
-    → Holds pool h queues stacks statuses gones → q < queues_in pool.limits → first_of (queue h (owner_at pool.limits q)) ≡ Some t
-    → IsHistory pool (h ++ event.Skip t w ∷ []) → length h < pool.limits.events
-    → Holds pool (h ++ event.Skip t w ∷ []) (with_row queues q (drop 1 (row_at queues q))) stacks statuses (gones ++ t ∷ [])
-skipped_holds pool h queues stacks statuses gones q t w holds within first run fits =
-    let e = event.Skip t w in
-    let so = history_allowed pool h holds.run in
-    let may : Allowed pool h e = last_allowed pool [] h e (history_allowed pool (h ++ e ∷ []) run) in
-    let o = owner_at pool.limits q in
-    taken_holds pool h queues stacks stacks statuses gones (gones ++ t ∷ []) q t e holds within first (skip_takes h t w) run fits
-    (stacks_same pool.limits h (h ++ e ∷ []) stacks (λ v. stack_same h v e refl refl) holds.stacks_kept)
-    (gone_after_skip pool h gones t w o so may holds.plain (list_all_append is_plain h (e ∷ []) holds.plain refl) (first_is_in t (queue h o) first) holds.gone_kept)
-
--- what is kept after the first task of a queue was handed out
-pub handed_holds : (pool : Pool) (h : List Event) (queues stacks : Lists) (statuses : List Status) (gones : List ℕ) (q t w : ℕ)
-    → Holds pool h queues stacks statuses gones → q < queues_in pool.limits → first_of (queue h (owner_at pool.limits q)) ≡ Some t → w < pool.limits.workers
-    → IsHistory pool (h ++ event.Out t w ∷ []) → length h < pool.limits.events
-    → Holds pool (h ++ event.Out t w ∷ []) (with_row queues q (drop 1 (row_at queues q))) (with_row stacks w (row_at stacks w ++ t ∷ [])) statuses gones
-handed_holds pool h queues stacks statuses gones q t w holds within first worker run fits =
-    let e = event.Out t w in
-    let so = history_allowed pool h holds.run in
-    let held : is_in t (stack (h ++ e ∷ []) w) ≡ true =
-    ap (is_in t) (stack_out h w t) ∙ is_in_append t (stack h w) (t ∷ []) ∙ or_right (is_in t (stack h w)) (is_in t (t ∷ [])) (rw (eq-eqb t t refl) refl) in
-    taken_holds pool h queues stacks (with_row stacks w (row_at stacks w ++ t ∷ [])) statuses gones gones q t e holds within first (out_takes_it h t w) run fits
-    (stacks_after_out pool.limits h stacks w t worker holds.stacks_kept)
-    (gone_after_out pool h gones t w so holds.plain held holds.gone_kept)
-
 -- a queued task is one of those accepted
 pub queued_number : (pool : Pool) (h : List Event) (o : Owner) (t : ℕ) → AllowedFrom pool [] h → first_of (queue h o) ≡ Some t → t < accepted h
 queued_number pool h o t so first =
     ltb-true t (accepted h) (sym (is_numbered pool h so t) ∙ pushed_known h o t (queued_pushed h o t (first_is_in t (queue h o) first)))
+
+-- what is kept after the first task of a queue was skipped
+pub skipped_holds : (pool : Pool) (h : List Event) (queues stacks : Lists) (statuses : List Status) (places : List Place) (gones : List ℕ) (q t w : ℕ)
+    → Holds pool h queues stacks statuses places gones → q < queues_in pool.limits → first_of (queue h (owner_at pool.limits q)) ≡ Some t
+    → IsHistory pool (h ++ event.Skip t w ∷ []) → length h < pool.limits.events
+    → Holds pool (h ++ event.Skip t w ∷ []) (with_row queues q (drop 1 (row_at queues q))) stacks statuses (set places t Gone) (gones ++ t ∷ [])
+skipped_holds pool h queues stacks statuses places gones q t w holds within first run fits =
+    let e = event.Skip t w in
+    let so = history_allowed pool h holds.run in
+    let may : Allowed pool h e = last_allowed pool [] h e (history_allowed pool (h ++ e ∷ []) run) in
+    let o = owner_at pool.limits q in
+    let plain2 = list_all_append is_plain h (e ∷ []) holds.plain refl in
+    taken_holds pool h queues stacks stacks statuses places (set places t Gone) gones (gones ++ t ∷ []) q t e holds within first (skip_takes h t w) run fits
+    (stacks_same pool.limits h (h ++ e ∷ []) stacks (λ v. stack_same h v e refl refl) holds.stacks_kept)
+    (places_moved pool h e places t Gone so may refl (queued_number pool h o t so first) (place_gone (h ++ e ∷ []) t (gone_skipped pool h t w o plain2 (first_is_in t (queue h o) first)))
+    (λ u other. calm h e u holds.plain (λ is. other (sym cc)) (λ v is. cc)) holds.places_kept)
+    (gone_after_skip pool h gones t w o so may holds.plain plain2 (first_is_in t (queue h o) first) holds.gone_kept)
+
+-- what is kept after the first task of a queue was handed out
+pub handed_holds : (pool : Pool) (h : List Event) (queues stacks : Lists) (statuses : List Status) (places : List Place) (gones : List ℕ) (q t w : ℕ)
+    → Holds pool h queues stacks statuses places gones → q < queues_in pool.limits → first_of (queue h (owner_at pool.limits q)) ≡ Some t → w < pool.limits.workers
+    → IsHistory pool (h ++ event.Out t w ∷ []) → length h < pool.limits.events
+    → Holds pool (h ++ event.Out t w ∷ []) (with_row queues q (drop 1 (row_at queues q))) (with_row stacks w (row_at stacks w ++ t ∷ [])) statuses (set places t (Held w)) gones
+handed_holds pool h queues stacks statuses places gones q t w holds within first worker run fits =
+    let e = event.Out t w in
+    let so = history_allowed pool h holds.run in
+    let may : Allowed pool h e = last_allowed pool [] h e (history_allowed pool (h ++ e ∷ []) run) in
+    let held : is_in t (stack (h ++ e ∷ []) w) ≡ true =
+    ap (is_in t) (stack_out h w t) ∙ is_in_append t (stack h w) (t ∷ []) ∙ or_right (is_in t (stack h w)) (is_in t (t ∷ [])) (rw (eq-eqb t t refl) refl) in
+    taken_holds pool h queues stacks (with_row stacks w (row_at stacks w ++ t ∷ [])) statuses places (set places t (Held w)) gones gones q t e holds within first (out_takes_it h t w) run fits
+    (stacks_after_out pool.limits h stacks w t worker holds.stacks_kept)
+    (places_moved pool h e places t (Held w) so may refl (queued_number pool h (owner_at pool.limits q) t so first) (place_held pool (h ++ e ∷ []) w t (history_allowed pool (h ++ e ∷ []) run) held)
+    (λ u other. calm h e u holds.plain (λ is. other (sym cc)) (λ v is. cc)) holds.places_kept)
+    (gone_after_out pool h gones t w so holds.plain held holds.gone_kept)
 
 pub get_or_any : {A : Type 0} (xs : List A) (k : ℕ) (d e : A) → k < length xs → get_or xs k d ≡ get_or xs k e
 get_or_any [] k d e within = absurd (omega arith)

@@ -5,6 +5,8 @@ use Rattle.fj_model.specs.declared.event.Event.{Event}
 use Rattle.fj_model.specs.declared.event.Event.TheVariants.{Acc, Out, Skip, End, Settle}
 use Rattle.fj_model.specs.declared.owner.Owner.TheVariants.{Sub}
 use Rattle.fj_model.specs.declared.kind.Kind.TheVariants.{Plain}
+use Rattle.fj_model.specs.declared.place.Place.{Place}
+use Rattle.fj_model.specs.declared.place.Place.TheVariants.{Gone}
 use Rattle.fj_model.specs.declared.status.Status.{Status}
 use Rattle.fj_model.specs.declared.status.Status.TheVariants.{Undone}
 use Rattle.fj_model.specs.Bounds.{Bounds, Pool, IsWithin, queues_in, owner_at}
@@ -12,7 +14,7 @@ use Rattle.fj_model.specs.Tasks.{accepted}
 use Rattle.fj_model.specs.Queues.{queue}
 use Rattle.fj_model.specs.Stacks.{stack}
 use Rattle.fj_model.specs.Statuses.{status}
-use Rattle.fj_model.specs.Places.{gone}
+use Rattle.fj_model.specs.Places.{place, gone}
 use Rattle.fj_model.specs.Runs.{IsHistory}
 use Rattle.fj_machine.specs.Rows.{Lists, row_at}
 
@@ -43,13 +45,18 @@ pub record KeepsTasks (l : Bounds) (h : List Event) (statuses : List Status) : T
   pub few : accepted h ≤ l.tasks
   pub each : (t : ℕ) → t < accepted h → get_or statuses t Undone ≡ status h t
 
+-- one place for each accepted task
+pub record KeepsPlaces (h : List Event) (places : List Place) : Type 0 where
+  pub count : length places ≡ accepted h
+  pub each : (t : ℕ) → t < accepted h → get_or places t Gone ≡ place h t
+
 -- the gone tasks
 pub record KeepsGone (h : List Event) (gones : List ℕ) : Type 0 where
   pub list : gones ≡ gone h
   pub few : length gones ≤ length h
 
 -- all that is kept, and that the history is one of a run and within the limit
-pub record Holds (pool : Pool) (h : List Event) (queues stacks : Lists) (statuses : List Status) (gones : List ℕ) : Type 0 where
+pub record Holds (pool : Pool) (h : List Event) (queues stacks : Lists) (statuses : List Status) (places : List Place) (gones : List ℕ) : Type 0 where
   pub within : IsWithin pool.limits.workers pool.limits.submitters pool.limits.tasks pool.limits.events
   pub run : IsHistory pool h
   pub plain : list_all is_plain h ≡ true
@@ -57,4 +64,5 @@ pub record Holds (pool : Pool) (h : List Event) (queues stacks : Lists) (statuse
   pub queues_kept : KeepsQueues pool.limits h queues
   pub stacks_kept : KeepsStacks pool.limits h stacks
   pub tasks_kept : KeepsTasks pool.limits h statuses
+  pub places_kept : KeepsPlaces h places
   pub gone_kept : KeepsGone h gones

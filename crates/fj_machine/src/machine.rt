@@ -15,8 +15,8 @@ mod take;
 use crate::log::Log;
 use crate::rows::Rows;
 use fj_model::{
-    Ending, Event, Limits, Mode, Owner, Refusal, Said, Serial, Status, Step, SubmittedKind,
-    WorkerId,
+    Ending, Event, Limits, Mode, Owner, Place, Refusal, Said, Serial, Status, Step,
+    SubmittedKind, WorkerId,
 };
 use std::alloc::{AllocError, Global};
 use std::marker::Model;
@@ -32,6 +32,7 @@ pub struct Machine {
     queues: Rows,
     stacks: Rows,
     statuses: Vec<Status>,
+    places: Vec<Place>,
     gone: Vec<Serial>,
 }
 
@@ -48,9 +49,10 @@ impl Model for Machine {
     } };
 
     ghost invariant = { λ m.
-        Holds (record { mode = m.mode; limits = m.limits }) m.log.events m.queues m.stacks m.statuses.items m.gone.items
+        Holds (record { mode = m.mode; limits = m.limits }) m.log.events m.queues m.stacks m.statuses.items m.places.items m.gone.items
         × (m.log.room ≡ m.limits.events)
         × (m.limits.tasks ≤ vec_capacity m.statuses)
+        × (m.limits.tasks ≤ vec_capacity m.places)
         × (m.limits.events ≤ vec_capacity m.gone) };
 }
 
@@ -73,6 +75,7 @@ impl Machine {
             queues: Rows::new(alloc, queues, tasks)?,
             stacks: Rows::new(alloc, workers, tasks)?,
             statuses: Vec::with_capacity(alloc, tasks)?,
+            places: Vec::with_capacity(alloc, tasks)?,
             gone: Vec::with_capacity(alloc, events)?,
         })
     }

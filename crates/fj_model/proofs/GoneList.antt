@@ -41,14 +41,14 @@ not_said t None other = refl
 not_said t (Some u) other = rw (ne_eqb u t (λ same. other (ap Some same))) refl
 
 -- a queue loses no task but the one that is taken
-queue_keeps : (h : List Event) (e : Event) (o : Owner) (t : ℕ) → (taken_by e ≡ Some t → ⊥) → is_in t (queue h o) ≡ true → is_in t (queue (h ++ e ∷ []) o) ≡ true
+pub queue_keeps : (h : List Event) (e : Event) (o : Owner) (t : ℕ) → (taken_by e ≡ Some t → ⊥) → is_in t (queue h o) ≡ true → is_in t (queue (h ++ e ∷ []) o) ≡ true
 queue_keeps h e o t untaken there =
     in_queue (h ++ e ∷ []) o t
     (rw pushed_more (is_in_left t (pushed h o) (cons_option (pushed_by o e) []) (queued_pushed h o t there)))
     (rw taken_more (is_in_append t (taken h) (cons_option (taken_by e) []) ∙ rw (queued_fresh h o t there, not_said t (taken_by e) untaken) refl))
 
 -- a stack loses no task but the one whose body ends
-stack_keeps : (h : List Event) (e : Event) (w t : ℕ) → (ended_by w e ≡ Some t → ⊥) → is_in t (stack h w) ≡ true → is_in t (stack (h ++ e ∷ []) w) ≡ true
+pub stack_keeps : (h : List Event) (e : Event) (w t : ℕ) → (ended_by w e ≡ Some t → ⊥) → is_in t (stack h w) ≡ true → is_in t (stack (h ++ e ∷ []) w) ≡ true
 stack_keeps h e w t unended there =
     let stays : is_in t (without (stack h w) (cons_option (ended_by w e) [])) ≡ true =
     is_in_filter (λ u. not (is_in u (cons_option (ended_by w e) []))) t (stack h w) ∙ rw (there, not_said t (ended_by w e) unended) refl in

@@ -15,3 +15,4 @@ pub mod AllowedTest
 pub mod WorkedRows
 pub mod GoneList
 pub mod Absent
+pub mod PlacesKept

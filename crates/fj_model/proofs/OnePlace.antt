@@ -251,11 +251,11 @@ find_passes p (y ∷ xs) x is = go (p y) refl (find_passes p xs x) is
     go true passes rest is = let same : y ≡ x = cc in ap p (sym same) ∙ passes
     go false passes rest is = rest is
 
-queued_there : (h : List Event) (t : ℕ) (o : Owner) → queued_in h t ≡ Some o → is_in t (queue h o) ≡ true
+pub queued_there : (h : List Event) (t : ℕ) (o : Owner) → queued_in h t ≡ Some o → is_in t (queue h o) ≡ true
 unfolding queued_in
 queued_there h t o is = find_passes (λ p. is_in t (queue h p)) (filter_map (owner_by t) h) o is
 
-held_there : (h : List Event) (t w : ℕ) → held_by h t ≡ Some w → is_in t (stack h w) ≡ true
+pub held_there : (h : List Event) (t w : ℕ) → held_by h t ≡ Some w → is_in t (stack h w) ≡ true
 unfolding held_by
 held_there h t w is = find_passes (λ v. is_in t (stack h v)) (filter_map (worker_by t) h) w is
 

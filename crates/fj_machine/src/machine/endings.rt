@@ -3,7 +3,7 @@ ghost use Rattle.fj_model.specs.declared.step.Step.TheVariants.{End};
 ghost use Rattle.fj_model.specs.Runs.{Steps};
 
 use crate::machine::Machine;
-use fj_model::{Ending, Event, Refusal, Said, Status, WorkerId};
+use fj_model::{Ending, Event, Place, Refusal, Said, Status, WorkerId};
 
 impl Machine {
     /// The body of the running task ends, which fires_by_complete the task if it is undone.
@@ -23,6 +23,7 @@ impl Machine {
             }
             self.log.push(Event::End(t, w));
             self.stacks.take_last(w.0 as usize);
+            self.places[t.0 as usize] = Place::Gone;
             self.gone.push_reserved(t);
             return Said::Done;
         }
@@ -33,6 +34,7 @@ impl Machine {
         self.stacks.take_last(w.0 as usize);
         self.log.push(Event::Settle(t, Status::Normal));
         self.statuses[t.0 as usize] = Status::Normal;
+        self.places[t.0 as usize] = Place::Gone;
         self.gone.push_reserved(t);
         Said::Done
     }

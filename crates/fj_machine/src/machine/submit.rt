@@ -3,7 +3,7 @@ ghost use Rattle.fj_model.specs.declared.step.Step.TheVariants.{Submit};
 ghost use Rattle.fj_model.specs.Runs.{Steps};
 
 use crate::machine::Machine;
-use fj_model::{Event, Kind, Owner, Refusal, Said, Serial, Status, SubId, SubmittedKind};
+use fj_model::{Event, Kind, Owner, Place, Refusal, Said, Serial, Status, SubId, SubmittedKind};
 
 impl Machine {
     /// A submitter hands in a plain task, which goes to the new end of its queue.
@@ -24,6 +24,7 @@ impl Machine {
         self.log.push(Event::Acc(t, Owner::Sub(s), Kind::Plain));
         self.queues.push(s.0 as usize, t);
         self.statuses.push_reserved(Status::Undone);
+        self.places.push_reserved(Place::Queued(Owner::Sub(s)));
         Said::Task(t)
     }
 }

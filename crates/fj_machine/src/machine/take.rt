@@ -9,7 +9,7 @@ ghost use Rattle.fj_model.specs.Runs.{Steps, IsHistory, grown};
 ghost use Rattle.fj_machine.specs.Chosen.{IsChosenFrom, first_in};
 
 use crate::machine::Machine;
-use fj_model::{Event, Owner, Refusal, Said, WorkerId};
+use fj_model::{Event, Owner, Place, Refusal, Said, WorkerId};
 
 impl Machine {
     /// An idle worker takes its choice, if it has one.
@@ -57,11 +57,13 @@ impl Machine {
         let t = self.queues.take_first(q);
         if !self.statuses[t.0 as usize].is_undone() {
             self.log.push(Event::Skip(t, w));
+            self.places[t.0 as usize] = Place::Gone;
             self.gone.push_reserved(t);
             return Said::Skip(t);
         }
         self.log.push(Event::Out(t, w));
         self.stacks.push(w.0 as usize, t);
+        self.places[t.0 as usize] = Place::Held(w);
         Said::Run(t)
     }
 }

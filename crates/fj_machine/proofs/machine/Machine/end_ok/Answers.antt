@@ -83,7 +83,13 @@ returns-then-free-lt2 c =
     rw (← c.self.view_is) (told _ (End w ending.Ok) _ (refused pool h (End w ending.Ok) _ (end_log_full pool h w t true c.self.invariant.0.plain (within at.After-t) here done full)))
 
 pub index_mut-requires : goal.index_mut-requires
-index_mut-requires c = omega (arith, known (goal.at.index_mut-requires c).After-t, c.t-2.view_is, c.self.invariant.0.tasks_kept.count, c.self.inside.statuses.ok.0)
+index_mut-requires c = omega (arith, known (goal.at.index_mut-requires c).After-t, c.t-then-not-is_undone.view_is, c.self.invariant.0.places_kept.count, c.self.inside.places.ok.0)
+
+pub index_mut-requires-2 : goal.index_mut-requires-2
+index_mut-requires-2 c = omega (arith, known (goal.at.index_mut-requires-2 c).After-t, c.t-2.view_is, c.self.invariant.0.tasks_kept.count, c.self.inside.statuses.ok.0)
+
+pub index_mut-requires-3 : goal.index_mut-requires-3
+index_mut-requires-3 c = omega (arith, known (goal.at.index_mut-requires-3 c).After-t, c.t-2.view_is, c.self.invariant.0.places_kept.count, c.self.inside.places.ok.0)
 
 pub invariant_of-self : goal.invariant_of-self
 invariant_of-self c =
@@ -97,11 +103,12 @@ invariant_of-self c =
     let done = undone at.After-is_undone (known at.After-t) false c.if-not-is_undone.true in
     let fits : length h + length (ending_of false t w) ≤ c.self.inside.limits.events = omega (arith, holds.fits) in
     let is = end_answer pool h w t false here done (end_stands pool h w t false holds.plain (within at.After-t) here done fits) in (
-      rw (c.push.ensures, c.take_last.ensures, c.push_reserved.ensures.items, c.w-then-not-is_undone.view_is)
-          (ended_holds pool h c.self.inside.queues c.self.inside.stacks c.self.inside.statuses.items c.self.inside.gone.items w t holds (within at.After-t) here is (omega (arith, holds.fits))),
+      rw (c.push.ensures, c.take_last.ensures, c.push_reserved.ensures.items, c.w-then-not-is_undone.view_is, c.t-then-not-is_undone.view_is)
+          (ended_holds pool h c.self.inside.queues c.self.inside.stacks c.self.inside.statuses.items c.self.inside.places.items c.self.inside.gone.items w t holds (within at.After-t) here is (omega (arith, holds.fits))),
       rw c.push.ensures (c.self.invariant.1),
       c.self.invariant.2,
-      omega (arith, c.push_reserved.ensures.capacity, c.self.invariant.3),
+      c.self.invariant.3,
+      omega (arith, c.push_reserved.ensures.capacity, c.self.invariant.4),
     )
 
 pub returns-then-not-is_undone : goal.returns-then-not-is_undone
@@ -135,10 +142,11 @@ invariant_of-self-2 c =
     let fits : length h + length (ending_of true t w) ≤ c.self.inside.limits.events = omega (arith, holds.fits) in
     let is = end_answer pool h w t true here still (end_stands pool h w t true holds.plain (within at.After-t) here still fits) in (
       rw (c.push-3.ensures, c.push-2.ensures, c.take_last-2.ensures, c.push_reserved-2.ensures.items, c.w-2.view_is, c.t-2.view_is)
-          (settled_holds pool h c.self.inside.queues c.self.inside.stacks c.self.inside.statuses.items c.self.inside.gone.items w t holds (within at.After-t) here still task is (omega (arith, holds.fits))),
+          (settled_holds pool h c.self.inside.queues c.self.inside.stacks c.self.inside.statuses.items c.self.inside.places.items c.self.inside.gone.items w t holds (within at.After-t) here still task is (omega (arith, holds.fits))),
       rw (c.push-3.ensures, c.push-2.ensures) (c.self.invariant.1),
       c.self.invariant.2,
-      omega (arith, c.push_reserved-2.ensures.capacity, c.self.invariant.3),
+      c.self.invariant.3,
+      omega (arith, c.push_reserved-2.ensures.capacity, c.self.invariant.4),
     )
 
 pub returns : goal.returns

@@ -46,11 +46,12 @@ invariant_of-self c =
     let t : c.len-accepted.result ≡ accepted h = omega (arith, holds.tasks_kept.count, c.self.inside.statuses.ok.0) in
     let room : accepted h ≢ c.self.inside.limits.tasks = omega arith in
     let fits : length h < c.self.inside.limits.events = omega (arith, holds.fits) in (
-      rw (c.push.ensures, c.push-2.ensures, c.push_reserved.ensures.items, t, c.s-2.view_is)
-          (submit_holds pool h c.self.inside.queues c.self.inside.stacks c.self.inside.statuses.items c.self.inside.gone.items c.args.s holds (omega arith) room fits),
+      rw (c.push.ensures, c.push-2.ensures, c.push_reserved.ensures.items, c.push_reserved-2.ensures.items, t, c.s-2.view_is)
+          (submit_holds pool h c.self.inside.queues c.self.inside.stacks c.self.inside.statuses.items c.self.inside.places.items c.self.inside.gone.items c.args.s holds (omega arith) room fits),
       rw c.push.ensures (c.self.invariant.1),
       omega (arith, c.push_reserved.ensures.capacity, c.self.invariant.2),
-      c.self.invariant.3,
+      omega (arith, c.push_reserved-2.ensures.capacity, c.self.invariant.3),
+      c.self.invariant.4,
     )
 
 pub returns : goal.returns

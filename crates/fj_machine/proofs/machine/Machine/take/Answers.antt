@@ -1,4 +1,4 @@
-use Rattle.std.proofs.Common.{◌≡◌, ◌<◌, ◌∷◌, [], ◌++◌, ◌∙◌, ap, sym, refl, arith, length, ℕ, Some, Bool, true, false, subst}
+use Rattle.std.proofs.Common.{vec_len, ◌≡◌, ◌<◌, ◌∷◌, [], ◌++◌, ◌∙◌, ap, sym, refl, arith, length, ℕ, Some, Bool, true, false, subst}
 use Rattle.fj_model.specs.declared.event.Event.TheVariants as event
 use Rattle.fj_model.specs.Bounds.{Pool, queues_in, owner_at}
 use Rattle.fj_model.specs.Lists.{first_of}
@@ -28,6 +28,16 @@ number c =
     let pool : Pool = record { mode = c.self.inside.mode; limits = c.self.inside.limits } in
     queued_number pool c.self.inside.log.events (owner_at c.self.inside.limits c.args.q) c.take_first-t.result (history_allowed pool c.self.inside.log.events c.self.invariant.0.run) (first_task c)
 
+-- the task has a place
+placed : (c : After-take_first-t) → c.take_first-t.result < vec_len c.self.inside.places
+placed c = omega (arith, number c, c.self.invariant.0.places_kept.count, c.self.inside.places.ok.0)
+
+pub index_mut-requires : goal.index_mut-requires
+index_mut-requires c = omega (arith, placed (goal.at.index_mut-requires c).After-take_first-t, c.t-then-not-is_undone.view_is)
+
+pub index_mut-requires-2 : goal.index_mut-requires-2
+index_mut-requires-2 c = omega (arith, placed (goal.at.index_mut-requires-2 c).After-take_first-t, c.t-2.view_is)
+
 pub index-requires : goal.index-requires
 index-requires c =
     let n = number (goal.at.index-requires c).After-take_first-t in
@@ -56,12 +66,13 @@ invariant_of-self c =
     let within : c.args.q < queues_in c.self.inside.limits = omega (arith, c.requires.queue, ap (λ (p : Past). queues_in p.pool.limits) c.self.view_is) in
     let fits : length h < c.self.inside.limits.events = omega (arith, c.requires.fits, ap (λ (p : Past). length p.events) c.self.view_is, ap (λ (p : Past). p.pool.limits.events) c.self.view_is) in
     let done = undone (goal.at.invariant_of-self c).After-is_undone (number start) false c.if-not-is_undone.true in (
-      rw (c.push.ensures, c.take_first-t.ensures.rest, c.push_reserved.ensures.items)
-          (skipped_holds pool h c.self.inside.queues c.self.inside.stacks c.self.inside.statuses.items c.self.inside.gone.items c.args.q t c.args.w holds within
+      rw (c.push.ensures, c.take_first-t.ensures.rest, c.push_reserved.ensures.items, c.t-then-not-is_undone.view_is)
+          (skipped_holds pool h c.self.inside.queues c.self.inside.stacks c.self.inside.statuses.items c.self.inside.places.items c.self.inside.gone.items c.args.q t c.args.w holds within
           (first_task start) (history start false done) fits),
       rw c.push.ensures (c.self.invariant.1),
       c.self.invariant.2,
-      omega (arith, c.push_reserved.ensures.capacity, c.self.invariant.3),
+      c.self.invariant.3,
+      omega (arith, c.push_reserved.ensures.capacity, c.self.invariant.4),
     )
 
 pub returns-then-not-is_undone-clause-said : goal.returns-then-not-is_undone-clause-said
@@ -88,12 +99,13 @@ invariant_of-self-2 c =
     let fits : length h < c.self.inside.limits.events = omega (arith, c.requires.fits, ap (λ (p : Past). length p.events) c.self.view_is, ap (λ (p : Past). p.pool.limits.events) c.self.view_is) in
     let done = undone (goal.at.invariant_of-self-2 c).After-is_undone (number start) true c.if-not-is_undone.false in
     (
-      rw (c.push-2.ensures, c.take_first-t.ensures.rest, c.push-3.ensures, c.w.view_is)
-          (handed_holds pool h c.self.inside.queues stacks c.self.inside.statuses.items c.self.inside.gone.items c.args.q t w holds within
+      rw (c.push-2.ensures, c.take_first-t.ensures.rest, c.push-3.ensures, c.w.view_is, c.t-2.view_is)
+          (handed_holds pool h c.self.inside.queues stacks c.self.inside.statuses.items c.self.inside.places.items c.self.inside.gone.items c.args.q t w holds within
           (first_task start) worker (history start true done) fits),
       rw c.push-2.ensures (c.self.invariant.1),
       c.self.invariant.2,
       c.self.invariant.3,
+      c.self.invariant.4,
     )
 
 pub returns-clause-said : goal.returns-clause-said
