@@ -12,3 +12,4 @@ pub mod EndingOk
 pub mod NotYets
 pub mod Running
 pub mod Refusing
+pub mod Asking

@@ -56,11 +56,11 @@ pub never_stopped : (h : List Event) → IsPlain h → is_stopped h ≡ false
 unfolding is_stopped
 never_stopped h plain = none_pass is_stop no_stop h plain
 
-never_released : (h : List Event) → IsPlain h → released h ≡ []
+pub never_released : (h : List Event) → IsPlain h → released h ≡ []
 unfolding released
 never_released h plain = none_say released_by no_release h plain
 
-all_kept : (h : List Event) → IsPlain h → (t : ℕ) → is_in t (tasks h) ≡ true → is_kept h t ≡ true
+pub all_kept : (h : List Event) → IsPlain h → (t : ℕ) → is_in t (tasks h) ≡ true → is_kept h t ≡ true
 unfolding is_kept
 all_kept h plain t there = rw (there, never_released h plain) refl
 

@@ -9,6 +9,7 @@ ghost use Rattle.fj_model.specs.Headline.{Headline, RepliesTell};
 ghost use Rattle.fj_model.specs.declared.refusal.Refusal.{Refusal as RefusalCase};
 
 mod endings;
+mod queries;
 mod submit;
 mod take;
 
@@ -154,20 +155,9 @@ impl Machine {
                 Ending::Quiet | Ending::Try | Ending::Pass | Ending::Complete | Ending::Fail(_) =>
                     Said::Refused(Refusal::NotYet),
             },
-            Step::Fork { .. }
-            | Step::Trigger { .. }
-            | Step::Help { .. }
-            | Step::Join { .. }
-            | Step::HookDone { .. }
-            | Step::Add { .. }
-            | Step::QuietRoot { .. }
-            | Step::Fault { .. }
-            | Step::Cancel { .. }
-            | Step::Shutdown
-            | Step::Stop
-            | Step::IsQuiescent
-            | Step::State { .. }
-            | Step::Release { .. } => Said::Refused(Refusal::NotYet),
+            Step::IsQuiescent => self.is_quiescent(),
+            Step::State { t } => self.state(t),
+            _ => Said::Refused(Refusal::NotYet),
         }
     }
 

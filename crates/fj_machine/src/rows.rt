@@ -1,6 +1,7 @@
 ghost use Rattle.std.specs.Prelude.{◌≡◌, ◌<◌, ◌≤◌, ◌∷◌, [], ◌++◌, None, Some, length, drop, IfOk, replicate, ◌^◌, ◌≢◌, ◌-◌, take};
 ghost use Rattle.fj_machine.specs.Rows.{row_at, with_row, first_filled, places_from};
 ghost use Rattle.fj_model.specs.Lists.{is_empty, first_of, last_of};
+ghost use Rattle.std.specs.List.{list_all};
 
 use fj_model::Serial;
 use std::alloc::{AllocError, Global};
@@ -50,6 +51,18 @@ impl Rows {
         ensures { result.now ≡ row_at self.now i }
     {
         self.rows[i].as_slice()
+    }
+
+    /// Whether no list has a member.
+    pub fn are_empty(&self) -> bool
+        ensures { result ≡ list_all is_empty self.now.rows }
+    {
+        for i in 0..self.rows.len() {
+            if !self.is_empty(i) {
+                return false;
+            }
+        }
+        true
     }
 
     /// Whether a list has no member.

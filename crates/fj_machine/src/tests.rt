@@ -1,6 +1,6 @@
 use crate::{Machine, run};
 use fj_model::{
-    Ending, Event, Kind, Limits, Mode, Owner, Refusal, Said, Serial, Status, Step, SubId,
+    Ending, Event, Kind, Limits, Mode, Owner, Place, Refusal, Said, Serial, Status, Step, SubId,
     SubmittedKind, WorkerId,
 };
 use std::alloc::Global;
@@ -136,6 +136,47 @@ fn each_refusal_comes_in_its_place(rt: HostRuntime) -> Result<(), Fail> {
     assert_eq!(rt; last(&replies), Some(Said::Refused(Refusal::NotIdle)));
     let (_, replies) = ran(alloc, 1, 1, 8, 64, &[Step::Shutdown])?;
     assert_eq!(rt; last(&replies), Some(Said::Refused(Refusal::NotYet)));
+    Ok(())
+}
+
+#[test]
+fn questions_change_nothing(rt: HostRuntime) -> Result<(), Fail> {
+    let state = |t| Step::State { t: Serial(t) };
+    let fork = Step::Fork {
+        w: WorkerId(0),
+        kind: Kind::Plain,
+    };
+    let steps = [
+        Step::IsQuiescent,
+        submit(0),
+        state(0),
+        state(1),
+        Step::IsQuiescent,
+        fork,
+        poll(0, 0),
+        state(0),
+        Step::IsQuiescent,
+        end_ok(0),
+        state(0),
+        Step::IsQuiescent,
+    ];
+    let (machine, replies) = ran(rt.alloc(), 1, 1, 2, 8, &steps)?;
+    let expected = [
+        Said::Yes,
+        Said::Task(Serial(0)),
+        Said::State(Place::Queued(Owner::Sub(SubId(0))), Status::Undone),
+        Said::Refused(Refusal::Unknown),
+        Said::No,
+        Said::Refused(Refusal::NotYet),
+        Said::Run(Serial(0)),
+        Said::State(Place::Held(WorkerId(0)), Status::Undone),
+        Said::No,
+        Said::Done,
+        Said::State(Place::Gone, Status::Normal),
+        Said::Yes,
+    ];
+    assert_eq!(rt; replies.as_slice(), expected.as_slice());
+    assert_eq!(rt; machine.history().len(), 4);
     Ok(())
 }
 

@@ -18,7 +18,7 @@ use Rattle.fj_model.specs.declared.status.Status.TheVariants as status_is
 use Rattle.fj_model.specs.declared.step.Ending.{Ending}
 use Rattle.fj_model.specs.declared.step.Ending.TheVariants as ending
 use Rattle.fj_model.specs.declared.step.Step.{Step}
-use Rattle.fj_model.specs.declared.step.Step.TheVariants.{Submit, Poll, End}
+use Rattle.fj_model.specs.declared.step.Step.TheVariants.{Submit, Poll, End, IsQuiescent, State}
 use Rattle.fj_model.specs.declared.refusal.Refusal.{Refusal}
 use Rattle.fj_model.specs.declared.refusal.Refusal.TheVariants.{LogFull}
 use Rattle.fj_model.specs.declared.said.Said.{Said}
@@ -221,10 +221,20 @@ end_allowed pool h w so st = go (running h w) refl st.tests.1.1.1.0
         settled true undone = ((there, undone, refl, inl (end_kind t t w h fit, rw (newest_more h (event.End t w)) (eq-eqb t t refl))), tt)
         settled false undone = tt
 
+quiet_allowed : (pool : Pool) (h : List Event) → AllowedFrom pool h (events_of pool h IsQuiescent)
+unfolding events_of
+quiet_allowed pool h = tt
+
+state_allowed : (pool : Pool) (h : List Event) (t : ℕ) → AllowedFrom pool h (events_of pool h (State t))
+unfolding events_of
+state_allowed pool h t = tt
+
 step_allowed : (pool : Pool) (h : List Event) (asked : Step) → AllowedFrom pool [] h → refusal_of pool h asked ≡ None → AllowedFrom pool h (events_of pool h asked)
 unfolding refusal_of
 step_allowed pool h (Submit s submitted.Plain) so none = submit_allowed pool h s so (stands pool h (Submit s submitted.Plain) none)
 step_allowed pool h (Poll w r) so none = poll_allowed pool h w r (stands pool h (Poll w r) none)
+step_allowed pool h IsQuiescent so none = quiet_allowed pool h
+step_allowed pool h (State t) so none = state_allowed pool h t
 step_allowed pool h (End w ending.Ok) so none = end_allowed pool h w so (stands pool h (End w ending.Ok) none)
 step_allowed pool h (End w _) so none = absurd cc
 step_allowed pool h _ so none = absurd cc

@@ -9,7 +9,7 @@ use Rattle.fj_model.specs.declared.kind.Kind.TheVariants.{Plain}
 use Rattle.fj_model.specs.declared.status.Status.TheVariants as status_is
 use Rattle.fj_model.specs.declared.step.Ending.TheVariants as ending
 use Rattle.fj_model.specs.declared.step.Step.{Step}
-use Rattle.fj_model.specs.declared.step.Step.TheVariants.{Submit, Poll, End}
+use Rattle.fj_model.specs.declared.step.Step.TheVariants.{Submit, Poll, End, IsQuiescent, State}
 use Rattle.fj_model.specs.declared.refusal.Refusal.{Refusal}
 use Rattle.fj_model.specs.declared.said.Said.{Said}
 use Rattle.fj_model.specs.declared.said.Said.TheVariants as says
@@ -17,7 +17,7 @@ use Rattle.fj_model.specs.Bounds.{Pool}
 use Rattle.fj_model.specs.Tasks.{tasks, accepted_by}
 use Rattle.fj_model.specs.Statuses.{status, is_undone}
 use Rattle.fj_model.specs.Choices.{choice}
-use Rattle.fj_model.specs.Answers.{answer, answer_of, refusal_of, refusal_standing, events_of, reply_of, taking, taking_says, running, ending_events, ending_says}
+use Rattle.fj_model.specs.Answers.{is_quiet, answer, answer_of, refusal_of, refusal_standing, events_of, reply_of, taking, taking_says, running, ending_events, ending_says}
 use Rattle.std.proofs.lemmas.List.{append-nil}
 use Rattle.std.proofs.lemmas.List.Elements.{filter_map-append}
 use Rattle.fj_model.specs.Headline.{handed_out, handed_out_by, fired, fired_by, task_in, run_in, hook_in, RepliesTell}
@@ -60,10 +60,24 @@ end_ok_tells : (pool : Pool) (h : List Event) (w : ℕ) → Tells (reply_of pool
 unfolding events_of reply_of
 end_ok_tells pool h w = end_tells h w (running h w)
 
+quiet_tells : (pool : Pool) (h : List Event) → Tells (reply_of pool h IsQuiescent) (events_of pool h IsQuiescent)
+unfolding events_of reply_of tasks handed_out fired
+quiet_tells pool h = go (is_quiet pool.limits h)
+  where
+    go : (b : Bool) → Tells (if b then says.Yes else says.No) []
+    go true = record { same = record { accepts = refl; runs = refl; hooks = refl }; stands = λ r is. cc }
+    go false = record { same = record { accepts = refl; runs = refl; hooks = refl }; stands = λ r is. cc }
+
+state_tells : (pool : Pool) (h : List Event) (t : ℕ) → Tells (reply_of pool h (State t)) (events_of pool h (State t))
+unfolding events_of reply_of tasks handed_out fired
+state_tells pool h t = record { same = record { accepts = refl; runs = refl; hooks = refl }; stands = λ r is. cc }
+
 step_tells : (pool : Pool) (h : List Event) (asked : Step) → refusal_of pool h asked ≡ None → Tells (reply_of pool h asked) (events_of pool h asked)
 unfolding refusal_of
 step_tells pool h (Submit s submitted.Plain) none = submit_tells pool h s
 step_tells pool h (Poll w r) none = poll_tells pool h w r
+step_tells pool h IsQuiescent none = quiet_tells pool h
+step_tells pool h (State t) none = state_tells pool h t
 step_tells pool h (End w ending.Ok) none = end_ok_tells pool h w
 step_tells pool h (End w _) none = absurd cc
 step_tells pool h _ none = absurd cc

@@ -309,6 +309,8 @@ abbrev pub is_built : Step → Bool
 is_built (Submit s submitted.Plain) = true
 is_built (Poll w r) = true
 is_built (End w ending) = is_built_ending ending
+is_built IsQuiescent = true
+is_built (State t) = true
 is_built _ = false
 
 -- why a step that is built is refused, if it is
