@@ -16,3 +16,9 @@ pub mod WorkedRows
 pub mod GoneList
 pub mod Absent
 pub mod PlacesKept
+pub mod WordLaws
+pub mod NumberLaws
+pub mod PartLaws
+pub mod StepLaws
+pub mod HeadLaws
+pub mod LineLaws

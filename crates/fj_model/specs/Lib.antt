@@ -13,4 +13,7 @@ pub mod Allowed
 pub mod Answers
 pub mod Runs
 pub mod Headline
+pub mod Words
+pub mod Readings
+pub mod Replies
 pub mod Lines

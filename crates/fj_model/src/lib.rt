@@ -17,6 +17,7 @@ mod refusal;
 mod said;
 mod status;
 mod step;
+mod write;
 
 pub use event::{Event, How};
 pub use ids::{Serial, SubId, WorkerId};
@@ -31,3 +32,6 @@ pub use refusal::Refusal;
 pub use said::Said;
 pub use status::Status;
 pub use step::{Ending, Step};
+
+#[cfg(test)]
+mod tests;

@@ -53,3 +53,31 @@ pub enum Refusal {
     #[error("the step is not built yet")]
     NotYet,
 }
+
+impl Refusal {
+    ghost use Rattle.std.specs.Prelude.{◌≡◌};
+    ghost use Rattle.fj_model.specs.Replies.{refusal_number};
+
+    /// The number that a reply prints for this refusal, 1 to 15.
+    pub fn number(self) -> u32
+        ensures { result ≡ refusal_number self }
+    {
+        match self {
+            Refusal::Closed => 1,
+            Refusal::TooManyTasks => 2,
+            Refusal::LogFull => 3,
+            Refusal::NoSuch => 4,
+            Refusal::Unknown => 5,
+            Refusal::NotRunning => 6,
+            Refusal::OwnStack => 7,
+            Refusal::NotCompleter => 8,
+            Refusal::NotDone => 9,
+            Refusal::CountTooLarge => 10,
+            Refusal::LaneSpent => 11,
+            Refusal::OutOfMemory => 12,
+            Refusal::BadLimits => 13,
+            Refusal::NotIdle => 14,
+            Refusal::NotYet => 15,
+        }
+    }
+}

@@ -4,9 +4,9 @@ use crate::kind::{Kind, SubmittedKind};
 /// How the body of a running task ends.
 #[derive(Clone, Copy, Debug, PartialEq, Eq)]
 pub enum Ending {
-    /// The end of a plain task's body, which fires_by_complete it.
+    /// The end of a plain task's body, which completes it.
     Ok,
-    /// The end of a completer's body, which fires_by_complete nothing.
+    /// The end of a completer's body, which completes nothing.
     Quiet,
     /// `CountedCompleter.tryComplete`.
     Try,

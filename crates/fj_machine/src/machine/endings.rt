@@ -6,7 +6,7 @@ use crate::machine::Machine;
 use fj_model::{Ending, Event, Place, Refusal, Said, Status, WorkerId};
 
 impl Machine {
-    /// The body of the running task ends, which fires_by_complete the task if it is undone.
+    /// The body of the running task ends, which completes the task if it is undone.
     pub(super) fn end_ok(&mut self, w: WorkerId) -> Said
         ensures { Steps self.old (End w Ending.Ok) result self.new }
     {

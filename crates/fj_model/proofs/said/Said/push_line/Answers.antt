@@ -1,8 +1,6 @@
-use Rattle.std.proofs.Common.{sym}
-use Rattle.std.proofs.lemmas.List.{append-nil}
 use Rattle.fj_model.specs.Lines.{reply_line}
 use Rattle.fj_model.proofs.said.Said.push_line.Goals as goal
 
-pub returns : goal.returns
+pub returns-in-Exceptional : goal.returns-in-Exceptional
 unfolding reply_line
-returns c = sym (append-nil _)
+returns-in-Exceptional c = rw (c.in-Exceptional.is, ← c.from-in-Exceptional.ensures) c.push_numbered-in-Exceptional.ensures

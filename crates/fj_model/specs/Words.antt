@@ -1,0 +1,54 @@
+-- The words of a line: one space stands between each two of them, and none before the first or behind the last.
+use Rattle.std.specs.Prelude.{ℕ, Bool, true, false, ◌^◌, ◌==◌, ◌&&◌, nat_lt, if◌then◌else◌, List, [], ◌∷◌, Option, Some, None, decimal}
+use Rattle.std.specs.List.{slice_split, join_with_byte}
+use Rattle.std.specs.Str.{bytes_eq}
+use Rattle.std.specs.Str.Parse.{digits_value}
+
+-- the line that these words make
+abbrev pub joined : List (List ℕ) → List ℕ
+joined ws = join_with_byte 32 ws
+
+-- the words of a line
+unfoldable pub words : List ℕ → List (List ℕ)
+words line = slice_split (λ b. b == 32) line
+
+-- the words of what stands behind a word: nothing, or a space and the words after it
+abbrev pub words_behind : List ℕ → List (List ℕ)
+words_behind [] = []
+words_behind (space ∷ line) = words line
+
+-- whether a word is the decimal text of a number below 2 ^ 32
+abbrev pub is_number : List ℕ → Bool
+is_number word = nat_lt (digits_value 10 word) (2 ^ 32) && bytes_eq word (decimal (digits_value 10 word))
+
+-- the number of such a word
+unfoldable pub number_in : List ℕ → Option ℕ
+number_in word = if is_number word then Some (digits_value 10 word) else None
+
+-- ---- reading words, one after the other
+
+infixl 10 ◌>>=◌
+abbrev pub ◌>>=◌ : {A B : Type 0} → Option A → (A → Option B) → Option B
+Some x >>= f = f x
+None >>= f = None
+
+-- the first word, and those behind it
+abbrev pub word_first : List (List ℕ) → Option (List ℕ × List (List ℕ))
+word_first [] = None
+word_first (word ∷ ws) = Some (word, ws)
+
+-- the number that the first word is, and the words behind it
+abbrev pub number_first : List (List ℕ) → Option (ℕ × List (List ℕ))
+number_first [] = None
+number_first (word ∷ ws) = do
+  n ← number_in word
+  Some (n, ws)
+
+-- whether no word is left
+abbrev pub is_last : List (List ℕ) → Bool
+is_last [] = true
+is_last (word ∷ ws) = false
+
+-- the value, where no word is left
+abbrev pub if_last : {A : Type 0} → List (List ℕ) → A → Option A
+if_last ws x = if is_last ws then Some x else None

@@ -1,0 +1,51 @@
+ghost use Rattle.std.specs.Prelude.{◌≡◌, ◌≤◌, ℕ, List, length, Some, None, Ok, MatchResult, IfOk, OnOk};
+ghost use Rattle.fj_model.specs.Lines.{HasHeadLine, head_line, head_in};
+ghost use Rattle.fj_model.specs.Readings.{head_said, mode_in};
+ghost use Rattle.fj_model.specs.Words.{words_behind};
+ghost use Rattle.fj_model.specs.declared.mode.Mode.{Mode};
+
+use crate::mode::Mode;
+use crate::read::fault::LineFault;
+use crate::read::words::{first_word, next_number, no_more};
+
+/// Reads a heading, without its line feed: the mode, and the numbers of workers, submitters, tasks and events.
+/// A fault where no heading has this line. Whether the numbers lie in their limits is not looked at.
+pub fn read_head(line: &[u8]) -> Result<(Mode, [u32; 4]), LineFault>
+    ensures value { MatchResult result (λ head. head_in line.now ≡ Some head) (λ _. head_in line.now ≡ None) }
+    // What is read is written so.
+    ensures written { IfOk result (λ head. HasHeadLine head × (line.now ≡ head_line head)) }
+    // What is written so is read.
+    ensures read { (head : Mode × List ℕ) → HasHeadLine head → line.now ≡ head_line head → result ≡ Ok head }
+    ensures short { OnOk result (length line.now ≤ 64) }
+    // The line of each heading is read as that heading.
+    ensures again { (head : Mode × List ℕ) → HasHeadLine head → head_in (head_line head) ≡ Some head }
+{
+    let (verb, behind) = first_word(line);
+    head_said(verb, behind)
+}
+
+// The heading that a first word and what stands behind it say.
+#[tactic(auto, unfolding(crate::specs::Readings::head_said))]
+fn head_said(verb: &[u8], behind: &[u8]) -> Result<(Mode, [u32; 4]), LineFault>
+    ensures { MatchResult result
+        (λ head. head_said verb.now (words_behind behind.now) ≡ Some head)
+        (λ _. head_said verb.now (words_behind behind.now) ≡ None) }
+{
+    let mode = read_mode(verb)?;
+    let (workers, behind) = next_number(behind)?;
+    let (submitters, behind) = next_number(behind)?;
+    let (tasks, behind) = next_number(behind)?;
+    let (events, behind) = next_number(behind)?;
+    no_more(behind)?;
+    Ok((mode, [workers, submitters, tasks, events]))
+}
+
+fn read_mode(word: &[u8]) -> Result<Mode, LineFault>
+    ensures { MatchResult result (λ mode. mode_in word.now ≡ Some mode) (λ _. mode_in word.now ≡ None) }
+{
+    if word == b"async".as_slice() {
+        Ok(Mode::Async)
+    } else {
+        Err(LineFault)
+    }
+}

@@ -1,0 +1,58 @@
+ghost use Rattle.std.specs.Prelude.{◌≡◌, ◌==◌, ◌≤◌, length, ◌∷◌, true, false, Some, None, MatchResult};
+ghost use Rattle.std.specs.List.{position_or_len};
+ghost use Rattle.fj_model.specs.Words.{words, words_behind, word_first, number_first, is_last};
+
+use crate::read::fault::LineFault;
+use crate::read::number::read_number;
+
+/// How many bytes the first word of a line has.
+fn word_len(line: &[u8]) -> usize
+    ensures { result ≡ position_or_len (λ b. b == 32) line.now }
+{
+    line.iter()
+        .position(|byte| *byte == b' ')
+        .unwrap_or(line.len())
+}
+
+/// The first word of a line, and what stands behind it.
+pub fn first_word(line: &[u8]) -> (&[u8], &[u8])
+    ensures { words line.now ≡ result.0.now ∷ words_behind result.1.now }
+{
+    line.split_at(word_len(line))
+}
+
+/// The next word of what stands behind a word. A fault where there is none.
+pub fn next_word(behind: &[u8]) -> Result<(&[u8], &[u8]), LineFault>
+    ensures { MatchResult result
+        (λ p. word_first (words_behind behind.now) ≡ Some (p.0.now, words_behind p.1.now))
+        (λ _. word_first (words_behind behind.now) ≡ None) }
+{
+    match behind.split_first() {
+        Some((_, line)) => Ok(first_word(line)),
+        None => Err(LineFault),
+    }
+}
+
+/// The next word, where it is a number. A fault where there is none or it is something else.
+pub fn next_number(behind: &[u8]) -> Result<(u32, &[u8]), LineFault>
+    ensures { MatchResult result
+        (λ p. number_first (words_behind behind.now) ≡ Some (p.0, words_behind p.1.now))
+        (λ _. number_first (words_behind behind.now) ≡ None) }
+{
+    let (word, behind) = next_word(behind)?;
+    let number = read_number(word)?;
+    Ok((number, behind))
+}
+
+/// A fault where a word is left.
+pub fn no_more(behind: &[u8]) -> Result<(), LineFault>
+    ensures { MatchResult result
+        (λ _. is_last (words_behind behind.now) ≡ true)
+        (λ _. is_last (words_behind behind.now) ≡ false) }
+{
+    if behind.is_empty() {
+        Ok(())
+    } else {
+        Err(LineFault)
+    }
+}
