@@ -1,0 +1,30 @@
+//! The program `fj`.
+#![tactic(auto)]
+
+use fj_cli::{fj, unread};
+use std::io::BufWriter;
+use std::process::ExitCode;
+use std::rt::Stderr;
+use std::{env, io};
+
+fn main(rt: HostRuntime) -> ExitCode {
+    let mut err = rt.stderr();
+    let status = match run(&rt, &mut err) {
+        Ok(status) => status,
+        Err(error) => unread(&error, &mut err),
+    };
+    ExitCode::from(status)
+}
+
+// Only the words and the buffer of the output can fail here.
+fn run(rt: &HostRuntime, err: &mut Stderr) -> io::Result<u8> {
+    let alloc = rt.alloc();
+    let args: Vec<String> = env::args(rt)?.collect(alloc)?;
+    let mut words = Vec::new(alloc);
+    words.push("fj")?;
+    for arg in args.iter().skip(1) {
+        words.push(arg.as_str())?;
+    }
+    let mut out = BufWriter::new(alloc, io::writer(rt))?;
+    Ok(fj(alloc, words.as_slice(), &mut rt.reader(), &mut out, err))
+}

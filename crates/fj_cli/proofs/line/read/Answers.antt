@@ -1,0 +1,53 @@
+use Rattle.std.proofs.Common.{◌≡◌, ◌∙◌, sym, ap, ap₂, refl, codes, true, Option, Some, None, option_map, List}
+use Rattle.clap.specs.Words.{App, HasMatchesOf, Text, Row, is_simple, takes, subcommand_of, subcommand_rows_of, subcommand_rows, subcommand_name_of}
+use Rattle.clap.specs.declared.parser.matches.ArgMatches.{ArgMatches}
+use Rattle.clap.specs.declared.parser.matches.ArgMatches.TheViews.{out-ArgMatches, out-SubCommand}
+use Rattle.std.specs.Box.{box_value}
+use Rattle.std.specs.Prelude.{IsSome, is_some, false}
+use Rattle.clap.proofs.OnLiterals.{clap_on_literals}
+use Rattle.fj_cli.specs.Commands.{whole_line, replay_words, command_in}
+use Rattle.fj_cli.proofs.line.read.Goals as goal
+
+is_taken : takes whole_line replay_words ≡ true
+unfolding clap_on_literals
+is_taken = refl
+
+abbrev name_in : Option (Text × List Row) → Option Text
+name_in = option_map (λ met. met.0)
+
+is_met : command_in replay_words ≡ Some (codes "replay")
+unfolding clap_on_literals
+is_met = refl
+
+-- the name of the rows is the name
+names : (m : ArgMatches) → name_in (subcommand_rows_of m) ≡ subcommand_name_of m
+names m =
+    elim ((out-ArgMatches m).subcommand) as (λ o. name_in (subcommand_rows o) ≡ option_map (λ b. (out-SubCommand (box_value b)).name.now) o) [
+      | None ↦ refl
+      | Some b ↦ refl
+    ]
+
+not_both : {A : Type 0} → (o : Option A) → IsSome o → is_some o ≡ false → ⊥
+not_both o some e = absurd cc
+
+-- the command that the matches name is the one in the words
+named : (m : ArgMatches) (line : App) (words : List Text) → line ≡ whole_line → HasMatchesOf line words m → subcommand_name_of m ≡ command_in words
+named m line words is has = sym (names m) ∙ ap name_in ((has (ap is_simple is)).1 ∙ ap (λ a. subcommand_of a words) is)
+
+pub returns-clause-known : goal.returns-clause-known
+returns-clause-known c words_are = c.in-Err.ensures.passes (ap₂ takes c.in_ok-command.ensures words_are ∙ is_taken)
+
+pub returns-in-Ok-clause-known : goal.returns-in-Ok-clause-known
+returns-in-Ok-clause-known c words_are =
+    let name = named c.in-Ok.matches _ _ c.in_ok-command.ensures c.in-Ok.ensures.matches in
+    absurd (not_both c.subcommand_matches.result (c.subcommand_matches.ensures.found.1 (name ∙ (ap command_in words_are ∙ is_met))) (sym c.is_some.ensures ∙ c.if-is_some.false))
+
+pub returns-in-Ok-clause-task : goal.returns-in-Ok-clause-task
+returns-in-Ok-clause-task c =
+    let name = named c.in-Ok.matches _ _ c.in_ok-command.ensures c.in-Ok.ensures.matches in
+    (λ e. absurd cc, λ met. absurd (not_both c.subcommand_matches.result (c.subcommand_matches.ensures.found.1 (name ∙ met)) (sym c.is_some.ensures ∙ c.if-is_some.false)))
+
+pub returns-then-is_some-clause-task : goal.returns-then-is_some-clause-task
+returns-then-is_some-clause-task c =
+    let name = named c.in-Ok.matches _ _ c.in_ok-command.ensures c.in-Ok.ensures.matches in
+    (λ e. sym name ∙ c.subcommand_matches.ensures.found.0 (sym c.is_some.ensures ∙ c.if-is_some.true), λ met. refl)

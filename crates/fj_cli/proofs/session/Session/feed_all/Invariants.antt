@@ -1,0 +1,8 @@
+use Rattle.std.proofs.Common.{ℕ, ◌≤◌, ◌+◌, List, ◌++◌, take, Option}
+use Rattle.fj_cli.specs.Sessions.{IsAt}
+use Rattle.fj_cli.proofs.session.Session.feed_all.Given as goal
+
+abbrev pub invariant-loop-byte : goal.invariant-loop-byte
+invariant-loop-byte g l =
+    (l.self.count ≤ l.fn.self.count + l.byte-index)
+    × ((b : List ℕ) (start : Option (List ℕ)) → IsAt b l.fn.self start (g.W.Write.contents l.fn.w) → IsAt (b ++ take l.byte-index l.bytes) l.self start (g.W.Write.contents l.w))

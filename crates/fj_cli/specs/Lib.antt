@@ -1,0 +1,6 @@
+pub mod Cuts
+pub mod Scripts
+pub mod Faults
+pub mod Sessions
+pub mod Statuses
+pub mod Commands

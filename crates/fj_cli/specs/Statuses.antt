@@ -1,0 +1,18 @@
+-- What an exit status says.
+use Rattle.std.specs.Prelude.{ℕ, ◌≡◌, List, Option}
+use Rattle.fj_cli.specs.declared.fault.ReplayFault.{ReplayFault}
+use Rattle.fj_cli.specs.declared.fault.ReplayFault.TheVariants.{Line, Limits, Memory, Read, Write}
+use Rattle.fj_cli.specs.Faults.{Ends}
+
+-- the exit status of a fault: 3 for the input, 4 for memory, 5 for a read or a write
+abbrev pub status_of : ReplayFault → ℕ
+status_of (Line n) = 3
+status_of Limits = 3
+status_of Memory = 4
+status_of Read = 5
+status_of Write = 5
+
+-- the replay ended by a fault of this status
+abbrev pub EndsBy : ℕ → Option (List ℕ) → Option (List ℕ) → Option (List ℕ) → Option (List ℕ) → Type 0
+EndsBy status before ahead start now =
+    (fault : ReplayFault) × (b : List ℕ) × (status ≡ status_of fault) × Ends fault b before ahead start now

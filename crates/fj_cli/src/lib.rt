@@ -1,0 +1,24 @@
+//! Scripts of a fork-join pool, and the command line of the program `fj`.
+//!
+//! [`replay`] reads a script from any reader, makes its steps on a `Machine` and writes the replies: what it writes is `text` of the
+//! bytes that it read, a definition of `specs/Scripts.antt`. [`fj`] runs a command over any reader and writers.
+#![tactic(auto)]
+
+mod fault;
+mod line;
+mod play;
+mod replays;
+mod replier;
+mod run;
+mod session;
+#[cfg(test)]
+mod stream_tests;
+#[cfg(test)]
+mod tests;
+#[cfg(test)]
+mod word_tests;
+mod writes;
+
+pub use fault::ReplayFault;
+pub use replays::{replay, replayed};
+pub use run::{fj, unread};

@@ -1,0 +1,45 @@
+ghost use Rattle.std.specs.Prelude.{◌≡◌, ◌↔◌, Some, IfOk, MatchResult, codes, map};
+ghost use Rattle.clap.specs.Words.{app_of, kind_of};
+ghost use Rattle.fj_cli.specs.Commands.{whole_line, replay_words, command_in};
+
+use clap::error::ErrorKind;
+use clap::{Command, Error};
+use std::alloc::{AllocError, Global};
+
+/// What is to be run.
+#[derive(Clone, Copy, Debug, PartialEq, Eq)]
+pub enum Task {
+    /// A script on standard input.
+    Replay,
+}
+
+/// The whole command line.
+fn command<'a>(alloc: Global) -> Result<Command<'a>, AllocError>
+    ensures { IfOk result (λ command. app_of command ≡ whole_line) }
+{
+    let replay = Command::new(alloc, "replay").about(
+        "Runs the script on standard input and writes its replies",
+    );
+    Command::new(alloc, "fj")
+        .version("0.1.0")
+        .about("A fork-join pool with counted completers")
+        .subcommand_required(true)
+        .subcommand(replay)
+}
+
+/// Reads the words of a command line, of which the first is the program's name. `None` if they name no command.
+pub fn read<'a>(alloc: Global, words: &'a [&'a str]) -> Result<Option<Task>, Error>
+    ensures task { IfOk result (λ task. (task ≡ Some Task.Replay) ↔ (command_in (map (λ word. word.now) words.entry.now) ≡ Some (codes "replay"))) }
+    ensures known { map (λ word. word.now) words.entry.now ≡ replay_words → MatchResult result (λ task. task ≡ Some Task.Replay) (λ error. kind_of error ≡ ErrorKind.OutOfMemory) }
+{
+    match command(alloc)?.try_get_matches_from(words) {
+        Ok(matches) => {
+            if matches.subcommand_matches("replay").is_some() {
+                Ok(Some(Task::Replay))
+            } else {
+                Ok(None)
+            }
+        }
+        Err(error) => Err(error),
+    }
+}

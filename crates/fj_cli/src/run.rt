@@ -1,0 +1,85 @@
+ghost use Rattle.std.specs.Prelude.{◌≡◌, ◌≢◌, ◌⊎◌, ℕ, List, Option, Some, codes, map};
+ghost use Rattle.clap.specs.Words.{kind_of};
+ghost use Rattle.fj_cli.specs.Commands.{command_in, replay_words};
+ghost use Rattle.fj_cli.specs.Faults.{IsReplayed};
+ghost use Rattle.fj_cli.specs.Statuses.{EndsBy};
+
+use crate::line::{Task, read};
+use crate::play::play;
+use crate::writes::flush_whole;
+use clap::Error;
+use clap::error::ErrorKind;
+use std::alloc::Global;
+use std::io::{self, Read, Write};
+
+/// Runs a command, and gives the exit status. The first of the words is the program's name.
+///
+/// 0: it was run, or help or the version was asked for and written to `out`. 2: a fault of the words. 3: a fault of the input. 4: the
+/// machine refused memory. 5: a read or a write failed. For all but 0 there is a text on `err`. What was written to `out` is flushed.
+pub fn fj<R: Read, W: Write, E: Write>(
+    alloc: Global,
+    words: &[&str],
+    input: &mut R,
+    out: &mut W,
+    err: &mut E,
+) -> u8
+    ensures status { (result ≡ 0) ⊎ ((result ≡ 2) ⊎ ((result ≡ 3) ⊎ ((result ≡ 4) ⊎ (result ≡ 5)))) }
+    // The words of a replay run one, which is to its end at 0.
+    ensures known { map (λ word. word.now) words.entry.now ≡ replay_words → result ≢ 2 }
+    ensures replayed { map (λ word. word.now) words.entry.now ≡ replay_words → result ≡ 0 → (b : List ℕ) × IsReplayed b (R.remaining input.old) (R.remaining input.new) (W.contents out.old) (W.contents out.new) }
+    // Words that name no replay read nothing.
+    ensures unread { command_in (map (λ word. word.now) words.entry.now) ≢ Some (codes "replay") → R.remaining input.new ≡ R.remaining input.old }
+    // What else each status says.
+    ensures done { result ≡ 0 → ((b : List ℕ) × IsReplayed b (R.remaining input.old) (R.remaining input.new) (W.contents out.old) (W.contents out.new)) ⊎ (R.remaining input.new ≡ R.remaining input.old) }
+    ensures words { result ≡ 2 → (R.remaining input.new ≡ R.remaining input.old) × (W.contents out.new ≡ W.contents out.old) }
+    ensures fault { result ≡ 3 → EndsBy 3 (R.remaining input.old) (R.remaining input.new) (W.contents out.old) (W.contents out.new) }
+    ensures memory { result ≡ 4 → EndsBy 4 (R.remaining input.old) (R.remaining input.new) (W.contents out.old) (W.contents out.new) ⊎ ((R.remaining input.new ≡ R.remaining input.old) × (W.contents out.new ≡ W.contents out.old)) }
+{
+    match read(alloc, words) {
+        Ok(Some(Task::Replay)) => play(alloc, input, out, err),
+        Ok(None) => told(err, "no such command\n", 2),
+        Err(error) => answered(&error, out, err),
+    }
+}
+
+/// What stops the program before it has its words: a word that is not text, or want of memory. Gives the exit status.
+pub fn unread<E: Write>(error: &io::Error, err: &mut E) -> u8
+    ensures { (result ≡ 2) ⊎ (result ≡ 4) }
+{
+    if error.kind() == io::ErrorKind::InvalidData {
+        told(
+            err,
+            "error: invalid UTF-8 was detected in one or more arguments\n",
+            2,
+        )
+    } else {
+        told(err, "out of memory\n", 4)
+    }
+}
+
+// Tells why the words name no command, or what they ask for of the command line itself.
+fn answered<W: Write, E: Write>(error: &Error, out: &mut W, err: &mut E) -> u8
+    ensures status { (result ≡ 0) ⊎ ((result ≡ 2) ⊎ ((result ≡ 4) ⊎ (result ≡ 5))) }
+    ensures unread { kind_of error.now ≡ ErrorKind.OutOfMemory → result ≡ 4 }
+    ensures words { result ≡ 2 → W.contents out.new ≡ W.contents out.old }
+    ensures memory { result ≡ 4 → W.contents out.new ≡ W.contents out.old }
+{
+    if error.kind() == ErrorKind::OutOfMemory {
+        return told(err, "out of memory\n", 4);
+    }
+    if error.use_stderr() {
+        if write!(err, "{error}").is_ok() { 2 } else { 5 }
+    } else if write!(out, "{error}").is_ok() && flush_whole(out).is_ok() {
+        0
+    } else {
+        told(err, "write failed\n", 5)
+    }
+}
+
+// Writes a text on standard error. No exit status tells that this failed too.
+fn told<E: Write>(err: &mut E, text: &str, status: u8) -> u8
+    ensures { result ≡ status }
+{
+    let _ = err.write_all(text.as_bytes());
+    status
+}

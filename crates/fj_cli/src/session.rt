@@ -1,0 +1,136 @@
+ghost use Rattle.std.specs.Prelude.{◌≡◌, ◌≢◌, ℕ, ◌+◌, ◌^◌, ◌<◌, ◌≤◌, ◌∷◌, ◌++◌, [], length, IsTrue, OnOk, IfOk, IfErr, List, Option, true, is_some, ◌↔◌};
+ghost use Rattle.std.specs.Io.KnownBytes.{Appends};
+ghost use Rattle.fj_cli.specs.Cuts.{lines, rest};
+ghost use Rattle.fj_cli.specs.Faults.{FaultOf};
+ghost use Rattle.fj_cli.specs.Sessions.{Kept, nothing_kept, next_kept, fed, Goes, FaultAt, EndsEarly, IsAt};
+
+use crate::fault::ReplayFault;
+use crate::replier::Replier;
+use fj_model::read_step;
+use std::alloc::{AllocError, Global};
+use std::io::Write;
+use std::marker::Model;
+
+/// What is kept of the bytes so far.
+#[derive(Drop)]
+pub struct Session {
+    // how many whole lines there were
+    count: u64,
+    // the line that goes on
+    line: Vec<u8>,
+    // there once the heading was read
+    replier: Option<Replier>,
+}
+
+impl Model for Session {
+    ghost use Rattle.std.specs.Prelude.{◌≡◌, ◌≤◌, None, vec_capacity, vec_len};
+    ghost use Rattle.fj_cli.specs.Sessions.{Kept};
+
+    ghost Value = { Kept };
+
+    ghost view = { λ s. record { count = s.count; line = s.line.items; past = s.replier } };
+
+    ghost invariant = { λ s. (64 ≤ vec_capacity s.line) × (vec_len s.line ≤ 64) × (s.replier ≡ None → s.count ≡ 0) };
+}
+
+impl Session {
+    /// A session that has read nothing.
+    pub fn new(alloc: Global) -> Result<Session, AllocError>
+        ensures { IfOk result (λ s. s ≡ nothing_kept) }
+    {
+        let line = Vec::with_capacity(alloc, 64)?;
+        Ok(Session {
+            count: 0,
+            line,
+            replier: None,
+        })
+    }
+
+    /// How many whole lines there were.
+    pub fn count(&self) -> u64
+        ensures { result ≡ self.now.count }
+    {
+        self.count
+    }
+
+    /// Ends the line: opens the machine at the heading, and replies to any other line.
+    fn end_line<W: Write>(&mut self, alloc: Global, w: &mut W) -> Result<(), ReplayFault>
+        requires { self.old.count + 1 < 2 ^ 64 }
+        ensures goes { OnOk result (Goes self.old 10) }
+        ensures next { OnOk result (self.new ≡ next_kept self.old 10) }
+        ensures wrote { OnOk result (Appends (W.contents w.old) (W.contents w.new) (fed self.old 10)) }
+        ensures err { IfErr result (λ fault. FaultAt fault self.old 10 (W.contents w.old) (W.contents w.new)) }
+    {
+        match &mut self.replier {
+            None => match Replier::open(alloc, self.line.as_slice()) {
+                Ok(replier) => self.replier = Some(replier),
+                Err(fault) => return Err(fault),
+            },
+            Some(replier) => {
+                let Ok(asked) = read_step(self.line.as_slice()) else {
+                    return Err(ReplayFault::Line(self.count + 1));
+                };
+                match replier.reply(&asked, w) {
+                    Ok(()) => (),
+                    Err(fault) => return Err(fault),
+                }
+            }
+        }
+        self.line.clear();
+        self.count += 1;
+        Ok(())
+    }
+
+    /// Takes one byte. A line is ended by a line feed, and is at fault as soon as it is longer than any canonical one.
+    fn feed<W: Write>(&mut self, alloc: Global, byte: u8, w: &mut W) -> Result<(), ReplayFault>
+        requires { self.old.count + 1 < 2 ^ 64 }
+        ensures goes { OnOk result (Goes self.old byte) }
+        ensures next { OnOk result (self.new ≡ next_kept self.old byte) }
+        ensures wrote { OnOk result (Appends (W.contents w.old) (W.contents w.new) (fed self.old byte)) }
+        ensures err { IfErr result (λ fault. FaultAt fault self.old byte (W.contents w.old) (W.contents w.new)) }
+    {
+        if byte == b'\n' {
+            return self.end_line(alloc, w);
+        }
+        if self.line.len() == 64 {
+            return Err(ReplayFault::Line(self.count + 1));
+        }
+        self.line.push_reserved(byte);
+        Ok(())
+    }
+
+    /// Takes bytes, up to a fault.
+    pub fn feed_all<W: Write>(
+        &mut self,
+        alloc: Global,
+        bytes: &[u8],
+        w: &mut W,
+    ) -> Result<(), ReplayFault>
+        requires { self.old.count + length bytes.now < 2 ^ 64 }
+        ensures ok { OnOk result ((b : List ℕ) (start : Option (List ℕ)) → IsAt b self.old start (W.contents w.old) → IsAt (b ++ bytes.now) self.new start (W.contents w.new)) }
+        ensures err { IfErr result (λ fault. (b : List ℕ) (start ahead : Option (List ℕ)) → IsAt b self.old start (W.contents w.old) → FaultOf fault (b ++ bytes.now) ahead start (W.contents w.new)) }
+    {
+        for byte in bytes {
+            match self.feed(alloc, *byte, w) {
+                Ok(()) => (),
+                Err(fault) => return Err(fault),
+            }
+        }
+        Ok(())
+    }
+
+    /// Ends the input. `Line` where it ends within a line, or before the heading.
+    pub fn finish(&self) -> Result<(), ReplayFault>
+        requires { self.now.count + 1 < 2 ^ 64 }
+        ensures ok { OnOk result ((self.now.line ≡ []) × (is_some self.now.past ≡ true)) }
+        ensures err { IfErr result (λ fault. EndsEarly fault self.now) }
+    {
+        if !self.line.is_empty() {
+            return Err(ReplayFault::Line(self.count + 1));
+        }
+        if self.replier.is_none() {
+            return Err(ReplayFault::Line(self.count + 1));
+        }
+        Ok(())
+    }
+}

@@ -1,0 +1,128 @@
+use crate::run::fj;
+use std::alloc::{AllocError, Global};
+use std::io::Read;
+use std::test::Fail;
+
+// What a command gave.
+#[derive(Drop)]
+pub struct Ran {
+    pub status: u8,
+    pub out: Vec<u8>,
+    pub err: Vec<u8>,
+}
+
+pub fn command<R: Read>(alloc: Global, words: &[&str], input: &mut R) -> Ran {
+    let mut out = Vec::new(alloc);
+    let mut err = Vec::new(alloc);
+    let status = fj(alloc, words, input, &mut out, &mut err);
+    Ran { status, out, err }
+}
+
+pub const REPLAY: [&str; 2] = ["fj", "replay"];
+
+pub const SCRIPT: &str =
+    "async 2 2 8 64;submit 1;submit 0;submit 1;poll 0 1;poll 1 1;end 0 ok;poll 0 0;end 0 ok;poll 0 3;";
+
+pub const REPLIES: &str = "task 0;task 1;task 2;run 0;run 2;done;run 1;done;none;";
+
+// The bytes of a text in which `;` stands for a line feed.
+pub fn bytes(alloc: Global, text: &str) -> Result<Vec<u8>, AllocError> {
+    let mut all = Vec::new(alloc);
+    for byte in text.as_bytes() {
+        all.push(if *byte == b';' { b'\n' } else { *byte })?;
+    }
+    Ok(all)
+}
+
+// How many lines end in the bytes.
+pub fn ended(bytes: &[u8]) -> usize {
+    bytes.iter().filter(|byte| **byte == b'\n').count()
+}
+
+// The first lines of the bytes.
+pub fn first_lines(alloc: Global, bytes: &[u8], count: usize) -> Result<Vec<u8>, AllocError> {
+    let mut all = Vec::new(alloc);
+    for byte in bytes {
+        if ended(all.as_slice()) == count {
+            break;
+        }
+        all.push(*byte)?;
+    }
+    Ok(all)
+}
+
+// Each row: a script, the replies to it, the text on standard error and the exit status.
+const ROWS: [(&str, &str, &str, u8); 14] = [
+    (
+        "async 1 1 1 4;submit 0;poll 0 0;end 0 ok;",
+        "task 0;run 0;done;",
+        "",
+        0,
+    ),
+    (SCRIPT, REPLIES, "", 0),
+    ("async 1 1 1 4;", "", "", 0),
+    ("", "", "fault: line 1;", 3),
+    (
+        "async 1 1 1 4;submit 0;shutdown",
+        "task 0;",
+        "fault: line 3;",
+        3,
+    ),
+    (
+        "async 1 1 1 4;submit 0;poll 0 0",
+        "task 0;",
+        "fault: line 3;",
+        3,
+    ),
+    ("async 33 1 1 1;", "", "refused 13;", 3),
+    ("async 33 1 1 1", "", "fault: line 1;", 3),
+    ("async 33 1 1 1;no step;", "", "refused 13;", 3),
+    ("async 01 1 1 4;", "", "fault: line 1;", 3),
+    ("submit 0;", "", "fault: line 1;", 3),
+    (
+        "async 1 1 1 4;submit 0;no step;submit 0;",
+        "task 0;",
+        "fault: line 3;",
+        3,
+    ),
+    ("async 1 1 1 4;;submit 0;", "", "fault: line 2;", 3),
+    ("async 1 1 1 4;async 1 1 1 4;", "", "fault: line 2;", 3),
+];
+
+#[test]
+fn replies_to_scripts(rt: HostRuntime) -> Result<(), Fail> {
+    let alloc = rt.alloc();
+    for (script, replies, fault, status) in ROWS {
+        let given = bytes(alloc, script)?;
+        let ran = command(alloc, REPLAY.as_slice(), &mut given.as_slice());
+        assert_eq!(rt; ran.out, bytes(alloc, replies)?, "{script}");
+        assert_eq!(rt; ran.err, bytes(alloc, fault)?, "{script}");
+        assert_eq!(rt; ran.status, status, "{script}");
+    }
+    Ok(())
+}
+
+#[test]
+fn a_script_that_is_cut_short(rt: HostRuntime) -> Result<(), Fail> {
+    let alloc = rt.alloc();
+    let script = bytes(alloc, SCRIPT)?;
+    let replies = bytes(alloc, REPLIES)?;
+    let mut given = Vec::new(alloc);
+    for byte in script.iter() {
+        let ran = command(alloc, REPLAY.as_slice(), &mut given.as_slice());
+        let whole = ended(given.as_slice());
+        let replied = first_lines(alloc, replies.as_slice(), usize::saturating_sub(whole, 1))?;
+        assert_eq!(rt; ran.out, replied, "after {given:?}");
+        if given.last() == Some(&b'\n') {
+            assert_eq!(rt; ran.status, 0, "after {given:?}");
+            assert_eq!(rt; ran.err.len(), 0, "after {given:?}");
+        } else {
+            let number = usize::saturating_add(whole, 1);
+            let fault = format!(in alloc; "fault: line {number}\n")?;
+            assert_eq!(rt; ran.status, 3, "after {given:?}");
+            assert_eq!(rt; ran.err.as_slice(), fault.as_bytes(), "after {given:?}");
+        }
+        given.push(*byte)?;
+    }
+    Ok(())
+}
