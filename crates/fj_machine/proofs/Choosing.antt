@@ -1,16 +1,14 @@
 -- The queue from which a choice comes, found in the lists that a machine keeps.
-use Rattle.std.proofs.Common.{zero, suc, ℕ, ◌≡◌, ◌+◌, ◌-◌, ◌%◌, ◌≤◌, ◌<◌, Bool, true, false, cond, List, [], ◌∷◌, length, map, get_or, Option, Some, None, refl, ap, sym, ◌∙◌, arith}
-use Rattle.std.specs.Prelude.{MatchOption, nat_lt, if◌then◌else◌}
+use Rattle.std.proofs.Common.{zero, suc, ℕ, ◌≡◌, ◌+◌, ◌%◌, ◌<◌, cond, List, [], ◌∷◌, length, map, get_or, Option, Some, None, refl, ap, sym, ◌∙◌, arith}
+use Rattle.std.specs.Prelude.{MatchOption}
 use Rattle.std.specs.List.{range_with_len}
-use Rattle.std.proofs.lemmas.Bool.{le-ltb}
 use Rattle.fj_model.specs.declared.event.Event.{Event}
 use Rattle.fj_model.specs.declared.owner.Owner.{Owner}
-use Rattle.fj_model.specs.declared.owner.Owner.TheVariants.{Work}
 use Rattle.fj_model.specs.Bounds.{Bounds, Pool, queues_in, owner_at}
 use Rattle.fj_machine.specs.Rows.{first_filled, places_from}
 use Rattle.fj_model.specs.Lists.{is_empty, or_else, first_of}
 use Rattle.fj_model.specs.Queues.{queue}
-use Rattle.fj_model.specs.Choices.{choice, own_choice, first_queued, scan_order}
+use Rattle.fj_model.specs.Choices.{choice, first_queued}
 use Rattle.fj_model.proofs.Owners.{work_owner}
 use Rattle.fj_machine.proofs.PlainHistories.{IsPlain, empty_own, none_own}
 

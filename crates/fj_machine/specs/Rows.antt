@@ -1,6 +1,6 @@
 -- Several lists of numbers, each with room of its own.
-use Rattle.std.specs.Prelude.{ℕ, ◌≡◌, ◌≤◌, ◌<◌, List, [], ◌∷◌, ◌++◌, length, get_or, slice_set}
-use Rattle.std.specs.Prelude.{Bool, true, false, Option, Some, None, map, ◌+◌, ◌%◌, if◌then◌else◌}
+use Rattle.std.specs.Prelude.{ℕ, List, [], ◌∷◌, get_or, slice_set}
+use Rattle.std.specs.Prelude.{Option, Some, None, map, ◌+◌, ◌%◌, if◌then◌else◌}
 use Rattle.std.specs.List.{range_with_len}
 use Rattle.fj_model.specs.Lists.{is_empty}
 

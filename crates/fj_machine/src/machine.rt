@@ -16,8 +16,8 @@ mod take;
 use crate::log::Log;
 use crate::rows::Rows;
 use fj_model::{
-    Ending, Event, Limits, Mode, Owner, Place, Refusal, Said, Serial, Status, Step,
-    SubmittedKind, WorkerId,
+    Ending, Event, Limits, Mode, Owner, Place, Refusal, Said, Serial, Status, Step, SubmittedKind,
+    WorkerId,
 };
 use std::alloc::{AllocError, Global};
 use std::marker::Model;

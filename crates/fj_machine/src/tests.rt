@@ -45,7 +45,10 @@ fn last(replies: &[Said]) -> Option<Said> {
 fn one_task_runs_to_its_end(rt: HostRuntime) -> Result<(), Fail> {
     let steps = [submit(0), poll(0, 0), end_ok(0)];
     let (machine, replies) = ran(rt.alloc(), 1, 1, 1, 4, &steps)?;
-    assert_eq!(rt; replies.as_slice(), [Said::Task(Serial(0)), Said::Run(Serial(0)), Said::Done].as_slice());
+    assert_eq!(rt;
+        replies.as_slice(),
+        [Said::Task(Serial(0)), Said::Run(Serial(0)), Said::Done].as_slice()
+    );
     let history = [
         Event::Acc(Serial(0), Owner::Sub(SubId(0)), Kind::Plain),
         Event::Out(Serial(0), WorkerId(0)),
@@ -188,7 +191,10 @@ fn the_largest_limits_hold(rt: HostRuntime) -> Result<(), Fail> {
     for _ in 0..4096 {
         let _ = machine.step(&submit(31));
     }
-    assert_eq!(rt; machine.step(&submit(31)), Said::Refused(Refusal::TooManyTasks));
+    assert_eq!(rt;
+        machine.step(&submit(31)),
+        Said::Refused(Refusal::TooManyTasks)
+    );
     assert_eq!(rt; machine.step(&poll(31, 63)), Said::Run(Serial(0)));
     assert_eq!(rt; machine.step(&poll(30, u32::MAX)), Said::Run(Serial(1)));
     assert_eq!(rt; machine.step(&poll(31, 0)), Said::Refused(Refusal::NotIdle));

@@ -1,4 +1,4 @@
-use Rattle.std.proofs.Common.{ℕ, ◌≡◌, ◌+◌, ◌∷◌, ap, sym, ◌∙◌, arith, ◌<◌, length}
+use Rattle.std.proofs.Common.{◌≡◌, ◌+◌, ◌∷◌, ap, ◌∙◌, arith, ◌<◌, length}
 use Rattle.fj_model.specs.Bounds.{Pool, queues_in}
 use Rattle.fj_machine.specs.Rows.{first_filled, places_from}
 use Rattle.fj_model.specs.Runs.{Past}

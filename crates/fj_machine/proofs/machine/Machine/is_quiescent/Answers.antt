@@ -1,6 +1,5 @@
-use Rattle.std.proofs.Common.{◌≡◌, Bool, true, false, ◌&&◌, List, sym, ◌∙◌, ap, arith, refl}
+use Rattle.std.proofs.Common.{◌≡◌, true, false, ◌&&◌, sym, ◌∙◌, refl}
 use Rattle.std.specs.List.{list_all}
-use Rattle.fj_model.specs.declared.event.Event.{Event}
 use Rattle.fj_model.specs.Bounds.{Pool}
 use Rattle.fj_model.specs.Lists.{is_empty}
 use Rattle.fj_model.specs.Answers.{is_quiet}

@@ -1,16 +1,16 @@
-use Rattle.std.proofs.Common.{◌≡◌, ◌≢◌, ◌+◌, ◌<◌, ◌≤◌, ◌∷◌, [], ◌++◌, ◌∙◌, ap, sym, refl, arith, length, ℕ, Bool, List, Some, None, true, false, subst}
-use Rattle.std.proofs.lemmas.Bool.{eqb-true, eqb-false, iff_false}
+use Rattle.std.proofs.Common.{◌≡◌, ◌+◌, ◌<◌, ◌≤◌, ◌++◌, ◌∙◌, ap, sym, refl, arith, length, ℕ, Bool, List, Some, None, true, false, subst}
+use Rattle.std.proofs.lemmas.Bool.{iff_false}
 use Rattle.fj_model.specs.declared.event.Event.{Event}
 use Rattle.fj_model.specs.declared.step.Step.TheVariants.{Poll}
 use Rattle.fj_model.specs.Bounds.{Pool, owner_at}
 use Rattle.fj_model.specs.Choices.{choice}
-use Rattle.fj_model.specs.Lists.{first_of, is_empty}
+use Rattle.fj_model.specs.Lists.{is_empty}
 use Rattle.fj_model.specs.Queues.{queue}
 use Rattle.fj_model.specs.Stacks.{stack}
-use Rattle.fj_model.specs.Answers.{answer, refusal_of, taking, taking_says}
+use Rattle.fj_model.specs.Answers.{answer, taking, taking_says}
 use Rattle.fj_model.specs.Runs.{Past, IsHistory, grown}
 use Rattle.fj_machine.specs.Chosen.{IsChosenFrom, first_in}
-use Rattle.fj_machine.proofs.RowWrites.{is_empty_no, is_empty_yes, first_some}
+use Rattle.fj_machine.proofs.RowWrites.{first_some}
 use Rattle.fj_model.proofs.AnswersAllowed.{history_more}
 use Rattle.fj_machine.proofs.Submitting.{told, refused}
 use Rattle.fj_machine.proofs.Polling.{poll_no_such, poll_not_idle, poll_log_full, poll_stands, poll_answer, taking_one}

@@ -1,7 +1,6 @@
-use Rattle.std.proofs.Common.{refl, ◌≡◌, ◌<◌, ◌≤◌, ◌≢◌, ℕ, ◌∷◌, [], ◌++◌, length, arith, ap, sym, ◌∙◌}
+use Rattle.std.proofs.Common.{refl, ◌≡◌, ◌<◌, ◌≤◌, ◌≢◌, length, arith, ap}
 use Rattle.fj_model.specs.declared.kind.SubmittedKind.TheVariants as submitted
 use Rattle.fj_model.specs.declared.step.Step.TheVariants.{Submit}
-use Rattle.fj_model.specs.declared.kind.Kind.TheVariants.{Plain}
 use Rattle.fj_model.specs.Bounds.{Pool, owner_at}
 use Rattle.fj_model.specs.Tasks.{accepted}
 use Rattle.fj_model.proofs.Queues.{queue_short}

@@ -1,4 +1,4 @@
-use Rattle.std.proofs.Common.{vec_len, ◌≡◌, ◌<◌, ◌∷◌, [], ◌++◌, ◌∙◌, ap, sym, refl, arith, length, ℕ, Some, Bool, true, false, subst}
+use Rattle.std.proofs.Common.{vec_len, ◌≡◌, ◌<◌, ◌∷◌, [], ◌++◌, ◌∙◌, ap, sym, refl, arith, length, Some, Bool, true, false, subst}
 use Rattle.fj_model.specs.declared.event.Event.TheVariants as event
 use Rattle.fj_model.specs.Bounds.{Pool, queues_in, owner_at}
 use Rattle.fj_model.specs.Lists.{first_of}
@@ -7,9 +7,6 @@ use Rattle.fj_model.specs.Statuses.{status, is_undone}
 use Rattle.fj_model.specs.Tasks.{accepted}
 use Rattle.std.specs.Prelude.{if◌then◌else◌}
 use Rattle.fj_model.specs.Answers.{taking}
-use Rattle.fj_machine.specs.Rows.{row_at, with_row}
-use Rattle.std.proofs.Math.ListN.{length-set}
-use Rattle.fj_model.proofs.Growth.{stack_same}
 use Rattle.fj_model.specs.Runs.{Past, IsHistory}
 use Rattle.fj_machine.specs.Chosen.{first_in}
 use Rattle.fj_model.proofs.AnswersAllowed.{history_allowed}
@@ -97,8 +94,7 @@ invariant_of-self-2 c =
     let within : c.args.q < queues_in c.self.inside.limits = omega (arith, c.requires.queue, ap (λ (p : Past). queues_in p.pool.limits) c.self.view_is) in
     let worker : w < c.self.inside.limits.workers = omega (arith, c.requires.worker, ap (λ (p : Past). p.pool.limits.workers) c.self.view_is) in
     let fits : length h < c.self.inside.limits.events = omega (arith, c.requires.fits, ap (λ (p : Past). length p.events) c.self.view_is, ap (λ (p : Past). p.pool.limits.events) c.self.view_is) in
-    let done = undone (goal.at.invariant_of-self-2 c).After-is_undone (number start) true c.if-not-is_undone.false in
-    (
+    let done = undone (goal.at.invariant_of-self-2 c).After-is_undone (number start) true c.if-not-is_undone.false in (
       rw (c.push-2.ensures, c.take_first-t.ensures.rest, c.push-3.ensures, c.w.view_is, c.t-2.view_is)
           (handed_holds pool h c.self.inside.queues stacks c.self.inside.statuses.items c.self.inside.places.items c.self.inside.gone.items c.args.q t w holds within
           (first_task start) worker (history start true done) fits),

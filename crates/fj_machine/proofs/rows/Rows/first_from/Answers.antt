@@ -1,5 +1,5 @@
 use Rattle.fj_model.specs.Lists.{is_empty}
-use Rattle.std.proofs.Common.{[], ap, ◌<◌, ◌≡◌, ◌≢◌, ◌+◌, ◌%◌, length, arith, List, ℕ, get_or, map, sym, ◌∙◌, true, false, refl, vec_len}
+use Rattle.std.proofs.Common.{[], ap, ◌<◌, ◌≡◌, ◌≢◌, ◌+◌, ◌%◌, length, arith, get_or, map, sym, ◌∙◌, true, false, vec_len}
 use Rattle.std.proofs.lemmas.Bool.{eqb-true, eqb-false}
 use Rattle.std.proofs.lemmas.List.{length-map}
 use Rattle.fj_machine.proofs.RowWrites.{row_read, scan_step, is_empty_no, is_empty_yes}
