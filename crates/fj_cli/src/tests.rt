@@ -52,7 +52,7 @@ pub fn first_lines(alloc: Global, bytes: &[u8], count: usize) -> Result<Vec<u8>,
 }
 
 // Each row: a script, the replies to it, the text on standard error and the exit status.
-const ROWS: [(&str, &str, &str, u8); 14] = [
+const ROWS: [(&str, &str, &str, u8); 16] = [
     (
         "async 1 1 1 4;submit 0;poll 0 0;end 0 ok;",
         "task 0;run 0;done;",
@@ -87,6 +87,71 @@ const ROWS: [(&str, &str, &str, u8); 14] = [
     ),
     ("async 1 1 1 4;;submit 0;", "", "fault: line 2;", 3),
     ("async 1 1 1 4;async 1 1 1 4;", "", "fault: line 2;", 3),
+    (
+        "async 1 1 2 8;quiet;submit 0;state 0;state 1;quiet;fork 0;",
+        "yes;task 0;state queued 0 undone;refused 5;no;refused 15;",
+        "",
+        0,
+    ),
+    (
+        "joining 2 1 4 64;submit 0;poll 1 0;state 0;quiet;end 1 ok;state 0;quiet;",
+        "task 0;run 0;state held 1 undone;no;done;state gone normal;yes;",
+        "",
+        0,
+    ),
+];
+
+// A good line of each kind of step that is not built.
+const NOT_BUILT: [&str; 23] = [
+    "submit 0 1 relay",
+    "submit 0 1 stop",
+    "fork 0",
+    "fork 0 - 0 relay",
+    "fork 0 7 65536 stop",
+    "trigger 0 4294967295",
+    "help 0 0",
+    "join 0 0 0",
+    "end 0 quiet",
+    "end 0 try",
+    "end 0 pass",
+    "end 0 complete",
+    "end 0 fail 0",
+    "hook 0",
+    "add 0 0 1",
+    "root 0 0",
+    "fault 0 12",
+    "cancel 0",
+    "shutdown",
+    "stop",
+    "release 0",
+    "end 40 quiet",
+    "hook 4294967295",
+];
+
+// What no script has as a line.
+const NO_STEPS: [&str; 22] = [
+    "",
+    " poll 0 0",
+    "poll  0 0",
+    "poll 0 0 ",
+    "poll 00 0",
+    "poll 0 01",
+    "poll +0 0",
+    "poll -1 0",
+    "poll 4294967296 0",
+    "poll 0",
+    "poll 0 0 0",
+    "Poll 0 0",
+    "POLL 0 0",
+    "poll 0 0\r",
+    "poll\t0 0",
+    "state -",
+    "fork 0 - 0",
+    "submit 0 1 Relay",
+    "end 0 fail",
+    "shutdown 0",
+    "# poll 0 0",
+    "pppppppppppppppppppppppppppppppppppppppppppppppppppppppppppppppppp",
 ];
 
 #[test]
@@ -98,6 +163,33 @@ fn replies_to_scripts(rt: HostRuntime) -> Result<(), Fail> {
         assert_eq!(rt; ran.out, bytes(alloc, replies)?, "{script}");
         assert_eq!(rt; ran.err, bytes(alloc, fault)?, "{script}");
         assert_eq!(rt; ran.status, status, "{script}");
+    }
+    Ok(())
+}
+
+#[test]
+fn what_is_not_built_is_refused(rt: HostRuntime) -> Result<(), Fail> {
+    let alloc = rt.alloc();
+    for line in NOT_BUILT {
+        let script = format!(in alloc; "async 1 1 1 4;{line};submit 0;")?;
+        let given = bytes(alloc, &script)?;
+        let ran = command(alloc, REPLAY.as_slice(), &mut given.as_slice());
+        assert_eq!(rt; ran.out, bytes(alloc, "refused 15;task 0;")?, "{line}");
+        assert_eq!(rt; ran.status, 0, "{line}");
+    }
+    Ok(())
+}
+
+#[test]
+fn what_is_no_line_is_a_fault(rt: HostRuntime) -> Result<(), Fail> {
+    let alloc = rt.alloc();
+    for line in NO_STEPS {
+        let script = format!(in alloc; "async 1 1 1 4;submit 0;{line};submit 0;")?;
+        let given = bytes(alloc, &script)?;
+        let ran = command(alloc, REPLAY.as_slice(), &mut given.as_slice());
+        assert_eq!(rt; ran.out, bytes(alloc, "task 0;")?, "{line}");
+        assert_eq!(rt; ran.err, bytes(alloc, "fault: line 3;")?, "{line}");
+        assert_eq!(rt; ran.status, 3, "{line}");
     }
     Ok(())
 }

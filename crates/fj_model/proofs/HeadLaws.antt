@@ -1,5 +1,5 @@
 -- A line that is read as a heading is the line of that heading, and the line of a heading is read as that heading.
-use Rattle.std.proofs.Common.{◌≡◌, ℕ, ◌^◌, ◌<◌, List, [], ◌∷◌, length, Some, None, refl, sym, ap, subst, ◌∙◌, arith}
+use Rattle.std.proofs.Common.{◌≡◌, ℕ, ◌^◌, ◌<◌, true, List, [], ◌∷◌, length, Some, None, refl, sym, ap, subst, ◌∙◌, arith}
 use Rattle.std.specs.Prelude.{codes, Result, Ok, Err, IfOk}
 use Rattle.std.specs.Fmt.{decimal}
 use Rattle.std.specs.Str.{bytes_eq}
@@ -8,20 +8,24 @@ use Rattle.std.specs.List.{AllByRecursion}
 use Rattle.fj_model.specs.declared.mode.Mode.{Mode}
 use Rattle.fj_model.specs.declared.mode.Mode.TheVariants as mode
 use Rattle.fj_model.specs.Words.{joined, words, ◌>>=◌, number_first, if_last}
-use Rattle.fj_model.specs.Lines.{head_words, head_line, HasHeadLine, head_in}
+use Rattle.fj_model.specs.Lines.{mode_word, head_words, head_line, HasHeadLine, head_in}
 use Rattle.fj_model.specs.Readings.{mode_in, head_said}
 use Rattle.fj_model.proofs.NumberLaws.{number_again}
-use Rattle.fj_model.proofs.WordLaws.{words_again, joined_words, number_is_word}
+use Rattle.fj_model.proofs.WordLaws.{is_word, words_again, joined_words, number_is_word}
 use Rattle.fj_model.proofs.PartLaws.{some_is, number_then, word_then, last_then, some_then, chosen, is_text, Tells, told}
 
-mode_found : (word : List ℕ) (m : Mode) → mode_in word ≡ Some m → (word ≡ codes "async") × (mode.Async ≡ m)
+mode_found : (word : List ℕ) (m : Mode) → mode_in word ≡ Some m → word ≡ mode_word m
 mode_found word m e =
-    chosen (bytes_eq word (codes "async")) (Some mode.Async) None (Some m) e
-    (λ yes is. (is_text word (codes "async") yes, some_is mode.Async m is))
-    (λ is. absurd cc)
+    chosen (bytes_eq word (codes "async")) (Some mode.Async) _ (Some m) e (λ yes is. is_text word (codes "async") yes ∙ ap mode_word (some_is mode.Async m is)) (λ e1.
+    chosen (bytes_eq word (codes "joining")) (Some mode.Joining) None (Some m) e1 (λ yes is. is_text word (codes "joining") yes ∙ ap mode_word (some_is mode.Joining m is)) (λ e2. absurd cc))
 
-same_head : (m : Mode) (ns : List ℕ) (head : Mode × List ℕ) (ws : List (List ℕ)) → mode.Async ≡ m → (m, ns) ≡ head → HasHeadLine (mode.Async, ns) × (ws ≡ head_words (mode.Async, ns)) → HasHeadLine head × (ws ≡ head_words head)
-same_head m ns head ws how is p = subst (λ (h : Mode × List ℕ). HasHeadLine h × (ws ≡ head_words h)) (ap (λ (n : Mode). (n, ns)) how ∙ is) p
+mode_again : (m : Mode) → mode_in (mode_word m) ≡ Some m
+mode_again mode.Async = refl
+mode_again mode.Joining = refl
+
+mode_is_word : (m : Mode) → is_word (mode_word m) ≡ true
+mode_is_word mode.Async = refl
+mode_is_word mode.Joining = refl
 
 head_said_found : (verb : List ℕ) (ws : List (List ℕ)) (head : Mode × List ℕ) → head_said verb ws ≡ Some head → HasHeadLine head × (verb ∷ ws ≡ head_words head)
 unfolding head_said
@@ -32,11 +36,10 @@ head_said_found verb ws head e =
     number_then ws2 (λ c. number_first c.1 >>= λ d. if_last d.1 (m, a ∷ b ∷ c.0 ∷ d.0 ∷ [])) head said2 (λ c ws3 c_small e3 said3.
     number_then ws3 (λ d. if_last d.1 (m, a ∷ b ∷ c ∷ d.0 ∷ [])) head said3 (λ d ws4 d_small e4 said4.
     last_then ws4 (m, a ∷ b ∷ c ∷ d ∷ []) head said4 (λ none is.
-    let known = mode_found verb m read in
-    let word : verb ≡ codes "async" = known.0 in
-    let texts : verb ∷ ws ≡ codes "async" ∷ decimal a ∷ decimal b ∷ decimal c ∷ decimal d ∷ [] = cc in
-    same_head m (a ∷ b ∷ c ∷ d ∷ []) head (verb ∷ ws) known.1 is
-    (record { mode = refl; four = refl; small = (a_small, (b_small, (c_small, (d_small, tt)))) }, texts)))))))
+    let verb_is = mode_found verb m read in
+    let texts : verb ∷ ws ≡ mode_word m ∷ decimal a ∷ decimal b ∷ decimal c ∷ decimal d ∷ [] = cc in
+    subst (λ (h : Mode × List ℕ). HasHeadLine h × (verb ∷ ws ≡ head_words h)) is
+    (record { four = refl; small = (a_small, (b_small, (c_small, (d_small, tt)))) }, texts)))))))
 
 -- a line that is read as a heading is the heading's line
 pub head_found : (line : List ℕ) (head : Mode × List ℕ) → head_in line ≡ Some head → HasHeadLine head × (line ≡ head_line head)
@@ -50,27 +53,27 @@ head_said_again : (verb : List ℕ) (ws : List (List ℕ)) (head : Mode × List 
 unfolding head_in
 head_said_again verb ws head all said = rw all said
 
-head_again_at : (m : Mode) (ns : List ℕ) → m ≡ mode.Async → length ns ≡ 4 → AllByRecursion (λ n. n < 2 ^ 32) ns → head_in (head_line (m, ns)) ≡ Some (m, ns)
+head_again_at : (m : Mode) (ns : List ℕ) → length ns ≡ 4 → AllByRecursion (λ n. n < 2 ^ 32) ns → head_in (head_line (m, ns)) ≡ Some (m, ns)
 unfolding head_said
-head_again_at mode.Async (a ∷ b ∷ c ∷ d ∷ []) is four small =
+head_again_at m (a ∷ b ∷ c ∷ d ∷ []) four small =
+    let mode = mode_is_word m in
     let worker = number_is_word a small.0 in
     let submitter = number_is_word b small.1.0 in
     let task = number_is_word c small.1.1.0 in
     let event = number_is_word d small.1.1.1.0 in
     let texts : List (List ℕ) = decimal a ∷ decimal b ∷ decimal c ∷ decimal d ∷ [] in
-    head_said_again (codes "async") texts (mode.Async, a ∷ b ∷ c ∷ d ∷ [])
-    (words_again (codes "async") texts (rw (worker, submitter, task, event) refl))
-    (rw (number_again a small.0, number_again b small.1.0, number_again c small.1.1.0, number_again d small.1.1.1.0) refl)
-head_again_at mode.Async [] is four small = absurd (omega arith)
-head_again_at mode.Async (a ∷ []) is four small = absurd (omega arith)
-head_again_at mode.Async (a ∷ b ∷ []) is four small = absurd (omega arith)
-head_again_at mode.Async (a ∷ b ∷ c ∷ []) is four small = absurd (omega arith)
-head_again_at mode.Async (a ∷ b ∷ c ∷ d ∷ e ∷ ns) is four small = absurd (omega arith)
-head_again_at mode.Joining ns is four small = absurd cc
+    head_said_again (mode_word m) texts (m, a ∷ b ∷ c ∷ d ∷ [])
+    (words_again (mode_word m) texts (rw (mode, worker, submitter, task, event) refl))
+    (rw (mode_again m, number_again a small.0, number_again b small.1.0, number_again c small.1.1.0, number_again d small.1.1.1.0) refl)
+head_again_at m [] four small = absurd (omega arith)
+head_again_at m (a ∷ []) four small = absurd (omega arith)
+head_again_at m (a ∷ b ∷ []) four small = absurd (omega arith)
+head_again_at m (a ∷ b ∷ c ∷ []) four small = absurd (omega arith)
+head_again_at m (a ∷ b ∷ c ∷ d ∷ e ∷ ns) four small = absurd (omega arith)
 
 -- the line of a heading is read as that heading
 pub head_again : (head : Mode × List ℕ) → HasHeadLine head → head_in (head_line head) ≡ Some head
-head_again head fits = head_again_at head.0 head.1 fits.mode fits.four fits.small
+head_again head fits = head_again_at head.0 head.1 fits.four fits.small
 
 -- ---- what a reader of headings answers
 

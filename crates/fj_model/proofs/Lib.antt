@@ -19,6 +19,7 @@ pub mod PlacesKept
 pub mod WordLaws
 pub mod NumberLaws
 pub mod PartLaws
+pub mod FormLaws
 pub mod StepLaws
 pub mod HeadLaws
 pub mod LineLaws

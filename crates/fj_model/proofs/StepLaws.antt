@@ -1,70 +1,69 @@
 -- A line that is read as a step is the line of that step, and the line of a step is read as that step.
-use Rattle.std.proofs.Common.{◌≡◌, ℕ, true, List, [], ◌∷◌, Some, None, refl, sym, ap, subst, ◌∙◌}
+use Rattle.std.proofs.Common.{◌≡◌, ℕ, true, List, [], ◌∷◌, Some, None, refl, sym, ap, ◌∙◌}
 use Rattle.std.specs.Prelude.{codes, Result, Ok, Err, IfOk}
 use Rattle.std.specs.Fmt.{decimal}
+use Rattle.std.specs.List.{list_all}
 use Rattle.std.specs.Str.{bytes_eq}
 use Rattle.fj_model.specs.declared.read.fault.LineFault.{LineFault}
-use Rattle.fj_model.specs.declared.step.Ending.{Ending}
-use Rattle.fj_model.specs.declared.step.Ending.TheVariants as ending
 use Rattle.fj_model.specs.declared.step.Step.{Step}
 use Rattle.fj_model.specs.declared.step.Step.TheVariants as step
-use Rattle.fj_model.specs.declared.kind.SubmittedKind.TheVariants as kind
-use Rattle.fj_model.specs.Words.{joined, words, ◌>>=◌, word_first, number_first, if_last}
-use Rattle.fj_model.specs.Lines.{step_words, step_line, HasLine, step_in}
-use Rattle.fj_model.specs.Readings.{submit_in, poll_in, ending_in, end_in, step_said}
-use Rattle.fj_model.proofs.NumberLaws.{number_again}
-use Rattle.fj_model.proofs.WordLaws.{words_again, joined_words, number_is_word}
-use Rattle.fj_model.proofs.PartLaws.{some_is, number_then, word_then, last_then, some_then, chosen, is_text, Tells, told}
+use Rattle.fj_model.specs.Words.{joined, words, ◌>>=◌, word_first}
+use Rattle.fj_model.specs.Lines.{step_words, step_line, HasLine, step_in, submitted_words, kind_words, ending_words}
+use Rattle.fj_model.specs.Readings.{step_said, worker_said, task_said, pool_said}
+use Rattle.fj_model.specs.Readings.Handed.{submit_in, fork_in, trigger_in}
+use Rattle.fj_model.specs.Readings.Taken.{poll_in, help_in, join_in, end_in, hook_in}
+use Rattle.fj_model.specs.Readings.Changed.{add_in, root_in, fault_in, cancel_in, release_in}
+use Rattle.fj_model.specs.Readings.Asked.{shutdown_in, stop_in, quiet_in, state_in}
+use Rattle.fj_model.proofs.WordLaws.{is_word, words_again, joined_words, one_is_words, two_are_words, three_are_words}
+use Rattle.fj_model.proofs.PartLaws.{word_then, chosen, Tells, told}
+use Rattle.fj_model.proofs.FormLaws.{AreWordsOf, with_verb}
+use Rattle.fj_model.proofs.StepLaws.Handed.{submit_found, submit_again, submit_are_words, fork_found, fork_again, fork_are_words, trigger_found, trigger_again}
+use Rattle.fj_model.proofs.StepLaws.Taken.{poll_found, poll_again, help_found, help_again, join_found, join_again, hook_found, hook_again, end_found, end_again, end_are_words}
+use Rattle.fj_model.proofs.StepLaws.Changed.{add_found, add_again, root_found, root_again, fault_found, fault_again, cancel_found, cancel_again, release_found, release_again}
+use Rattle.fj_model.proofs.StepLaws.Asked.{shutdown_found, stop_found, quiet_found, state_found, state_again}
+pub mod Handed
+pub mod Taken
+pub mod Changed
+pub mod Asked
 
--- the words are those of a step that has a line
-abbrev AreWordsOf : Step → List (List ℕ) → Type 0
-AreWordsOf s ws = HasLine s × (ws ≡ step_words s)
+-- ---- what is said is written so
 
-same_step : (t s : Step) (ws : List (List ℕ)) → t ≡ s → AreWordsOf t ws → AreWordsOf s ws
-same_step t s ws is p = subst (λ (u : Step). AreWordsOf u ws) is p
+pool_said_found : (verb : List ℕ) (ws : List (List ℕ)) (s : Step) → pool_said verb ws ≡ Some s → AreWordsOf s (verb ∷ ws)
+unfolding pool_said
+pool_said_found verb ws s e =
+    chosen (bytes_eq verb (codes "state")) (state_in ws) _ (Some s) e (λ is said. with_verb verb (codes "state") ws s is (state_found ws s said)) (λ e1.
+    chosen (bytes_eq verb (codes "quiet")) (quiet_in ws) _ (Some s) e1 (λ is said. with_verb verb (codes "quiet") ws s is (quiet_found ws s said)) (λ e2.
+    chosen (bytes_eq verb (codes "shutdown")) (shutdown_in ws) _ (Some s) e2 (λ is said. with_verb verb (codes "shutdown") ws s is (shutdown_found ws s said)) (λ e3.
+    chosen (bytes_eq verb (codes "stop")) (stop_in ws) _ (Some s) e3 (λ is said. with_verb verb (codes "stop") ws s is (stop_found ws s said)) (λ e4.
+    absurd cc))))
 
-submit_found : (ws : List (List ℕ)) (s : Step) → submit_in ws ≡ Some s → AreWordsOf s (codes "submit" ∷ ws)
-unfolding submit_in
-submit_found ws s e =
-    number_then ws (λ n. if_last n.1 (step.Submit n.0 kind.Plain)) s e (λ n rest small first said.
-    last_then rest (step.Submit n kind.Plain) s said (λ none is.
-    same_step (step.Submit n kind.Plain) s (codes "submit" ∷ ws) is (small, cc)))
+task_said_found : (verb : List ℕ) (ws : List (List ℕ)) (s : Step) → task_said verb ws ≡ Some s → AreWordsOf s (verb ∷ ws)
+unfolding task_said
+task_said_found verb ws s e =
+    chosen (bytes_eq verb (codes "add")) (add_in ws) _ (Some s) e (λ is said. with_verb verb (codes "add") ws s is (add_found ws s said)) (λ e1.
+    chosen (bytes_eq verb (codes "root")) (root_in ws) _ (Some s) e1 (λ is said. with_verb verb (codes "root") ws s is (root_found ws s said)) (λ e2.
+    chosen (bytes_eq verb (codes "fault")) (fault_in ws) _ (Some s) e2 (λ is said. with_verb verb (codes "fault") ws s is (fault_found ws s said)) (λ e3.
+    chosen (bytes_eq verb (codes "cancel")) (cancel_in ws) _ (Some s) e3 (λ is said. with_verb verb (codes "cancel") ws s is (cancel_found ws s said)) (λ e4.
+    chosen (bytes_eq verb (codes "release")) (release_in ws) _ (Some s) e4 (λ is said. with_verb verb (codes "release") ws s is (release_found ws s said)) (λ e5.
+    pool_said_found verb ws s e5)))))
 
-poll_found : (ws : List (List ℕ)) (s : Step) → poll_in ws ≡ Some s → AreWordsOf s (codes "poll" ∷ ws)
-unfolding poll_in
-poll_found ws s e =
-    number_then ws (λ w. number_first w.1 >>= λ r. if_last r.1 (step.Poll w.0 r.0)) s e (λ w rest w_small first said.
-    number_then rest (λ r. if_last r.1 (step.Poll w r.0)) s said (λ r end r_small second told.
-    last_then end (step.Poll w r) s told (λ none is.
-    same_step (step.Poll w r) s (codes "poll" ∷ ws) is ((w_small, r_small), cc))))
-
-ending_found : (word : List ℕ) (how : Ending) → ending_in word ≡ Some how → (word ≡ codes "ok") × (ending.Ok ≡ how)
-ending_found word how e =
-    chosen (bytes_eq word (codes "ok")) (Some ending.Ok) None (Some how) e
-    (λ yes is. (is_text word (codes "ok") yes, some_is ending.Ok how is))
-    (λ is. absurd cc)
-
-end_found : (ws : List (List ℕ)) (s : Step) → end_in ws ≡ Some s → AreWordsOf s (codes "end" ∷ ws)
-unfolding end_in
-end_found ws s e =
-    number_then ws (λ w. word_first w.1 >>= λ word. ending_in word.0 >>= λ how. if_last word.1 (step.End w.0 how)) s e (λ w rest small first said.
-    word_then rest (λ word. ending_in word.0 >>= λ how. if_last word.1 (step.End w how)) s said (λ word end second told.
-    some_then (ending_in word) (λ how. if_last end (step.End w how)) s told (λ how read ended.
-    last_then end (step.End w how) s ended (λ none is.
-    let known = ending_found word how read in
-    let ok : word ≡ codes "ok" = known.0 in
-    same_step (step.End w ending.Ok) s (codes "end" ∷ ws) (ap (λ (h : Ending). step.End w h) known.1 ∙ is) (small, cc)))))
-
--- words behind a first one, where that is this text
-with_verb : (verb text : List ℕ) (ws : List (List ℕ)) (s : Step) → bytes_eq verb text ≡ true → AreWordsOf s (text ∷ ws) → AreWordsOf s (verb ∷ ws)
-with_verb verb text ws s is p = (p.0, ap (λ (v : List ℕ). v ∷ ws) (is_text verb text is) ∙ p.1)
+worker_said_found : (verb : List ℕ) (ws : List (List ℕ)) (s : Step) → worker_said verb ws ≡ Some s → AreWordsOf s (verb ∷ ws)
+unfolding worker_said
+worker_said_found verb ws s e =
+    chosen (bytes_eq verb (codes "fork")) (fork_in ws) _ (Some s) e (λ is said. with_verb verb (codes "fork") ws s is (fork_found ws s said)) (λ e1.
+    chosen (bytes_eq verb (codes "join")) (join_in ws) _ (Some s) e1 (λ is said. with_verb verb (codes "join") ws s is (join_found ws s said)) (λ e2.
+    chosen (bytes_eq verb (codes "hook")) (hook_in ws) _ (Some s) e2 (λ is said. with_verb verb (codes "hook") ws s is (hook_found ws s said)) (λ e3.
+    chosen (bytes_eq verb (codes "help")) (help_in ws) _ (Some s) e3 (λ is said. with_verb verb (codes "help") ws s is (help_found ws s said)) (λ e4.
+    chosen (bytes_eq verb (codes "trigger")) (trigger_in ws) _ (Some s) e4 (λ is said. with_verb verb (codes "trigger") ws s is (trigger_found ws s said)) (λ e5.
+    task_said_found verb ws s e5)))))
 
 step_said_found : (verb : List ℕ) (ws : List (List ℕ)) (s : Step) → step_said verb ws ≡ Some s → AreWordsOf s (verb ∷ ws)
 unfolding step_said
 step_said_found verb ws s e =
-    chosen (bytes_eq verb (codes "submit")) (submit_in ws) _ (Some s) e (λ is said. with_verb verb (codes "submit") ws s is (submit_found ws s said)) (λ e1.
-    chosen (bytes_eq verb (codes "poll")) (poll_in ws) _ (Some s) e1 (λ is said. with_verb verb (codes "poll") ws s is (poll_found ws s said)) (λ e2.
-    chosen (bytes_eq verb (codes "end")) (end_in ws) _ (Some s) e2 (λ is said. with_verb verb (codes "end") ws s is (end_found ws s said)) (λ e3. absurd cc)))
+    chosen (bytes_eq verb (codes "poll")) (poll_in ws) _ (Some s) e (λ is said. with_verb verb (codes "poll") ws s is (poll_found ws s said)) (λ e1.
+    chosen (bytes_eq verb (codes "submit")) (submit_in ws) _ (Some s) e1 (λ is said. with_verb verb (codes "submit") ws s is (submit_found ws s said)) (λ e2.
+    chosen (bytes_eq verb (codes "end")) (end_in ws) _ (Some s) e2 (λ is said. with_verb verb (codes "end") ws s is (end_found ws s said)) (λ e3.
+    worker_said_found verb ws s e3)))
 
 -- a line that is read as a step is the step's line
 pub step_found : (line : List ℕ) (s : Step) → step_in line ≡ Some s → HasLine s × (line ≡ step_line s)
@@ -74,24 +73,34 @@ step_found line s e =
     let found = step_said_found verb rest s said in
     (found.0, sym (joined_words line) ∙ ap joined (all ∙ found.1)))
 
--- the line of a step is read as that step
-said_again : (verb : List ℕ) (ws : List (List ℕ)) (s : Step) → words (joined (verb ∷ ws)) ≡ verb ∷ ws → step_said verb ws ≡ Some s → step_in (joined (verb ∷ ws)) ≡ Some s
-unfolding step_in
-said_again verb ws s all said = rw all said
+-- ---- what is written so is said
 
+said_again : (verb : List ℕ) (ws : List (List ℕ)) (s : Step) → list_all is_word (verb ∷ ws) ≡ true → step_said verb ws ≡ Some s → step_in (joined (verb ∷ ws)) ≡ Some s
+unfolding step_in
+said_again verb ws s are_words said =
+    let all = words_again verb ws are_words in
+    rw all said
+
+-- the line of a step is read as that step
 pub step_again : (s : Step) → HasLine s → step_in (step_line s) ≡ Some s
-unfolding step_said submit_in poll_in end_in
-step_again (step.Submit s kind.Plain) fits =
-    let word = number_is_word s fits in
-    said_again (codes "submit") (decimal s ∷ []) (step.Submit s kind.Plain) (words_again (codes "submit") (decimal s ∷ []) (rw word refl)) (rw (number_again s fits) refl)
-step_again (step.Poll w r) fits =
-    let worker = number_is_word w fits.0 in
-    let scan = number_is_word r fits.1 in
-    said_again (codes "poll") (decimal w ∷ decimal r ∷ []) (step.Poll w r) (words_again (codes "poll") (decimal w ∷ decimal r ∷ []) (rw (worker, scan) refl)) (rw (number_again w fits.0, number_again r fits.1) refl)
-step_again (step.End w ending.Ok) fits =
-    let word = number_is_word w fits in
-    said_again (codes "end") (decimal w ∷ codes "ok" ∷ []) (step.End w ending.Ok) (words_again (codes "end") (decimal w ∷ codes "ok" ∷ []) (rw word refl)) (rw (number_again w fits) refl)
-step_again _ fits = absurd fits
+unfolding step_said worker_said task_said pool_said
+step_again (step.Submit s k) fits = said_again (codes "submit") (decimal s ∷ submitted_words k) (step.Submit s k) (submit_are_words s k fits.0 fits.1) (submit_again s k fits.0 fits.1)
+step_again (step.Fork w k) fits = said_again (codes "fork") (decimal w ∷ kind_words k) (step.Fork w k) (fork_are_words w k fits.0 fits.1) (fork_again w k fits.0 fits.1)
+step_again (step.Trigger w n) fits = said_again (codes "trigger") (decimal w ∷ decimal n ∷ []) (step.Trigger w n) (two_are_words w n fits.0 fits.1) (trigger_again w n fits.0 fits.1)
+step_again (step.Poll w r) fits = said_again (codes "poll") (decimal w ∷ decimal r ∷ []) (step.Poll w r) (two_are_words w r fits.0 fits.1) (poll_again w r fits.0 fits.1)
+step_again (step.Help w r) fits = said_again (codes "help") (decimal w ∷ decimal r ∷ []) (step.Help w r) (two_are_words w r fits.0 fits.1) (help_again w r fits.0 fits.1)
+step_again (step.Join w t r) fits = said_again (codes "join") (decimal w ∷ decimal t ∷ decimal r ∷ []) (step.Join w t r) (three_are_words w t r fits.0 fits.1 fits.2) (join_again w t r fits.0 fits.1 fits.2)
+step_again (step.End w how) fits = said_again (codes "end") (decimal w ∷ ending_words how) (step.End w how) (end_are_words w how fits.0 fits.1) (end_again w how fits.0 fits.1)
+step_again (step.HookDone w) fits = said_again (codes "hook") (decimal w ∷ []) (step.HookDone w) (one_is_words w fits) (hook_again w fits)
+step_again (step.Add w t n) fits = said_again (codes "add") (decimal w ∷ decimal t ∷ decimal n ∷ []) (step.Add w t n) (three_are_words w t n fits.0 fits.1 fits.2) (add_again w t n fits.0 fits.1 fits.2)
+step_again (step.QuietRoot w t) fits = said_again (codes "root") (decimal w ∷ decimal t ∷ []) (step.QuietRoot w t) (two_are_words w t fits.0 fits.1) (root_again w t fits.0 fits.1)
+step_again (step.Fault t code) fits = said_again (codes "fault") (decimal t ∷ decimal code ∷ []) (step.Fault t code) (two_are_words t code fits.0 fits.1) (fault_again t code fits.0 fits.1)
+step_again (step.Cancel t) fits = said_again (codes "cancel") (decimal t ∷ []) (step.Cancel t) (one_is_words t fits) (cancel_again t fits)
+step_again step.Shutdown fits = said_again (codes "shutdown") [] step.Shutdown refl refl
+step_again step.Stop fits = said_again (codes "stop") [] step.Stop refl refl
+step_again step.IsQuiescent fits = said_again (codes "quiet") [] step.IsQuiescent refl refl
+step_again (step.State t) fits = said_again (codes "state") (decimal t ∷ []) (step.State t) (one_is_words t fits) (state_again t fits)
+step_again (step.Release t) fits = said_again (codes "release") (decimal t ∷ []) (step.Release t) (one_is_words t fits) (release_again t fits)
 
 -- ---- what a reader of steps answers
 

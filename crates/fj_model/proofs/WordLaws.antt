@@ -1,5 +1,5 @@
 -- The words of a line, cut off one after the other.
-use Rattle.std.proofs.Common.{◌≡◌, ℕ, suc, ◌+◌, Bool, true, false, eqb, ltb, cond, List, [], ◌∷◌, ◌++◌, length, take, drop, refl, ap, ◌∙◌, arith, inl, inr, ◌≤◌, ◌<◌, ◌^◌, length-append}
+use Rattle.std.proofs.Common.{◌≡◌, ℕ, suc, ◌+◌, Bool, true, false, eqb, ltb, cond, List, [], ◌∷◌, ◌++◌, length, take, drop, refl, sym, ap, ◌∙◌, arith, inl, inr, ◌≤◌, ◌<◌, ◌^◌, length-append}
 use Rattle.std.specs.Prelude.{not, Option, Some, None, unwrap_or}
 use Rattle.std.specs.List.{slice_split, onto_first, position_or_len, list_all}
 use Rattle.std.proofs.lemmas.Bool.{cases_lt, lt-ltb, le-ltb}
@@ -34,9 +34,12 @@ unfolding words
 some_word [] = refl
 some_word (b ∷ line) = some_word_at (is_space b) b (slice_split is_space line)
 
-pub is_last_more : (behind : List ℕ) (empty : Bool) → empty ≡ eqb (length behind) 0 → empty ≡ false → is_last (words_behind behind) ≡ false
-is_last_more [] empty is e = cc
-is_last_more (b ∷ line) empty is e = some_word line
+-- behind a word no word is left where no byte is left
+pub is_last_at : (behind : List ℕ) (empty : Bool) → empty ≡ eqb (length behind) 0 → empty ≡ is_last (words_behind behind)
+is_last_at [] empty is = is
+is_last_at (b ∷ line) empty is =
+    let no : eqb (length (b ∷ line)) 0 ≡ false = grind (arith, nat_tests) in
+    is ∙ no ∙ sym (some_word line)
 
 -- ---- the first word
 
@@ -124,3 +127,20 @@ digits_are_word (c ∷ w) all =
 
 pub number_is_word : (n : ℕ) → n < 2 ^ 32 → is_word (decimal n) ≡ true
 number_is_word n small = digits_are_word (decimal n) (number_text n small).digits
+
+-- ---- texts of numbers, of which a line is made
+
+pub one_is_words : (a : ℕ) → a < 2 ^ 32 → list_all is_word (decimal a ∷ []) ≡ true
+one_is_words a a_small =
+    let first = number_is_word a a_small in
+    rw first refl
+
+pub two_are_words : (a b : ℕ) → a < 2 ^ 32 → b < 2 ^ 32 → list_all is_word (decimal a ∷ decimal b ∷ []) ≡ true
+two_are_words a b a_small b_small =
+    let first = number_is_word a a_small in
+    rw (first, one_is_words b b_small) refl
+
+pub three_are_words : (a b c : ℕ) → a < 2 ^ 32 → b < 2 ^ 32 → c < 2 ^ 32 → list_all is_word (decimal a ∷ decimal b ∷ decimal c ∷ []) ≡ true
+three_are_words a b c a_small b_small c_small =
+    let first = number_is_word a a_small in
+    rw (first, two_are_words b c b_small c_small) refl

@@ -1,12 +1,16 @@
 -- The lines of a script and of its replies.
-use Rattle.std.specs.Prelude.{ℕ, ◌≡◌, ◌^◌, ◌<◌, List, [], ◌∷◌, ◌++◌, length, map, Option, codes, decimal}
+use Rattle.std.specs.Prelude.{ℕ, Bool, true, false, ◌≡◌, ◌^◌, ◌<◌, List, [], ◌∷◌, ◌++◌, length, map, Option, Some, None, IfSome, codes, decimal}
 use Rattle.std.specs.List.{AllByRecursion}
 use Rattle.fj_model.specs.declared.mode.Mode.{Mode}
 use Rattle.fj_model.specs.declared.mode.Mode.TheVariants.{Async, Joining}
-use Rattle.fj_model.specs.declared.kind.SubmittedKind.TheVariants.{Plain}
+use Rattle.fj_model.specs.declared.kind.Kind.{Kind}
+use Rattle.fj_model.specs.declared.kind.Kind.TheVariants as kind
+use Rattle.fj_model.specs.declared.kind.SubmittedKind.{SubmittedKind}
+use Rattle.fj_model.specs.declared.kind.SubmittedKind.TheVariants as submitted
+use Rattle.fj_model.specs.declared.step.Ending.{Ending}
 use Rattle.fj_model.specs.declared.step.Ending.TheVariants as ending
 use Rattle.fj_model.specs.declared.step.Step.{Step}
-use Rattle.fj_model.specs.declared.step.Step.TheVariants.{Submit, Poll, End}
+use Rattle.fj_model.specs.declared.step.Step.TheVariants.{Submit, Fork, Trigger, Poll, Help, Join, End, HookDone, Add, QuietRoot, Fault, Cancel, Shutdown, Stop, IsQuiescent, State, Release}
 use Rattle.fj_model.specs.declared.said.Said.{Said}
 use Rattle.fj_model.specs.Bounds.{Bounds}
 use Rattle.fj_model.specs.Replies.{reply_words}
@@ -15,23 +19,91 @@ use Rattle.fj_model.specs.Readings.{step_said, head_said}
 
 -- ---- steps
 
--- the words of a step, of those that have a line
+abbrev pub relay_word : Bool → List ℕ
+relay_word true = codes "relay"
+relay_word false = codes "stop"
+
+abbrev pub parent_word : Option ℕ → List ℕ
+parent_word None = codes "-"
+parent_word (Some t) = decimal t
+
+-- what stands behind the submitter
+abbrev pub submitted_words : SubmittedKind → List (List ℕ)
+submitted_words submitted.Plain = []
+submitted_words (submitted.Completer count relay) = decimal count ∷ relay_word relay ∷ []
+
+-- what stands behind the worker that forks
+abbrev pub kind_words : Kind → List (List ℕ)
+kind_words kind.Plain = []
+kind_words (kind.Completer parent count relay) = parent_word parent ∷ decimal count ∷ relay_word relay ∷ []
+
+abbrev pub ending_words : Ending → List (List ℕ)
+ending_words ending.Ok = codes "ok" ∷ []
+ending_words ending.Quiet = codes "quiet" ∷ []
+ending_words ending.Try = codes "try" ∷ []
+ending_words ending.Pass = codes "pass" ∷ []
+ending_words ending.Complete = codes "complete" ∷ []
+ending_words (ending.Fail code) = codes "fail" ∷ decimal code ∷ []
+
+-- the words of a step
 abbrev pub step_words : Step → List (List ℕ)
-step_words (Submit s Plain) = codes "submit" ∷ decimal s ∷ []
+step_words (Submit s kind) = codes "submit" ∷ decimal s ∷ submitted_words kind
+step_words (Fork w kind) = codes "fork" ∷ decimal w ∷ kind_words kind
+step_words (Trigger w count) = codes "trigger" ∷ decimal w ∷ decimal count ∷ []
 step_words (Poll w r) = codes "poll" ∷ decimal w ∷ decimal r ∷ []
-step_words (End w ending.Ok) = codes "end" ∷ decimal w ∷ codes "ok" ∷ []
-step_words _ = []
+step_words (Help w r) = codes "help" ∷ decimal w ∷ decimal r ∷ []
+step_words (Join w t r) = codes "join" ∷ decimal w ∷ decimal t ∷ decimal r ∷ []
+step_words (End w how) = codes "end" ∷ decimal w ∷ ending_words how
+step_words (HookDone w) = codes "hook" ∷ decimal w ∷ []
+step_words (Add w t n) = codes "add" ∷ decimal w ∷ decimal t ∷ decimal n ∷ []
+step_words (QuietRoot w t) = codes "root" ∷ decimal w ∷ decimal t ∷ []
+step_words (Fault t code) = codes "fault" ∷ decimal t ∷ decimal code ∷ []
+step_words (Cancel t) = codes "cancel" ∷ decimal t ∷ []
+step_words Shutdown = codes "shutdown" ∷ []
+step_words Stop = codes "stop" ∷ []
+step_words IsQuiescent = codes "quiet" ∷ []
+step_words (State t) = codes "state" ∷ decimal t ∷ []
+step_words (Release t) = codes "release" ∷ decimal t ∷ []
 
 -- the line of a step, without its line feed
 abbrev pub step_line : Step → List ℕ
 step_line step = joined (step_words step)
 
--- the step is one that has a line, and its numbers have 32 bits at most
+-- the number has 32 bits at most
+abbrev pub IsSmall : ℕ → Type 0
+IsSmall n = n < 2 ^ 32
+
+abbrev pub HasSmallSubmitted : SubmittedKind → Type 0
+HasSmallSubmitted submitted.Plain = Unit {0}
+HasSmallSubmitted (submitted.Completer count relay) = IsSmall count
+
+abbrev pub HasSmallKind : Kind → Type 0
+HasSmallKind kind.Plain = Unit {0}
+HasSmallKind (kind.Completer parent count relay) = IfSome parent IsSmall × IsSmall count
+
+abbrev pub HasSmallEnding : Ending → Type 0
+HasSmallEnding (ending.Fail code) = IsSmall code
+HasSmallEnding _ = Unit {0}
+
+-- the step has a line: its numbers have 32 bits at most
 abbrev pub HasLine : Step → Type 0
-HasLine (Submit s Plain) = s < 2 ^ 32
-HasLine (Poll w r) = (w < 2 ^ 32) × (r < 2 ^ 32)
-HasLine (End w ending.Ok) = w < 2 ^ 32
-HasLine _ = ⊥
+HasLine (Submit s kind) = IsSmall s × HasSmallSubmitted kind
+HasLine (Fork w kind) = IsSmall w × HasSmallKind kind
+HasLine (Trigger w count) = IsSmall w × IsSmall count
+HasLine (Poll w r) = IsSmall w × IsSmall r
+HasLine (Help w r) = IsSmall w × IsSmall r
+HasLine (Join w t r) = IsSmall w × IsSmall t × IsSmall r
+HasLine (End w how) = IsSmall w × HasSmallEnding how
+HasLine (HookDone w) = IsSmall w
+HasLine (Add w t n) = IsSmall w × IsSmall t × IsSmall n
+HasLine (QuietRoot w t) = IsSmall w × IsSmall t
+HasLine (Fault t code) = IsSmall t × IsSmall code
+HasLine (Cancel t) = IsSmall t
+HasLine Shutdown = Unit {0}
+HasLine Stop = Unit {0}
+HasLine IsQuiescent = Unit {0}
+HasLine (State t) = IsSmall t
+HasLine (Release t) = IsSmall t
 
 -- the step of a line, if it has one
 unfoldable pub step_in : List ℕ → Option Step
@@ -53,11 +125,10 @@ head_words head = mode_word head.0 ∷ map decimal head.1
 abbrev pub head_line : Mode × List ℕ → List ℕ
 head_line head = joined (head_words head)
 
--- the mode is one that is read, and the numbers are four and have 32 bits at most
+-- the heading has a line: its numbers are four and have 32 bits at most
 pub record HasHeadLine (head : Mode × List ℕ) : Type 0 where
-  pub mode : head.0 ≡ Async
   pub four : length head.1 ≡ 4
-  pub small : AllByRecursion (λ n. n < 2 ^ 32) head.1
+  pub small : AllByRecursion IsSmall head.1
 
 -- the mode and the four numbers of a heading, if the line is one
 unfoldable pub head_in : List ℕ → Option (Mode × List ℕ)

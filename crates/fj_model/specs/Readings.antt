@@ -2,49 +2,61 @@
 use Rattle.std.specs.Prelude.{ℕ, if◌then◌else◌, List, [], ◌∷◌, Option, Some, None, codes}
 use Rattle.std.specs.Str.{bytes_eq}
 use Rattle.fj_model.specs.declared.mode.Mode.{Mode}
-use Rattle.fj_model.specs.declared.mode.Mode.TheVariants.{Async}
-use Rattle.fj_model.specs.declared.kind.SubmittedKind.TheVariants.{Plain}
-use Rattle.fj_model.specs.declared.step.Ending.{Ending}
-use Rattle.fj_model.specs.declared.step.Ending.TheVariants as ending
+use Rattle.fj_model.specs.declared.mode.Mode.TheVariants.{Async, Joining}
 use Rattle.fj_model.specs.declared.step.Step.{Step}
-use Rattle.fj_model.specs.declared.step.Step.TheVariants.{Submit, Poll, End}
-use Rattle.fj_model.specs.Words.{◌>>=◌, word_first, number_first, if_last}
+use Rattle.fj_model.specs.Words.{◌>>=◌, number_first, if_last}
+use Rattle.fj_model.specs.Readings.Handed.{submit_in, fork_in, trigger_in}
+use Rattle.fj_model.specs.Readings.Taken.{poll_in, help_in, join_in, end_in, hook_in}
+use Rattle.fj_model.specs.Readings.Changed.{add_in, root_in, fault_in, cancel_in, release_in}
+use Rattle.fj_model.specs.Readings.Asked.{shutdown_in, stop_in, quiet_in, state_in}
+pub mod Handed
+pub mod Taken
+pub mod Changed
+pub mod Asked
 
--- ---- steps, by the words behind the first
+-- ---- steps, by the first word and those behind it
 
-unfoldable pub submit_in : List (List ℕ) → Option Step
-submit_in ws = do
-  s ← number_first ws
-  if_last s.1 (Submit s.0 Plain)
+-- what the pool is asked and told
+unfoldable pub pool_said : List ℕ → List (List ℕ) → Option Step
+pool_said verb ws =
+    if bytes_eq verb (codes "state") then state_in ws
+    else if bytes_eq verb (codes "quiet") then quiet_in ws
+    else if bytes_eq verb (codes "shutdown") then shutdown_in ws
+    else if bytes_eq verb (codes "stop") then stop_in ws
+    else None
 
-unfoldable pub poll_in : List (List ℕ) → Option Step
-poll_in ws = do
-  w ← number_first ws
-  r ← number_first w.1
-  if_last r.1 (Poll w.0 r.0)
+-- what changes a task, and the former
+unfoldable pub task_said : List ℕ → List (List ℕ) → Option Step
+task_said verb ws =
+    if bytes_eq verb (codes "add") then add_in ws
+    else if bytes_eq verb (codes "root") then root_in ws
+    else if bytes_eq verb (codes "fault") then fault_in ws
+    else if bytes_eq verb (codes "cancel") then cancel_in ws
+    else if bytes_eq verb (codes "release") then release_in ws
+    else pool_said verb ws
 
-abbrev pub ending_in : List ℕ → Option Ending
-ending_in word = if bytes_eq word (codes "ok") then Some ending.Ok else None
-
-unfoldable pub end_in : List (List ℕ) → Option Step
-end_in ws = do
-  w ← number_first ws
-  word ← word_first w.1
-  ending ← ending_in word.0
-  if_last word.1 (End w.0 ending)
+-- what else a worker does, and the former
+unfoldable pub worker_said : List ℕ → List (List ℕ) → Option Step
+worker_said verb ws =
+    if bytes_eq verb (codes "fork") then fork_in ws
+    else if bytes_eq verb (codes "join") then join_in ws
+    else if bytes_eq verb (codes "hook") then hook_in ws
+    else if bytes_eq verb (codes "help") then help_in ws
+    else if bytes_eq verb (codes "trigger") then trigger_in ws
+    else task_said verb ws
 
 -- the step that a first word and those behind it say, if they say one
 unfoldable pub step_said : List ℕ → List (List ℕ) → Option Step
 step_said verb ws =
-    if bytes_eq verb (codes "submit") then submit_in ws
-    else if bytes_eq verb (codes "poll") then poll_in ws
+    if bytes_eq verb (codes "poll") then poll_in ws
+    else if bytes_eq verb (codes "submit") then submit_in ws
     else if bytes_eq verb (codes "end") then end_in ws
-    else None
+    else worker_said verb ws
 
 -- ---- headings
 
 abbrev pub mode_in : List ℕ → Option Mode
-mode_in word = if bytes_eq word (codes "async") then Some Async else None
+mode_in word = if bytes_eq word (codes "async") then Some Async else if bytes_eq word (codes "joining") then Some Joining else None
 
 -- the heading that a first word and those behind it say, if they say one
 unfoldable pub head_said : List ℕ → List (List ℕ) → Option (Mode × List ℕ)

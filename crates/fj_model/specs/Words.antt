@@ -52,3 +52,23 @@ is_last (word ∷ ws) = false
 -- the value, where no word is left
 abbrev pub if_last : {A : Type 0} → List (List ℕ) → A → Option A
 if_last ws x = if is_last ws then Some x else None
+
+-- ---- numbers that are all that is left
+
+unfoldable pub one_number : List (List ℕ) → Option ℕ
+one_number ws = do
+  a ← number_first ws
+  if_last a.1 a.0
+
+unfoldable pub two_numbers : List (List ℕ) → Option (ℕ × ℕ)
+two_numbers ws = do
+  a ← number_first ws
+  b ← number_first a.1
+  if_last b.1 (a.0, b.0)
+
+unfoldable pub three_numbers : List (List ℕ) → Option (ℕ × ℕ × ℕ)
+three_numbers ws = do
+  a ← number_first ws
+  b ← number_first a.1
+  c ← number_first b.1
+  if_last c.1 (a.0, b.0, c.0)

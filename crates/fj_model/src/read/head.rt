@@ -45,6 +45,8 @@ fn read_mode(word: &[u8]) -> Result<Mode, LineFault>
 {
     if word == b"async".as_slice() {
         Ok(Mode::Async)
+    } else if word == b"joining".as_slice() {
+        Ok(Mode::Joining)
     } else {
         Err(LineFault)
     }

@@ -1,16 +1,24 @@
 ghost use Rattle.std.specs.Prelude.{◌≡◌, ◌≤◌, length, Some, None, Ok, MatchResult, IfOk, OnOk};
 ghost use Rattle.fj_model.specs.Words.{words_behind};
 ghost use Rattle.fj_model.specs.Lines.{HasLine, step_line, step_in};
-ghost use Rattle.fj_model.specs.Readings.{step_said, submit_in, poll_in, end_in, ending_in};
+ghost use Rattle.fj_model.specs.Readings.{step_said, worker_said, task_said, pool_said};
 ghost use Rattle.fj_model.specs.declared.step.Step.{Step};
 
-use crate::ids::{SubId, WorkerId};
-use crate::kind::SubmittedKind;
 use crate::read::fault::LineFault;
-use crate::read::words::{first_word, next_number, next_word, no_more};
-use crate::step::{Ending, Step};
+use crate::read::step::asked::{quiet, shutdown, state, stop};
+use crate::read::step::changed::{add, cancel, fault, release, root};
+use crate::read::step::handed::{fork, submit, trigger};
+use crate::read::step::taken::{end, help, hook, join, poll};
+use crate::read::words::first_word;
+use crate::step::Step;
 
-/// Reads the line of a step, without its line feed. A fault where no step that is read has this line.
+mod asked;
+mod changed;
+mod handed;
+mod taken;
+
+/// Reads the line of a step, without its line feed. A fault where no step has this line.
+/// Whether the numbers lie in the pool's limits is not looked at.
 pub fn read_step(line: &[u8]) -> Result<Step, LineFault>
     ensures value { MatchResult result (λ step. step_in line.now ≡ Some step) (λ _. step_in line.now ≡ None) }
     // What is read is written so.
@@ -25,65 +33,84 @@ pub fn read_step(line: &[u8]) -> Result<Step, LineFault>
     step_said(verb, behind)
 }
 
-// The step that a first word and what stands behind it say.
+// The step that a first word and what stands behind it say. Most lines are one of the three here.
 #[tactic(auto, unfolding(crate::specs::Readings::step_said))]
 fn step_said(verb: &[u8], behind: &[u8]) -> Result<Step, LineFault>
     ensures { MatchResult result
         (λ step. step_said verb.now (words_behind behind.now) ≡ Some step)
         (λ _. step_said verb.now (words_behind behind.now) ≡ None) }
 {
-    if verb == b"submit".as_slice() {
-        submit(behind)
-    } else if verb == b"poll".as_slice() {
+    if verb == b"poll".as_slice() {
         poll(behind)
+    } else if verb == b"submit".as_slice() {
+        submit(behind)
     } else if verb == b"end".as_slice() {
         end(behind)
     } else {
-        Err(LineFault)
+        worker_said(verb, behind)
     }
 }
 
-#[tactic(auto, unfolding(crate::specs::Readings::submit_in))]
-fn submit(behind: &[u8]) -> Result<Step, LineFault>
-    ensures { MatchResult result (λ step. submit_in (words_behind behind.now) ≡ Some step) (λ _. submit_in (words_behind behind.now) ≡ None) }
+// What else a worker does, and the steps below. Kept out of line, which is faster for the lines above.
+#[tactic(auto, unfolding(crate::specs::Readings::worker_said))]
+#[inline(never)]
+fn worker_said(verb: &[u8], behind: &[u8]) -> Result<Step, LineFault>
+    ensures { MatchResult result
+        (λ step. worker_said verb.now (words_behind behind.now) ≡ Some step)
+        (λ _. worker_said verb.now (words_behind behind.now) ≡ None) }
 {
-    let (s, behind) = next_number(behind)?;
-    no_more(behind)?;
-    Ok(Step::Submit {
-        s: SubId(s),
-        kind: SubmittedKind::Plain,
-    })
+    if verb == b"fork".as_slice() {
+        fork(behind)
+    } else if verb == b"join".as_slice() {
+        join(behind)
+    } else if verb == b"hook".as_slice() {
+        hook(behind)
+    } else if verb == b"help".as_slice() {
+        help(behind)
+    } else if verb == b"trigger".as_slice() {
+        trigger(behind)
+    } else {
+        task_said(verb, behind)
+    }
 }
 
-#[tactic(auto, unfolding(crate::specs::Readings::poll_in))]
-fn poll(behind: &[u8]) -> Result<Step, LineFault>
-    ensures { MatchResult result (λ step. poll_in (words_behind behind.now) ≡ Some step) (λ _. poll_in (words_behind behind.now) ≡ None) }
+// What changes a task, and the steps below.
+#[tactic(auto, unfolding(crate::specs::Readings::task_said))]
+fn task_said(verb: &[u8], behind: &[u8]) -> Result<Step, LineFault>
+    ensures { MatchResult result
+        (λ step. task_said verb.now (words_behind behind.now) ≡ Some step)
+        (λ _. task_said verb.now (words_behind behind.now) ≡ None) }
 {
-    let (w, behind) = next_number(behind)?;
-    let (r, behind) = next_number(behind)?;
-    no_more(behind)?;
-    Ok(Step::Poll { w: WorkerId(w), r })
+    if verb == b"add".as_slice() {
+        add(behind)
+    } else if verb == b"root".as_slice() {
+        root(behind)
+    } else if verb == b"fault".as_slice() {
+        fault(behind)
+    } else if verb == b"cancel".as_slice() {
+        cancel(behind)
+    } else if verb == b"release".as_slice() {
+        release(behind)
+    } else {
+        pool_said(verb, behind)
+    }
 }
 
-#[tactic(auto, unfolding(crate::specs::Readings::end_in))]
-fn end(behind: &[u8]) -> Result<Step, LineFault>
-    ensures { MatchResult result (λ step. end_in (words_behind behind.now) ≡ Some step) (λ _. end_in (words_behind behind.now) ≡ None) }
+// What the pool is asked and told.
+#[tactic(auto, unfolding(crate::specs::Readings::pool_said))]
+fn pool_said(verb: &[u8], behind: &[u8]) -> Result<Step, LineFault>
+    ensures { MatchResult result
+        (λ step. pool_said verb.now (words_behind behind.now) ≡ Some step)
+        (λ _. pool_said verb.now (words_behind behind.now) ≡ None) }
 {
-    let (w, behind) = next_number(behind)?;
-    let (word, behind) = next_word(behind)?;
-    let ending = ending(word)?;
-    no_more(behind)?;
-    Ok(Step::End {
-        w: WorkerId(w),
-        ending,
-    })
-}
-
-fn ending(word: &[u8]) -> Result<Ending, LineFault>
-    ensures { MatchResult result (λ ending. ending_in word.now ≡ Some ending) (λ _. ending_in word.now ≡ None) }
-{
-    if word == b"ok".as_slice() {
-        Ok(Ending::Ok)
+    if verb == b"state".as_slice() {
+        state(behind)
+    } else if verb == b"quiet".as_slice() {
+        quiet(behind)
+    } else if verb == b"shutdown".as_slice() {
+        shutdown(behind)
+    } else if verb == b"stop".as_slice() {
+        stop(behind)
     } else {
         Err(LineFault)
     }

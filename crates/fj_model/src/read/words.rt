@@ -34,6 +34,7 @@ pub fn next_word(behind: &[u8]) -> Result<(&[u8], &[u8]), LineFault>
 }
 
 /// The next word, where it is a number. A fault where there is none or it is something else.
+#[inline]
 pub fn next_number(behind: &[u8]) -> Result<(u32, &[u8]), LineFault>
     ensures { MatchResult result
         (λ p. number_first (words_behind behind.now) ≡ Some (p.0, words_behind p.1.now))
@@ -44,13 +45,20 @@ pub fn next_number(behind: &[u8]) -> Result<(u32, &[u8]), LineFault>
     Ok((number, behind))
 }
 
+/// Whether no word is left.
+pub fn at_end(behind: &[u8]) -> bool
+    ensures { result ≡ is_last (words_behind behind.now) }
+{
+    behind.is_empty()
+}
+
 /// A fault where a word is left.
 pub fn no_more(behind: &[u8]) -> Result<(), LineFault>
     ensures { MatchResult result
         (λ _. is_last (words_behind behind.now) ≡ true)
         (λ _. is_last (words_behind behind.now) ≡ false) }
 {
-    if behind.is_empty() {
+    if at_end(behind) {
         Ok(())
     } else {
         Err(LineFault)

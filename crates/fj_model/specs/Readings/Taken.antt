@@ -1,0 +1,61 @@
+-- What the words behind the first say, where a worker takes a task, waits for one or ends one.
+use Rattle.std.specs.Prelude.{ℕ, if◌then◌else◌, List, Option, Some, None, codes}
+use Rattle.std.specs.Str.{bytes_eq}
+use Rattle.fj_model.specs.declared.step.Ending.{Ending}
+use Rattle.fj_model.specs.declared.step.Ending.TheVariants as ending
+use Rattle.fj_model.specs.declared.step.Step.{Step}
+use Rattle.fj_model.specs.declared.step.Step.TheVariants.{Poll, Help, Join, End, HookDone}
+use Rattle.fj_model.specs.Words.{◌>>=◌, word_first, number_first, if_last, one_number, two_numbers, three_numbers}
+
+unfoldable pub poll_in : List (List ℕ) → Option Step
+poll_in ws = do
+  said ← two_numbers ws
+  Some (Poll said.0 said.1)
+
+unfoldable pub help_in : List (List ℕ) → Option Step
+help_in ws = do
+  said ← two_numbers ws
+  Some (Help said.0 said.1)
+
+unfoldable pub join_in : List (List ℕ) → Option Step
+join_in ws = do
+  said ← three_numbers ws
+  Some (Join said.0 said.1 said.2)
+
+unfoldable pub hook_in : List (List ℕ) → Option Step
+hook_in ws = do
+  w ← one_number ws
+  Some (HookDone w)
+
+-- ---- how a body ends
+
+-- the endings of one word
+abbrev pub ending_word_said : List ℕ → Option Ending
+ending_word_said word =
+    if bytes_eq word (codes "ok") then Some ending.Ok
+    else if bytes_eq word (codes "quiet") then Some ending.Quiet
+    else if bytes_eq word (codes "try") then Some ending.Try
+    else if bytes_eq word (codes "pass") then Some ending.Pass
+    else if bytes_eq word (codes "complete") then Some ending.Complete
+    else None
+
+unfoldable pub failure_said : List (List ℕ) → Option Ending
+failure_said ws = do
+  code ← one_number ws
+  Some (ending.Fail code)
+
+unfoldable pub word_alone_said : List ℕ → List (List ℕ) → Option Ending
+word_alone_said word ws = do
+  how ← ending_word_said word
+  if_last ws how
+
+unfoldable pub ending_said : List (List ℕ) → Option Ending
+ending_said ws = do
+  word ← word_first ws
+  if bytes_eq word.0 (codes "fail") then failure_said word.1 else word_alone_said word.0 word.1
+
+unfoldable pub end_in : List (List ℕ) → Option Step
+end_in ws = do
+  w ← number_first ws
+  how ← ending_said w.1
+  Some (End w.0 how)

@@ -1,0 +1,126 @@
+ghost use Rattle.std.specs.Prelude.{◌≡◌, Some, None, MatchResult};
+ghost use Rattle.fj_model.specs.Words.{words_behind};
+ghost use Rattle.fj_model.specs.Readings.Handed.{submit_in, fork_in, trigger_in, submitted_said, submitted_completer, kind_said, forked_completer, count_and_relay, parent_said, relay_said};
+
+use crate::ids::{Serial, SubId, WorkerId};
+use crate::kind::{Kind, SubmittedKind};
+use crate::read::fault::LineFault;
+use crate::read::number::read_number;
+use crate::read::numbers::two_numbers;
+use crate::read::words::{at_end, next_number, next_word, no_more};
+use crate::step::Step;
+
+/// Reads what stands behind `submit`: the submitter, and of a completer its count and relay word.
+#[tactic(auto, unfolding(crate::specs::Readings::Handed::submit_in))]
+pub fn submit(behind: &[u8]) -> Result<Step, LineFault>
+    ensures { MatchResult result (λ step. submit_in (words_behind behind.now) ≡ Some step) (λ _. submit_in (words_behind behind.now) ≡ None) }
+{
+    let (s, behind) = next_number(behind)?;
+    let kind = submitted_kind(behind)?;
+    Ok(Step::Submit { s: SubId(s), kind })
+}
+
+/// Reads what stands behind `fork`: the worker, and of a completer its parent or `-`, its count and its relay word.
+#[tactic(auto, unfolding(crate::specs::Readings::Handed::fork_in))]
+pub fn fork(behind: &[u8]) -> Result<Step, LineFault>
+    ensures { MatchResult result (λ step. fork_in (words_behind behind.now) ≡ Some step) (λ _. fork_in (words_behind behind.now) ≡ None) }
+{
+    let (w, behind) = next_number(behind)?;
+    let kind = kind(behind)?;
+    Ok(Step::Fork {
+        w: WorkerId(w),
+        kind,
+    })
+}
+
+/// Reads what stands behind `trigger`: the worker and the count.
+#[tactic(auto, unfolding(crate::specs::Readings::Handed::trigger_in))]
+pub fn trigger(behind: &[u8]) -> Result<Step, LineFault>
+    ensures { MatchResult result (λ step. trigger_in (words_behind behind.now) ≡ Some step) (λ _. trigger_in (words_behind behind.now) ≡ None) }
+{
+    let (w, count) = two_numbers(behind)?;
+    Ok(Step::Trigger {
+        w: WorkerId(w),
+        count,
+    })
+}
+
+#[tactic(auto, unfolding(crate::specs::Readings::Handed::submitted_said))]
+fn submitted_kind(behind: &[u8]) -> Result<SubmittedKind, LineFault>
+    ensures { MatchResult result (λ kind. submitted_said (words_behind behind.now) ≡ Some kind) (λ _. submitted_said (words_behind behind.now) ≡ None) }
+{
+    if at_end(behind) {
+        Ok(SubmittedKind::Plain)
+    } else {
+        submitted_completer(behind)
+    }
+}
+
+#[tactic(auto, unfolding(crate::specs::Readings::Handed::submitted_completer))]
+fn submitted_completer(behind: &[u8]) -> Result<SubmittedKind, LineFault>
+    ensures { MatchResult result (λ kind. submitted_completer (words_behind behind.now) ≡ Some kind) (λ _. submitted_completer (words_behind behind.now) ≡ None) }
+{
+    let (count, relay) = count_and_relay(behind)?;
+    Ok(SubmittedKind::Completer { count, relay })
+}
+
+#[tactic(auto, unfolding(crate::specs::Readings::Handed::kind_said))]
+fn kind(behind: &[u8]) -> Result<Kind, LineFault>
+    ensures { MatchResult result (λ kind. kind_said (words_behind behind.now) ≡ Some kind) (λ _. kind_said (words_behind behind.now) ≡ None) }
+{
+    if at_end(behind) {
+        Ok(Kind::Plain)
+    } else {
+        forked_completer(behind)
+    }
+}
+
+#[tactic(auto, unfolding(crate::specs::Readings::Handed::forked_completer))]
+fn forked_completer(behind: &[u8]) -> Result<Kind, LineFault>
+    ensures { MatchResult result (λ kind. forked_completer (words_behind behind.now) ≡ Some kind) (λ _. forked_completer (words_behind behind.now) ≡ None) }
+{
+    let (word, behind) = next_word(behind)?;
+    let parent = parent(word)?;
+    let (count, relay) = count_and_relay(behind)?;
+    Ok(Kind::Completer {
+        parent,
+        count,
+        relay,
+    })
+}
+
+#[tactic(auto, unfolding(crate::specs::Readings::Handed::count_and_relay))]
+fn count_and_relay(behind: &[u8]) -> Result<(u32, bool), LineFault>
+    ensures { MatchResult result (λ p. count_and_relay (words_behind behind.now) ≡ Some p) (λ _. count_and_relay (words_behind behind.now) ≡ None) }
+{
+    let (count, behind) = next_number(behind)?;
+    let (word, behind) = next_word(behind)?;
+    let relay = relay(word)?;
+    no_more(behind)?;
+    Ok((count, relay))
+}
+
+// A task, or `-` for none.
+#[tactic(auto, unfolding(crate::specs::Readings::Handed::parent_said))]
+fn parent(word: &[u8]) -> Result<Option<Serial>, LineFault>
+    ensures { MatchResult result (λ parent. parent_said word.now ≡ Some parent) (λ _. parent_said word.now ≡ None) }
+{
+    if word == b"-".as_slice() {
+        Ok(None)
+    } else {
+        let t = read_number(word)?;
+        Ok(Some(Serial(u64::from(t))))
+    }
+}
+
+fn relay(word: &[u8]) -> Result<bool, LineFault>
+    ensures { MatchResult result (λ relay. relay_said word.now ≡ Some relay) (λ _. relay_said word.now ≡ None) }
+{
+    if word == b"relay".as_slice() {
+        Ok(true)
+    } else if word == b"stop".as_slice() {
+        Ok(false)
+    } else {
+        Err(LineFault)
+    }
+}

@@ -1,0 +1,3 @@
+mod faults;
+mod headings;
+mod steps;

@@ -1,0 +1,220 @@
+use crate::{LineFault, read_step};
+use std::test::*;
+
+#[test]
+fn lines_that_begin_with_no_step_are_faults(rt: HostRuntime) {
+    let rows = [
+        "",
+        " ",
+        "-",
+        "0",
+        "relay",
+        "ok",
+        "fail 1",
+        "submi 0",
+        "submits 0",
+        "submit0",
+        "Submit 0",
+        "SUBMIT 0",
+        "Fork 0",
+        "polls 0 0",
+        "halt",
+        "Stop",
+        "STOP",
+        "Quiet",
+        "shut",
+        "shutdownnow",
+        "async 1 1 1 1",
+        "joining 1 1 1 1",
+        "fj 2",
+        "aaaaaaaaaaaaaaaaaaaaaaaaaaaaaaaaaaaaaaaaaaaaaaaaaaaaaaaaaaaaaaaaa",
+    ];
+    for line in rows {
+        assert_eq!(rt; read_step(line.as_bytes()), Err(LineFault), "{line}");
+    }
+    assert_eq!(rt; read_step(b"\xff"), Err(LineFault));
+    assert_eq!(rt; read_step(b"submit \xff"), Err(LineFault));
+    assert_eq!(rt; read_step(b"submit 0\0"), Err(LineFault));
+    assert_eq!(rt; read_step(b"quiet\xff"), Err(LineFault));
+}
+
+#[test]
+fn other_numbers_and_spaces_are_faults(rt: HostRuntime) {
+    let rows = [
+        " submit 0",
+        "submit ",
+        "submit  0",
+        "submit 0 ",
+        "submit 00",
+        "submit 01",
+        "submit +1",
+        "submit -1",
+        "submit 1x",
+        "submit 0x1",
+        "submit 1.0",
+        "submit 4294967296",
+        "submit 10000000000",
+        "submit 18446744073709551616",
+        "submit 0\r",
+        "submit 0\n",
+        "submit\t0",
+        "poll 0 ",
+        "poll 0 0 ",
+        "poll  0 0",
+        "poll 0  0",
+        "poll 00 0",
+        "poll 0 00",
+        "poll 0 4294967296",
+        "join 0 4294967296 0",
+        "end 0 ok ",
+        "end 0  ok",
+        "end 0 ok\r",
+        "end 0 fail 4294967296",
+        "end 0 fail 00",
+        "end 0 fail ",
+        "fault 0 4294967296",
+        "cancel 4294967296",
+        "cancel 00",
+        "state 01",
+        " quiet",
+        "quiet ",
+        "quiet\r",
+        "stop ",
+        "shutdown ",
+    ];
+    for line in rows {
+        assert_eq!(rt; read_step(line.as_bytes()), Err(LineFault), "{line}");
+    }
+}
+
+#[test]
+fn too_few_words_are_faults(rt: HostRuntime) {
+    let rows = [
+        "submit",
+        "submit 0 1",
+        "fork",
+        "fork 0 -",
+        "fork 0 - 0",
+        "fork 0 1",
+        "fork 0 1 2",
+        "trigger",
+        "trigger 0",
+        "poll",
+        "poll 0",
+        "help",
+        "help 0",
+        "join",
+        "join 0",
+        "join 0 1",
+        "end",
+        "end 0",
+        "end ok",
+        "end 0 fail",
+        "hook",
+        "add",
+        "add 0",
+        "add 0 1",
+        "root",
+        "root 0",
+        "fault",
+        "fault 0",
+        "cancel",
+        "state",
+        "release",
+    ];
+    for line in rows {
+        assert_eq!(rt; read_step(line.as_bytes()), Err(LineFault), "{line}");
+    }
+}
+
+#[test]
+fn too_many_words_are_faults(rt: HostRuntime) {
+    let rows = [
+        "submit 0 1 relay 0",
+        "submit 0 1 relay stop",
+        "fork 0 - 0 relay 0",
+        "fork 0 0 0 0 relay",
+        "trigger 0 1 relay",
+        "trigger 0 1 2",
+        "poll 0 0 0",
+        "help 0 0 0",
+        "join 0 1 2 3",
+        "end 0 ok 0",
+        "end 0 ok 1",
+        "end 0 ok ok",
+        "end 0 quiet 1",
+        "end 0 try 1",
+        "end 0 pass 1",
+        "end 0 complete 1",
+        "end 0 fail 1 2",
+        "hook 0 0",
+        "add 0 1 2 3",
+        "root 0 1 2",
+        "fault 0 1 2",
+        "cancel 0 1",
+        "shutdown 0",
+        "stop 0",
+        "quiet 0",
+        "state 0 0",
+        "release 0 0",
+    ];
+    for line in rows {
+        assert_eq!(rt; read_step(line.as_bytes()), Err(LineFault), "{line}");
+    }
+}
+
+#[test]
+fn other_words_are_faults(rt: HostRuntime) {
+    let rows = [
+        "submit ok",
+        "submit -",
+        "submit 0 0",
+        "submit 0 1 Relay",
+        "submit 0 1 RELAY",
+        "submit 0 1 relays",
+        "submit 0 1 rela",
+        "submit 0 1 halt",
+        "submit 0 1 stops",
+        "submit 0 1 true",
+        "submit 0 - 1 relay",
+        "submit 0 1 -",
+        "submit 0 relay",
+        "submit 0 relay 1",
+        "fork -",
+        "fork - 0 0 relay",
+        "fork 0 0 - relay",
+        "fork 0 -- 0 relay",
+        "fork 0 -0 0 relay",
+        "fork 0 none 0 relay",
+        "fork 0 - 0 Stop",
+        "fork 0 0 relay",
+        "trigger 0 -",
+        "trigger - 0",
+        "poll - 0",
+        "join 0 - 0",
+        "end 0 OK",
+        "end 0 Ok",
+        "end 0 okay",
+        "end 0 o",
+        "end 0 quietly",
+        "end 0 propagate",
+        "end 0 fails 1",
+        "end 0 Fail 1",
+        "end 0 fail -",
+        "end 0 fail ok",
+        "end 0 1",
+        "end 0 1 fail",
+        "end - ok",
+        "hook -",
+        "add 0 - 1",
+        "root 0 -",
+        "fault - 1",
+        "cancel -",
+        "state -",
+        "state ok",
+        "release -",
+    ];
+    for line in rows {
+        assert_eq!(rt; read_step(line.as_bytes()), Err(LineFault), "{line}");
+    }
+}
