@@ -52,7 +52,7 @@ pub fn first_lines(alloc: Global, bytes: &[u8], count: usize) -> Result<Vec<u8>,
 }
 
 // Each row: a script, the replies to it, the text on standard error and the exit status.
-const ROWS: [(&str, &str, &str, u8); 16] = [
+const ROWS: [(&str, &str, &str, u8); 21] = [
     (
         "async 1 1 1 4;submit 0;poll 0 0;end 0 ok;",
         "task 0;run 0;done;",
@@ -88,7 +88,7 @@ const ROWS: [(&str, &str, &str, u8); 16] = [
     ("async 1 1 1 4;;submit 0;", "", "fault: line 2;", 3),
     ("async 1 1 1 4;async 1 1 1 4;", "", "fault: line 2;", 3),
     (
-        "async 1 1 2 8;quiet;submit 0;state 0;state 1;quiet;fork 0;",
+        "async 1 1 2 8;quiet;submit 0;state 0;state 1;quiet;trigger 0 0;",
         "yes;task 0;state queued 0 undone;refused 5;no;refused 15;",
         "",
         0,
@@ -99,18 +99,45 @@ const ROWS: [(&str, &str, &str, u8); 16] = [
         "",
         0,
     ),
+    (
+        "joining 2 1 8 64;submit 0;poll 0 0;fork 0;fork 0;fork 0;help 0 0;poll 1 0;",
+        "task 0;run 0;task 1;task 2;task 3;run 3;run 1;",
+        "",
+        0,
+    ),
+    (
+        "async 2 1 8 64;submit 0;poll 0 0;fork 0;fork 0;fork 0;help 0 0;poll 1 0;",
+        "task 0;run 0;task 1;task 2;task 3;run 1;run 2;",
+        "",
+        0,
+    ),
+    (
+        "async 1 1 4 64;submit 0;poll 0 0;join 0 0 0;fork 0;fork 0;join 0 2 0;end 0 ok;join 0 1 0;",
+        "task 0;run 0;refused 7;task 1;task 2;run 1;done;normal;",
+        "",
+        0,
+    ),
+    (
+        "joining 1 1 4 64;submit 0;poll 0 0;join 0 0 0;fork 0;fork 0;join 0 2 0;",
+        "task 0;run 0;refused 7;task 1;task 2;run 2;",
+        "",
+        0,
+    ),
+    (
+        "joining 1 1 4 64;submit 0;fork 0;help 0 0;join 0 0 0;poll 0 0;join 0 1 0;help 0 0;",
+        "task 0;refused 6;refused 6;refused 6;run 0;refused 5;none;",
+        "",
+        0,
+    ),
 ];
 
 // A good line of each kind of step that is not built.
-const NOT_BUILT: [&str; 23] = [
+const NOT_BUILT: [&str; 20] = [
     "submit 0 1 relay",
     "submit 0 1 stop",
-    "fork 0",
     "fork 0 - 0 relay",
     "fork 0 7 65536 stop",
     "trigger 0 4294967295",
-    "help 0 0",
-    "join 0 0 0",
     "end 0 quiet",
     "end 0 try",
     "end 0 pass",

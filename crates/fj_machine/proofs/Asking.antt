@@ -1,9 +1,10 @@
 -- What the steps are answered that only ask.
-use Rattle.std.proofs.Common.{suc, ℕ, ◌≡◌, ◌+◌, ◌≤◌, ◌<◌, Bool, true, false, ◌&&◌, List, [], ◌∷◌, length, map, get_or, None, refl, ap, sym, ◌∙◌, arith}
-use Rattle.std.specs.Prelude.{is_none, if◌then◌else◌}
+use Rattle.std.proofs.Common.{zero, suc, ℕ, ◌≡◌, ◌+◌, ◌≤◌, ◌<◌, Bool, true, false, not, ◌&&◌, List, [], ◌∷◌, length, map, get_or, Option, Some, None, refl, ap, sym, ◌∙◌, arith}
+use Rattle.std.specs.Prelude.{◌==◌, nat_lt, is_none, if◌then◌else◌}
 use Rattle.std.specs.List.{list_all, range_with_len}
 use Rattle.std.proofs.lemmas.List.Folds.{list_all-map}
-use Rattle.std.proofs.lemmas.Bool.{le-ltb, lt-ltb}
+use Rattle.std.proofs.lemmas.Bool.{le-ltb, lt-ltb, ne_eqb}
+use Rattle.std.proofs.lemmas.List.Sums.{sum_by-cons}
 use Rattle.fj_model.specs.declared.event.Event.{Event}
 use Rattle.fj_model.specs.declared.place.Place.{Place}
 use Rattle.fj_model.specs.declared.place.Place.TheVariants.{Gone}
@@ -11,8 +12,8 @@ use Rattle.fj_model.specs.declared.refusal.Refusal.TheVariants.{Unknown}
 use Rattle.fj_model.specs.declared.said.Said.TheVariants as says
 use Rattle.fj_model.specs.declared.step.Step.TheVariants.{IsQuiescent, State}
 use Rattle.fj_model.specs.Bounds.{Bounds, Pool, queues_in, owner_at, owners, workers}
-use Rattle.fj_model.specs.Lists.{is_empty}
-use Rattle.fj_model.specs.Tasks.{accepted, is_kept}
+use Rattle.fj_model.specs.Lists.{is_in, is_empty}
+use Rattle.fj_model.specs.Tasks.{tasks, accepted, is_kept}
 use Rattle.fj_model.specs.Queues.{queue}
 use Rattle.fj_model.specs.Stacks.{stack}
 use Rattle.fj_model.specs.Hooks.{hand}
@@ -21,10 +22,11 @@ use Rattle.fj_model.specs.Places.{place}
 use Rattle.fj_model.specs.Allowed.{AllowedFrom}
 use Rattle.fj_model.specs.Answers.{answer, refusal_of, refusal_standing, events_of, reply_of, is_quiet}
 use Rattle.fj_model.proofs.Lawful.{is_numbered}
-use Rattle.fj_machine.specs.Rows.{Lists}
+use Rattle.fj_queues.specs.Queues.{Lists as Waiting, all_in}
+use Rattle.fj_machine.specs.Rows.{Lists, row_at}
 use Rattle.fj_machine.specs.Holds.{KeepsQueues, KeepsStacks, KeepsPlaces}
 use Rattle.fj_machine.proofs.Taking.{get_or_any}
-use Rattle.fj_machine.proofs.PlainHistories.{IsPlain, all_kept, empty_hand}
+use Rattle.fj_machine.proofs.PlainHistories.{IsPlain, all_kept, never_released, empty_hand}
 use Rattle.fj_machine.proofs.Submitting.{allowed, refused}
 
 -- ---- whether all is quiet
@@ -46,14 +48,20 @@ no_hooks_too h (w ∷ ws) plain = rw (empty_hand h w plain, no_hooks_too h ws pl
     go true = refl
     go false = refl
 
-pub quiet_is : (l : Bounds) (h : List Event) (queues stacks : Lists) → IsPlain h → KeepsQueues l h queues → KeepsStacks l h stacks
-    → is_quiet l h ≡ (list_all is_empty queues.rows && list_all is_empty stacks.rows)
+-- lists without members have none together, and no others
+pub none_at_all : (lists : List (List ℕ)) → (all_in lists == 0) ≡ list_all is_empty lists
+none_at_all [] = refl
+none_at_all ([] ∷ lists) = ap (λ n. n == 0) (sum_by-cons length [] lists ∙ omega arith) ∙ none_at_all lists
+none_at_all ((t ∷ ts) ∷ lists) = ne_eqb (all_in ((t ∷ ts) ∷ lists)) 0 (λ none. absurd (omega (arith, sum_by-cons length (t ∷ ts) lists)))
+
+pub quiet_is : (l : Bounds) (h : List Event) (queues : Waiting) (stacks : Lists) → IsPlain h → KeepsQueues l h queues → KeepsStacks l h stacks
+    → is_quiet l h ≡ (list_all is_empty queues.lists && list_all is_empty stacks.rows)
 unfolding is_quiet owners workers
 quiet_is l h queues stacks plain in_queues in_stacks =
-    let all_queues : list_all (λ o. is_empty (queue h o)) (map (owner_at l) (range_with_len 0 (queues_in l))) ≡ list_all is_empty queues.rows =
+    let all_queues : list_all (λ o. is_empty (queue h o)) (map (owner_at l) (range_with_len 0 (queues_in l))) ≡ list_all is_empty queues.lists =
     list_all-map (λ o. is_empty (queue h o)) (owner_at l) (range_with_len 0 (queues_in l))
     ∙ ap (λ n. list_all (λ i. is_empty (queue h (owner_at l i))) (range_with_len 0 n)) (sym in_queues.count)
-    ∙ all_rows queues.rows (λ i. queue h (owner_at l i)) 0 (λ i inside. in_queues.each i (omega (arith, in_queues.count)) ∙ ap (λ n. queue h (owner_at l n)) (omega arith)) in
+    ∙ all_rows queues.lists (λ i. queue h (owner_at l i)) 0 (λ i inside. in_queues.each i (omega (arith, in_queues.count)) ∙ ap (λ n. queue h (owner_at l n)) (omega arith)) in
     let all_stacks : list_all (λ w. is_empty (stack h w) && is_none (hand h w)) (range_with_len 0 l.workers) ≡ list_all is_empty stacks.rows =
     no_hooks_too h (range_with_len 0 l.workers) plain
     ∙ ap (λ n. list_all (λ w. is_empty (stack h w)) (range_with_len 0 n)) (sym in_stacks.count)
@@ -75,7 +83,7 @@ pub unknown_answer : (pool : Pool) (h : List Event) (t : ℕ) → AllowedFrom po
 unfolding refusal_of refusal_standing is_kept
 unknown_answer pool h t so over = refused pool h (State t) Unknown (rw (is_numbered pool h so t, le-ltb t (accepted h) over) refl)
 
-known_kept : (pool : Pool) (h : List Event) (t : ℕ) → AllowedFrom pool [] h → IsPlain h → t < accepted h → is_kept h t ≡ true
+pub known_kept : (pool : Pool) (h : List Event) (t : ℕ) → AllowedFrom pool [] h → IsPlain h → t < accepted h → is_kept h t ≡ true
 known_kept pool h t so plain inside = all_kept h plain t (is_numbered pool h so t ∙ lt-ltb t (accepted h) inside)
 
 state_stands : (pool : Pool) (h : List Event) (t : ℕ) → AllowedFrom pool [] h → IsPlain h → t < accepted h → length h ≤ pool.limits.events → refusal_of pool h (State t) ≡ None

@@ -1,16 +1,31 @@
--- The queue from which a choice comes, found in the lists that a machine keeps.
-use Rattle.std.proofs.Common.{zero, suc, ℕ, ◌≡◌, ◌+◌, ◌%◌, ◌<◌, cond, List, [], ◌∷◌, length, map, get_or, Option, Some, None, refl, ap, sym, ◌∙◌, arith}
-use Rattle.std.specs.Prelude.{MatchOption}
+-- Where a worker's choice stands, found in the queues that a machine keeps.
+use Rattle.std.proofs.Common.{zero, suc, ℕ, ◌≡◌, ◌+◌, ◌-◌, ◌%◌, ◌≤◌, ◌<◌, Bool, true, false, cond, List, [], ◌∷◌, length, map, get_or, Option, Some, None, refl, ap, sym, ◌∙◌, arith, ⊎_elim, ◌++◌}
+use Rattle.std.proofs.lemmas.List.{append-nil}
+use Rattle.std.proofs.lemmas.Bool.{cases_lt}
+use Rattle.std.specs.Prelude.{MatchOption, slice_get}
 use Rattle.std.specs.List.{range_with_len}
 use Rattle.fj_model.specs.declared.event.Event.{Event}
+use Rattle.fj_model.specs.declared.mode.Mode.{Mode}
+use Rattle.fj_model.specs.declared.mode.Mode.TheVariants.{Async, Joining}
 use Rattle.fj_model.specs.declared.owner.Owner.{Owner}
+use Rattle.fj_model.specs.declared.owner.Owner.TheVariants.{Work}
 use Rattle.fj_model.specs.Bounds.{Bounds, Pool, queues_in, owner_at}
-use Rattle.fj_machine.specs.Rows.{first_filled, places_from}
-use Rattle.fj_model.specs.Lists.{is_empty, or_else, first_of}
+use Rattle.fj_model.specs.Lists.{is_empty, or_else, first_of, last_of}
 use Rattle.fj_model.specs.Queues.{queue}
-use Rattle.fj_model.specs.Choices.{choice, first_queued}
+use Rattle.fj_model.specs.Choices.{choice, own_choice, first_queued, scan_order}
+use Rattle.fj_model.specs.declared.refusal.Refusal.TheVariants.{LogFull}
+use Rattle.fj_model.specs.declared.said.Said.{Said}
+use Rattle.fj_model.specs.declared.said.Said.TheVariants as says
+use Rattle.fj_model.specs.declared.step.Step.{Step}
+use Rattle.fj_model.specs.Answers.{answer, refusal_of, events_of, reply_of, taking, taking_says}
+use Rattle.fj_model.specs.Runs.{Past, Steps, IsHistory, grown}
 use Rattle.fj_model.proofs.Owners.{work_owner}
-use Rattle.fj_machine.proofs.PlainHistories.{IsPlain, empty_own, none_own}
+use Rattle.fj_queues.specs.Queues.{first_filled, places_from}
+use Rattle.fj_machine.specs.declared.source.Source.{Source}
+use Rattle.fj_machine.specs.declared.source.Source.TheVariants.{Oldest, Newest}
+use Rattle.fj_machine.specs.Sources.{IsChosenFrom, TakesChoice, queue_of, end_of, tasks_there}
+use Rattle.fj_model.proofs.AnswersAllowed.{history_more}
+use Rattle.fj_machine.proofs.Submitting.{told, refused, allowed}
 
 -- each of the places is below the count
 abbrev pub AllBelow : ℕ → List ℕ → Type 0
@@ -22,14 +37,14 @@ abbrev pub ComesFrom : Bounds → List Event → Option ℕ → Option ℕ → T
 ComesFrom l h task place =
     MatchOption place (task ≡ None) (λ q. (q < queues_in l) × (task ≡ first_of (queue h (owner_at l q))) × (0 < length (queue h (owner_at l q))))
 
-pub found : (l : Bounds) (h : List Event) (rows : List (List ℕ)) → ((i : ℕ) → i < queues_in l → get_or rows i [] ≡ queue h (owner_at l i))
-    → (places : List ℕ) → AllBelow (queues_in l) places → ComesFrom l h (first_queued h (map (owner_at l) places)) (first_filled rows places)
+found : (l : Bounds) (h : List Event) (lists : List (List ℕ)) → ((i : ℕ) → i < queues_in l → get_or lists i [] ≡ queue h (owner_at l i))
+    → (places : List ℕ) → AllBelow (queues_in l) places → ComesFrom l h (first_queued h (map (owner_at l) places)) (first_filled lists places)
 unfolding first_queued
-found l h rows each [] below = refl
-found l h rows each (i ∷ places) below = go (get_or rows i []) refl (found l h rows each places below.1)
+found l h lists each [] below = refl
+found l h lists each (i ∷ places) below = go (get_or lists i []) refl (found l h lists each places below.1)
   where
-    go : (row : List ℕ) → get_or rows i [] ≡ row → ComesFrom l h (first_queued h (map (owner_at l) places)) (first_filled rows places)
-        → ComesFrom l h (or_else (first_of (queue h (owner_at l i))) (first_queued h (map (owner_at l) places))) (cond (is_empty (get_or rows i [])) (first_filled rows places) (Some i))
+    go : (row : List ℕ) → get_or lists i [] ≡ row → ComesFrom l h (first_queued h (map (owner_at l) places)) (first_filled lists places)
+        → ComesFrom l h (or_else (first_of (queue h (owner_at l i))) (first_queued h (map (owner_at l) places))) (cond (is_empty (get_or lists i [])) (first_filled lists places) (Some i))
     go [] is rest = let here : queue h (owner_at l i) ≡ [] = sym (each i below.0) ∙ is in rw (is, here) rest
     go (t ∷ ts) is rest = let here : queue h (owner_at l i) ≡ t ∷ ts = sym (each i below.0) ∙ is in rw (is, here) (below.0, refl, omega arith)
 
@@ -41,11 +56,117 @@ all_below : (count r i n : ℕ) → 0 < count → AllBelow count (map (λ k. (r 
 all_below count r i zero some = tt
 all_below count r i (suc n) some = (omega arith, all_below count r (i + 1) n some)
 
-pub choice_found : (pool : Pool) (h : List Event) (rows : List (List ℕ)) (w r : ℕ) → IsPlain h → w < pool.limits.workers
-    → ((i : ℕ) → i < queues_in pool.limits → get_or rows i [] ≡ queue h (owner_at pool.limits i))
-    → ComesFrom pool.limits h (choice pool h w r) (first_filled rows ((pool.limits.submitters + w) ∷ places_from (queues_in pool.limits) r))
-unfolding choice first_queued
-choice_found pool h rows w r plain within each =
-    let l = pool.limits in
-    let all = found l h rows each ((l.submitters + w) ∷ places_from (queues_in l) r) (omega arith, all_below (queues_in l) r 0 (queues_in l) (omega arith)) in
-    rw (empty_own h w plain, none_own pool.mode) (rw (work_owner l w, empty_own h w plain, ← map_twice (owner_at l) (λ i. (r + i) % queues_in l) (range_with_len 0 (queues_in l))) at all)
+-- what the scan finds is what the scan of the definition finds
+pub scan_found : (l : Bounds) (h : List Event) (lists : List (List ℕ)) (r : ℕ) → 0 < queues_in l → ((i : ℕ) → i < queues_in l → get_or lists i [] ≡ queue h (owner_at l i))
+    → ComesFrom l h (first_queued h (scan_order l r)) (first_filled lists (places_from (queues_in l) r))
+scan_found l h lists r some each =
+    let all = found l h lists each (places_from (queues_in l) r) (all_below (queues_in l) r 0 (queues_in l) some) in
+    rw (← map_twice (owner_at l) (λ i. (r + i) % queues_in l) (range_with_len 0 (queues_in l))) at all
+
+-- of an empty queue both modes take nothing
+none_own : (m : Mode) → own_choice m [] ≡ None
+none_own Async = refl
+none_own Joining = refl
+
+nothing : (ts : List ℕ) → length ts ≡ 0 → ts ≡ []
+nothing [] none = refl
+nothing (t ∷ ts) none = absurd (omega arith)
+
+-- with an empty own queue the choice is what the scan finds
+pub scan_choice : (pool : Pool) (h : List Event) (w r : ℕ) → length (queue h (Work w)) ≡ 0 → choice pool h w r ≡ first_queued h (scan_order pool.limits r)
+unfolding choice
+scan_choice pool h w r none = rw (nothing (queue h (Work w)) none, none_own pool.mode) refl
+
+some_at : (ts : List ℕ) (k : ℕ) → k < length ts → (t : ℕ) × (slice_get ts k ≡ Some t)
+some_at [] k inside = absurd (omega arith)
+some_at (t ∷ ts) zero inside = (t, refl)
+some_at (t ∷ ts) (suc k) inside = some_at ts k (omega arith)
+
+-- where the own task stands, by the mode
+abbrev pub own_source : Mode → ℕ → Source
+own_source Async q = Oldest q
+own_source Joining q = Newest q
+
+-- with a filled own queue the choice stands at its end of the mode
+pub own_is_chosen : (past : Past) (w r : ℕ) → w < past.pool.limits.workers → 0 < length (queue past.events (Work w))
+    → IsChosenFrom past w r (own_source past.pool.mode (past.pool.limits.submitters + w))
+unfolding choice
+own_is_chosen past w r within some = go past.pool.mode refl
+  where
+    l : Bounds
+    l = past.pool.limits
+
+    ts : List ℕ
+    ts = queue past.events (Work w)
+
+    go : (m : Mode) → past.pool.mode ≡ m → IsChosenFrom past w r (own_source m (past.pool.limits.submitters + w))
+    go Async is =
+        let t = some_at (queue past.events (Work w)) 0 some in
+        record {
+          within = omega arith;
+          chosen = rw (is, work_owner past.pool.limits w, t.1) refl;
+          filled = rw (work_owner past.pool.limits w) some;
+        }
+    go Joining is =
+        let t = some_at (queue past.events (Work w)) (length (queue past.events (Work w)) - 1) (omega arith) in
+        record {
+          within = omega arith;
+          chosen = rw (is, work_owner past.pool.limits w, t.1) refl;
+          filled = rw (work_owner past.pool.limits w) some;
+        }
+
+-- and with an empty one at the old end of the queue that the scan meets
+pub scanned_is_chosen : (past : Past) (w r q : ℕ) → length (queue past.events (Work w)) ≡ 0
+    → (q < queues_in past.pool.limits) × (first_queued past.events (scan_order past.pool.limits r) ≡ first_of (queue past.events (owner_at past.pool.limits q))) × (0 < length (queue past.events (owner_at past.pool.limits q)))
+    → IsChosenFrom past w r (Oldest q)
+scanned_is_chosen past w r q none from = record { within = from.0; chosen = scan_choice past.pool past.events w r none ∙ from.1; filled = from.2 }
+
+-- ---- what comes of a choice
+
+-- one event takes a task
+pub taking_one : (h : List Event) (w : ℕ) (t : Option ℕ) → (u : ℕ) → t ≡ Some u → length (taking h w t) ≡ 1
+taking_one h w t u is = rw is refl
+
+-- of a filled queue there is a task at each end
+end_there : (source : Source) (ts : List ℕ) → 0 < length ts → (t : ℕ) × (end_of source ts ≡ Some t)
+end_there (Oldest q) ts some = some_at ts 0 some
+end_there (Newest q) ts some = some_at ts (length ts - 1) (omega arith)
+
+pub takes_none : (past : Past) (w r : ℕ) → length past.events ≤ past.pool.limits.events → choice past.pool past.events w r ≡ None → TakesChoice past w r says.None past
+takes_none past w r fits is =
+    let nothing_taken : taking past.events w (choice past.pool past.events w r) ≡ [] = rw is refl in
+    record {
+      full = λ over. absurd (omega (arith, over, ap length nothing_taken));
+      fits = λ room. (rw is refl, rw nothing_taken (ap (λ (es : List Event). let p : Past = record { pool = past.pool; events = es } in p) (sym (append-nil past.events))));
+    }
+
+pub takes_full : (past : Past) (w r : ℕ) (source : Source) → past.pool.limits.events ≤ length past.events → IsChosenFrom past w r source → TakesChoice past w r (says.Refused LogFull) past
+takes_full past w r source full from =
+    let t = end_there source (tasks_there past source) from.filled in
+    record {
+      full = λ over. (refl, refl);
+      fits = λ room. absurd (omega (arith, room, full, taking_one past.events w (choice past.pool past.events w r) t.0 (from.chosen ∙ t.1)));
+    }
+
+-- a step that takes its worker's choice, and is refused for a full log at most
+pub choice_steps : (old new : Past) (asked : Step) (w r : ℕ) (reply : Said) → TakesChoice old w r reply new
+    → events_of old.pool old.events asked ≡ taking old.events w (choice old.pool old.events w r)
+    → reply_of old.pool old.events asked ≡ taking_says old.events (choice old.pool old.events w r)
+    → (old.pool.limits.events < length old.events + length (taking old.events w (choice old.pool old.events w r)) → refusal_of old.pool old.events asked ≡ Some LogFull)
+    → (length old.events + length (taking old.events w (choice old.pool old.events w r)) ≤ old.pool.limits.events → refusal_of old.pool old.events asked ≡ None)
+    → Steps old asked reply new
+choice_steps old new asked w r reply takes events replies over fits = ⊎_elim
+    (λ full.
+    let refusing = refused old.pool old.events asked LogFull (over full) in
+    rw ((takes.full full).0, (takes.full full).1) (told old asked (says.Refused LogFull) refusing))
+    (λ room.
+    let is = allowed old.pool old.events asked (fits room) in
+    rw (is, events, replies) (takes.fits room))
+    (cases_lt old.pool.limits.events (length old.events + length (taking old.events w (choice old.pool old.events w r))))
+
+-- and its history is one of a run
+pub choice_history : (past : Past) (asked : Step) (w r : ℕ) → IsHistory past.pool past.events
+    → events_of past.pool past.events asked ≡ taking past.events w (choice past.pool past.events w r) → refusal_of past.pool past.events asked ≡ None
+    → IsHistory past.pool (past.events ++ taking past.events w (choice past.pool past.events w r))
+choice_history past asked w r run events stands =
+    rw (allowed past.pool past.events asked stands, events) at (history_more past.pool past.events asked run)

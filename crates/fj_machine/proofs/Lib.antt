@@ -3,6 +3,7 @@ pub mod RowWrites
 pub mod Parts
 pub mod Leaving
 pub mod Moving
+pub mod Accepting
 pub mod Submitting
 pub mod Fresh
 pub mod Choosing
@@ -13,3 +14,8 @@ pub mod NotYets
 pub mod Running
 pub mod Refusing
 pub mod Asking
+pub mod Holding
+pub mod Rooms
+pub mod Forking
+pub mod Helping
+pub mod Joining

@@ -1,5 +1,5 @@
 -- Each part of what a machine keeps, after an event that says nothing to it.
-use Rattle.std.proofs.Common.{ℕ, ◌≡◌, ◌<◌, Bool, true, List, [], ◌∷◌, ◌++◌, length, get_or, sym, ◌∙◌, arith}
+use Rattle.std.proofs.Common.{ℕ, ◌≡◌, ◌≤◌, ◌<◌, Bool, true, List, [], ◌∷◌, ◌++◌, length, get_or, refl, sym, ◌∙◌, arith, append_assoc}
 use Rattle.std.specs.List.{list_all}
 use Rattle.std.proofs.lemmas.Bool.{and_parts, and_from}
 use Rattle.std.proofs.Math.ListN.{set}
@@ -7,7 +7,10 @@ use Rattle.std.proofs.lemmas.List.{get_or-set_same}
 use Rattle.fj_model.specs.declared.event.Event.{Event}
 use Rattle.fj_model.specs.declared.owner.Owner.{Owner}
 use Rattle.fj_model.specs.declared.status.Status.{Status}
-use Rattle.fj_model.specs.Bounds.{Bounds, owner_at}
+use Rattle.std.proofs.lemmas.List.{append-nil}
+use Rattle.fj_model.specs.Bounds.{Bounds, Pool, owner_at}
+use Rattle.fj_model.specs.Allowed.{Allowed, AllowedFrom}
+use Rattle.fj_queues.specs.Queues.{Lists as Waiting}
 use Rattle.fj_model.specs.Tasks.{accepted}
 use Rattle.fj_model.specs.Queues.{queue}
 use Rattle.fj_model.specs.Stacks.{stack}
@@ -15,7 +18,7 @@ use Rattle.fj_model.specs.Statuses.{status}
 use Rattle.fj_machine.specs.Rows.{Lists}
 use Rattle.fj_machine.specs.Holds.{KeepsQueues, KeepsStacks, KeepsTasks}
 
-pub queues_same : (l : Bounds) (h h2 : List Event) (queues : Lists) → ((o : Owner) → queue h2 o ≡ queue h o) → KeepsQueues l h queues → KeepsQueues l h2 queues
+pub queues_same : (l : Bounds) (h h2 : List Event) (queues : Waiting) → ((o : Owner) → queue h2 o ≡ queue h o) → KeepsQueues l h queues → KeepsQueues l h2 queues
 queues_same l h h2 queues same keeps = record { count = keeps.count; room = keeps.room; each = λ i inside. keeps.each i inside ∙ sym (same (owner_at l i)) }
 
 pub stacks_same : (l : Bounds) (h h2 : List Event) (stacks : Lists) → ((w : ℕ) → stack h2 w ≡ stack h w) → KeepsStacks l h stacks → KeepsStacks l h2 stacks
@@ -36,3 +39,8 @@ list_all_append test (x ∷ xs) ys all more =
 -- the list that was written
 pub new_row : (rows : List (List ℕ)) (i s : ℕ) (new : List ℕ) → s < length rows → i ≡ s → get_or (set rows s new) i [] ≡ new
 new_row rows i s new within here = rw here (get_or-set_same rows s new [] within)
+
+-- the last of allowed events was allowed
+pub last_allowed : (pool : Pool) (before h : List Event) (e : Event) → AllowedFrom pool before (h ++ e ∷ []) → Allowed pool (before ++ h) e
+last_allowed pool before [] e so = rw append-nil (so.0)
+last_allowed pool before (f ∷ h) e so = rw append_assoc at (last_allowed pool (before ++ f ∷ []) h e so.1)

@@ -1,10 +1,10 @@
 -- Histories of plain tasks, to which nothing was closed, released or fired.
-use Rattle.std.proofs.Common.{ℕ, ◌≡◌, Bool, true, false, cond, List, [], ◌∷◌, length, Option, Some, None, refl, ap, sym, ◌∙◌}
+use Rattle.std.proofs.Common.{ℕ, ◌≡◌, ◌+◌, ◌≤◌, ◌<◌, Bool, true, false, cond, not, ◌&&◌, ◌||◌, List, [], ◌∷◌, ◌++◌, length, Option, Some, None, refl, ap, sym, ◌∙◌, arith}
 use Rattle.std.specs.Prelude.{◌==◌}
-use Rattle.std.specs.List.{filter_map, list_any, list_all, fold}
+use Rattle.std.specs.List.{filter, filter_map, list_any, list_all, cons_option, fold}
 use Rattle.std.proofs.lemmas.Bool.{and_parts}
 use Rattle.fj_model.specs.declared.event.Event.{Event}
-use Rattle.fj_model.specs.declared.event.Event.TheVariants.{Acc, Make, Out, Skip, End, Settle, Close, Stop, Rel}
+use Rattle.fj_model.specs.declared.event.Event.TheVariants.{Acc, Make, Out, Skip, End, Add, Dec, Fire, Pass, Hooked, Settle, Close, Stop, Rel}
 use Rattle.fj_model.specs.declared.kind.Kind.{Kind}
 use Rattle.fj_model.specs.declared.mode.Mode.{Mode}
 use Rattle.fj_model.specs.declared.mode.Mode.TheVariants.{Async, Joining}
@@ -14,9 +14,9 @@ use Rattle.fj_model.specs.Choices.{own_choice}
 use Rattle.fj_model.specs.Lists.{first_of, is_in, or_else, first_said}
 use Rattle.fj_model.specs.Headline.{keeps_order}
 use Rattle.fj_model.specs.declared.kind.Kind.TheVariants.{Plain, Completer}
-use Rattle.fj_model.specs.Queues.{pushed, pushed_by, queue}
+use Rattle.fj_model.specs.Queues.{pushed, pushed_by, queue, left}
 use Rattle.fj_model.specs.Tasks.{tasks, accepted, released, released_by, is_kept, live, kind, kind_by, is_completer, is_completer_kind}
-use Rattle.fj_model.specs.Hooks.{Hooks, hooks, hooks_after, no_hooks, hand}
+use Rattle.fj_model.specs.Hooks.{Hooks, hooks, hooks_after, no_hooks, hand, completer_in}
 use Rattle.fj_model.specs.Allowed.{is_close, is_stop, is_closed, is_stopped}
 use Rattle.fj_machine.specs.Holds.{is_plain}
 use Rattle.fj_model.specs.Places.{open_tasks, opened, place, place_of, queued_in, held_by, is_open}
@@ -86,9 +86,8 @@ unfolding hand hooks
 empty_hand h w plain = rw (hooks_none no_hooks h plain refl) refl
 
 plain_kind : (t : ℕ) (e : Event) → is_plain e ≡ true → is_completer_kind (kind_by t e) ≡ false
-plain_kind t (Acc u (Sub s) Plain) plain = elim (u == t) as (λ b. is_completer_kind (cond b (Some Plain) None) ≡ false) [ true ↦ refl | false ↦ refl ]
-plain_kind t (Acc u (Sub s) (Completer parent count relay)) plain = absurd cc
-plain_kind t (Acc u (Work w) k) plain = absurd cc
+plain_kind t (Acc u o Plain) plain = elim (u == t) as (λ b. is_completer_kind (cond b (Some Plain) None) ≡ false) [ true ↦ refl | false ↦ refl ]
+plain_kind t (Acc u o (Completer parent count relay)) plain = absurd cc
 plain_kind t (Make u k) plain = absurd cc
 plain_kind t _ plain = refl
 
@@ -105,27 +104,6 @@ no_completer_kind t (e ∷ h) plain =
 pub no_completer : (h : List Event) (t : ℕ) → IsPlain h → is_completer h t ≡ false
 unfolding is_completer kind
 no_completer h t plain = no_completer_kind t h plain
-
-no_fork : (w : ℕ) (e : Event) → is_plain e ≡ true → pushed_by (Work w) e ≡ None
-no_fork w (Acc t (Sub s) k) plain = refl
-no_fork w (Acc t (Work v) k) plain = absurd cc
-no_fork w _ plain = refl
-
--- nothing was forked
-pub empty_own : (h : List Event) (w : ℕ) → IsPlain h → queue h (Work w) ≡ []
-unfolding queue pushed
-empty_own h w plain = rw (none_say (pushed_by (Work w)) (no_fork w) h plain) refl
-
--- of an empty queue both modes take nothing
-pub none_own : (m : Mode) → own_choice m [] ≡ None
-none_own Async = refl
-none_own Joining = refl
-
--- a queue with a task is a submitter's, whose order each mode keeps
-pub filled_ordered : (m : Mode) (h : List Event) (o : Owner) (t : ℕ) → IsPlain h → first_of (queue h o) ≡ Some t → keeps_order m o ≡ true
-filled_ordered Async h o t plain filled = refl
-filled_ordered Joining h (Sub s) t plain filled = refl
-filled_ordered Joining h (Work w) t plain filled = let none : None ≡ Some t = ap first_of (sym (empty_own h w plain)) ∙ filled in absurd cc
 
 -- no task is open
 pub none_open : (h : List Event) → IsPlain h → open_tasks h ≡ []

@@ -1,16 +1,19 @@
 -- What a poll is answered.
-use Rattle.std.proofs.Common.{ℕ, ◌≡◌, ◌+◌, ◌≤◌, ◌<◌, true, false, List, length, Option, Some, None, refl, ap, ◌∙◌}
+use Rattle.std.proofs.Common.{ℕ, ◌≡◌, ◌≢◌, ◌+◌, ◌≤◌, ◌<◌, Bool, true, false, cond, not, List, [], ◌∷◌, ◌++◌, length, Option, Some, None, refl, ap, sym, ◌∙◌, arith, subst}
+use Rattle.std.specs.Prelude.{nat_lt, nat_le, if◌then◌else◌}
 use Rattle.std.proofs.lemmas.Bool.{le-leb, lt-leb, le-ltb, lt-ltb}
 use Rattle.fj_model.specs.declared.event.Event.{Event}
+use Rattle.fj_model.specs.declared.event.Event.TheVariants as event
 use Rattle.fj_model.specs.declared.step.Step.TheVariants.{Poll}
 use Rattle.fj_model.specs.declared.refusal.Refusal.TheVariants.{NoSuch, NotIdle, LogFull}
 use Rattle.fj_model.specs.Bounds.{Pool}
 use Rattle.fj_model.specs.Lists.{is_empty}
 use Rattle.fj_model.specs.Stacks.{stack}
+use Rattle.fj_model.specs.Hooks.{hand}
+use Rattle.fj_model.specs.Statuses.{status, is_undone}
 use Rattle.fj_model.specs.Choices.{choice}
 use Rattle.fj_model.specs.Answers.{answer, refusal_of, refusal_standing, events_of, reply_of, taking, taking_says}
 use Rattle.fj_machine.proofs.PlainHistories.{IsPlain, empty_hand}
-use Rattle.fj_machine.proofs.Submitting.{allowed}
 
 pub poll_no_such : (pool : Pool) (h : List Event) (w r : ℕ) → pool.limits.workers ≤ w → refusal_of pool h (Poll w r) ≡ Some NoSuch
 unfolding refusal_of refusal_standing
@@ -32,10 +35,6 @@ unfolding refusal_of refusal_standing events_of
 poll_stands pool h w r plain within idle fits =
     rw (lt-leb pool.limits.workers w within, empty_hand h w plain, idle, le-ltb pool.limits.events (length h + length (taking h w (choice pool h w r))) fits) refl
 
-pub poll_answer : (pool : Pool) (h : List Event) (w r : ℕ) (t : Option ℕ) → choice pool h w r ≡ t → refusal_of pool h (Poll w r) ≡ None
-    → answer pool h (Poll w r) ≡ (taking_says h t, taking h w t)
+pub poll_takes : (pool : Pool) (h : List Event) (w r : ℕ) → (events_of pool h (Poll w r) ≡ taking h w (choice pool h w r)) × (reply_of pool h (Poll w r) ≡ taking_says h (choice pool h w r))
 unfolding events_of reply_of
-poll_answer pool h w r t is none = allowed pool h (Poll w r) none ∙ ap (λ o. (taking_says h o, taking h w o)) is
-
-pub taking_one : (h : List Event) (w t : ℕ) → length (taking h w (Some t)) ≡ 1
-taking_one h w t = refl
+poll_takes pool h w r = (refl, refl)

@@ -1,5 +1,4 @@
 -- One of several lists is changed.
-use Rattle.fj_machine.specs.Rows.{first_filled}
 use Rattle.std.specs.List.{range_with_len}
 use Rattle.fj_model.specs.Lists.{is_empty}
 use Rattle.std.proofs.Common.{arith, cond, suc, ◌+◌, ◌-◌, ◌%◌, Some, slice_get, true, false, ◌∷◌, ℕ, ◌≡◌, ◌<◌, List, [], length, get_or, map, refl, ap, sym, ◌∙◌}
@@ -18,10 +17,6 @@ row_written items change vs i old new within is now =
 pub row_read : {V : Type 0} (items : V → List ℕ) (vs : List V) (i : ℕ) (v : V) → i < length vs → v ≡ get_or vs i v → items v ≡ get_or (map items vs) i []
 row_read items vs i v within is = ap items is ∙ sym (get_or-map items vs i v [] within)
 
-pub first_is : (xs : List ℕ) (x : ℕ) → 0 < length xs → x ≡ get_or xs 0 x → Some x ≡ slice_get xs 0
-first_is [] x some is = absurd (omega arith)
-first_is (y ∷ xs) x some is = ap Some is
-
 pub is_empty_no : (xs : List ℕ) → 0 < length xs → is_empty xs ≡ false
 is_empty_no [] some = absurd (omega arith)
 is_empty_no (x ∷ xs) some = refl
@@ -29,13 +24,6 @@ is_empty_no (x ∷ xs) some = refl
 pub is_empty_yes : (xs : List ℕ) → length xs ≡ 0 → is_empty xs ≡ true
 is_empty_yes [] none = refl
 is_empty_yes (x ∷ xs) none = absurd (omega arith)
-
--- the scan from a place on looks there first
-pub scan_step : (rows : List (List ℕ)) (start count i : ℕ) → i < count
-    → first_filled rows (map (λ k. (start + k) % count) (range_with_len i (count - i)))
-    ≡ cond (is_empty (get_or rows ((start + i) % count) [])) (first_filled rows (map (λ k. (start + k) % count) (range_with_len (i + 1) (count - (i + 1))))) (Some ((start + i) % count))
-scan_step rows start count i within =
-    let more : count - i ≡ suc (count - (i + 1)) = omega arith in rw more refl
 
 pub first_some : (xs : List ℕ) → 0 < length xs → (t : ℕ) × (slice_get xs 0 ≡ Some t)
 first_some [] some = absurd (omega arith)

@@ -1,43 +1,48 @@
 -- What is kept after a task was taken from a queue.
-use Rattle.std.proofs.Common.{zero, suc, ℕ, ◌≡◌, ◌<◌, Bool, true, List, [], ◌∷◌, ◌++◌, length, drop, get_or, Some, None, refl, ap, sym, ◌∙◌, arith, ⊎_elim, append_assoc, length-append}
+use Rattle.std.proofs.Common.{zero, suc, ℕ, ◌≡◌, ◌≢◌, ◌+◌, ◌-◌, ◌≤◌, ◌<◌, Bool, true, false, cond, not, List, [], ◌∷◌, ◌++◌, length, drop, get_or, Option, Some, None, refl, ap, sym, ◌∙◌, arith, subst, ⊎_elim, append_assoc, length-append}
+use Rattle.std.specs.Prelude.{◌==◌, nat_lt, if◌then◌else◌}
+use Rattle.std.specs.List.{list_all, cons_option}
 use Rattle.std.proofs.Math.ListN.{set, length-set}
-use Rattle.std.proofs.lemmas.List.{append-nil, get_or-set_other}
-use Rattle.std.proofs.lemmas.Bool.{or_right, eq-eqb, ne_eqb, cases_eq, ltb-true}
+use Rattle.std.proofs.lemmas.List.{append-nil, get_or-set_same, get_or-set_other}
+use Rattle.std.proofs.lemmas.Bool.{or_right, le-ltb, lt-ltb, eqb-true, eqb-false, eq-eqb, ne_eqb, cases_eq, cases_lt, ltb-true, ltb-false, true≢false}
 use Rattle.fj_model.specs.declared.event.Event.{Event}
 use Rattle.fj_model.specs.declared.event.Event.TheVariants as event
 use Rattle.fj_model.specs.declared.owner.Owner.{Owner}
+use Rattle.fj_model.specs.declared.owner.Owner.TheVariants.{Sub, Work}
+use Rattle.fj_model.specs.declared.mode.Mode.TheVariants.{Async}
 use Rattle.fj_model.specs.declared.place.Place.{Place}
 use Rattle.fj_model.specs.declared.place.Place.TheVariants.{Held, Gone}
 use Rattle.fj_model.specs.declared.status.Status.{Status}
 use Rattle.fj_model.specs.declared.status.Status.TheVariants.{Undone}
 use Rattle.fj_model.specs.Bounds.{Bounds, Pool, queues_in, owner_at}
 use Rattle.fj_machine.specs.Rows.{Lists, row_at, with_row}
-use Rattle.fj_model.specs.Lists.{is_in, first_of}
+use Rattle.fj_model.specs.Lists.{is_in, number_if, first_of, without}
 use Rattle.fj_model.specs.Tasks.{accepted, accepted_by}
-use Rattle.fj_model.specs.Queues.{queue, pushed_by, taken_by}
-use Rattle.fj_model.specs.Stacks.{stack}
+use Rattle.fj_model.specs.Queues.{queue, pushed, pushed_by, taken_by}
+use Rattle.fj_model.specs.Stacks.{stack, ended_by, out_by}
 use Rattle.fj_model.specs.Statuses.{status, status_by}
 use Rattle.fj_model.specs.Allowed.{Allowed, AllowedFrom}
 use Rattle.fj_model.specs.Headline.{keeps_order}
 use Rattle.fj_model.specs.Runs.{IsHistory}
 use Rattle.fj_machine.specs.Holds.{Holds, KeepsQueues, KeepsStacks, KeepsTasks, KeepsPlaces, KeepsGone, is_plain}
-use Rattle.fj_model.proofs.Members.{first_is_in, is_in_append}
+use Rattle.fj_model.proofs.Members.{first_is_in, get_is_in, is_in_append, Once}
 use Rattle.fj_model.proofs.Growth.{stack_same, stack_more, without_none, accepted_more}
 use Rattle.fj_model.proofs.Lawful.{queued_pushed, pushed_known, is_numbered}
 use Rattle.fj_model.proofs.Statuses.{status_same}
 use Rattle.fj_model.proofs.AnswersAllowed.{history_allowed}
-use Rattle.fj_model.proofs.Queues.{queue_take, queue_other}
-use Rattle.fj_machine.proofs.Parts.{list_all_append, new_row, stacks_same, tasks_same}
+use Rattle.fj_model.proofs.Queues.{queue_other, queue_without}
+use Rattle.fj_model.proofs.Counting.{without_first_one, without_last_one}
+use Rattle.fj_model.proofs.OnePlace.{queue_once}
+use Rattle.fj_queues.specs.Queues.{Lists as Waiting, queue_at, with_queue}
+use Rattle.fj_machine.specs.declared.source.Source.{Source}
+use Rattle.fj_machine.specs.declared.source.Source.TheVariants.{Oldest, Newest}
+use Rattle.fj_machine.specs.Sources.{queue_of, end_of, rest_of}
+use Rattle.fj_machine.proofs.Parts.{list_all_append, new_row, stacks_same, tasks_same, last_allowed}
 use Rattle.fj_model.proofs.PlacesKept.{place_held, place_gone}
 use Rattle.fj_machine.proofs.Leaving.{calm, gone_skipped, gone_after_out, gone_after_skip}
 use Rattle.fj_machine.proofs.Moving.{places_moved}
-use Rattle.fj_machine.proofs.PlainHistories.{IsPlain, filled_ordered}
+use Rattle.fj_machine.proofs.PlainHistories.{IsPlain}
 use Rattle.fj_model.proofs.Owners.{owners_apart}
-
--- the last of allowed events was allowed
-pub last_allowed : (pool : Pool) (before h : List Event) (e : Event) → AllowedFrom pool before (h ++ e ∷ []) → Allowed pool (before ++ h) e
-last_allowed pool before [] e so = rw append-nil (so.0)
-last_allowed pool before (f ∷ h) e so = rw append_assoc at (last_allowed pool (before ++ f ∷ []) h e so.1)
 
 -- an event that takes a task and leaves all but the queues and the stacks as they were
 pub record Takes (h : List Event) (e : Event) (t : ℕ) : Type 0 where
@@ -47,34 +52,44 @@ pub record Takes (h : List Event) (e : Event) (t : ℕ) : Type 0 where
   pub says : (u : ℕ) (b : Bool) → status_by u b e ≡ None
   pub plain : is_plain e ≡ true
 
-queues_after_take : (pool : Pool) (h : List Event) (queues : Lists) (q t : ℕ) (e : Event) → AllowedFrom pool [] h → Allowed pool h e → IsPlain h → q < queues_in pool.limits
-    → first_of (queue h (owner_at pool.limits q)) ≡ Some t → Takes h e t
-    → KeepsQueues pool.limits h queues → KeepsQueues pool.limits (h ++ e ∷ []) (with_row queues q (drop 1 (row_at queues q)))
-queues_after_take pool h queues q t e so may plain within first ev keeps =
-    let o = owner_at pool.limits q in
-    let new = drop 1 (row_at queues q) in
-    let ordered : keeps_order pool.mode o ≡ true = filled_ordered pool.mode h o t plain first in
-    let q_within : q < length queues.rows = omega (arith, keeps.count) in
+-- what is taken was there
+pub in_end : (source : Source) (ts : List ℕ) (t : ℕ) → end_of source ts ≡ Some t → is_in t ts ≡ true
+in_end (Oldest q) ts t at = first_is_in t ts at
+in_end (Newest q) ts t at = get_is_in t ts (length ts - 1) at
+
+-- a list that has each member once, without the one at an end
+rest_is : (source : Source) (ts : List ℕ) (t : ℕ) → Once ts → end_of source ts ≡ Some t → without ts (t ∷ []) ≡ rest_of source ts
+rest_is (Oldest q) ts t once at = without_first_one t ts once at
+rest_is (Newest q) ts t once at = without_last_one t ts once at
+
+queues_after_take : (pool : Pool) (h : List Event) (queues : Waiting) (source : Source) (t : ℕ) (e : Event) → AllowedFrom pool [] h → queue_of source < queues_in pool.limits
+    → end_of source (queue h (owner_at pool.limits (queue_of source))) ≡ Some t → Takes h e t
+    → KeepsQueues pool.limits h queues → KeepsQueues pool.limits (h ++ e ∷ []) (with_queue queues (queue_of source) (rest_of source (queue_at queues (queue_of source))))
+queues_after_take pool h queues source t e so within at ev keeps =
+    let q = queue_of source in
+    let o = owner_at pool.limits (queue_of source) in
+    let new = rest_of source (queue_at queues q) in
+    let inside : q < length queues.lists = omega (arith, keeps.count) in
     record {
-      count = length-set queues.rows q new ∙ keeps.count;
+      count = length-set queues.lists q new ∙ keeps.count;
       room = keeps.room;
-      each = λ i inside. ⊎_elim
-          (λ here. new_row queues.rows i q new q_within here
-          ∙ ap (drop 1) (keeps.each q within)
-          ∙ sym (queue_take pool h e o t so may ordered (ev.pushes o) ev.takes first)
+      each = λ i below. ⊎_elim
+          (λ here. new_row queues.lists i q new inside here
+          ∙ ap (rest_of source) (keeps.each q within)
+          ∙ sym (queue_without h e o t (ev.pushes o) ev.takes ∙ rest_is source (queue h o) t (queue_once pool h o so) at)
           ∙ ap (queue (h ++ e ∷ [])) (ap (owner_at pool.limits) (sym here)))
-          (λ other. get_or-set_other queues.rows q i new [] other ∙ keeps.each i inside
+          (λ other. get_or-set_other queues.lists q i new [] other ∙ keeps.each i below
           ∙ sym (queue_other pool h e (owner_at pool.limits i) o t so (ev.pushes (owner_at pool.limits i)) ev.takes
-          (queued_pushed h o t (first_is_in t (queue h o) first)) (λ is. other (owners_apart pool.limits i q is))))
+          (queued_pushed h o t (in_end source (queue h o) t at)) (λ is. other (owners_apart pool.limits i q is))))
           (cases_eq i q);
     }
 
-taken_holds : (pool : Pool) (h : List Event) (queues stacks stacks2 : Lists) (statuses : List Status) (places places2 : List Place) (gones gones2 : List ℕ) (q t : ℕ) (e : Event)
-    → Holds pool h queues stacks statuses places gones → q < queues_in pool.limits → first_of (queue h (owner_at pool.limits q)) ≡ Some t
+taken_holds : (pool : Pool) (h : List Event) (queues : Waiting) (stacks stacks2 : Lists) (statuses : List Status) (places places2 : List Place) (gones gones2 : List ℕ) (source : Source) (t : ℕ) (e : Event)
+    → Holds pool h queues stacks statuses places gones → queue_of source < queues_in pool.limits → end_of source (queue h (owner_at pool.limits (queue_of source))) ≡ Some t
     → Takes h e t → IsHistory pool (h ++ e ∷ []) → length h < pool.limits.events
     → KeepsStacks pool.limits (h ++ e ∷ []) stacks2 → KeepsPlaces (h ++ e ∷ []) places2 → KeepsGone (h ++ e ∷ []) gones2
-    → Holds pool (h ++ e ∷ []) (with_row queues q (drop 1 (row_at queues q))) stacks2 statuses places2 gones2
-taken_holds pool h queues stacks stacks2 statuses places places2 gones gones2 q t e holds within first ev run fits stacks_kept places_kept gone_kept =
+    → Holds pool (h ++ e ∷ []) (with_queue queues (queue_of source) (rest_of source (queue_at queues (queue_of source)))) stacks2 statuses places2 gones2
+taken_holds pool h queues stacks stacks2 statuses places places2 gones gones2 source t e holds within first ev run fits stacks_kept places_kept gone_kept =
     let so = history_allowed pool h holds.run in
     let may : Allowed pool h e = last_allowed pool [] h e (history_allowed pool (h ++ e ∷ []) run) in
     record {
@@ -82,7 +97,7 @@ taken_holds pool h queues stacks stacks2 statuses places places2 gones gones2 q 
       run = run;
       plain = list_all_append is_plain h (e ∷ []) holds.plain (rw ev.plain refl);
       fits = omega (arith, length-append h (e ∷ []));
-      queues_kept = queues_after_take pool h queues q t e so may holds.plain within first ev holds.queues_kept;
+      queues_kept = queues_after_take pool h queues source t e so within first ev holds.queues_kept;
       stacks_kept = stacks_kept;
       tasks_kept = tasks_same pool.limits h (h ++ e ∷ []) statuses (accepted_more h e ∙ rw ev.accepts (omega arith)) (λ u. status_same h e u (ev.says u)) holds.tasks_kept;
       places_kept = places_kept;
@@ -114,41 +129,40 @@ stacks_after_out l h stacks w t within keeps = record {
 }
 
 -- a queued task is one of those accepted
-pub queued_number : (pool : Pool) (h : List Event) (o : Owner) (t : ℕ) → AllowedFrom pool [] h → first_of (queue h o) ≡ Some t → t < accepted h
-queued_number pool h o t so first =
-    ltb-true t (accepted h) (sym (is_numbered pool h so t) ∙ pushed_known h o t (queued_pushed h o t (first_is_in t (queue h o) first)))
+pub queued_number : (pool : Pool) (h : List Event) (o : Owner) (t : ℕ) → AllowedFrom pool [] h → is_in t (queue h o) ≡ true → t < accepted h
+queued_number pool h o t so there = ltb-true t (accepted h) (sym (is_numbered pool h so t) ∙ pushed_known h o t (queued_pushed h o t there))
 
 -- what is kept after the first task of a queue was skipped
-pub skipped_holds : (pool : Pool) (h : List Event) (queues stacks : Lists) (statuses : List Status) (places : List Place) (gones : List ℕ) (q t w : ℕ)
-    → Holds pool h queues stacks statuses places gones → q < queues_in pool.limits → first_of (queue h (owner_at pool.limits q)) ≡ Some t
+pub skipped_holds : (pool : Pool) (h : List Event) (queues : Waiting) (stacks : Lists) (statuses : List Status) (places : List Place) (gones : List ℕ) (source : Source) (t w : ℕ)
+    → Holds pool h queues stacks statuses places gones → queue_of source < queues_in pool.limits → end_of source (queue h (owner_at pool.limits (queue_of source))) ≡ Some t
     → IsHistory pool (h ++ event.Skip t w ∷ []) → length h < pool.limits.events
-    → Holds pool (h ++ event.Skip t w ∷ []) (with_row queues q (drop 1 (row_at queues q))) stacks statuses (set places t Gone) (gones ++ t ∷ [])
-skipped_holds pool h queues stacks statuses places gones q t w holds within first run fits =
+    → Holds pool (h ++ event.Skip t w ∷ []) (with_queue queues (queue_of source) (rest_of source (queue_at queues (queue_of source)))) stacks statuses (set places t Gone) (gones ++ t ∷ [])
+skipped_holds pool h queues stacks statuses places gones source t w holds within first run fits =
     let e = event.Skip t w in
     let so = history_allowed pool h holds.run in
     let may : Allowed pool h e = last_allowed pool [] h e (history_allowed pool (h ++ e ∷ []) run) in
-    let o = owner_at pool.limits q in
+    let o = owner_at pool.limits (queue_of source) in
     let plain2 = list_all_append is_plain h (e ∷ []) holds.plain refl in
-    taken_holds pool h queues stacks stacks statuses places (set places t Gone) gones (gones ++ t ∷ []) q t e holds within first (skip_takes h t w) run fits
+    taken_holds pool h queues stacks stacks statuses places (set places t Gone) gones (gones ++ t ∷ []) source t e holds within first (skip_takes h t w) run fits
     (stacks_same pool.limits h (h ++ e ∷ []) stacks (λ v. stack_same h v e refl refl) holds.stacks_kept)
-    (places_moved pool h e places t Gone so may refl (queued_number pool h o t so first) (place_gone (h ++ e ∷ []) t (gone_skipped pool h t w o plain2 (first_is_in t (queue h o) first)))
+    (places_moved pool h e places t Gone so may refl (queued_number pool h o t so (in_end source (queue h o) t first)) (place_gone (h ++ e ∷ []) t (gone_skipped pool h t w o plain2 (in_end source (queue h o) t first)))
     (λ u other. calm h e u holds.plain (λ is. other (sym cc)) (λ v is. cc)) holds.places_kept)
-    (gone_after_skip pool h gones t w o so may holds.plain plain2 (first_is_in t (queue h o) first) holds.gone_kept)
+    (gone_after_skip pool h gones t w o so may holds.plain plain2 (in_end source (queue h o) t first) holds.gone_kept)
 
 -- what is kept after the first task of a queue was handed out
-pub handed_holds : (pool : Pool) (h : List Event) (queues stacks : Lists) (statuses : List Status) (places : List Place) (gones : List ℕ) (q t w : ℕ)
-    → Holds pool h queues stacks statuses places gones → q < queues_in pool.limits → first_of (queue h (owner_at pool.limits q)) ≡ Some t → w < pool.limits.workers
+pub handed_holds : (pool : Pool) (h : List Event) (queues : Waiting) (stacks : Lists) (statuses : List Status) (places : List Place) (gones : List ℕ) (source : Source) (t w : ℕ)
+    → Holds pool h queues stacks statuses places gones → queue_of source < queues_in pool.limits → end_of source (queue h (owner_at pool.limits (queue_of source))) ≡ Some t → w < pool.limits.workers
     → IsHistory pool (h ++ event.Out t w ∷ []) → length h < pool.limits.events
-    → Holds pool (h ++ event.Out t w ∷ []) (with_row queues q (drop 1 (row_at queues q))) (with_row stacks w (row_at stacks w ++ t ∷ [])) statuses (set places t (Held w)) gones
-handed_holds pool h queues stacks statuses places gones q t w holds within first worker run fits =
+    → Holds pool (h ++ event.Out t w ∷ []) (with_queue queues (queue_of source) (rest_of source (queue_at queues (queue_of source)))) (with_row stacks w (row_at stacks w ++ t ∷ [])) statuses (set places t (Held w)) gones
+handed_holds pool h queues stacks statuses places gones source t w holds within first worker run fits =
     let e = event.Out t w in
     let so = history_allowed pool h holds.run in
     let may : Allowed pool h e = last_allowed pool [] h e (history_allowed pool (h ++ e ∷ []) run) in
     let held : is_in t (stack (h ++ e ∷ []) w) ≡ true =
     ap (is_in t) (stack_out h w t) ∙ is_in_append t (stack h w) (t ∷ []) ∙ or_right (is_in t (stack h w)) (is_in t (t ∷ [])) (rw (eq-eqb t t refl) refl) in
-    taken_holds pool h queues stacks (with_row stacks w (row_at stacks w ++ t ∷ [])) statuses places (set places t (Held w)) gones gones q t e holds within first (out_takes_it h t w) run fits
+    taken_holds pool h queues stacks (with_row stacks w (row_at stacks w ++ t ∷ [])) statuses places (set places t (Held w)) gones gones source t e holds within first (out_takes_it h t w) run fits
     (stacks_after_out pool.limits h stacks w t worker holds.stacks_kept)
-    (places_moved pool h e places t (Held w) so may refl (queued_number pool h (owner_at pool.limits q) t so first) (place_held pool (h ++ e ∷ []) w t (history_allowed pool (h ++ e ∷ []) run) held)
+    (places_moved pool h e places t (Held w) so may refl (queued_number pool h (owner_at pool.limits (queue_of source)) t so (in_end source (queue h (owner_at pool.limits (queue_of source))) t first)) (place_held pool (h ++ e ∷ []) w t (history_allowed pool (h ++ e ∷ []) run) held)
     (λ u other. calm h e u holds.plain (λ is. other (sym cc)) (λ v is. cc)) holds.places_kept)
     (gone_after_out pool h gones t w so holds.plain held holds.gone_kept)
 

@@ -3,7 +3,6 @@ use Rattle.std.specs.Prelude.{ℕ, ◌≡◌, ◌≤◌, ◌<◌, Bool, true, fa
 use Rattle.std.specs.List.{list_all}
 use Rattle.fj_model.specs.declared.event.Event.{Event}
 use Rattle.fj_model.specs.declared.event.Event.TheVariants.{Acc, Out, Skip, End, Settle}
-use Rattle.fj_model.specs.declared.owner.Owner.TheVariants.{Sub}
 use Rattle.fj_model.specs.declared.kind.Kind.TheVariants.{Plain}
 use Rattle.fj_model.specs.declared.place.Place.{Place}
 use Rattle.fj_model.specs.declared.place.Place.TheVariants.{Gone}
@@ -16,11 +15,12 @@ use Rattle.fj_model.specs.Stacks.{stack}
 use Rattle.fj_model.specs.Statuses.{status}
 use Rattle.fj_model.specs.Places.{place, gone}
 use Rattle.fj_model.specs.Runs.{IsHistory}
+use Rattle.fj_queues.specs.Queues.{Lists as Waiting, queue_at}
 use Rattle.fj_machine.specs.Rows.{Lists, row_at}
 
 -- an event of the steps that are built
 abbrev pub is_plain : Event → Bool
-is_plain (Acc t (Sub s) Plain) = true
+is_plain (Acc t o Plain) = true
 is_plain (Out t w) = true
 is_plain (Skip t w) = true
 is_plain (End t w) = true
@@ -28,10 +28,10 @@ is_plain (Settle t s) = true
 is_plain _ = false
 
 -- one list for each owner, by the queue's number
-pub record KeepsQueues (l : Bounds) (h : List Event) (queues : Lists) : Type 0 where
-  pub count : length queues.rows ≡ queues_in l
+pub record KeepsQueues (l : Bounds) (h : List Event) (queues : Waiting) : Type 0 where
+  pub count : length queues.lists ≡ queues_in l
   pub room : queues.room ≡ l.tasks
-  pub each : (i : ℕ) → i < queues_in l → row_at queues i ≡ queue h (owner_at l i)
+  pub each : (i : ℕ) → i < queues_in l → queue_at queues i ≡ queue h (owner_at l i)
 
 -- one list for each worker
 pub record KeepsStacks (l : Bounds) (h : List Event) (stacks : Lists) : Type 0 where
@@ -56,7 +56,7 @@ pub record KeepsGone (h : List Event) (gones : List ℕ) : Type 0 where
   pub few : length gones ≤ length h
 
 -- all that is kept, and that the history is one of a run and within the limit
-pub record Holds (pool : Pool) (h : List Event) (queues stacks : Lists) (statuses : List Status) (places : List Place) (gones : List ℕ) : Type 0 where
+pub record Holds (pool : Pool) (h : List Event) (queues : Waiting) (stacks : Lists) (statuses : List Status) (places : List Place) (gones : List ℕ) : Type 0 where
   pub within : IsWithin pool.limits.workers pool.limits.submitters pool.limits.tasks pool.limits.events
   pub run : IsHistory pool h
   pub plain : list_all is_plain h ≡ true

@@ -1,4 +1,4 @@
 pub mod Rows
 pub mod Logs
 pub mod Holds
-pub mod Chosen
+pub mod Sources

@@ -8,9 +8,12 @@ mod log;
 mod machine;
 mod rows;
 mod runs;
+mod source;
 
 pub use machine::Machine;
 pub use runs::run;
 
 #[cfg(test)]
 mod tests;
+#[cfg(test)]
+mod thread_tests;

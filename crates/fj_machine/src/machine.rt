@@ -8,17 +8,19 @@ ghost use Rattle.fj_model.specs.Runs.{Steps, IsHistory, fresh};
 ghost use Rattle.fj_model.specs.Headline.{Headline, RepliesTell};
 ghost use Rattle.fj_model.specs.declared.refusal.Refusal.{Refusal as RefusalCase};
 
+mod accept;
+mod choose;
 mod endings;
 mod queries;
-mod submit;
 mod take;
 
 use crate::log::Log;
 use crate::rows::Rows;
 use fj_model::{
-    Ending, Event, Limits, Mode, Owner, Place, Refusal, Said, Serial, Status, Step, SubmittedKind,
-    WorkerId,
+    Ending, Event, Kind, Limits, Mode, Owner, Place, Refusal, Said, Serial, Status, Step,
+    SubmittedKind, WorkerId,
 };
+use fj_queues::{Numbers, Queues};
 use std::alloc::{AllocError, Global};
 use std::marker::Model;
 
@@ -30,7 +32,7 @@ pub struct Machine {
     mode: Mode,
     limits: Limits,
     log: Log,
-    queues: Rows,
+    queues: Queues,
     stacks: Rows,
     statuses: Vec<Status>,
     places: Vec<Place>,
@@ -73,7 +75,7 @@ impl Machine {
             mode,
             limits,
             log: Log::new(alloc, events)?,
-            queues: Rows::new(alloc, queues, tasks)?,
+            queues: Queues::new(alloc, queues, tasks)?,
             stacks: Rows::new(alloc, workers, tasks)?,
             statuses: Vec::with_capacity(alloc, tasks)?,
             places: Vec::with_capacity(alloc, tasks)?,
@@ -91,12 +93,12 @@ impl Machine {
     }
 
     /// The tasks in an owner's queue, the oldest first. There are none for an owner that is not there.
-    pub fn queue(&self, owner: Owner) -> &[Serial]
-        ensures { result.now ≡ queue self.now.events owner }
+    pub fn queue(&self, owner: Owner) -> Numbers<'_>
+        ensures { result ≡ queue self.now.events owner }
     {
         match self.limits.find_queue(owner) {
-            None => Rows::none(),
-            Some(number) => self.queues.row(number),
+            None => Numbers::none(),
+            Some(number) => self.queues.numbers(number),
         }
     }
 
@@ -149,7 +151,13 @@ impl Machine {
                 SubmittedKind::Plain => self.submit(s),
                 SubmittedKind::Completer { .. } => Said::Refused(Refusal::NotYet),
             },
+            Step::Fork { w, kind } => match kind {
+                Kind::Plain => self.fork(w),
+                Kind::Completer { .. } => Said::Refused(Refusal::NotYet),
+            },
             Step::Poll { w, r } => self.poll(w, r),
+            Step::Help { w, r } => self.help(w, r),
+            Step::Join { w, t, r } => self.join(w, t, r),
             Step::End { w, ending } => match ending {
                 Ending::Ok => self.end_ok(w),
                 Ending::Quiet | Ending::Try | Ending::Pass | Ending::Complete | Ending::Fail(_) =>

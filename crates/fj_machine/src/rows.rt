@@ -1,5 +1,5 @@
 ghost use Rattle.std.specs.Prelude.{◌≡◌, ◌<◌, ◌≤◌, ◌∷◌, [], ◌++◌, None, Some, length, drop, IfOk, replicate, ◌^◌, ◌≢◌, ◌-◌, take};
-ghost use Rattle.fj_machine.specs.Rows.{row_at, with_row, first_filled, places_from};
+ghost use Rattle.fj_machine.specs.Rows.{row_at, with_row};
 ghost use Rattle.fj_model.specs.Lists.{is_empty, first_of, last_of};
 ghost use Rattle.std.specs.List.{list_all};
 
@@ -94,16 +94,6 @@ impl Rows {
         self.rows[i].push_reserved(t);
     }
 
-    /// Takes the first number of a list.
-    pub fn take_first(&mut self, i: usize) -> Serial
-        requires within { i < length self.old.rows }
-        requires filled { 0 < length (row_at self.old i) }
-        ensures taken { Some result ≡ first_of (row_at self.old i) }
-        ensures rest { self.new ≡ with_row self.old i (drop 1 (row_at self.old i)) }
-    {
-        self.rows[i].remove(0)
-    }
-
     /// Takes the last number of a list, which is that one.
     pub fn take_last(&mut self, i: usize)
         requires within { i < length self.old.rows }
@@ -112,36 +102,5 @@ impl Rows {
     {
         let row = &mut self.rows[i];
         row.truncate(row.len() - 1);
-    }
-
-    /// The first list that is not empty from a place on, round past the last one.
-    pub fn first_from(&self, start: usize) -> Option<usize>
-        requires some { 0 < length self.now.rows }
-        requires few { length self.now.rows < 2 ^ 32 }
-        requires small { start < 2 ^ 32 }
-        ensures { result ≡ first_filled self.now.rows (places_from (length self.now.rows) start) }
-    {
-        let count = self.rows.len();
-        for i in 0..count {
-            let at = (start + i) % count;
-            if !self.rows[at].is_empty() {
-                return Some(at);
-            }
-        }
-        None
-    }
-
-    /// The place itself, if its list is not empty, and else the first one from another place on.
-    pub fn first_at(&self, own: usize, start: usize) -> Option<usize>
-        requires own { own < length self.now.rows }
-        requires few { length self.now.rows < 2 ^ 32 }
-        requires small { start < 2 ^ 32 }
-        ensures { result ≡ first_filled self.now.rows (own ∷ places_from (length self.now.rows) start) }
-    {
-        if self.rows[own].is_empty() {
-            self.first_from(start)
-        } else {
-            Some(own)
-        }
     }
 }

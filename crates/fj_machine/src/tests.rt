@@ -24,6 +24,33 @@ const fn end_ok(w: u32) -> Step {
     }
 }
 
+const fn fork(w: u32) -> Step {
+    Step::Fork {
+        w: WorkerId(w),
+        kind: Kind::Plain,
+    }
+}
+
+const fn help(w: u32, r: u32) -> Step {
+    Step::Help { w: WorkerId(w), r }
+}
+
+const fn join(w: u32, t: u64, r: u32) -> Step {
+    Step::Join {
+        w: WorkerId(w),
+        t: Serial(t),
+        r,
+    }
+}
+
+const fn task(t: u64) -> Said {
+    Said::Task(Serial(t))
+}
+
+const fn started(t: u64) -> Said {
+    Said::Run(Serial(t))
+}
+
 fn ran(
     alloc: Global,
     workers: u32,
@@ -34,6 +61,19 @@ fn ran(
 ) -> Result<(Machine, Vec<Said>), Fail> {
     let limits = Limits::new(workers, submitters, tasks, events)?;
     Ok(run(alloc, Mode::Async, limits, steps)?)
+}
+
+// The replies of a pool in this mode, with room for 64 events.
+fn replies_in(
+    alloc: Global,
+    mode: Mode,
+    workers: u32,
+    tasks: u32,
+    steps: &[Step],
+) -> Result<Vec<Said>, Fail> {
+    let limits = Limits::new(workers, 1, tasks, 64)?;
+    let (_, replies) = run(alloc, mode, limits, steps)?;
+    Ok(replies)
 }
 
 // The last of the replies.
@@ -100,9 +140,11 @@ fn each_list_has_its_tasks(rt: HostRuntime) -> Result<(), Fail> {
         poll(0, 1),
     ];
     let (machine, _) = ran(rt.alloc(), 1, 2, 8, 64, &steps)?;
-    assert_eq!(rt; machine.queue(Owner::Sub(SubId(0))), [Serial(0)].as_slice());
-    assert_eq!(rt; machine.queue(Owner::Sub(SubId(1))).len(), 0);
-    assert_eq!(rt; machine.queue(Owner::Work(WorkerId(0))).len(), 0);
+    let mut queued = machine.queue(Owner::Sub(SubId(0)));
+    assert_eq!(rt; queued.next(), Some(Serial(0)));
+    assert_eq!(rt; queued.next(), None);
+    assert_eq!(rt; machine.queue(Owner::Sub(SubId(1))).next(), None);
+    assert_eq!(rt; machine.queue(Owner::Work(WorkerId(0))).next(), None);
     assert_eq!(rt; machine.stack(WorkerId(0)), [Serial(2)].as_slice());
     assert_eq!(rt; machine.open().len(), 0);
     assert_eq!(rt; machine.gone(), [Serial(1)].as_slice());
@@ -112,8 +154,8 @@ fn each_list_has_its_tasks(rt: HostRuntime) -> Result<(), Fail> {
 #[test]
 fn who_is_not_there_has_nothing(rt: HostRuntime) -> Result<(), Fail> {
     let (machine, _) = ran(rt.alloc(), 1, 1, 1, 4, &[submit(0)])?;
-    assert_eq!(rt; machine.queue(Owner::Sub(SubId(1))).len(), 0);
-    assert_eq!(rt; machine.queue(Owner::Work(WorkerId(1))).len(), 0);
+    assert_eq!(rt; machine.queue(Owner::Sub(SubId(1))).next(), None);
+    assert_eq!(rt; machine.queue(Owner::Work(WorkerId(1))).next(), None);
     assert_eq!(rt; machine.stack(WorkerId(7)).len(), 0);
     Ok(())
 }
@@ -145,9 +187,9 @@ fn each_refusal_comes_in_its_place(rt: HostRuntime) -> Result<(), Fail> {
 #[test]
 fn questions_change_nothing(rt: HostRuntime) -> Result<(), Fail> {
     let state = |t| Step::State { t: Serial(t) };
-    let fork = Step::Fork {
+    let trigger = Step::Trigger {
         w: WorkerId(0),
-        kind: Kind::Plain,
+        count: 0,
     };
     let steps = [
         Step::IsQuiescent,
@@ -155,7 +197,7 @@ fn questions_change_nothing(rt: HostRuntime) -> Result<(), Fail> {
         state(0),
         state(1),
         Step::IsQuiescent,
-        fork,
+        trigger,
         poll(0, 0),
         state(0),
         Step::IsQuiescent,
@@ -180,6 +222,90 @@ fn questions_change_nothing(rt: HostRuntime) -> Result<(), Fail> {
     ];
     assert_eq!(rt; replies.as_slice(), expected.as_slice());
     assert_eq!(rt; machine.history().len(), 4);
+    Ok(())
+}
+
+// A worker takes its own oldest task in async mode and its newest in joining mode; a thief takes the oldest in both.
+#[test]
+fn who_forks_takes_by_the_mode(rt: HostRuntime) -> Result<(), Fail> {
+    let steps = [
+        submit(0),
+        poll(0, 0),
+        fork(0),
+        fork(0),
+        fork(0),
+        help(0, 0),
+        poll(1, 0),
+    ];
+    for (mode, helped, stolen) in [(Mode::Joining, 3, 1), (Mode::Async, 1, 2)] {
+        let replies = replies_in(rt.alloc(), mode, 2, 8, &steps)?;
+        let expected = [
+            task(0),
+            started(0),
+            task(1),
+            task(2),
+            task(3),
+            started(helped),
+            started(stolen),
+        ];
+        assert_eq!(rt; replies.as_slice(), expected.as_slice());
+    }
+    Ok(())
+}
+
+// A join of the worker's own running task is refused; one of an undone task helps; one of a done task tells its status.
+#[test]
+fn joins_help_until_the_task_is_done(rt: HostRuntime) -> Result<(), Fail> {
+    let steps = [
+        submit(0),
+        poll(0, 0),
+        join(0, 0, 0),
+        fork(0),
+        fork(0),
+        join(0, 2, 0),
+        end_ok(0),
+        join(0, 1, 0),
+    ];
+    let replies = replies_in(rt.alloc(), Mode::Async, 1, 4, &steps)?;
+    let expected = [
+        task(0),
+        started(0),
+        Said::Refused(Refusal::OwnStack),
+        task(1),
+        task(2),
+        started(1),
+        Said::Done,
+        Said::Normal,
+    ];
+    assert_eq!(rt; replies.as_slice(), expected.as_slice());
+    let replies = replies_in(rt.alloc(), Mode::Joining, 1, 4, &steps[..6])?;
+    assert_eq!(rt; last(&replies), Some(started(2)));
+    Ok(())
+}
+
+#[test]
+fn forks_helps_and_joins_are_refused_in_order(rt: HostRuntime) -> Result<(), Fail> {
+    let alloc = rt.alloc();
+    for step in [fork(1), help(1, 0), join(1, 0, 0)] {
+        let (_, replies) = ran(alloc, 1, 1, 1, 64, &[step])?;
+        assert_eq!(rt; last(&replies), Some(Said::Refused(Refusal::NoSuch)));
+    }
+    for step in [fork(0), help(0, 0), join(0, 0, 0)] {
+        let (_, replies) = ran(alloc, 1, 1, 1, 64, &[submit(0), step])?;
+        assert_eq!(rt; last(&replies), Some(Said::Refused(Refusal::NotRunning)));
+    }
+    let (_, replies) = ran(alloc, 1, 1, 1, 64, &[submit(0), poll(0, 0), join(0, 1, 0)])?;
+    assert_eq!(rt; last(&replies), Some(Said::Refused(Refusal::Unknown)));
+    let (_, replies) = ran(alloc, 1, 1, 1, 64, &[submit(0), poll(0, 0), fork(0)])?;
+    assert_eq!(rt; last(&replies), Some(Said::Refused(Refusal::TooManyTasks)));
+    let (_, replies) = ran(alloc, 1, 1, 2, 2, &[submit(0), poll(0, 0), fork(0)])?;
+    assert_eq!(rt; last(&replies), Some(Said::Refused(Refusal::LogFull)));
+    let full = [submit(0), poll(0, 0), fork(0), help(0, 0)];
+    let (_, replies) = ran(alloc, 1, 1, 2, 3, &full)?;
+    assert_eq!(rt; last(&replies), Some(Said::Refused(Refusal::LogFull)));
+    let full = [submit(0), poll(0, 0), fork(0), join(0, 1, 0)];
+    let (_, replies) = ran(alloc, 1, 1, 2, 3, &full)?;
+    assert_eq!(rt; last(&replies), Some(Said::Refused(Refusal::LogFull)));
     Ok(())
 }
 

@@ -18,7 +18,7 @@ use Rattle.fj_model.specs.declared.status.Status.TheVariants as status_is
 use Rattle.fj_model.specs.declared.step.Ending.{Ending}
 use Rattle.fj_model.specs.declared.step.Ending.TheVariants as ending
 use Rattle.fj_model.specs.declared.step.Step.{Step}
-use Rattle.fj_model.specs.declared.step.Step.TheVariants.{Submit, Poll, End, IsQuiescent, State}
+use Rattle.fj_model.specs.declared.step.Step.TheVariants.{Submit, Fork, Poll, Help, Join, End, IsQuiescent, State}
 use Rattle.fj_model.specs.declared.refusal.Refusal.{Refusal}
 use Rattle.fj_model.specs.declared.refusal.Refusal.TheVariants.{LogFull}
 use Rattle.fj_model.specs.declared.said.Said.{Said}
@@ -197,6 +197,26 @@ unfolding events_of
 poll_allowed pool h w r st =
     taking_allowed pool h w r (leb-false pool.limits.workers w st.tests.0) (some_or_none (hand h w) st.tests.1.0) (choice pool h w r) refl
 
+fork_allowed : (pool : Pool) (h : List Event) (w : ℕ) → AllowedFrom pool [] h → Stands pool h (Fork w Plain) → AllowedFrom pool h (events_of pool h (Fork w Plain))
+unfolding events_of
+fork_allowed pool h w so st =
+    let unstopped = st.tests.1.1.1.1.1.0 in
+    let room : live h < pool.limits.tasks = omega (arith, few_live pool h so, eqb-false (live h) pool.limits.tasks st.tests.1.1.1.1.1.1.1.0) in
+    ((record { number = refl; room = room; under = tt; count = omega arith }, leb-false pool.limits.workers w st.tests.0, unstopped), tt)
+
+help_allowed : (pool : Pool) (h : List Event) (w r : ℕ) → Stands pool h (Help w r) → AllowedFrom pool h (events_of pool h (Help w r))
+unfolding events_of
+help_allowed pool h w r st =
+    taking_allowed pool h w r (leb-false pool.limits.workers w st.tests.0) (some_or_none (hand h w) st.tests.1.0) (choice pool h w r) refl
+
+join_allowed : (pool : Pool) (h : List Event) (w t r : ℕ) → Stands pool h (Join w t r) → AllowedFrom pool h (events_of pool h (Join w t r))
+unfolding events_of
+join_allowed pool h w t r st = go (is_undone (status h t))
+  where
+    go : (b : Bool) → AllowedFrom pool h (if b then taking h w (choice pool h w r) else [])
+    go true = taking_allowed pool h w r (leb-false pool.limits.workers w st.tests.0) (some_or_none (hand h w) st.tests.1.0) (choice pool h w r) refl
+    go false = tt
+
 -- the end of a body is no acceptance
 end_kind : (t u w : ℕ) (h : List Event) → is_completer h t ≡ false → is_completer (h ++ event.End u w ∷ []) t ≡ false
 unfolding is_completer
@@ -233,6 +253,9 @@ step_allowed : (pool : Pool) (h : List Event) (asked : Step) → AllowedFrom poo
 unfolding refusal_of
 step_allowed pool h (Submit s submitted.Plain) so none = submit_allowed pool h s so (stands pool h (Submit s submitted.Plain) none)
 step_allowed pool h (Poll w r) so none = poll_allowed pool h w r (stands pool h (Poll w r) none)
+step_allowed pool h (Fork w Plain) so none = fork_allowed pool h w so (stands pool h (Fork w Plain) none)
+step_allowed pool h (Help w r) so none = help_allowed pool h w r (stands pool h (Help w r) none)
+step_allowed pool h (Join w t r) so none = join_allowed pool h w t r (stands pool h (Join w t r) none)
 step_allowed pool h IsQuiescent so none = quiet_allowed pool h
 step_allowed pool h (State t) so none = state_allowed pool h t
 step_allowed pool h (End w ending.Ok) so none = end_allowed pool h w so (stands pool h (End w ending.Ok) none)

@@ -56,7 +56,7 @@ last_then t (x ∷ y ∷ xs) is =
     let shorter : length (x ∷ y ∷ xs) - 1 ≡ suc (length (y ∷ xs) - 1) = omega arith in
     rw shorter (ap (λ ys. x ∷ ys) (last_then t (y ∷ xs) (rw shorter at is)))
 
-without_last : (xs : List ℕ) (t : ℕ) → Once (xs ++ t ∷ []) → without (xs ++ t ∷ []) (t ∷ []) ≡ xs
+pub without_last : (xs : List ℕ) (t : ℕ) → Once (xs ++ t ∷ []) → without (xs ++ t ∷ []) (t ∷ []) ≡ xs
 without_last xs t once =
     filter-append (λ u. not (is_in u (t ∷ []))) xs (t ∷ [])
     ∙ rw (eq-eqb t t refl) (append-nil (without xs (t ∷ [])) ∙ filter_all (λ u. not (is_in u (t ∷ []))) xs (λ x there. other x there (t == x) refl))

@@ -23,3 +23,4 @@ pub mod FormLaws
 pub mod StepLaws
 pub mod HeadLaws
 pub mod LineLaws
+pub mod Counting

@@ -76,7 +76,7 @@ number_owner : (l : Bounds) (o : Owner) → IsOwner l o → (queue_number l o < 
 number_owner l (Sub s) within = (omega arith, sub_owner l s within)
 number_owner l (Work w) within = (omega arith, work_owner l w)
 
-queue_once : (pool : Pool) (h : List Event) (o : Owner) → AllowedFrom pool [] h → Once (queue h o)
+pub queue_once : (pool : Pool) (h : List Event) (o : Owner) → AllowedFrom pool [] h → Once (queue h o)
 unfolding queue
 queue_once pool h o so t = rw times_in_filter (go (not (is_in t (left h o))))
   where

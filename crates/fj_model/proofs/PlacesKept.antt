@@ -65,3 +65,14 @@ place_same pool h e t so' so may calm known = go (queued_in h t) (held_by h t) r
     go None None qs vs =
         let now : place h t ≡ Gone = rw (qs, vs, calm.shut) refl in
         rw calm.shut (place_gone (h ++ e ∷ []) t (gone_stays pool h e t so may known (ap is_gone now)))
+
+-- who is held stands on the stack
+pub held_of_place : (h : List Event) (t w : ℕ) → place h t ≡ Held w → is_in t (stack h w) ≡ true
+unfolding place
+held_of_place h t w at = go (queued_in h t) (held_by h t) (is_completer h t && is_in t (opened h) && not (is_spent h t)) refl at
+  where
+    go : (q : Option Owner) (v : Option ℕ) (b : Bool) → held_by h t ≡ v → place_of q v b ≡ Held w → is_in t (stack h w) ≡ true
+    go (Some o) v b vs at = absurd cc
+    go None (Some v) b vs at = let same : v ≡ w = cc in ap (λ u. is_in t (stack h u)) (sym same) ∙ held_there h t v vs
+    go None None true vs at = absurd cc
+    go None None false vs at = absurd cc

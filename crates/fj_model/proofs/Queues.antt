@@ -4,7 +4,7 @@ use Rattle.std.specs.Prelude.{◌==◌, slice_get}
 use Rattle.std.specs.List.{filter, filter_map, cons_option}
 use Rattle.std.proofs.lemmas.List.{append-nil}
 use Rattle.std.proofs.lemmas.List.Elements.{filter-append}
-use Rattle.std.proofs.lemmas.Bool.{true≢false}
+use Rattle.std.proofs.lemmas.Bool.{true≢false, eqb-true, or_cases}
 use Rattle.std.proofs.lemmas.List.Sums.{length-filter, count_by-le-length}
 use mathlib.Core.List.{IsPrefix}
 use Rattle.fj_model.specs.declared.event.Event.{Event}
@@ -17,8 +17,8 @@ use Rattle.fj_model.specs.Queues.{is_same, pushed, pushed_by, taken, taken_by, l
 use Rattle.fj_model.specs.Tasks.{tasks, accepted_by, accepted}
 use Rattle.fj_model.specs.Allowed.{Allowed, AllowedFrom}
 use Rattle.fj_model.specs.Headline.{keeps_order}
-use Rattle.fj_model.proofs.Members.{is_in_append, is_in_filter, filter_agree_in, filter_none, without_front, first_then, first_is_in, Once}
-use Rattle.fj_model.proofs.Growth.{with, tasks_more, pushed_more, taken_more, or_false}
+use Rattle.fj_model.proofs.Members.{is_in_append, is_in_filter, filter_agree_in, filter_all, filter_none, without_front, first_then, first_is_in, Once}
+use Rattle.fj_model.proofs.Growth.{without_none, with, tasks_more, pushed_more, taken_more, or_false}
 use Rattle.fj_model.proofs.Lawful.{is_numbered, taken_known, pushed_known, pushed_accepts, is_new, left_push, left_take, left_same, left_in_order, queue_rest, pushed_once, queued_pushed, pushed_apart, among, allowed_more}
 
 -- an event that neither puts a task there nor takes any leaves a queue as it was
@@ -95,3 +95,35 @@ queue_short h o =
       count_by-le-length (λ t. not (is_in t (left h o))) (filter_map (pushed_by o) h),
       selected_fewer (pushed_by o) accepted_by (pushed_accepts o) h,
     )
+
+-- what is not in the list is not missed
+pub without_absent : (ts : List ℕ) (t : ℕ) → is_in t ts ≡ false → without ts (t ∷ []) ≡ ts
+without_absent ts t absent = filter_all (λ u. not (is_in u (t ∷ []))) ts (λ u there. go u (is_in u (t ∷ [])) refl there)
+  where
+    go : (u : ℕ) (b : Bool) → is_in u (t ∷ []) ≡ b → is_in u ts ≡ true → not b ≡ true
+    go u true is there = absurd (true≢false (sym there ∙ ap (λ v. is_in v ts) (single u is) ∙ absent))
+      where
+        single : (u : ℕ) → is_in u (t ∷ []) ≡ true → u ≡ t
+        single u is = ⊎_elim (λ same. sym (eqb-true t u same)) (λ none. absurd cc) (or_cases (t == u) false is)
+    go u false is there = refl
+
+without_twice : (ts us vs : List ℕ) → without ts (us ++ vs) ≡ without (without ts us) vs
+without_twice [] us vs = refl
+without_twice (t ∷ ts) us vs = rw is_in_append (go (is_in t us) (without_twice ts us vs))
+  where
+    go : (b : Bool) → without ts (us ++ vs) ≡ without (without ts us) vs
+        → cond (not (b || is_in t vs)) (t ∷ without ts (us ++ vs)) (without ts (us ++ vs)) ≡ without (cond (not b) (t ∷ without ts us) (without ts us)) vs
+    go true rest = rest
+    go false rest = ap (λ xs. cond (not (is_in t vs)) (t ∷ xs) xs) rest
+
+-- a task that is taken leaves the queue that it is in, and no other queue changes
+pub queue_without : (h : List Event) (e : Event) (o : Owner) (t : ℕ) → pushed_by o e ≡ None → taken_by e ≡ Some t → queue (h ++ e ∷ []) o ≡ without (queue h o) (t ∷ [])
+unfolding queue
+queue_without h e o t none is =
+    rw (left_take h e o t none is, pushed_more, none, append-nil, without_twice (pushed h o) (left h o) (among (pushed h o) (t ∷ []))) (go (is_in t (pushed h o)) refl)
+  where
+    go : (b : Bool) → is_in t (pushed h o) ≡ b → without (without (pushed h o) (left h o)) (cond b (t ∷ []) []) ≡ without (without (pushed h o) (left h o)) (t ∷ [])
+    go true there = refl
+    go false there =
+        let absent : is_in t (without (pushed h o) (left h o)) ≡ false = is_in_filter (λ u. not (is_in u (left h o))) t (pushed h o) ∙ rw there refl in
+        rw without_none (sym (without_absent (without (pushed h o) (left h o)) t absent))

@@ -6,10 +6,11 @@ use Rattle.fj_model.specs.declared.kind.SubmittedKind.TheVariants as submitted
 use Rattle.fj_model.specs.declared.event.Event.{Event}
 use Rattle.fj_model.specs.declared.event.Event.TheVariants as event
 use Rattle.fj_model.specs.declared.kind.Kind.TheVariants.{Plain}
+use Rattle.fj_model.specs.declared.status.Status.{Status}
 use Rattle.fj_model.specs.declared.status.Status.TheVariants as status_is
 use Rattle.fj_model.specs.declared.step.Ending.TheVariants as ending
 use Rattle.fj_model.specs.declared.step.Step.{Step}
-use Rattle.fj_model.specs.declared.step.Step.TheVariants.{Submit, Poll, End, IsQuiescent, State}
+use Rattle.fj_model.specs.declared.step.Step.TheVariants.{Submit, Fork, Poll, Help, Join, End, IsQuiescent, State}
 use Rattle.fj_model.specs.declared.refusal.Refusal.{Refusal}
 use Rattle.fj_model.specs.declared.said.Said.{Said}
 use Rattle.fj_model.specs.declared.said.Said.TheVariants as says
@@ -17,7 +18,7 @@ use Rattle.fj_model.specs.Bounds.{Pool}
 use Rattle.fj_model.specs.Tasks.{tasks, accepted_by}
 use Rattle.fj_model.specs.Statuses.{status, is_undone}
 use Rattle.fj_model.specs.Choices.{choice}
-use Rattle.fj_model.specs.Answers.{is_quiet, answer, answer_of, refusal_of, refusal_standing, events_of, reply_of, taking, taking_says, running, ending_events, ending_says}
+use Rattle.fj_model.specs.Answers.{is_quiet, answer, answer_of, refusal_of, refusal_standing, events_of, reply_of, taking, taking_says, status_says, running, ending_events, ending_says}
 use Rattle.std.proofs.lemmas.List.{append-nil}
 use Rattle.std.proofs.lemmas.List.Elements.{filter_map-append}
 use Rattle.fj_model.specs.Headline.{handed_out, handed_out_by, fired, fired_by, task_in, run_in, hook_in, RepliesTell}
@@ -60,6 +61,24 @@ end_ok_tells : (pool : Pool) (h : List Event) (w : ℕ) → Tells (reply_of pool
 unfolding events_of reply_of
 end_ok_tells pool h w = end_tells h w (running h w)
 
+fork_tells : (pool : Pool) (h : List Event) (w : ℕ) → Tells (reply_of pool h (Fork w Plain)) (events_of pool h (Fork w Plain))
+unfolding events_of reply_of tasks handed_out fired
+fork_tells pool h w = record { same = record { accepts = refl; runs = refl; hooks = refl }; stands = λ r is. cc }
+
+help_tells : (pool : Pool) (h : List Event) (w r : ℕ) → Tells (reply_of pool h (Help w r)) (events_of pool h (Help w r))
+unfolding events_of reply_of
+help_tells pool h w r = taking_tells h w (choice pool h w r)
+
+join_tells : (pool : Pool) (h : List Event) (w t r : ℕ) → Tells (reply_of pool h (Join w t r)) (events_of pool h (Join w t r))
+unfolding events_of reply_of tasks handed_out fired
+join_tells pool h w t r = go (status h t)
+  where
+    go : (s : Status) → Tells (if is_undone s then taking_says h (choice pool h w r) else status_says s) (if is_undone s then taking h w (choice pool h w r) else [])
+    go status_is.Undone = taking_tells h w (choice pool h w r)
+    go status_is.Normal = record { same = record { accepts = refl; runs = refl; hooks = refl }; stands = λ r is. cc }
+    go (status_is.Exceptional code) = record { same = record { accepts = refl; runs = refl; hooks = refl }; stands = λ r is. cc }
+    go status_is.Cancelled = record { same = record { accepts = refl; runs = refl; hooks = refl }; stands = λ r is. cc }
+
 quiet_tells : (pool : Pool) (h : List Event) → Tells (reply_of pool h IsQuiescent) (events_of pool h IsQuiescent)
 unfolding events_of reply_of tasks handed_out fired
 quiet_tells pool h = go (is_quiet pool.limits h)
@@ -76,6 +95,9 @@ step_tells : (pool : Pool) (h : List Event) (asked : Step) → refusal_of pool h
 unfolding refusal_of
 step_tells pool h (Submit s submitted.Plain) none = submit_tells pool h s
 step_tells pool h (Poll w r) none = poll_tells pool h w r
+step_tells pool h (Fork w Plain) none = fork_tells pool h w
+step_tells pool h (Help w r) none = help_tells pool h w r
+step_tells pool h (Join w t r) none = join_tells pool h w t r
 step_tells pool h IsQuiescent none = quiet_tells pool h
 step_tells pool h (State t) none = state_tells pool h t
 step_tells pool h (End w ending.Ok) none = end_ok_tells pool h w

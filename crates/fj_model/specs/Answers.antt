@@ -6,7 +6,7 @@ use Rattle.fj_model.specs.declared.event.Event.TheVariants as event
 use Rattle.fj_model.specs.declared.event.Event.TheVariants.{Acc, Make, Out, Hooked, Dec, Settle, Rel}
 use Rattle.fj_model.specs.declared.owner.Owner.TheVariants.{Sub, Work}
 use Rattle.fj_model.specs.declared.kind.Kind.{Kind}
-use Rattle.fj_model.specs.declared.kind.Kind.TheVariants.{Completer}
+use Rattle.fj_model.specs.declared.kind.Kind.TheVariants.{Plain, Completer}
 use Rattle.fj_model.specs.declared.kind.SubmittedKind.TheVariants as submitted
 use Rattle.fj_model.specs.declared.status.Status.{Status}
 use Rattle.fj_model.specs.declared.status.Status.TheVariants as status_is
@@ -307,7 +307,10 @@ is_built_ending (Fail code) = false
 
 abbrev pub is_built : Step → Bool
 is_built (Submit s submitted.Plain) = true
+is_built (Fork w Plain) = true
 is_built (Poll w r) = true
+is_built (Help w r) = true
+is_built (Join w t r) = true
 is_built (End w ending) = is_built_ending ending
 is_built IsQuiescent = true
 is_built (State t) = true

@@ -10,7 +10,7 @@ impl Machine {
     pub(super) fn is_quiescent(&self) -> Said
         ensures { answer self.now.pool self.now.events IsQuiescent ≡ (result, []) }
     {
-        if self.queues.are_empty() && self.stacks.are_empty() {
+        if self.queues.total() == 0 && self.stacks.are_empty() {
             Said::Yes
         } else {
             Said::No

@@ -14,6 +14,9 @@ returns-in-Quiet c =
     ⊎_elim (λ is. rw is refl) (λ rest. ⊎_elim (λ is. rw is refl) (λ rest. ⊎_elim (λ is. rw is refl) (λ rest. ⊎_elim (λ is. rw is refl) (λ is. rw is.1 refl) rest) rest) rest) c.in-Quiet.is in
     steps_not_yet c.args.self.now c.args.asked.now (rw c.in-End.is none)
 
+pub returns-in-Completer-kind : goal.returns-in-Completer-kind
+returns-in-Completer-kind c = steps_not_yet c.args.self.now c.args.asked.now (rw (c.in-Fork.is, c.in-Completer-kind.is) refl)
+
 pub returns-in-IsQuiescent : goal.returns-in-IsQuiescent
 returns-in-IsQuiescent c = rw c.in-IsQuiescent.is (told c.args.self.now IsQuiescent _ c.is_quiescent.ensures)
 
@@ -23,4 +26,4 @@ returns-in-State c = rw c.in-State.is (told c.args.self.now (State c.in-State.t)
 pub returns-in_default : goal.returns-in_default
 returns-in_default c =
     let none = c.in_default in
-    steps_not_yet c.args.self.now c.args.asked.now (unbuilt c.args.asked.now none.not-Submit none.not-Poll none.not-End none.not-IsQuiescent none.not-State)
+    steps_not_yet c.args.self.now c.args.asked.now (unbuilt c.args.asked.now none.not-Submit none.not-Fork none.not-Poll none.not-Help none.not-Join none.not-End none.not-IsQuiescent none.not-State)

@@ -1,0 +1,26 @@
+ghost use Rattle.std.specs.Prelude.{◌≡◌, ◌<◌, Some, length};
+ghost use Rattle.fj_queues.specs.Queues.{queue_at, with_queue};
+ghost use Rattle.fj_machine.specs.Sources.{queue_of, end_of, rest_of};
+
+use fj_model::Serial;
+use fj_queues::Queues;
+
+/// From which queue a task is taken, and from which end of it.
+#[derive(Clone, Copy)]
+pub enum Source {
+    Oldest(usize),
+    Newest(usize),
+}
+
+/// Takes the task that stands there.
+pub fn take_from(queues: &mut Queues, source: Source) -> Serial
+    requires within { queue_of source < length queues.old.lists }
+    requires filled { 0 < length (queue_at queues.old (queue_of source)) }
+    ensures taken { Some result ≡ end_of source (queue_at queues.old (queue_of source)) }
+    ensures rest { queues.new ≡ with_queue queues.old (queue_of source) (rest_of source (queue_at queues.old (queue_of source))) }
+{
+    match source {
+        Source::Oldest(q) => queues.take_old(q).unwrap(),
+        Source::Newest(q) => queues.take_new(q).unwrap(),
+    }
+}

@@ -1,0 +1,107 @@
+use crate::Machine;
+use fj_model::{
+    Ending, Event, Kind, Limits, Mode, Owner, Said, Serial, Step, SubId, SubmittedKind, WorkerId,
+};
+use std::alloc::{AllocError, Global};
+use std::sync::{Mutex, Wait};
+use std::test::Fail;
+use std::thread;
+use std::thread::Threads;
+
+const EACH: usize = 100;
+
+fn submit_each(rt: &impl Wait, machine: &Mutex<Machine>, s: u32) {
+    let submit = Step::Submit {
+        s: SubId(s),
+        kind: SubmittedKind::Plain,
+    };
+    for _ in 0..EACH {
+        machine.lock(rt).step(&submit);
+    }
+}
+
+// Polls, and ends what it was handed.
+fn turn(rt: &impl Wait, machine: &Mutex<Machine>, r: u32) -> Said {
+    let w = WorkerId(0);
+    let said = machine.lock(rt).step(&Step::Poll { w, r });
+    if let Said::Run(_) = said {
+        machine.lock(rt).step(&Step::End {
+            w,
+            ending: Ending::Ok,
+        });
+    }
+    said
+}
+
+fn work(rt: &impl Wait, machine: &Mutex<Machine>) {
+    for r in 0..1000 {
+        turn(rt, machine, r);
+    }
+}
+
+// The tasks that were accepted into the owner's queue, in order.
+fn pushed(alloc: Global, history: &[Event], owner: Owner) -> Result<Vec<Serial>, AllocError> {
+    let mut tasks = Vec::new(alloc);
+    for event in history {
+        if let Event::Acc(t, o, Kind::Plain) = *event {
+            if o == owner {
+                tasks.push(t)?;
+            }
+        }
+    }
+    Ok(tasks)
+}
+
+// Those of the tasks that left their queue, in order.
+fn left(alloc: Global, history: &[Event], tasks: &[Serial]) -> Result<Vec<Serial>, AllocError> {
+    let mut taken = Vec::new(alloc);
+    for event in history {
+        if let Event::Out(t, _) = *event {
+            if tasks.contains(&t) {
+                taken.push(t)?;
+            }
+        }
+    }
+    Ok(taken)
+}
+
+fn share<R: Threads + Wait + Sync>(rt: &R, machine: &Mutex<Machine>) {
+    thread::join(
+        rt,
+        || work(rt, machine),
+        || {
+            thread::join(
+                rt,
+                || submit_each(rt, machine, 0),
+                || submit_each(rt, machine, 1),
+            );
+        },
+    );
+}
+
+// Two submitters and a worker share a machine behind a lock, which each step takes once.
+#[test]
+fn threads_share_a_machine(rt: HostRuntime) -> Result<(), Fail> {
+    let limits = Limits::new(1, 2, 4096, 4096)?;
+    let machine = Mutex::new(Machine::new(rt.alloc(), Mode::Async, limits)?);
+    share(&rt, &machine);
+    for r in 0..=2 * EACH as u32 {
+        if turn(&rt, &machine, r) == Said::None {
+            break;
+        }
+    }
+    let machine = machine.into_inner();
+    assert_eq!(rt; machine.gone().len(), 2 * EACH);
+    for s in 0..2 {
+        let owner = Owner::Sub(SubId(s));
+        assert_eq!(rt; machine.queue(owner).next(), None);
+        let tasks = pushed(rt.alloc(), machine.history(), owner)?;
+        assert_eq!(rt; tasks.len(), EACH);
+        assert_eq!(rt;
+            left(rt.alloc(), machine.history(), tasks.as_slice())?,
+            tasks
+        );
+    }
+    assert_eq!(rt; machine.queue(Owner::Work(WorkerId(0))).next(), None);
+    Ok(())
+}

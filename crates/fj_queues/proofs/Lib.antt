@@ -1,0 +1,3 @@
+pub mod Counts
+pub mod QueueWrites
+pub mod Scans

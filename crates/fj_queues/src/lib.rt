@@ -1,0 +1,19 @@
+//! Double-ended queues of task numbers, one for each owner.
+//!
+//! A contract sees [`Queues`] as a list of lists, oldest numbers first, and the room that was asked for. All memory is taken in
+//! [`Queues::new`]. A thief takes the oldest number of the first queue that has one:
+//!
+//! ```
+//! if let Some(o) = queues.first_from(r) {
+//!     let stolen = queues.take_old(o);
+//! }
+//! ```
+#![tactic(auto)]
+
+mod numbers;
+mod queues;
+#[cfg(test)]
+mod tests;
+
+pub use numbers::Numbers;
+pub use queues::Queues;

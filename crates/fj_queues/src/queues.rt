@@ -1,0 +1,144 @@
+ghost use Rattle.std.specs.Prelude.{◌≡◌, ◌+◌, ◌<◌, ◌∷◌, [], ◌++◌, length, replicate, IfOk, IfSome, IfNone, MatchOption};
+ghost use Rattle.fj_queues.specs.Queues.{queue_at, with_queue, total, without_first, without_last, first_filled, places_from};
+ghost use Rattle.fj_model.specs.Lists.{first_of, last_of};
+
+use crate::numbers::Numbers;
+use fj_model::{OutOfMemory, Serial};
+use std::alloc::Global;
+use std::collections::VecDeque;
+use std::marker::Model;
+
+/// A queue of task numbers for each owner, with room that is taken when they are made.
+#[derive(Drop)]
+pub struct Queues {
+    queues: Vec<VecDeque<Serial>>,
+    room: usize,
+    /// How many numbers stand in all queues, so that nobody has to add their lengths up.
+    total: usize,
+}
+
+impl Model for Queues {
+    ghost use Rattle.std.specs.Prelude.{◌≡◌, ◌≤◌, map, All};
+    ghost use Rattle.std.specs.VecDeque.{deque_capacity};
+    ghost use Rattle.fj_queues.specs.Queues.{Lists, all_in};
+
+    ghost Value = { Lists };
+
+    ghost view = { λ q. record { lists = map (λ d. d.items) q.queues.items; room = q.room } };
+
+    ghost invariant = { λ q. (All (λ d. q.room ≤ deque_capacity d) q.queues.items) × (q.total ≡ all_in (map (λ d. d.items) q.queues.items)) };
+}
+
+impl Queues {
+    /// So many empty queues, each with room for as many numbers as all may have together. Refused only for want of memory.
+    pub fn new(alloc: Global, owners: usize, room: usize) -> Result<Queues, OutOfMemory>
+        ensures { IfOk result (λ q. q ≡ record { lists = replicate owners []; room = room }) }
+    {
+        let mut queues = Vec::with_capacity(alloc, owners)?;
+        for _owner in 0..owners {
+            queues.push(VecDeque::with_capacity(alloc, room)?)?;
+        }
+        Ok(Queues {
+            queues,
+            room,
+            total: 0,
+        })
+    }
+
+    /// How many owners have a queue.
+    pub fn owners(&self) -> usize
+        ensures { result ≡ length self.now.lists }
+    {
+        self.queues.len()
+    }
+
+    /// How many numbers may stand in all queues together.
+    pub fn room(&self) -> usize
+        ensures { result ≡ self.now.room }
+    {
+        self.room
+    }
+
+    /// How many numbers stand in an owner's queue.
+    pub fn len(&self, o: usize) -> usize
+        requires { o < length self.now.lists }
+        ensures { result ≡ length (queue_at self.now o) }
+    {
+        self.queues[o].len()
+    }
+
+    /// How many numbers stand in all queues.
+    pub fn total(&self) -> usize
+        ensures { result ≡ total self.now }
+    {
+        self.total
+    }
+
+    /// The numbers in an owner's queue, oldest first.
+    pub fn numbers(&self, o: usize) -> Numbers<'_>
+        requires { o < length self.now.lists }
+        ensures { result ≡ queue_at self.now o }
+    {
+        let (older, newer) = self.queues[o].as_slices();
+        Numbers { older, newer }
+    }
+
+    /// Puts a number at the new end of an owner's queue. The caller answers for the room, and no memory is taken.
+    pub fn push(&mut self, o: usize, serial: Serial)
+        requires owner { o < length self.old.lists }
+        requires room { total self.old < self.old.room }
+        ensures pushed { self.new ≡ with_queue self.old o (queue_at self.old o ++ serial ∷ []) }
+        ensures counted { total self.new ≡ total self.old + 1 }
+    {
+        self.queues[o].push_back_reserved(serial);
+        self.total += 1;
+    }
+
+    /// Takes the oldest number of an owner's queue. None, with nothing changed, if the queue is empty.
+    pub fn take_old(&mut self, o: usize) -> Option<Serial>
+        requires { o < length self.old.lists }
+        ensures taken { result ≡ first_of (queue_at self.old o) }
+        ensures rest { self.new ≡ with_queue self.old o (without_first (queue_at self.old o)) }
+        ensures stays { IfNone result (self.new ≡ self.old) }
+        ensures counted { MatchOption result (total self.new ≡ total self.old) (λ _. total self.new + 1 ≡ total self.old) }
+    {
+        let serial = self.queues[o].pop_front()?;
+        self.total -= 1;
+        Some(serial)
+    }
+
+    /// Takes the newest number of an owner's queue. None, with nothing changed, if the queue is empty.
+    pub fn take_new(&mut self, o: usize) -> Option<Serial>
+        requires { o < length self.old.lists }
+        ensures taken { result ≡ last_of (queue_at self.old o) }
+        ensures rest { self.new ≡ with_queue self.old o (without_last (queue_at self.old o)) }
+        ensures stays { IfNone result (self.new ≡ self.old) }
+        ensures counted { MatchOption result (total self.new ≡ total self.old) (λ _. total self.new + 1 ≡ total self.old) }
+    {
+        let serial = self.queues[o].pop_back()?;
+        self.total -= 1;
+        Some(serial)
+    }
+
+    /// The first owner whose queue is not empty, from place `r` on round past the last owner. None if all queues are empty.
+    pub fn first_from(&self, r: usize) -> Option<usize>
+        ensures scan { result ≡ first_filled self.now.lists (places_from (length self.now.lists) r) }
+        ensures owner { IfSome result (λ o. o < length self.now.lists) }
+        ensures filled { IfSome result (λ o. 0 < length (queue_at self.now o)) }
+        ensures none { IfNone result (total self.now ≡ 0) }
+    {
+        let owners = self.queues.len();
+        if owners == 0 {
+            return None;
+        }
+        // `r` may be the largest number that there is, so it is brought below the number of owners before anything is added to it.
+        let start = r % owners;
+        for i in 0..owners {
+            let o = (start + i) % owners;
+            if !self.queues[o].is_empty() {
+                return Some(o);
+            }
+        }
+        None
+    }
+}
