@@ -1,6 +1,6 @@
 -- What the steps are answered that only ask.
-use Rattle.std.proofs.Common.{zero, suc, ℕ, ◌≡◌, ◌+◌, ◌≤◌, ◌<◌, Bool, true, false, not, ◌&&◌, List, [], ◌∷◌, length, map, get_or, Option, Some, None, refl, ap, sym, ◌∙◌, arith}
-use Rattle.std.specs.Prelude.{◌==◌, nat_lt, is_none, if◌then◌else◌}
+use Rattle.std.proofs.Common.{suc, ℕ, ◌≡◌, ◌+◌, ◌≤◌, ◌<◌, Bool, true, false, ◌&&◌, List, [], ◌∷◌, length, map, get_or, None, refl, ap, sym, ◌∙◌, arith}
+use Rattle.std.specs.Prelude.{◌==◌, is_none, if◌then◌else◌}
 use Rattle.std.specs.List.{list_all, range_with_len}
 use Rattle.std.proofs.lemmas.List.Folds.{list_all-map}
 use Rattle.std.proofs.lemmas.Bool.{le-ltb, lt-ltb, ne_eqb}
@@ -12,8 +12,8 @@ use Rattle.fj_model.specs.declared.refusal.Refusal.TheVariants.{Unknown}
 use Rattle.fj_model.specs.declared.said.Said.TheVariants as says
 use Rattle.fj_model.specs.declared.step.Step.TheVariants.{IsQuiescent, State}
 use Rattle.fj_model.specs.Bounds.{Bounds, Pool, queues_in, owner_at, owners, workers}
-use Rattle.fj_model.specs.Lists.{is_in, is_empty}
-use Rattle.fj_model.specs.Tasks.{tasks, accepted, is_kept}
+use Rattle.fj_model.specs.Lists.{is_empty}
+use Rattle.fj_model.specs.Tasks.{accepted, is_kept}
 use Rattle.fj_model.specs.Queues.{queue}
 use Rattle.fj_model.specs.Stacks.{stack}
 use Rattle.fj_model.specs.Hooks.{hand}
@@ -23,10 +23,10 @@ use Rattle.fj_model.specs.Allowed.{AllowedFrom}
 use Rattle.fj_model.specs.Answers.{answer, refusal_of, refusal_standing, events_of, reply_of, is_quiet}
 use Rattle.fj_model.proofs.Lawful.{is_numbered}
 use Rattle.fj_queues.specs.Queues.{Lists as Waiting, all_in}
-use Rattle.fj_machine.specs.Rows.{Lists, row_at}
+use Rattle.fj_machine.specs.Rows.{Lists}
 use Rattle.fj_machine.specs.Holds.{KeepsQueues, KeepsStacks, KeepsPlaces}
 use Rattle.fj_machine.proofs.Taking.{get_or_any}
-use Rattle.fj_machine.proofs.PlainHistories.{IsPlain, all_kept, never_released, empty_hand}
+use Rattle.fj_machine.proofs.PlainHistories.{IsPlain, all_kept, empty_hand}
 use Rattle.fj_machine.proofs.Submitting.{allowed, refused}
 
 -- ---- whether all is quiet

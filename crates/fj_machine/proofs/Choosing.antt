@@ -1,5 +1,5 @@
 -- Where a worker's choice stands, found in the queues that a machine keeps.
-use Rattle.std.proofs.Common.{zero, suc, ℕ, ◌≡◌, ◌+◌, ◌-◌, ◌%◌, ◌≤◌, ◌<◌, Bool, true, false, cond, List, [], ◌∷◌, length, map, get_or, Option, Some, None, refl, ap, sym, ◌∙◌, arith, ⊎_elim, ◌++◌}
+use Rattle.std.proofs.Common.{zero, suc, ℕ, ◌≡◌, ◌+◌, ◌-◌, ◌%◌, ◌≤◌, ◌<◌, cond, List, [], ◌∷◌, length, map, get_or, Option, Some, None, refl, ap, sym, ◌∙◌, arith, ⊎_elim, ◌++◌}
 use Rattle.std.proofs.lemmas.List.{append-nil}
 use Rattle.std.proofs.lemmas.Bool.{cases_lt}
 use Rattle.std.specs.Prelude.{MatchOption, slice_get}
@@ -10,20 +10,20 @@ use Rattle.fj_model.specs.declared.mode.Mode.TheVariants.{Async, Joining}
 use Rattle.fj_model.specs.declared.owner.Owner.{Owner}
 use Rattle.fj_model.specs.declared.owner.Owner.TheVariants.{Work}
 use Rattle.fj_model.specs.Bounds.{Bounds, Pool, queues_in, owner_at}
-use Rattle.fj_model.specs.Lists.{is_empty, or_else, first_of, last_of}
+use Rattle.fj_model.specs.Lists.{is_empty, or_else, first_of}
 use Rattle.fj_model.specs.Queues.{queue}
 use Rattle.fj_model.specs.Choices.{choice, own_choice, first_queued, scan_order}
 use Rattle.fj_model.specs.declared.refusal.Refusal.TheVariants.{LogFull}
 use Rattle.fj_model.specs.declared.said.Said.{Said}
 use Rattle.fj_model.specs.declared.said.Said.TheVariants as says
 use Rattle.fj_model.specs.declared.step.Step.{Step}
-use Rattle.fj_model.specs.Answers.{answer, refusal_of, events_of, reply_of, taking, taking_says}
-use Rattle.fj_model.specs.Runs.{Past, Steps, IsHistory, grown}
+use Rattle.fj_model.specs.Answers.{refusal_of, events_of, reply_of, taking, taking_says}
+use Rattle.fj_model.specs.Runs.{Past, Steps, IsHistory}
 use Rattle.fj_model.proofs.Owners.{work_owner}
 use Rattle.fj_queues.specs.Queues.{first_filled, places_from}
 use Rattle.fj_machine.specs.declared.source.Source.{Source}
 use Rattle.fj_machine.specs.declared.source.Source.TheVariants.{Oldest, Newest}
-use Rattle.fj_machine.specs.Sources.{IsChosenFrom, TakesChoice, queue_of, end_of, tasks_there}
+use Rattle.fj_machine.specs.Sources.{IsChosenFrom, TakesChoice, end_of, tasks_there}
 use Rattle.fj_model.proofs.AnswersAllowed.{history_more}
 use Rattle.fj_machine.proofs.Submitting.{told, refused, allowed}
 

@@ -1,13 +1,11 @@
 -- What the end of a plain body is answered, and what it leaves.
-use Rattle.std.proofs.Common.{zero, suc, ℕ, ◌≡◌, ◌≢◌, ◌+◌, ◌-◌, ◌≤◌, ◌<◌, Bool, true, false, cond, not, List, [], ◌∷◌, ◌++◌, length, take, get_or, Option, Some, None, refl, ap, sym, ◌∙◌, arith, subst, ⊎_elim, append_assoc, length-append}
-use Rattle.std.specs.Prelude.{◌==◌, slice_get, nat_lt, nat_le, if◌then◌else◌}
-use Rattle.std.specs.List.{list_all, cons_option}
+use Rattle.std.proofs.Common.{zero, suc, ℕ, ◌≡◌, ◌+◌, ◌-◌, ◌≤◌, ◌<◌, Bool, true, false, List, [], ◌∷◌, ◌++◌, length, take, get_or, Some, None, refl, ap, sym, ◌∙◌, arith, subst, ⊎_elim, append_assoc, length-append}
+use Rattle.std.specs.Prelude.{slice_get, if◌then◌else◌}
 use Rattle.std.proofs.Math.ListN.{set, length-set}
-use Rattle.std.proofs.lemmas.List.{append-nil, get_or-set_same, get_or-set_other}
-use Rattle.std.proofs.lemmas.Bool.{le-leb, lt-leb, le-ltb, lt-ltb, eqb-true, ne_eqb, eq-eqb, cases_eq, ltb-true}
+use Rattle.std.proofs.lemmas.List.{get_or-set_same, get_or-set_other}
+use Rattle.std.proofs.lemmas.Bool.{le-leb, lt-leb, le-ltb, lt-ltb, ne_eqb, cases_eq, ltb-true}
 use Rattle.fj_model.specs.declared.event.Event.{Event}
 use Rattle.fj_model.specs.declared.event.Event.TheVariants as event
-use Rattle.fj_model.specs.declared.owner.Owner.{Owner}
 use Rattle.fj_model.specs.declared.step.Ending.TheVariants as ending
 use Rattle.fj_model.specs.declared.place.Place.{Place}
 use Rattle.fj_model.specs.declared.place.Place.TheVariants.{Gone}
@@ -16,16 +14,14 @@ use Rattle.fj_model.specs.declared.status.Status.TheVariants.{Undone, Normal}
 use Rattle.fj_model.specs.declared.step.Step.TheVariants.{End}
 use Rattle.fj_model.specs.declared.refusal.Refusal.TheVariants.{NoSuch, NotRunning, LogFull}
 use Rattle.fj_model.specs.declared.said.Said.TheVariants as says
-use Rattle.fj_model.specs.Bounds.{Pool, queues_in, owner_at}
+use Rattle.fj_model.specs.Bounds.{Pool}
 use Rattle.fj_machine.specs.Rows.{Lists, row_at, with_row}
-use Rattle.fj_model.specs.Lists.{is_empty, is_in, last_of}
-use Rattle.fj_model.specs.Tasks.{accepted, accepted_by, is_completer}
-use Rattle.fj_model.specs.Queues.{queue}
+use Rattle.fj_model.specs.Lists.{is_empty, last_of}
+use Rattle.fj_model.specs.Tasks.{accepted}
 use Rattle.fj_model.specs.Stacks.{stack}
-use Rattle.fj_model.specs.Hooks.{hand}
-use Rattle.fj_model.specs.Statuses.{status, status_by, is_undone}
+use Rattle.fj_model.specs.Statuses.{status, is_undone}
 use Rattle.fj_model.specs.Allowed.{Allowed, AllowedFrom}
-use Rattle.fj_model.specs.Answers.{answer, refusal_of, refusal_standing, events_of, reply_of, running, is_misfit}
+use Rattle.fj_model.specs.Answers.{answer, refusal_of, refusal_standing, events_of, reply_of, running}
 use Rattle.fj_model.specs.Runs.{IsHistory}
 use Rattle.fj_machine.specs.Holds.{Holds, KeepsStacks, KeepsTasks, KeepsPlaces, is_plain}
 use Rattle.fj_machine.proofs.Parts.{list_all_append, new_row, queues_same, stacks_same, tasks_same, last_allowed}

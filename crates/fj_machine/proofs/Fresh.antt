@@ -1,17 +1,12 @@
 -- A machine to which nothing has happened.
-use Rattle.std.proofs.Common.{ℕ, ◌≡◌, ◌+◌, ◌≤◌, ◌<◌, List, [], length, get_or, replicate, refl, ap, sym, ◌∙◌, arith, zero, suc}
+use Rattle.std.proofs.Common.{ℕ, ◌≡◌, List, [], get_or, replicate, refl, sym, ◌∙◌, arith, zero, suc}
 use Rattle.std.proofs.Math.ListN.{length-replicate}
-use Rattle.fj_model.specs.declared.event.Event.{Event}
 use Rattle.fj_model.specs.declared.owner.Owner.{Owner}
-use Rattle.fj_model.specs.declared.status.Status.TheVariants.{Undone}
 use Rattle.fj_model.specs.Bounds.{Pool, IsWithin, queues_in, owner_at}
-use Rattle.fj_machine.specs.Rows.{Lists, row_at}
 use Rattle.fj_model.specs.Tasks.{accepted, tasks}
 use Rattle.fj_model.specs.Queues.{queue, pushed, left, taken}
 use Rattle.fj_model.specs.Stacks.{stack}
-use Rattle.fj_model.specs.Statuses.{status, status_from}
 use Rattle.fj_model.specs.Places.{gone, gone_from}
-use Rattle.fj_model.specs.Runs.{IsHistory}
 use Rattle.fj_machine.specs.Holds.{Holds}
 
 no_queue : (o : Owner) → queue [] o ≡ []

@@ -1,18 +1,14 @@
 -- What a help is answered.
-use Rattle.std.proofs.Common.{ℕ, ◌≡◌, ◌≢◌, ◌+◌, ◌≤◌, ◌<◌, Bool, true, false, cond, not, List, [], ◌∷◌, ◌++◌, length, Option, Some, None, refl, ap, sym, ◌∙◌, arith, subst}
-use Rattle.std.specs.Prelude.{nat_lt, nat_le, if◌then◌else◌}
+use Rattle.std.proofs.Common.{ℕ, ◌≡◌, ◌+◌, ◌≤◌, ◌<◌, true, false, List, length, Some, None, refl}
 use Rattle.std.proofs.lemmas.Bool.{le-leb, lt-leb, le-ltb, lt-ltb}
 use Rattle.fj_model.specs.declared.event.Event.{Event}
-use Rattle.fj_model.specs.declared.event.Event.TheVariants as event
 use Rattle.fj_model.specs.declared.step.Step.TheVariants.{Help}
 use Rattle.fj_model.specs.declared.refusal.Refusal.TheVariants.{NoSuch, NotRunning, LogFull}
 use Rattle.fj_model.specs.Bounds.{Pool}
 use Rattle.fj_model.specs.Lists.{is_empty}
 use Rattle.fj_model.specs.Stacks.{stack}
-use Rattle.fj_model.specs.Hooks.{hand}
-use Rattle.fj_model.specs.Statuses.{status, is_undone}
 use Rattle.fj_model.specs.Choices.{choice}
-use Rattle.fj_model.specs.Answers.{answer, refusal_of, refusal_standing, events_of, reply_of, taking, taking_says}
+use Rattle.fj_model.specs.Answers.{refusal_of, refusal_standing, events_of, reply_of, taking, taking_says}
 use Rattle.fj_machine.proofs.PlainHistories.{IsPlain, empty_hand}
 
 pub help_no_such : (pool : Pool) (h : List Event) (w r : ℕ) → pool.limits.workers ≤ w → refusal_of pool h (Help w r) ≡ Some NoSuch

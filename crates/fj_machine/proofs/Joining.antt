@@ -1,8 +1,7 @@
 -- What a join is answered.
-use Rattle.std.proofs.Common.{ℕ, ◌≡◌, ◌+◌, ◌≤◌, ◌<◌, Bool, true, false, ◌&&◌, List, [], length, Option, Some, None, refl, ap, sym, ◌∙◌, arith}
+use Rattle.std.proofs.Common.{ℕ, ◌≡◌, ◌+◌, ◌≤◌, ◌<◌, true, false, List, [], length, Some, None, refl, ◌∙◌, arith}
 use Rattle.std.proofs.lemmas.Bool.{le-leb, lt-leb, le-ltb, lt-ltb}
 use Rattle.fj_model.specs.declared.event.Event.{Event}
-use Rattle.fj_model.specs.declared.said.Said.{Said}
 use Rattle.fj_model.specs.declared.step.Step.TheVariants.{Join}
 use Rattle.fj_model.specs.declared.refusal.Refusal.TheVariants.{NoSuch, NotRunning, Unknown, OwnStack, LogFull}
 use Rattle.fj_model.specs.Bounds.{Pool}

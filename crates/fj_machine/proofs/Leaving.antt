@@ -1,30 +1,27 @@
 -- The list of gone tasks after each kind of event.
-use Rattle.std.proofs.Common.{ℕ, ◌≡◌, ◌≢◌, ◌+◌, ◌-◌, ◌≤◌, Bool, true, false, not, ◌&&◌, List, [], ◌∷◌, ◌++◌, length, Option, Some, None, refl, ap, sym, ◌∙◌, arith, ⊎_elim, ◌⊎◌, length-append}
+use Rattle.std.proofs.Common.{ℕ, ◌≡◌, ◌≢◌, ◌-◌, true, List, [], ◌∷◌, ◌++◌, length, Some, refl, ap, sym, ◌∙◌, arith, ⊎_elim, length-append}
 use Rattle.std.specs.Prelude.{◌==◌}
-use Rattle.std.specs.List.{cons_option}
-use Rattle.std.proofs.lemmas.List.{append-nil}
-use Rattle.std.proofs.lemmas.Bool.{eq-eqb, eqb-true, ne_eqb, or_right, true≢false, cases_eq}
+use Rattle.std.proofs.lemmas.Bool.{eq-eqb, or_right, true≢false, cases_eq}
 use Rattle.fj_model.specs.declared.event.Event.{Event}
 use Rattle.fj_model.specs.declared.event.Event.TheVariants as event
 use Rattle.fj_model.specs.declared.owner.Owner.{Owner}
-use Rattle.fj_model.specs.declared.owner.Owner.TheVariants.{Sub}
 use Rattle.fj_model.specs.declared.kind.Kind.TheVariants.{Plain}
 use Rattle.fj_model.specs.declared.status.Status.{Status}
 use Rattle.fj_model.specs.Bounds.{Pool}
 use Rattle.fj_model.specs.Lists.{is_in, last_of}
-use Rattle.fj_model.specs.Queues.{is_same, taken, taken_by, queue}
-use Rattle.fj_model.specs.Tasks.{tasks, accepted_by, is_completer}
-use Rattle.fj_model.specs.Stacks.{stack, ended_by, out_by}
+use Rattle.fj_model.specs.Queues.{taken, taken_by, queue}
+use Rattle.fj_model.specs.Tasks.{tasks, accepted_by}
+use Rattle.fj_model.specs.Stacks.{stack, ended_by}
 use Rattle.fj_model.specs.Places.{place, is_gone, gone}
 use Rattle.fj_model.specs.Allowed.{Allowed, AllowedFrom}
 use Rattle.fj_model.proofs.Members.{is_in_append, get_is_in}
-use Rattle.fj_model.proofs.Growth.{tasks_more, taken_more, stack_more, with}
-use Rattle.fj_model.proofs.Lawful.{allowed_more, is_in_with, is_new, known_more, number_if_is, queued_fresh, queued_pushed, pushed_known, taken_known}
+use Rattle.fj_model.proofs.Growth.{tasks_more, taken_more}
+use Rattle.fj_model.proofs.Lawful.{is_in_with, known_more, number_if_is, queued_fresh, queued_pushed, pushed_known, taken_known}
 use Rattle.fj_model.proofs.AnswersAllowed.{stack_taken}
 use Rattle.fj_model.proofs.GoneTasks.{nowhere_gone}
 use Rattle.fj_model.proofs.GoneList.{IsCalm, WasGone, gone_before, gone_same, gone_gains, queued_here, held_here}
 use Rattle.fj_model.proofs.OnePlace.{out_new, stack_before, never}
-use Rattle.fj_machine.specs.Holds.{KeepsGone, is_plain}
+use Rattle.fj_machine.specs.Holds.{KeepsGone}
 use Rattle.fj_machine.proofs.PlainHistories.{IsPlain, no_completer}
 
 -- in a plain history no task is open

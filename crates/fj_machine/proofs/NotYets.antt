@@ -1,14 +1,13 @@
 -- Steps that are not built.
-use Rattle.std.proofs.Common.{ℕ, ◌≡◌, false, refl, ap, sym, ◌∙◌, [], Some}
+use Rattle.std.proofs.Common.{ℕ, ◌≡◌, false, refl, Some}
 use Rattle.fj_model.specs.declared.kind.Kind.{Kind}
 use Rattle.fj_model.specs.declared.kind.SubmittedKind.{SubmittedKind}
 use Rattle.fj_model.specs.declared.step.Ending.{Ending}
 use Rattle.fj_model.specs.declared.step.Step.{Step}
 use Rattle.fj_model.specs.declared.step.Step.TheVariants.{Submit, Fork, Poll, Help, Join, End, IsQuiescent, State}
-use Rattle.fj_model.specs.declared.said.Said.{Said}
 use Rattle.fj_model.specs.declared.refusal.Refusal.TheVariants.{NotYet}
 use Rattle.fj_model.specs.declared.said.Said.TheVariants as says
-use Rattle.fj_model.specs.Answers.{answer, refusal_of, is_built}
+use Rattle.fj_model.specs.Answers.{refusal_of, is_built}
 use Rattle.fj_model.specs.Runs.{Past, Steps}
 use Rattle.fj_machine.proofs.Submitting.{told, refused}
 

@@ -1,22 +1,16 @@
 -- Histories of plain tasks, to which nothing was closed, released or fired.
-use Rattle.std.proofs.Common.{ℕ, ◌≡◌, ◌+◌, ◌≤◌, ◌<◌, Bool, true, false, cond, not, ◌&&◌, ◌||◌, List, [], ◌∷◌, ◌++◌, length, Option, Some, None, refl, ap, sym, ◌∙◌, arith}
+use Rattle.std.proofs.Common.{ℕ, ◌≡◌, Bool, true, false, cond, List, [], ◌∷◌, length, Option, Some, None, refl, ap}
 use Rattle.std.specs.Prelude.{◌==◌}
-use Rattle.std.specs.List.{filter, filter_map, list_any, list_all, cons_option, fold}
+use Rattle.std.specs.List.{filter_map, list_any, list_all, fold}
 use Rattle.std.proofs.lemmas.Bool.{and_parts}
 use Rattle.fj_model.specs.declared.event.Event.{Event}
-use Rattle.fj_model.specs.declared.event.Event.TheVariants.{Acc, Make, Out, Skip, End, Add, Dec, Fire, Pass, Hooked, Settle, Close, Stop, Rel}
+use Rattle.fj_model.specs.declared.event.Event.TheVariants.{Acc, Make, Out, Skip, End, Settle, Close, Stop, Rel}
 use Rattle.fj_model.specs.declared.kind.Kind.{Kind}
-use Rattle.fj_model.specs.declared.mode.Mode.{Mode}
-use Rattle.fj_model.specs.declared.mode.Mode.TheVariants.{Async, Joining}
 use Rattle.fj_model.specs.declared.owner.Owner.{Owner}
-use Rattle.fj_model.specs.declared.owner.Owner.TheVariants.{Sub, Work}
-use Rattle.fj_model.specs.Choices.{own_choice}
-use Rattle.fj_model.specs.Lists.{first_of, is_in, or_else, first_said}
-use Rattle.fj_model.specs.Headline.{keeps_order}
+use Rattle.fj_model.specs.Lists.{is_in, or_else, first_said}
 use Rattle.fj_model.specs.declared.kind.Kind.TheVariants.{Plain, Completer}
-use Rattle.fj_model.specs.Queues.{pushed, pushed_by, queue, left}
 use Rattle.fj_model.specs.Tasks.{tasks, accepted, released, released_by, is_kept, live, kind, kind_by, is_completer, is_completer_kind}
-use Rattle.fj_model.specs.Hooks.{Hooks, hooks, hooks_after, no_hooks, hand, completer_in}
+use Rattle.fj_model.specs.Hooks.{Hooks, hooks, hooks_after, no_hooks, hand}
 use Rattle.fj_model.specs.Allowed.{is_close, is_stop, is_closed, is_stopped}
 use Rattle.fj_machine.specs.Holds.{is_plain}
 use Rattle.fj_model.specs.Places.{open_tasks, opened, place, place_of, queued_in, held_by, is_open}

@@ -1,12 +1,11 @@
 -- The room that is kept is enough for all tasks.
-use Rattle.std.proofs.Common.{zero, suc, ℕ, ◌≡◌, ◌+◌, ◌≤◌, ◌<◌, List, [], ◌∷◌, ◌++◌, length, map, take, get_or, refl, ap, sym, ◌∙◌, arith, length-append}
+use Rattle.std.proofs.Common.{suc, ℕ, ◌≡◌, ◌+◌, ◌≤◌, ◌<◌, List, [], ◌∷◌, ◌++◌, length, get_or, refl, ap, sym, ◌∙◌, arith, length-append}
 use Rattle.std.specs.List.{flat_map, sum_by, range_with_len}
 use Rattle.std.proofs.lemmas.List.Sums.{sum_by-cons}
 use Rattle.std.proofs.lemmas.List.Concat.{flat_map-cons}
 use Rattle.std.proofs.lemmas.List.Folds.{length-flat_map-take, flat_map-map}
 use Rattle.std.proofs.lemmas.List.FromFn.{length-range_with_len, get_or-range_with_len}
 use Rattle.fj_model.specs.declared.event.Event.{Event}
-use Rattle.fj_model.specs.declared.owner.Owner.{Owner}
 use Rattle.fj_model.specs.Bounds.{Bounds, Pool, queues_in, owner_at, owners, workers}
 use Rattle.fj_model.specs.Tasks.{accepted}
 use Rattle.fj_model.specs.Queues.{queue}
@@ -15,7 +14,7 @@ use Rattle.fj_model.specs.Places.{open_tasks, gone}
 use Rattle.fj_model.specs.Allowed.{AllowedFrom}
 use Rattle.fj_model.specs.Headline.{all_places}
 use Rattle.fj_model.proofs.Counting.{few_placed}
-use Rattle.fj_queues.specs.Queues.{Lists as Waiting, queue_at, total}
+use Rattle.fj_queues.specs.Queues.{Lists as Waiting, total}
 use Rattle.fj_machine.specs.Holds.{KeepsQueues}
 
 -- the lists that stand at numbers have as many members as the lists joined

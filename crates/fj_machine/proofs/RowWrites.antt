@@ -1,7 +1,6 @@
 -- One of several lists is changed.
-use Rattle.std.specs.List.{range_with_len}
 use Rattle.fj_model.specs.Lists.{is_empty}
-use Rattle.std.proofs.Common.{arith, cond, suc, ◌+◌, ◌-◌, ◌%◌, Some, slice_get, true, false, ◌∷◌, ℕ, ◌≡◌, ◌<◌, List, [], length, get_or, map, refl, ap, sym, ◌∙◌}
+use Rattle.std.proofs.Common.{arith, Some, slice_get, true, false, ◌∷◌, ℕ, ◌≡◌, ◌<◌, List, [], length, get_or, map, refl, ap, sym, ◌∙◌}
 use Rattle.std.proofs.Math.ListN.{set}
 use Rattle.std.proofs.lemmas.List.{map-set, get_or-map}
 

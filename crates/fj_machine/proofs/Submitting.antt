@@ -1,43 +1,24 @@
 -- What a submission is answered, and what it leaves.
-use Rattle.std.proofs.Common.{ℕ, ◌≡◌, ◌≢◌, ◌+◌, ◌-◌, ◌≤◌, ◌<◌, Bool, true, false, cond, not, ◌&&◌, ◌||◌, List, [], ◌∷◌, ◌++◌, length, get_or, Option, Some, None, refl, ap, sym, ◌∙◌, arith, subst, ⊎_elim, inl, inr, append_assoc, length-append}
-use Rattle.std.specs.Prelude.{◌==◌, nat_lt, nat_le, if◌then◌else◌, IsTrue, ◌↔◌}
-use Rattle.std.specs.List.{list_all, cons_option}
-use Rattle.std.proofs.Math.ListN.{set, length-set}
-use Rattle.std.proofs.lemmas.List.{append-nil, get_or-set_same, get_or-set_other, get_or_append_left}
-use Rattle.std.proofs.Math.Seq.{get_or-append_seam}
-use Rattle.std.proofs.lemmas.Bool.{or_right, and_parts, and_from, le-leb, lt-leb, eq-eqb, ne_eqb, le-ltb, lt-ltb, eqb-true, eqb-false, cases_eq, cases_lt, ltb-true, ltb-false, true≢false}
+use Rattle.std.proofs.Common.{ℕ, ◌≡◌, ◌≢◌, ◌+◌, ◌≤◌, ◌<◌, Bool, true, false, List, [], ◌∷◌, length, Some, None, refl, ap, sym, ◌∙◌, arith, subst, ⊎_elim}
+use Rattle.std.specs.Prelude.{IsTrue, ◌↔◌}
+use Rattle.std.proofs.lemmas.List.{append-nil}
+use Rattle.std.proofs.lemmas.Bool.{le-leb, lt-leb, eq-eqb, ne_eqb, le-ltb, lt-ltb, cases_lt, true≢false}
 use Rattle.fj_model.specs.declared.kind.SubmittedKind.TheVariants as submitted
 use Rattle.fj_model.specs.declared.event.Event.{Event}
 use Rattle.fj_model.specs.declared.event.Event.TheVariants as event
-use Rattle.fj_model.specs.declared.owner.Owner.{Owner}
-use Rattle.fj_model.specs.declared.owner.Owner.TheVariants.{Sub, Work}
+use Rattle.fj_model.specs.declared.owner.Owner.TheVariants.{Sub}
 use Rattle.fj_model.specs.declared.kind.Kind.TheVariants.{Plain}
-use Rattle.fj_model.specs.declared.place.Place.{Place}
-use Rattle.fj_model.specs.declared.place.Place.TheVariants.{Queued}
-use Rattle.fj_model.specs.declared.status.Status.{Status}
-use Rattle.fj_model.specs.declared.status.Status.TheVariants.{Undone}
 use Rattle.fj_model.specs.declared.step.Step.{Step}
 use Rattle.fj_model.specs.declared.step.Step.TheVariants.{Submit}
 use Rattle.fj_model.specs.declared.refusal.Refusal.{Refusal}
 use Rattle.fj_model.specs.declared.refusal.Refusal.TheVariants.{NoSuch, TooManyTasks, LogFull}
 use Rattle.fj_model.specs.declared.said.Said.{Said}
 use Rattle.fj_model.specs.declared.said.Said.TheVariants as says
-use Rattle.fj_model.specs.Bounds.{Bounds, Pool, queues_in, owner_at}
-use Rattle.fj_machine.specs.Rows.{Lists, row_at, with_row}
-use Rattle.fj_model.specs.Lists.{is_in}
-use Rattle.fj_model.specs.Tasks.{tasks, accepted, accepted_by, live}
-use Rattle.fj_model.specs.Queues.{queue, is_same, pushed_by}
-use Rattle.fj_model.specs.Stacks.{stack}
-use Rattle.fj_model.specs.Statuses.{status}
-use Rattle.fj_model.specs.Allowed.{Allowed, AllowedFrom, is_closed, is_stopped}
-use Rattle.fj_model.specs.Answers.{answer, answer_of, refusal_of, refusal_standing, events_of, reply_of}
-use Rattle.fj_model.specs.Runs.{Past, Steps, grown, IsHistory}
-use Rattle.fj_machine.specs.Holds.{Holds, KeepsQueues, KeepsTasks, is_plain}
-use Rattle.fj_model.proofs.Lawful.{allowed_more}
-use Rattle.fj_model.proofs.Members.{is_in_append}
-use Rattle.fj_model.proofs.Growth.{stack_same, accepted_more}
+use Rattle.fj_model.specs.Bounds.{Pool}
+use Rattle.fj_model.specs.Tasks.{accepted, live}
+use Rattle.fj_model.specs.Answers.{answer, refusal_of, refusal_standing, events_of, reply_of}
+use Rattle.fj_model.specs.Runs.{Past, Steps}
 use Rattle.fj_machine.proofs.PlainHistories.{IsPlain, never_closed, never_stopped, all_live}
-use Rattle.fj_model.proofs.AnswersAllowed.{history_allowed, history_more, answer_allowed}
 
 -- ---- for each step
 

@@ -1,28 +1,23 @@
 -- What is kept after a task was taken from a queue.
-use Rattle.std.proofs.Common.{zero, suc, ℕ, ◌≡◌, ◌≢◌, ◌+◌, ◌-◌, ◌≤◌, ◌<◌, Bool, true, false, cond, not, List, [], ◌∷◌, ◌++◌, length, drop, get_or, Option, Some, None, refl, ap, sym, ◌∙◌, arith, subst, ⊎_elim, append_assoc, length-append}
-use Rattle.std.specs.Prelude.{◌==◌, nat_lt, if◌then◌else◌}
-use Rattle.std.specs.List.{list_all, cons_option}
+use Rattle.std.proofs.Common.{zero, suc, ℕ, ◌≡◌, ◌-◌, ◌<◌, Bool, true, List, [], ◌∷◌, ◌++◌, length, get_or, Some, None, refl, ap, sym, ◌∙◌, arith, ⊎_elim, length-append}
 use Rattle.std.proofs.Math.ListN.{set, length-set}
-use Rattle.std.proofs.lemmas.List.{append-nil, get_or-set_same, get_or-set_other}
-use Rattle.std.proofs.lemmas.Bool.{or_right, le-ltb, lt-ltb, eqb-true, eqb-false, eq-eqb, ne_eqb, cases_eq, cases_lt, ltb-true, ltb-false, true≢false}
+use Rattle.std.proofs.lemmas.List.{get_or-set_other}
+use Rattle.std.proofs.lemmas.Bool.{or_right, eq-eqb, ne_eqb, cases_eq, ltb-true}
 use Rattle.fj_model.specs.declared.event.Event.{Event}
 use Rattle.fj_model.specs.declared.event.Event.TheVariants as event
 use Rattle.fj_model.specs.declared.owner.Owner.{Owner}
-use Rattle.fj_model.specs.declared.owner.Owner.TheVariants.{Sub, Work}
-use Rattle.fj_model.specs.declared.mode.Mode.TheVariants.{Async}
 use Rattle.fj_model.specs.declared.place.Place.{Place}
 use Rattle.fj_model.specs.declared.place.Place.TheVariants.{Held, Gone}
 use Rattle.fj_model.specs.declared.status.Status.{Status}
 use Rattle.fj_model.specs.declared.status.Status.TheVariants.{Undone}
 use Rattle.fj_model.specs.Bounds.{Bounds, Pool, queues_in, owner_at}
 use Rattle.fj_machine.specs.Rows.{Lists, row_at, with_row}
-use Rattle.fj_model.specs.Lists.{is_in, number_if, first_of, without}
+use Rattle.fj_model.specs.Lists.{is_in, without}
 use Rattle.fj_model.specs.Tasks.{accepted, accepted_by}
-use Rattle.fj_model.specs.Queues.{queue, pushed, pushed_by, taken_by}
-use Rattle.fj_model.specs.Stacks.{stack, ended_by, out_by}
+use Rattle.fj_model.specs.Queues.{queue, pushed_by, taken_by}
+use Rattle.fj_model.specs.Stacks.{stack}
 use Rattle.fj_model.specs.Statuses.{status, status_by}
 use Rattle.fj_model.specs.Allowed.{Allowed, AllowedFrom}
-use Rattle.fj_model.specs.Headline.{keeps_order}
 use Rattle.fj_model.specs.Runs.{IsHistory}
 use Rattle.fj_machine.specs.Holds.{Holds, KeepsQueues, KeepsStacks, KeepsTasks, KeepsPlaces, KeepsGone, is_plain}
 use Rattle.fj_model.proofs.Members.{first_is_in, get_is_in, is_in_append, Once}
@@ -41,7 +36,6 @@ use Rattle.fj_machine.proofs.Parts.{list_all_append, new_row, stacks_same, tasks
 use Rattle.fj_model.proofs.PlacesKept.{place_held, place_gone}
 use Rattle.fj_machine.proofs.Leaving.{calm, gone_skipped, gone_after_out, gone_after_skip}
 use Rattle.fj_machine.proofs.Moving.{places_moved}
-use Rattle.fj_machine.proofs.PlainHistories.{IsPlain}
 use Rattle.fj_model.proofs.Owners.{owners_apart}
 
 -- an event that takes a task and leaves all but the queues and the stacks as they were

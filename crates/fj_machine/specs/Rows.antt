@@ -1,5 +1,5 @@
 -- Several lists of numbers, each with room of its own.
-use Rattle.std.specs.Prelude.{ℕ, ◌≡◌, ◌≤◌, ◌<◌, List, [], ◌∷◌, ◌++◌, length, get_or, slice_set}
+use Rattle.std.specs.Prelude.{ℕ, List, [], get_or, slice_set}
 
 -- the lists, and for how many members each has room
 pub record Lists : Type 0 where

@@ -129,8 +129,10 @@ impl Machine {
 
     /// Makes one step: the reply, after which the events of the step stand at the end of the history. It takes no memory.
     ///
-    /// A refused step changes nothing. Submit is refused by `NoSuch`, `TooManyTasks` and `LogFull`, Poll by `NoSuch`, `NotIdle` and
-    /// `LogFull`, End by `NoSuch`, `NotRunning` and `LogFull`, in this order; a step that is not built by `NotYet`.
+    /// A refused step changes nothing. The refusals, in this order: Submit `NoSuch`, `TooManyTasks`, `LogFull`; Fork `NoSuch`,
+    /// `NotRunning`, `TooManyTasks`, `LogFull`; Poll `NoSuch`, `NotIdle`, `LogFull`; Help `NoSuch`, `NotRunning`, `LogFull`; Join
+    /// `NoSuch`, `NotRunning`, `Unknown`, `OwnStack`, `LogFull`; End `NoSuch`, `NotRunning`, `LogFull`; State `Unknown`; a step that is
+    /// not built `NotYet`.
     pub fn step(&mut self, asked: &Step) -> Said
         ensures step { Steps self.old asked.now result self.new }
         // Each event may follow those before it.

@@ -1,40 +1,37 @@
 -- The events of each answer are allowed, one after another; so the history of a run is lawful.
-use Rattle.std.proofs.Common.{ℕ, ◌≡◌, ◌≢◌, ◌+◌, ◌-◌, ◌%◌, ◌≤◌, ◌<◌, Bool, true, false, cond, not, ◌&&◌, ◌||◌, List, [], ◌∷◌, ◌++◌, length, map, Option, Some, None, refl, ap, sym, ◌∙◌, arith, subst, inl, inr, ⊎_elim, ◌⊎◌, append_assoc, length-append, zero, suc}
-use Rattle.std.specs.Prelude.{◌==◌, nat_lt, nat_le, slice_get, if◌then◌else◌, is_some}
-use Rattle.std.specs.List.{filter, filter_map, list_any, cons_option, range_with_len}
+use Rattle.std.proofs.Common.{ℕ, ◌≡◌, ◌+◌, ◌-◌, ◌%◌, ◌≤◌, ◌<◌, Bool, true, false, cond, not, List, [], ◌∷◌, ◌++◌, length, Option, Some, None, refl, ap, sym, ◌∙◌, arith, subst, inl, inr, ⊎_elim, ◌⊎◌, append_assoc, length-append}
+use Rattle.std.specs.Prelude.{◌==◌, slice_get, if◌then◌else◌, is_some}
+use Rattle.std.specs.List.{filter, filter_map, cons_option}
 use Rattle.std.proofs.lemmas.List.{append-nil}
 use Rattle.std.proofs.lemmas.List.Elements.{filter-append}
-use Rattle.std.proofs.lemmas.Bool.{eqb-true, eq-eqb, eqb-false, ltb-false, leb-false, or_parts, or_cases, and_parts, not-true, true≢false}
+use Rattle.std.proofs.lemmas.Bool.{eqb-true, eq-eqb, eqb-false, leb-false, or_parts, or_cases, not-true, true≢false}
 use Rattle.std.proofs.Math.Nat.{mod-add-mod}
 use Rattle.fj_model.specs.declared.kind.SubmittedKind.TheVariants as submitted
 use Rattle.fj_model.specs.declared.event.Event.{Event}
 use Rattle.fj_model.specs.declared.event.Event.TheVariants as event
-use Rattle.fj_model.specs.declared.owner.Owner.{Owner}
-use Rattle.fj_model.specs.declared.owner.Owner.TheVariants.{Sub, Work}
+use Rattle.fj_model.specs.declared.owner.Owner.TheVariants.{Work}
 use Rattle.fj_model.specs.declared.kind.Kind.{Kind}
-use Rattle.fj_model.specs.declared.kind.Kind.TheVariants.{Plain, Completer}
-use Rattle.fj_model.specs.declared.status.Status.{Status}
+use Rattle.fj_model.specs.declared.kind.Kind.TheVariants.{Plain}
 use Rattle.fj_model.specs.declared.status.Status.TheVariants as status_is
-use Rattle.fj_model.specs.declared.step.Ending.{Ending}
 use Rattle.fj_model.specs.declared.step.Ending.TheVariants as ending
 use Rattle.fj_model.specs.declared.step.Step.{Step}
 use Rattle.fj_model.specs.declared.step.Step.TheVariants.{Submit, Fork, Poll, Help, Join, End, IsQuiescent, State}
 use Rattle.fj_model.specs.declared.refusal.Refusal.{Refusal}
 use Rattle.fj_model.specs.declared.refusal.Refusal.TheVariants.{LogFull}
 use Rattle.fj_model.specs.declared.said.Said.{Said}
-use Rattle.fj_model.specs.Bounds.{Bounds, Pool, queues_in, owner_at}
-use Rattle.fj_model.specs.Lists.{is_in, or_else, last_of}
-use Rattle.fj_model.specs.Tasks.{tasks, accepted_by, accepted, released, released_by, is_kept, live, is_completer, is_completer_kind, kind, kind_by}
+use Rattle.fj_model.specs.Bounds.{Bounds, Pool, queues_in}
+use Rattle.fj_model.specs.Lists.{is_in, or_else}
+use Rattle.fj_model.specs.Tasks.{tasks, accepted_by, released, released_by, is_kept, live, is_completer, is_completer_kind, kind}
 use Rattle.fj_model.specs.Statuses.{is_undone, status}
 use Rattle.fj_model.specs.Stacks.{stack, out_by, ended, unless_ended}
 use Rattle.fj_model.specs.Hooks.{hand}
 use Rattle.fj_model.specs.Queues.{queue, taken, taken_by}
 use Rattle.fj_model.specs.Choices.{choice, scan_order, own_choice, first_queued}
-use Rattle.fj_model.specs.Allowed.{Allowed, AllowedFrom, MayAccept, MayTake, is_closed, is_stopped, newest}
-use Rattle.fj_model.specs.Answers.{answer, answer_of, refusal_of, refusal_standing, first_that_stands, refusals_of, does_not_fit, events_of, taking, running, settling, ending_events, is_misfit}
-use Rattle.fj_model.specs.Runs.{Answers, RunsFrom, Runs, IsHistory}
+use Rattle.fj_model.specs.Allowed.{Allowed, AllowedFrom, MayTake, newest}
+use Rattle.fj_model.specs.Answers.{answer, answer_of, refusal_of, refusal_standing, first_that_stands, refusals_of, does_not_fit, events_of, taking, running, ending_events, is_misfit}
+use Rattle.fj_model.specs.Runs.{Answers, RunsFrom, IsHistory}
 use Rattle.fj_model.proofs.Members.{is_in_append, get_is_in, filter_agree_in}
-use Rattle.fj_model.proofs.Growth.{with, tasks_more, released_more, kind_more}
+use Rattle.fj_model.proofs.Growth.{tasks_more, released_more, kind_more}
 use Rattle.fj_model.proofs.Lawful.{by_events, front_here, front_rest, number_if_is, known_more, taken_known}
 
 -- events that may follow, after events that may

@@ -1,18 +1,14 @@
 -- How many tasks stand in the lists of a history.
-use Rattle.std.proofs.Common.{zero, suc, ℕ, ◌≡◌, ◌≢◌, ◌+◌, ◌-◌, ◌≤◌, ◌<◌, Bool, true, false, cond, not, List, [], ◌∷◌, ◌++◌, length, take, drop, Some, refl, ap, sym, ◌∙◌, arith, subst, ⊎_elim}
-use Rattle.std.specs.Prelude.{◌==◌, nat_lt, slice_get}
-use Rattle.std.specs.List.{flat_map}
+use Rattle.std.proofs.Common.{zero, suc, ℕ, ◌≡◌, ◌≢◌, ◌+◌, ◌-◌, ◌≤◌, ◌<◌, Bool, true, false, cond, not, List, [], ◌∷◌, length, take, drop, Some, refl, ap, sym, ◌∙◌, arith, subst, ⊎_elim}
+use Rattle.std.specs.Prelude.{nat_lt}
 use Rattle.std.proofs.lemmas.Bool.{eq-eqb, ne_eqb, ltb-true, true≢false, not-true, and_parts, cases_eq}
 use Rattle.fj_model.specs.declared.event.Event.{Event}
-use Rattle.fj_model.specs.Bounds.{Bounds, Pool, owners, workers}
+use Rattle.fj_model.specs.Bounds.{Pool}
 use Rattle.fj_model.specs.Lists.{is_in, without, times_in, first_of, last_of}
 use Rattle.fj_model.specs.Tasks.{accepted}
-use Rattle.fj_model.specs.Queues.{queue}
-use Rattle.fj_model.specs.Stacks.{stack}
-use Rattle.fj_model.specs.Places.{open_tasks, gone}
 use Rattle.fj_model.specs.Allowed.{AllowedFrom}
 use Rattle.fj_model.specs.Headline.{all_places, IsInOnePlace}
-use Rattle.fj_model.proofs.Members.{times_in_cons, times_in_none, times_in_some, times_in_filter, is_in_filter, first_then, Once}
+use Rattle.fj_model.proofs.Members.{times_in_cons, times_in_some, times_in_filter, is_in_filter, first_then, Once}
 use Rattle.fj_model.proofs.Ends.{last_then, without_last}
 use Rattle.fj_model.proofs.OnePlace.{one_place, never}
 use Rattle.fj_model.proofs.Queues.{without_absent}

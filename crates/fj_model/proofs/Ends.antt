@@ -1,10 +1,10 @@
 -- The stacks and the statuses after a body ended.
-use Rattle.std.proofs.Common.{zero, suc, ℕ, ◌≡◌, ◌≢◌, ◌+◌, ◌-◌, ◌≤◌, ◌<◌, Bool, true, false, cond, not, ◌||◌, List, [], ◌∷◌, ◌++◌, length, take, get_or, Option, Some, None, refl, ap, sym, ◌∙◌, arith, subst, ⊎_elim, ◌⊎◌, inl, inr, append_assoc, length-append}
+use Rattle.std.proofs.Common.{suc, ℕ, ◌≡◌, ◌≢◌, ◌+◌, ◌-◌, ◌≤◌, Bool, true, false, cond, not, ◌||◌, List, [], ◌∷◌, ◌++◌, length, take, Option, Some, None, refl, ap, sym, ◌∙◌, arith, subst, ⊎_elim, ◌⊎◌, inl, inr}
 use Rattle.std.specs.Prelude.{◌==◌, slice_get, if◌then◌else◌}
-use Rattle.std.specs.List.{filter, filter_map, list_any, cons_option}
+use Rattle.std.specs.List.{filter_map, list_any}
 use Rattle.std.proofs.lemmas.List.{append-nil}
 use Rattle.std.proofs.lemmas.List.Elements.{filter-append}
-use Rattle.std.proofs.lemmas.Bool.{eqb-true, eqb-false, eq-eqb, ne_eqb, true≢false}
+use Rattle.std.proofs.lemmas.Bool.{eq-eqb, ne_eqb, true≢false}
 use Rattle.fj_model.specs.declared.event.Event.{Event}
 use Rattle.fj_model.specs.declared.event.Event.TheVariants as event
 use Rattle.fj_model.specs.declared.event.Event.TheVariants.{Acc, Make, Out, Skip, End, Add, Dec, Fire, Pass, Hooked, Settle, Close, Stop, Rel}
@@ -12,7 +12,7 @@ use Rattle.fj_model.specs.declared.status.Status.{Status}
 use Rattle.fj_model.specs.declared.status.Status.TheVariants.{Undone, Normal, Exceptional, Cancelled}
 use Rattle.fj_model.specs.Bounds.{Pool}
 use Rattle.fj_model.specs.Lists.{is_in, without, or_else, last_of, times_in}
-use Rattle.fj_model.specs.Stacks.{stack, out_by, ended, ended_by, unless_ended}
+use Rattle.fj_model.specs.Stacks.{stack, out_by, ended, unless_ended}
 use Rattle.fj_model.specs.Queues.{taken, taken_by}
 use Rattle.fj_model.specs.Statuses.{status, status_from, status_by, or_undone, is_undone, accepts}
 use Rattle.fj_model.specs.Allowed.{Allowed, AllowedFrom}

@@ -1,23 +1,23 @@
 -- Which tasks one more event adds to the list of gone tasks.
-use Rattle.std.proofs.Common.{ℕ, ◌≡◌, ◌≢◌, ◌+◌, ◌≤◌, Bool, true, false, cond, not, ◌&&◌, ◌||◌, List, [], ◌∷◌, ◌++◌, length, Option, Some, None, refl, ap, sym, ◌∙◌, arith, subst, ⊎_elim, ◌⊎◌, inl, inr}
+use Rattle.std.proofs.Common.{ℕ, ◌≡◌, ◌≢◌, ◌+◌, Bool, true, false, cond, not, ◌&&◌, ◌||◌, List, [], ◌∷◌, ◌++◌, Option, Some, None, refl, ap, sym, ◌∙◌, arith, ⊎_elim}
 use Rattle.std.specs.Prelude.{◌==◌}
-use Rattle.std.specs.List.{filter, filter_map, cons_option}
+use Rattle.std.specs.List.{filter, cons_option}
 use Rattle.std.proofs.lemmas.List.{append-nil}
-use Rattle.std.proofs.lemmas.Bool.{eqb-true, eqb-false, eq-eqb, ne_eqb, and_parts, and_from, true≢false, not-true, cases_eq}
+use Rattle.std.proofs.lemmas.Bool.{eq-eqb, ne_eqb, true≢false, cases_eq}
 use Rattle.fj_model.specs.declared.event.Event.{Event}
 use Rattle.fj_model.specs.declared.owner.Owner.{Owner}
 use Rattle.fj_model.specs.Bounds.{Pool}
 use Rattle.fj_model.specs.Lists.{is_in, without, times_in}
-use Rattle.fj_model.specs.Tasks.{tasks, accepted_by, is_completer}
+use Rattle.fj_model.specs.Tasks.{tasks, is_completer}
 use Rattle.fj_model.specs.Queues.{pushed, pushed_by, taken, taken_by, queue}
 use Rattle.fj_model.specs.Stacks.{stack, out_by, ended_by}
 use Rattle.fj_model.specs.Completers.{is_spent}
 use Rattle.fj_model.specs.Places.{opened, place, is_gone, gone, newly_gone}
 use Rattle.fj_model.specs.Allowed.{Allowed, AllowedFrom}
 use Rattle.fj_model.proofs.Members.{is_in_append, is_in_filter, times_in_cons, times_in_none, times_in_some, filter_none, Once}
-use Rattle.fj_model.proofs.Growth.{with, pushed_more, taken_more, stack_more, gone_more}
+use Rattle.fj_model.proofs.Growth.{pushed_more, taken_more, stack_more, gone_more}
 use Rattle.fj_model.proofs.Lawful.{allowed_more, tasks_once, queued_pushed, queued_fresh}
-use Rattle.fj_model.proofs.GoneTasks.{in_queue, IsNowhere, gone_nowhere, nowhere_gone, gone_once}
+use Rattle.fj_model.proofs.GoneTasks.{in_queue, gone_nowhere, nowhere_gone, gone_once}
 use Rattle.fj_model.proofs.OnePlace.{never}
 
 -- an accepted task is in the list of gone tasks exactly if it is gone

@@ -1,30 +1,26 @@
 -- A task that is gone stays gone, so the list of gone tasks has each of them once.
-use Rattle.std.proofs.Common.{zero, suc, ℕ, ◌≡◌, ◌≢◌, ◌+◌, ◌-◌, ◌≤◌, ◌<◌, Bool, true, false, cond, not, ◌&&◌, ◌||◌, List, [], ◌∷◌, ◌++◌, length, Option, Some, None, refl, ap, sym, ◌∙◌, arith, subst, ⊎_elim, ◌⊎◌, inl, inr}
+use Rattle.std.proofs.Common.{ℕ, ◌≡◌, ◌+◌, ◌-◌, ◌≤◌, Bool, true, false, cond, not, ◌&&◌, List, [], ◌∷◌, ◌++◌, length, Option, Some, None, refl, ap, sym, ◌∙◌, arith, ⊎_elim, ◌⊎◌, inl, inr}
 use Rattle.std.specs.Prelude.{◌==◌, if◌then◌else◌, is_some}
 use Rattle.std.specs.List.{filter, filter_map, list_any, find, cons_option}
-use Rattle.std.proofs.lemmas.List.{append-nil}
 use Rattle.std.proofs.lemmas.Bool.{eqb-true, eq-eqb, and_parts, or_cases, or_right, true≢false, not-true}
 use Rattle.fj_model.specs.declared.event.Event.{Event}
-use Rattle.fj_model.specs.declared.event.Event.TheVariants.{Acc, Make, Out, Skip, End, Add, Dec, Fire, Pass, Hooked, Settle, Close, Stop, Rel}
+use Rattle.fj_model.specs.declared.event.Event.TheVariants.{Acc, Make, Out, End}
 use Rattle.fj_model.specs.declared.owner.Owner.{Owner}
 use Rattle.fj_model.specs.declared.kind.Kind.{Kind}
-use Rattle.fj_model.specs.declared.place.Place.{Place}
-use Rattle.fj_model.specs.declared.place.Place.TheVariants.{Queued, Held, Open, Gone}
 use Rattle.fj_model.specs.declared.status.Status.{Status}
-use Rattle.fj_model.specs.declared.status.Status.TheVariants.{Undone, Normal, Exceptional, Cancelled}
 use Rattle.fj_model.specs.Bounds.{Pool}
-use Rattle.fj_model.specs.Lists.{is_in, without, number_if, or_else, last_of, times_in}
+use Rattle.fj_model.specs.Lists.{is_in, without, or_else, times_in}
 use Rattle.fj_model.specs.Queues.{is_same, pushed, pushed_by, taken, taken_by, left, queue}
 use Rattle.fj_model.specs.Tasks.{tasks, accepted_by, kind, kind_by, is_completer, is_completer_kind}
-use Rattle.fj_model.specs.Stacks.{stack, ended, unless_ended, out_by, ended_by}
+use Rattle.fj_model.specs.Stacks.{stack, ended, out_by, ended_by}
 use Rattle.fj_model.specs.Statuses.{or_undone, status, status_from, status_by, is_undone, accepts}
 use Rattle.fj_model.specs.Completers.{is_spent, fires_or_passes}
-use Rattle.fj_model.specs.Places.{queued_in, held_by, opened, opened_by, place, place_of, is_gone, is_open, owner_by, worker_by, gone, gone_from, newly_gone}
+use Rattle.fj_model.specs.Places.{queued_in, held_by, opened, opened_by, place, place_of, is_gone, owner_by, worker_by, gone, gone_from, newly_gone}
 use Rattle.fj_model.specs.Allowed.{Allowed, AllowedFrom}
-use Rattle.fj_model.proofs.Members.{is_in_append, times_in_append, times_in_none, times_in_some, times_in_filter, is_in_filter, first_is_in, get_is_in, Once}
-use Rattle.fj_model.proofs.Growth.{with, pushed_more, taken_more, stack_more, opened_more, kind_more, status_more, gone_more}
-use Rattle.fj_model.proofs.Lawful.{by_events, number_if_is, is_in_with, front_cases, same_owner, allowed_more, known_more, pushed_known, pushed_accepts, is_new, queued_pushed, queued_fresh, tasks_once, left_push, left_take, left_same, take_chosen, chosen_queued, IsChosen}
-use Rattle.fj_model.proofs.Queues.{queue_same, left_of_taken}
+use Rattle.fj_model.proofs.Members.{is_in_append, times_in_append, times_in_none, times_in_some, times_in_filter, is_in_filter, get_is_in, Once}
+use Rattle.fj_model.proofs.Growth.{pushed_more, taken_more, stack_more, opened_more, kind_more, status_more, gone_more}
+use Rattle.fj_model.proofs.Lawful.{by_events, number_if_is, is_in_with, front_cases, same_owner, allowed_more, known_more, pushed_accepts, is_new, queued_pushed, queued_fresh, tasks_once, take_chosen, chosen_queued}
+use Rattle.fj_model.proofs.Queues.{left_of_taken}
 use Rattle.fj_model.proofs.AnswersAllowed.{unless_cases, out_takes}
 
 -- ---- where a task is not

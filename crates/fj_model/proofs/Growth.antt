@@ -1,20 +1,17 @@
 -- What each word of a history says after one more event.
-use Rattle.std.proofs.Common.{ℕ, ◌≡◌, ◌+◌, Bool, true, false, cond, not, ◌&&◌, ◌||◌, List, [], ◌∷◌, ◌++◌, length, Option, Some, None, refl, ap, sym, ◌∙◌, append_assoc, arith, length-append}
-use Rattle.std.specs.Prelude.{◌==◌, if◌then◌else◌}
-use Rattle.std.specs.List.{filter, filter_map, cons_option, list_any, fold, find}
+use Rattle.std.proofs.Common.{ℕ, ◌≡◌, ◌+◌, Bool, true, false, cond, ◌||◌, List, [], ◌∷◌, ◌++◌, length, Option, Some, None, refl, ap, sym, ◌∙◌, append_assoc, length-append}
+use Rattle.std.specs.List.{filter_map, cons_option, list_any}
 use Rattle.std.proofs.lemmas.List.{append-nil}
-use Rattle.std.proofs.lemmas.List.Elements.{filter_map-append, filter-append}
+use Rattle.std.proofs.lemmas.List.Elements.{filter_map-append}
 use Rattle.std.proofs.lemmas.List.Sums.{fold-append}
 use Rattle.fj_model.specs.declared.event.Event.{Event}
 use Rattle.fj_model.specs.declared.owner.Owner.{Owner}
-use Rattle.fj_model.specs.declared.kind.Kind.{Kind}
-use Rattle.fj_model.specs.declared.status.Status.{Status}
 use Rattle.fj_model.specs.Lists.{is_in, without, or_else, first_said}
 use Rattle.fj_model.specs.Tasks.{tasks, accepted_by, accepted, released, released_by, kind, kind_by}
-use Rattle.fj_model.specs.Queues.{pushed, pushed_by, taken, taken_by, left, queue}
+use Rattle.fj_model.specs.Queues.{pushed, pushed_by, taken, taken_by}
 use Rattle.fj_model.specs.Stacks.{stack, out_by, ended, ended_by, unless_ended}
 use Rattle.fj_model.specs.Hooks.{hooks, hooks_after}
-use Rattle.fj_model.specs.Statuses.{status, status_from, status_by, or_undone, is_undone, accepts}
+use Rattle.fj_model.specs.Statuses.{status, status_from, status_by, or_undone, accepts}
 use Rattle.fj_model.proofs.Members.{is_in_append}
 use Rattle.fj_model.specs.Places.{gone, gone_from, newly_gone, opened, opened_by}
 

@@ -1,29 +1,27 @@
 -- What holds of each history whose events were allowed, by induction on its events.
-use Rattle.std.proofs.Common.{ℕ, ◌≡◌, ◌≢◌, ◌+◌, ◌≤◌, ◌<◌, Bool, true, false, cond, not, ◌&&◌, ◌||◌, eqb, ltb, List, [], ◌∷◌, ◌++◌, length, Option, Some, None, refl, ap, sym, ◌∙◌, arith, subst, inl, inr, ⊎_elim, ◌⊎◌, zero-add, ◌-◌, append_assoc, length-append}
+use Rattle.std.proofs.Common.{ℕ, ◌≡◌, ◌+◌, ◌≤◌, Bool, true, false, cond, not, List, [], ◌∷◌, ◌++◌, length, Option, Some, None, refl, ap, sym, ◌∙◌, arith, subst, inl, inr, ⊎_elim, ◌⊎◌, zero-add, ◌-◌, append_assoc, length-append}
 use Rattle.std.specs.Prelude.{◌==◌, nat_lt, slice_get}
-use Rattle.std.specs.List.{filter, filter_map, list_any, find, cons_option}
+use Rattle.std.specs.List.{filter, filter_map, cons_option}
 use Rattle.std.proofs.lemmas.List.{append-nil}
-use Rattle.std.proofs.lemmas.Bool.{eqb-true, eqb-false, eq-eqb, and_parts, or_parts, or_cases, or_right, not-true, true≢false, ltb-true, lt-ltb, le-ltb, ltb-false}
+use Rattle.std.proofs.lemmas.Bool.{eqb-true, eq-eqb, and_parts, or_cases, or_right, not-true, true≢false, le-ltb}
 use Rattle.std.proofs.lemmas.Bool.Decides.{nat_tests}
 use Rattle.fj_model.specs.declared.event.Event.{Event}
-use Rattle.fj_model.specs.declared.event.Event.TheVariants.{Acc, Make, Out, Skip, End, Add, Dec, Fire, Pass, Hooked, Settle, Close, Stop, Rel}
+use Rattle.fj_model.specs.declared.event.Event.TheVariants.{Acc, Make, Out, Skip}
 use Rattle.fj_model.specs.declared.owner.Owner.{Owner}
 use Rattle.fj_model.specs.declared.owner.Owner.TheVariants.{Sub, Work}
 use Rattle.fj_model.specs.declared.mode.Mode.TheVariants.{Async, Joining}
-use Rattle.fj_model.specs.Bounds.{Pool, IsOwner}
-use Rattle.fj_model.specs.Lists.{is_in, without, or_else, first_said, number_if, first_of, last_of, times_in}
+use Rattle.fj_model.specs.Bounds.{Pool}
+use Rattle.fj_model.specs.Lists.{is_in, or_else, number_if, first_of, times_in}
 use Rattle.fj_model.specs.Tasks.{tasks, accepted_by, accepted}
 use Rattle.fj_model.specs.Queues.{is_same, pushed, pushed_by, taken, taken_by, left, queue}
-use Rattle.fj_model.specs.Stacks.{stack, out_by, ended, ended_by}
-use Rattle.fj_model.specs.Statuses.{status_from, status_by, accepts}
 use Rattle.fj_model.specs.Choices.{choice, own_choice, first_queued, scan_order}
-use Rattle.fj_model.specs.Allowed.{Allowed, AllowedFrom, MayAccept, MayTake}
+use Rattle.fj_model.specs.Allowed.{Allowed, AllowedFrom}
 use Rattle.fj_model.specs.Headline.{handed_out_by, handed_out, keeps_order, IsHandedOutOnce, LeftInOrder}
 use mathlib.Core.List.{IsPrefix}
 use Rattle.std.proofs.lemmas.List.Elements.{filter-append}
 use Rattle.fj_model.specs.declared.mode.Mode.{Mode}
-use Rattle.fj_model.proofs.Members.{is_in_append, times_in_append, times_in_cons, times_in_none, is_in_filter, times_in_filter, filter_agree_in, first_is_in, get_is_in, times_in_some, filter_all, filter_none, Once, once_more, without_front, first_then}
-use Rattle.fj_model.proofs.Growth.{with, or_false, tasks_more, pushed_more, taken_more, stack_more}
+use Rattle.fj_model.proofs.Members.{is_in_append, times_in_cons, is_in_filter, filter_agree_in, first_is_in, get_is_in, Once, once_more, without_front, first_then}
+use Rattle.fj_model.proofs.Growth.{with, or_false, tasks_more, pushed_more, taken_more}
 
 -- one more event that is allowed
 pub allowed_more : (pool : Pool) (before h : List Event) (e : Event) → AllowedFrom pool before h → Allowed pool (before ++ h) e → AllowedFrom pool before (h ++ e ∷ [])

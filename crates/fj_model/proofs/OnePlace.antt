@@ -1,27 +1,25 @@
 -- Each accepted task is in exactly one place.
-use Rattle.std.proofs.Common.{zero, suc, ℕ, ◌≡◌, ◌≢◌, ◌+◌, ◌-◌, ◌≤◌, ◌<◌, Bool, true, false, cond, not, ◌&&◌, ◌||◌, List, [], ◌∷◌, ◌++◌, length, map, Option, Some, None, refl, ap, sym, ◌∙◌, arith, subst, ⊎_elim, ◌⊎◌, inl, inr}
-use Rattle.std.specs.Prelude.{◌==◌, nat_lt, if◌then◌else◌, is_some}
-use Rattle.std.specs.List.{filter, filter_map, flat_map, find, cons_option, range_with_len}
+use Rattle.std.proofs.Common.{zero, suc, ℕ, ◌≡◌, ◌≢◌, ◌+◌, ◌-◌, ◌≤◌, ◌<◌, Bool, true, false, cond, not, ◌&&◌, List, [], ◌∷◌, ◌++◌, length, map, Option, Some, None, refl, ap, sym, ◌∙◌, arith, subst, ⊎_elim, ◌⊎◌, inl, inr}
+use Rattle.std.specs.Prelude.{◌==◌, nat_lt, if◌then◌else◌}
+use Rattle.std.specs.List.{filter_map, flat_map, find, cons_option, range_with_len}
 use Rattle.std.proofs.lemmas.List.{append-nil}
-use Rattle.std.proofs.lemmas.Bool.{eqb-true, eq-eqb, and_parts, true≢false, or_right, not-true, cases_eq, lt-ltb, le-ltb}
+use Rattle.std.proofs.lemmas.Bool.{eqb-true, eq-eqb, and_parts, true≢false, or_right, not-true, cases_eq}
 use Rattle.fj_model.specs.declared.event.Event.{Event}
-use Rattle.fj_model.specs.declared.event.Event.TheVariants.{Acc, Make, Out, Skip, End, Add, Dec, Fire, Pass, Hooked, Settle, Close, Stop, Rel}
+use Rattle.fj_model.specs.declared.event.Event.TheVariants.{Acc, Make, Out, End}
 use Rattle.fj_model.specs.declared.owner.Owner.{Owner}
 use Rattle.fj_model.specs.declared.owner.Owner.TheVariants.{Sub, Work}
-use Rattle.fj_model.specs.declared.place.Place.{Place}
-use Rattle.fj_model.specs.declared.place.Place.TheVariants.{Queued, Held, Open, Gone}
 use Rattle.fj_model.specs.Bounds.{Bounds, Pool, IsOwner, owner_at, queue_number, queues_in, owners, workers}
-use Rattle.fj_model.specs.Lists.{is_in, without, number_if, times_in}
-use Rattle.fj_model.specs.Queues.{is_same, pushed, pushed_by, taken, taken_by, left, queue}
+use Rattle.fj_model.specs.Lists.{is_in, without, times_in}
+use Rattle.fj_model.specs.Queues.{is_same, pushed, pushed_by, left, queue}
 use Rattle.fj_model.specs.Tasks.{tasks, accepted, accepted_by, is_completer}
 use Rattle.fj_model.specs.Stacks.{stack, out_by, ended_by}
 use Rattle.fj_model.specs.Completers.{is_spent}
-use Rattle.fj_model.specs.Places.{queued_in, held_by, opened, opened_by, open_tasks, place, place_of, is_gone, is_open, owner_by, worker_by, gone}
+use Rattle.fj_model.specs.Places.{queued_in, held_by, opened, opened_by, open_tasks, place, place_of, is_open, owner_by, worker_by, gone}
 use Rattle.fj_model.specs.Allowed.{Allowed, AllowedFrom}
 use Rattle.fj_model.specs.Headline.{all_places, IsInOnePlace}
-use Rattle.fj_model.proofs.Members.{is_in_append, is_in_filter, times_in_append, times_in_none, times_in_some, times_in_filter, get_is_in, Once, once_more}
-use Rattle.fj_model.proofs.Growth.{with, pushed_more, taken_more, stack_more, opened_more, tasks_more}
-use Rattle.fj_model.proofs.Lawful.{by_events, is_in_with, number_if_is, same_owner, is_numbered, is_new, known_more, pushed_known, pushed_accepts, pushed_once, pushed_apart, queued_pushed, queued_fresh, taken_known, take_chosen, chosen_queued}
+use Rattle.fj_model.proofs.Members.{is_in_append, is_in_filter, times_in_append, times_in_none, times_in_filter, get_is_in, Once, once_more}
+use Rattle.fj_model.proofs.Growth.{pushed_more, stack_more, opened_more, tasks_more}
+use Rattle.fj_model.proofs.Lawful.{by_events, is_in_with, number_if_is, same_owner, is_numbered, is_new, known_more, pushed_known, pushed_once, pushed_apart, queued_pushed, queued_fresh, taken_known, take_chosen, chosen_queued}
 use Rattle.fj_model.proofs.AnswersAllowed.{stack_taken, out_takes}
 use Rattle.fj_model.proofs.Owners.{sub_owner, work_owner, owners_apart}
 use Rattle.fj_model.proofs.Ends.{stack_once}

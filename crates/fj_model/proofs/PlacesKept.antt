@@ -8,7 +8,7 @@ use Rattle.fj_model.specs.declared.place.Place.TheVariants.{Queued, Held, Open, 
 use Rattle.fj_model.specs.Bounds.{Pool}
 use Rattle.fj_model.specs.Lists.{is_in}
 use Rattle.fj_model.specs.Tasks.{tasks, is_completer}
-use Rattle.fj_model.specs.Queues.{queue, taken_by}
+use Rattle.fj_model.specs.Queues.{queue}
 use Rattle.fj_model.specs.Stacks.{stack}
 use Rattle.fj_model.specs.Completers.{is_spent}
 use Rattle.fj_model.specs.Places.{queued_in, held_by, opened, place, place_of, is_gone}

@@ -1,25 +1,23 @@
 -- The queues after one more event.
-use Rattle.std.proofs.Common.{ℕ, ◌≡◌, ◌≢◌, ◌+◌, ◌-◌, ◌≤◌, ◌<◌, Bool, true, false, cond, not, ◌&&◌, ◌||◌, List, [], ◌∷◌, ◌++◌, length, drop, Option, Some, None, refl, ap, sym, ◌∙◌, arith, subst, ⊎_elim, append_assoc, length-append, suc, zero}
-use Rattle.std.specs.Prelude.{◌==◌, slice_get}
-use Rattle.std.specs.List.{filter, filter_map, cons_option}
+use Rattle.std.proofs.Common.{ℕ, ◌≡◌, ◌≤◌, Bool, true, false, cond, not, ◌||◌, List, [], ◌∷◌, ◌++◌, length, drop, Option, Some, None, refl, ap, sym, ◌∙◌, arith, ⊎_elim, append_assoc}
+use Rattle.std.specs.Prelude.{◌==◌}
+use Rattle.std.specs.List.{filter_map, cons_option}
 use Rattle.std.proofs.lemmas.List.{append-nil}
 use Rattle.std.proofs.lemmas.List.Elements.{filter-append}
 use Rattle.std.proofs.lemmas.Bool.{true≢false, eqb-true, or_cases}
 use Rattle.std.proofs.lemmas.List.Sums.{length-filter, count_by-le-length}
 use mathlib.Core.List.{IsPrefix}
 use Rattle.fj_model.specs.declared.event.Event.{Event}
-use Rattle.fj_model.specs.declared.event.Event.TheVariants.{Acc, Make, Out, Skip, End, Add, Dec, Fire, Pass, Hooked, Settle, Close, Stop, Rel}
 use Rattle.fj_model.specs.declared.owner.Owner.{Owner}
-use Rattle.fj_model.specs.declared.kind.Kind.{Kind}
 use Rattle.fj_model.specs.Bounds.{Pool}
-use Rattle.fj_model.specs.Lists.{is_in, without, number_if, first_of}
-use Rattle.fj_model.specs.Queues.{is_same, pushed, pushed_by, taken, taken_by, left, queue}
+use Rattle.fj_model.specs.Lists.{is_in, without, first_of}
+use Rattle.fj_model.specs.Queues.{pushed, pushed_by, taken, taken_by, left, queue}
 use Rattle.fj_model.specs.Tasks.{tasks, accepted_by, accepted}
 use Rattle.fj_model.specs.Allowed.{Allowed, AllowedFrom}
 use Rattle.fj_model.specs.Headline.{keeps_order}
-use Rattle.fj_model.proofs.Members.{is_in_append, is_in_filter, filter_agree_in, filter_all, filter_none, without_front, first_then, first_is_in, Once}
-use Rattle.fj_model.proofs.Growth.{without_none, with, tasks_more, pushed_more, taken_more, or_false}
-use Rattle.fj_model.proofs.Lawful.{is_numbered, taken_known, pushed_known, pushed_accepts, is_new, left_push, left_take, left_same, left_in_order, queue_rest, pushed_once, queued_pushed, pushed_apart, among, allowed_more}
+use Rattle.fj_model.proofs.Members.{is_in_append, is_in_filter, filter_all, first_then, first_is_in}
+use Rattle.fj_model.proofs.Growth.{without_none, pushed_more}
+use Rattle.fj_model.proofs.Lawful.{taken_known, pushed_accepts, is_new, left_push, left_take, left_same, left_in_order, queue_rest, queued_pushed, pushed_apart, among, allowed_more}
 
 -- an event that neither puts a task there nor takes any leaves a queue as it was
 pub queue_same : (h : List Event) (e : Event) (o : Owner) → pushed_by o e ≡ None → taken_by e ≡ None → queue (h ++ e ∷ []) o ≡ queue h o

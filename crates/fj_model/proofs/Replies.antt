@@ -1,7 +1,7 @@
 -- What the replies say of the events.
-use Rattle.std.proofs.Common.{ℕ, ◌≡◌, Bool, true, false, cond, List, [], ◌∷◌, ◌++◌, length, Option, Some, None, refl, ap, sym, ◌∙◌, subst, append_assoc}
+use Rattle.std.proofs.Common.{ℕ, ◌≡◌, Bool, true, false, List, [], ◌∷◌, ◌++◌, Option, Some, None, refl, subst, append_assoc}
 use Rattle.std.specs.Prelude.{if◌then◌else◌}
-use Rattle.std.specs.List.{filter_map, cons_option}
+use Rattle.std.specs.List.{filter_map}
 use Rattle.fj_model.specs.declared.kind.SubmittedKind.TheVariants as submitted
 use Rattle.fj_model.specs.declared.event.Event.{Event}
 use Rattle.fj_model.specs.declared.event.Event.TheVariants as event
@@ -18,7 +18,7 @@ use Rattle.fj_model.specs.Bounds.{Pool}
 use Rattle.fj_model.specs.Tasks.{tasks, accepted_by}
 use Rattle.fj_model.specs.Statuses.{status, is_undone}
 use Rattle.fj_model.specs.Choices.{choice}
-use Rattle.fj_model.specs.Answers.{is_quiet, answer, answer_of, refusal_of, refusal_standing, events_of, reply_of, taking, taking_says, status_says, running, ending_events, ending_says}
+use Rattle.fj_model.specs.Answers.{is_quiet, answer, answer_of, refusal_of, events_of, reply_of, taking, taking_says, status_says, running, ending_events, ending_says}
 use Rattle.std.proofs.lemmas.List.{append-nil}
 use Rattle.std.proofs.lemmas.List.Elements.{filter_map-append}
 use Rattle.fj_model.specs.Headline.{handed_out, handed_out_by, fired, fired_by, task_in, run_in, hook_in, RepliesTell}

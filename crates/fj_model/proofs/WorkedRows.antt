@@ -3,10 +3,10 @@ use Rattle.std.specs.Prelude.{Bool, ◌&&◌}
 use Rattle.fj_model.proofs.AllowedTest.{all_allowed, each_placed}
 use Rattle.fj_model.specs.Places.{open_tasks, gone, gone_from, newly_gone}
 use Rattle.fj_model.specs.Headline.{all_places}
-use Rattle.std.specs.Prelude.{ℕ, ◌≡◌, true, false, List, [], ◌∷◌, ◌++◌, Some, None, refl}
+use Rattle.std.specs.Prelude.{ℕ, ◌≡◌, true, false, List, [], ◌∷◌, ◌++◌, Some, refl}
 use Rattle.fj_model.specs.declared.kind.SubmittedKind.TheVariants as submitted
 use Rattle.fj_model.specs.declared.event.Event.{Event}
-use Rattle.fj_model.specs.declared.owner.Owner.TheVariants.{Sub, Work}
+use Rattle.fj_model.specs.declared.owner.Owner.TheVariants.{Sub}
 use Rattle.fj_model.specs.declared.mode.Mode.{Mode}
 use Rattle.fj_model.specs.declared.mode.Mode.TheVariants.{Async, Joining}
 use Rattle.fj_model.specs.declared.kind.Kind.TheVariants.{Plain, Completer}
@@ -18,7 +18,7 @@ use Rattle.fj_model.specs.declared.step.Step.TheVariants as ask
 use Rattle.fj_model.specs.declared.refusal.Refusal.TheVariants as refused
 use Rattle.fj_model.specs.declared.said.Said.{Said}
 use Rattle.fj_model.specs.declared.said.Said.TheVariants as says
-use Rattle.fj_model.specs.Bounds.{Bounds, Pool}
+use Rattle.fj_model.specs.Bounds.{Pool}
 use Rattle.fj_model.specs.Answers.{answer_of, refusal_standing}
 use Rattle.fj_model.specs.Tasks.{accepted, tasks, released, is_kept, live, kind, is_completer, parent}
 use Rattle.fj_model.specs.Queues.{pushed, taken, left, queue}

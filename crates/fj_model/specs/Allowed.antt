@@ -1,5 +1,5 @@
 -- When an event may follow a history.
-use Rattle.std.specs.Prelude.{ℕ, ◌≡◌, Bool, true, false, ◌&&◌, ◌||◌, not, ◌+◌, ◌-◌, ◌≤◌, ◌<◌, ◌==◌, ◌⊎◌, if◌then◌else◌, List, [], ◌∷◌, ◌++◌, length, Option, Some, None, slice_get, IfSome}
+use Rattle.std.specs.Prelude.{ℕ, ◌≡◌, Bool, true, false, ◌&&◌, ◌||◌, ◌+◌, ◌-◌, ◌≤◌, ◌<◌, ◌==◌, ◌⊎◌, List, [], ◌∷◌, ◌++◌, length, Option, Some, None, slice_get, IfSome}
 use Rattle.std.specs.List.{list_any}
 use Rattle.fj_model.specs.declared.event.Event.{Event}
 use Rattle.fj_model.specs.declared.event.Event.TheVariants.{Acc, Make, Out, Skip, End, Add, Dec, Fire, Pass, Hooked, Settle, Close, Stop, Rel}
@@ -7,21 +7,19 @@ use Rattle.fj_model.specs.declared.owner.Owner.{Owner}
 use Rattle.fj_model.specs.declared.owner.Owner.TheVariants.{Sub, Work}
 use Rattle.fj_model.specs.declared.kind.Kind.{Kind}
 use Rattle.fj_model.specs.declared.status.Status.{Status}
-use Rattle.fj_model.specs.declared.status.Status.TheVariants.{Undone, Normal, Exceptional, Cancelled}
-use Rattle.fj_model.specs.declared.event.How.{How}
+use Rattle.fj_model.specs.declared.status.Status.TheVariants.{Normal}
 use Rattle.fj_model.specs.declared.event.How.TheVariants.{Zero, Complete}
-use Rattle.fj_model.specs.declared.place.Place.{Place}
 use Rattle.fj_model.specs.declared.place.Place.TheVariants.{Gone}
 use Rattle.fj_model.specs.Bounds.{Pool, IsOwner, queues_in}
 use Rattle.fj_model.specs.Lists.{is_in, last_of}
-use Rattle.fj_model.specs.Tasks.{tasks, accepted, is_kept, live, kind, is_completer, is_completer_kind, parent, parent_in, count_in}
+use Rattle.fj_model.specs.Tasks.{tasks, accepted, is_kept, live, is_completer, is_completer_kind, parent, parent_in, count_in}
 use Rattle.fj_model.specs.Stacks.{stack}
 use Rattle.fj_model.specs.Hooks.{hand}
 use Rattle.fj_model.specs.Statuses.{status, is_undone}
 use Rattle.fj_model.specs.Completers.{pending, is_spent}
 use Rattle.fj_model.specs.Places.{place}
 use Rattle.fj_model.specs.Choices.{choice}
-use Rattle.fj_model.specs.Climbs.{Arrival, Counted, Fires, arrival}
+use Rattle.fj_model.specs.Climbs.{Counted, Fires, arrival}
 
 abbrev pub is_close : Event → Bool
 is_close Close = true

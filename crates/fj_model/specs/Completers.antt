@@ -1,5 +1,5 @@
 -- A completer's pending count, and whether it is spent.
-use Rattle.std.specs.Prelude.{ℕ, Bool, true, false, ◌||◌, not, ◌+◌, ◌-◌, ◌==◌, List, length, Option, Some, None}
+use Rattle.std.specs.Prelude.{ℕ, Bool, false, ◌||◌, not, ◌+◌, ◌-◌, ◌==◌, List, length, Option, None}
 use Rattle.std.specs.List.{filter_map, list_any, sum}
 use Rattle.fj_model.specs.declared.event.Event.{Event}
 use Rattle.fj_model.specs.declared.event.Event.TheVariants.{Add, Dec, Fire, Pass}

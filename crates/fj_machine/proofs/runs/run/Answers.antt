@@ -1,6 +1,5 @@
-use Rattle.std.proofs.Common.{sym, subst, take, length, ◌≡◌, ◌++◌, ◌∷◌, []}
+use Rattle.std.proofs.Common.{take}
 use Rattle.fj_model.specs.Bounds.{Pool}
-use Rattle.fj_model.specs.Runs.{IsHistory}
 use Rattle.fj_model.proofs.Headlines.{headline}
 use Rattle.fj_model.proofs.Replies.{runs_tell}
 use Rattle.fj_machine.proofs.Running.{step_pool, run_step}

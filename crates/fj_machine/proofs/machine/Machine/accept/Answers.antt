@@ -1,7 +1,7 @@
-use Rattle.std.proofs.Common.{refl, ◌≡◌, ◌<◌, ◌≤◌, ◌≢◌, ℕ, ◌∷◌, [], ◌++◌, length, arith, ap, sym, ◌∙◌, subst}
+use Rattle.std.proofs.Common.{◌≡◌, ◌<◌, ◌∷◌, [], ◌++◌, length, arith, ap, sym, subst}
 use Rattle.fj_model.specs.declared.event.Event.TheVariants as event
 use Rattle.fj_model.specs.declared.kind.Kind.TheVariants.{Plain}
-use Rattle.fj_model.specs.Bounds.{Pool, IsOwner, owner_at}
+use Rattle.fj_model.specs.Bounds.{Pool, IsOwner}
 use Rattle.fj_model.specs.Tasks.{accepted}
 use Rattle.fj_model.specs.Runs.{Past, IsHistory}
 use Rattle.fj_model.proofs.AnswersAllowed.{history_allowed}

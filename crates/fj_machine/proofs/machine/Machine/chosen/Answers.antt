@@ -1,14 +1,12 @@
-use Rattle.std.proofs.Common.{◌≡◌, ◌+◌, ◌≤◌, ◌<◌, length, get_or, Option, Some, None, sym, ap, ◌∙◌, arith, subst}
+use Rattle.std.proofs.Common.{◌≡◌, ◌+◌, ◌<◌, length, ap, ◌∙◌, arith, subst}
 use Rattle.fj_model.specs.declared.mode.Mode.{Mode}
-use Rattle.fj_model.specs.declared.mode.Mode.TheVariants.{Async, Joining}
 use Rattle.fj_model.specs.declared.owner.Owner.TheVariants.{Work}
 use Rattle.fj_model.specs.Bounds.{Pool, queues_in}
 use Rattle.fj_model.specs.Queues.{queue}
-use Rattle.fj_model.specs.Choices.{choice, first_queued, scan_order}
+use Rattle.fj_model.specs.Choices.{first_queued, scan_order}
 use Rattle.fj_model.specs.Runs.{Past}
 use Rattle.fj_model.proofs.Owners.{work_owner}
 use Rattle.fj_queues.specs.Queues.{queue_at, first_filled, places_from}
-use Rattle.fj_machine.specs.declared.source.Source.TheVariants.{Oldest, Newest}
 use Rattle.fj_machine.specs.Sources.{IsChosenFrom}
 use Rattle.fj_machine.proofs.Choosing.{ComesFrom, own_source, own_is_chosen, scan_found, scan_choice, scanned_is_chosen}
 use Rattle.fj_machine.proofs.machine.Machine.chosen.Goals as goal

@@ -1,5 +1,4 @@
-use Rattle.std.proofs.Common.{refl, ◌≡◌, ◌<◌, ◌≤◌, ◌≢◌, ℕ, ◌∷◌, [], ◌++◌, List, None, length, arith, ap, sym, ◌∙◌, subst, true, false}
-use Rattle.fj_model.specs.declared.event.Event.{Event}
+use Rattle.std.proofs.Common.{◌≡◌, ◌<◌, ◌≤◌, ◌≢◌, ◌∷◌, [], None, length, arith, ap, sym, ◌∙◌, subst, true, false}
 use Rattle.fj_model.specs.declared.event.Event.TheVariants as event
 use Rattle.fj_model.specs.declared.owner.Owner.TheVariants.{Work}
 use Rattle.fj_model.specs.declared.step.Step.TheVariants.{Fork}
@@ -10,7 +9,7 @@ use Rattle.fj_model.specs.Tasks.{accepted}
 use Rattle.fj_model.specs.Stacks.{stack}
 use Rattle.fj_model.specs.Lists.{is_empty}
 use Rattle.fj_model.specs.Answers.{answer, refusal_of}
-use Rattle.fj_model.specs.Runs.{Past, IsHistory}
+use Rattle.fj_model.specs.Runs.{Past}
 use Rattle.fj_model.proofs.AnswersAllowed.{history_more}
 use Rattle.fj_machine.proofs.Submitting.{told, refused, fullness}
 use Rattle.fj_machine.proofs.Forking.{fork_no_such, fork_not_running, fork_too_many, fork_log_full, fork_stands, fork_answer}

@@ -1,8 +1,4 @@
-use Rattle.std.proofs.Common.{◌≡◌, ◌≢◌, ◌<◌, ◌⊎◌, get_or, Bool, true, false, eqb, refl, sym, ap, ◌∙◌, arith, subst, ⊎_elim}
-use Rattle.std.specs.Prelude.{◌==◌, vec_len}
-use Rattle.std.proofs.lemmas.Bool.{cases_eq, eq-eqb, ne_eqb}
-use Rattle.fj_model.specs.declared.owner.Owner.{Owner}
-use Rattle.fj_model.specs.declared.place.Place.{Place}
+use Rattle.std.proofs.Common.{◌≡◌, ◌<◌, sym, ap, ◌∙◌, arith, ⊎_elim}
 use Rattle.fj_model.specs.declared.place.Place.TheVariants.{Queued, Held, Open, Gone}
 use Rattle.fj_model.specs.Bounds.{Pool}
 use Rattle.fj_model.specs.Tasks.{accepted}

@@ -1,7 +1,4 @@
-use Rattle.std.proofs.Common.{◌≡◌, ◌+◌, ◌≤◌, ◌<◌, ◌++◌, ℕ, ap, sym, ◌∙◌, arith, refl, length, true, false, Bool, None, Some, subst, [], List}
-use Rattle.fj_model.specs.declared.event.Event.{Event}
-use Rattle.fj_model.specs.declared.refusal.Refusal.{Refusal}
-use Rattle.fj_model.specs.declared.said.Said.TheVariants as says
+use Rattle.std.proofs.Common.{◌≡◌, ◌+◌, ◌≤◌, ◌<◌, ◌++◌, ap, sym, ◌∙◌, arith, refl, length, true, false, subst, []}
 use Rattle.fj_model.specs.declared.step.Step.TheVariants.{Join}
 use Rattle.fj_model.specs.declared.status.Status.{Status}
 use Rattle.fj_model.specs.declared.status.Status.TheVariants.{Normal, Exceptional, Cancelled}
@@ -11,8 +8,7 @@ use Rattle.fj_model.specs.Stacks.{stack}
 use Rattle.fj_model.specs.Statuses.{status, is_undone}
 use Rattle.fj_model.specs.Tasks.{accepted}
 use Rattle.fj_model.specs.Choices.{choice}
-use Rattle.fj_model.specs.Allowed.{AllowedFrom}
-use Rattle.fj_model.specs.Answers.{refusal_of, taking, status_says}
+use Rattle.fj_model.specs.Answers.{taking, status_says}
 use Rattle.fj_model.specs.Runs.{Past, Steps, IsHistory}
 use Rattle.fj_model.proofs.AnswersAllowed.{history_allowed}
 use Rattle.fj_machine.specs.Sources.{TakesChoice}

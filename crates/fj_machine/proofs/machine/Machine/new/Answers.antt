@@ -1,4 +1,4 @@
-use Rattle.std.proofs.Common.{arith, ◌≡◌, ◌+◌}
+use Rattle.std.proofs.Common.{arith}
 use Rattle.fj_model.specs.Bounds.{Pool}
 use Rattle.fj_machine.proofs.Fresh.{fresh_holds}
 use Rattle.fj_machine.proofs.machine.Machine.new.Goals as goal

@@ -1,4 +1,4 @@
-use Rattle.std.proofs.Common.{◌≡◌, ◌+◌, ◌≤◌, ◌<◌, ◌++◌, ap, sym, ◌∙◌, arith, length, true, false, None, subst}
+use Rattle.std.proofs.Common.{◌≡◌, ◌+◌, ◌≤◌, ◌<◌, ◌++◌, ap, sym, ◌∙◌, arith, length, subst}
 use Rattle.fj_model.specs.declared.step.Step.TheVariants.{Poll}
 use Rattle.fj_model.specs.Bounds.{Pool}
 use Rattle.fj_model.specs.Lists.{is_empty}

@@ -1,4 +1,4 @@
-use Rattle.std.proofs.Common.{◌≡◌, sym, ◌∙◌, ap, arith, subst}
+use Rattle.std.proofs.Common.{sym, ◌∙◌}
 use Rattle.fj_model.specs.Bounds.{Pool}
 use Rattle.fj_model.proofs.Absent.{no_such_queue}
 use Rattle.fj_model.proofs.AnswersAllowed.{history_allowed}

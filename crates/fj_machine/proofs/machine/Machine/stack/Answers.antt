@@ -1,7 +1,5 @@
-use Rattle.std.proofs.Common.{◌≡◌, ap, sym, ◌∙◌, arith, subst}
+use Rattle.std.proofs.Common.{sym, ◌∙◌, arith}
 use Rattle.fj_model.specs.Bounds.{Pool}
-use Rattle.fj_model.specs.Stacks.{stack}
-use Rattle.fj_model.specs.Runs.{Past}
 use Rattle.fj_model.proofs.Absent.{no_such_stack}
 use Rattle.fj_model.proofs.AnswersAllowed.{history_allowed}
 use Rattle.fj_machine.proofs.machine.Machine.stack.Goals as goal

@@ -1,4 +1,4 @@
-use Rattle.std.proofs.Common.{◌≡◌, ◌<◌, ◌≤◌, get_or, Bool, sym, ◌∙◌, ap, arith, refl}
+use Rattle.std.proofs.Common.{◌≡◌, ◌<◌, ◌≤◌, arith}
 use Rattle.fj_model.specs.Bounds.{Pool}
 use Rattle.fj_model.specs.Tasks.{accepted}
 use Rattle.fj_model.specs.Statuses.{status}

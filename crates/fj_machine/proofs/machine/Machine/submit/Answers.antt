@@ -1,5 +1,4 @@
-use Rattle.std.proofs.Common.{refl, ◌≡◌, ◌<◌, ◌≤◌, ◌≢◌, ℕ, ◌∷◌, [], ◌++◌, List, None, length, arith, ap, sym, ◌∙◌, subst, true, false}
-use Rattle.fj_model.specs.declared.event.Event.{Event}
+use Rattle.std.proofs.Common.{◌≡◌, ◌<◌, ◌≤◌, ◌≢◌, ◌∷◌, [], None, length, arith, subst, true, false}
 use Rattle.fj_model.specs.declared.event.Event.TheVariants as event
 use Rattle.fj_model.specs.declared.kind.SubmittedKind.TheVariants as submitted
 use Rattle.fj_model.specs.declared.owner.Owner.TheVariants.{Sub}
@@ -9,7 +8,7 @@ use Rattle.fj_model.specs.declared.kind.Kind.TheVariants.{Plain}
 use Rattle.fj_model.specs.Bounds.{Pool}
 use Rattle.fj_model.specs.Tasks.{accepted}
 use Rattle.fj_model.specs.Answers.{answer, refusal_of}
-use Rattle.fj_model.specs.Runs.{Past, IsHistory}
+use Rattle.fj_model.specs.Runs.{Past}
 use Rattle.fj_model.proofs.AnswersAllowed.{history_more}
 use Rattle.fj_machine.proofs.Submitting.{told, refused, fullness, submit_no_such, submit_too_many, submit_log_full, submit_stands, submit_answer}
 use Rattle.fj_machine.proofs.machine.Machine.submit.Goals as goal

@@ -1,15 +1,11 @@
-use Rattle.std.proofs.Common.{vec_len, ◌≡◌, ◌<◌, ◌∷◌, [], ◌++◌, ◌∙◌, ap, sym, refl, arith, length, ℕ, Some, Bool, true, false, subst}
+use Rattle.std.proofs.Common.{vec_len, ◌≡◌, ◌<◌, ◌∷◌, [], ◌++◌, ◌∙◌, ap, sym, refl, arith, length, Some, Bool, true, false, subst}
 use Rattle.fj_model.specs.declared.event.Event.TheVariants as event
 use Rattle.fj_model.specs.Bounds.{Pool, queues_in, owner_at}
 use Rattle.fj_model.specs.Queues.{queue}
-use Rattle.fj_model.specs.Stacks.{stack}
 use Rattle.fj_model.specs.Statuses.{status, is_undone}
 use Rattle.fj_model.specs.Tasks.{accepted}
 use Rattle.std.specs.Prelude.{if◌then◌else◌}
 use Rattle.fj_model.specs.Answers.{taking}
-use Rattle.fj_machine.specs.Rows.{row_at, with_row}
-use Rattle.std.proofs.Math.ListN.{length-set}
-use Rattle.fj_model.proofs.Growth.{stack_same}
 use Rattle.fj_model.specs.Runs.{Past, IsHistory}
 use Rattle.fj_machine.specs.Sources.{queue_of, end_of, task_at, tasks_there}
 use Rattle.fj_model.proofs.AnswersAllowed.{history_allowed}

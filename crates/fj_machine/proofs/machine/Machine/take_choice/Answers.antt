@@ -1,4 +1,4 @@
-use Rattle.std.proofs.Common.{◌≡◌, ◌≤◌, length, subst, true}
+use Rattle.std.proofs.Common.{◌≤◌, length, subst}
 use Rattle.fj_model.specs.Runs.{Past}
 use Rattle.fj_machine.proofs.Choosing.{takes_none, takes_full}
 use Rattle.fj_machine.proofs.machine.Machine.take_choice.Goals as goal
