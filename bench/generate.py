@@ -1,13 +1,38 @@
 #!/usr/bin/env python3
-"""Writes a script of many short lines to standard output: a heading, and rounds of a submission, a poll and an end."""
+"""Writes a script of many short lines to standard output.
+
+submissions: rounds of a submission, a poll and an end, by one submitter and one worker.
+forks: 31 running tasks fork in turn, and each time a 32nd worker polls for the fork and ends it; with 32 submitters.
+"""
 
 import argparse
 import sys
+from collections.abc import Iterator
+from itertools import islice
 
-HEADING = "async 1 1 4096 1048576\n"
-ROUND = "submit 0\npoll 0 0\nend 0 ok\n"
 LINES_IN_A_ROUND = 3
 ROUNDS_AT_ONCE = 10_000
+FORKING = 31
+
+
+def submissions() -> Iterator[str]:
+    while True:
+        yield "submit 0\npoll 0 0\nend 0 ok\n"
+
+
+def forks() -> Iterator[str]:
+    while True:
+        for worker in range(FORKING):
+            yield f"fork {worker}\npoll {FORKING} {worker}\nend {FORKING} ok\n"
+
+
+def opening(kind: str) -> str:
+    if kind == "submissions":
+        return "async 1 1 4096 1048576\n"
+    lines = ["async 32 32 4096 1048576\n"]
+    for worker in range(FORKING):
+        lines.append(f"submit {worker}\npoll {worker} {worker}\n")
+    return "".join(lines)
 
 
 def positive(text: str) -> int:
@@ -18,13 +43,15 @@ def positive(text: str) -> int:
 
 
 def main() -> None:
-    parser = argparse.ArgumentParser(description=__doc__)
-    parser.add_argument("rounds", nargs="?", type=positive, default=200_000, help="how many rounds of three lines (default: 200000)")
-    rounds = parser.parse_args().rounds
+    parser = argparse.ArgumentParser(description=__doc__, formatter_class=argparse.RawDescriptionHelpFormatter)
+    parser.add_argument("kind", choices=["submissions", "forks"])
+    parser.add_argument("rounds", type=positive, help=f"how many rounds of {LINES_IN_A_ROUND} lines")
+    given = parser.parse_args()
 
-    sys.stdout.write(HEADING)
-    for start in range(0, rounds, ROUNDS_AT_ONCE):
-        sys.stdout.write(ROUND * min(ROUNDS_AT_ONCE, rounds - start))
+    sys.stdout.write(opening(given.kind))
+    rounds = submissions() if given.kind == "submissions" else forks()
+    for start in range(0, given.rounds, ROUNDS_AT_ONCE):
+        sys.stdout.write("".join(islice(rounds, min(ROUNDS_AT_ONCE, given.rounds - start))))
 
 
 if __name__ == "__main__":

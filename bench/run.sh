@@ -1,12 +1,12 @@
 #!/usr/bin/env bash
 # Times `fj replay` on a generated script: seconds, lines a second, peak memory.
-# Usage: bench/run.sh [ROUNDS]      (default: 200000 rounds of three lines)
+# Usage: bench/run.sh [KIND [ROUNDS]]     KIND is submissions (default) or forks; a round is three lines (default: 200000 rounds)
 set -euo pipefail
 cd "$(dirname "${BASH_SOURCE[0]}")/.."
 
-rounds=${1:-200000}
+kind=${1:-submissions}
+rounds=${2:-200000}
 program=crates/fj/out/fj
-steps=$((rounds * 3))
 
 if [[ ! -x $program ]]; then
     echo "$program is not built: run 'cd crates/fj && rt run -- replay < stdin' first" >&2
@@ -15,7 +15,8 @@ fi
 
 folder=$(mktemp -d)
 trap 'rm -rf "$folder"' EXIT
-python3 bench/generate.py "$rounds" > "$folder/script"
+python3 bench/generate.py "$kind" "$rounds" > "$folder/script"
+steps=$(($(wc -l < "$folder/script") - 1))
 
 # Each way writes the seconds and the peak memory in kilobytes to the file `measured`.
 if /usr/bin/time -f '%e %M' true 2> /dev/null; then

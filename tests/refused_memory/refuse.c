@@ -1,0 +1,48 @@
+/* Loaded before the C library: refuses the request for memory whose number, counted from 1, is in REFUSE_AT, and grants all others.
+   At the end the number of requests is written to the file that REFUSE_COUNT names. */
+#define _GNU_SOURCE
+#include <dlfcn.h>
+#include <errno.h>
+#include <stdatomic.h>
+#include <stdio.h>
+#include <stdlib.h>
+
+static void *(*granted_malloc)(size_t);
+static void *(*granted_realloc)(void *, size_t);
+static long refused_number;
+static atomic_long requests;
+static atomic_int counting;
+
+__attribute__((constructor)) static void start(void) {
+    const char *number = getenv("REFUSE_AT");
+    granted_malloc = dlsym(RTLD_NEXT, "malloc");
+    granted_realloc = dlsym(RTLD_NEXT, "realloc");
+    refused_number = number ? atol(number) : 0;
+    counting = 1;
+}
+
+static int is_refused(void) {
+    if (!counting || atomic_fetch_add(&requests, 1) + 1 != refused_number) return 0;
+    errno = ENOMEM;
+    return 1;
+}
+
+void *malloc(size_t size) {
+    if (!granted_malloc) granted_malloc = dlsym(RTLD_NEXT, "malloc");
+    return is_refused() ? NULL : granted_malloc(size);
+}
+
+void *realloc(void *block, size_t size) {
+    if (!granted_realloc) granted_realloc = dlsym(RTLD_NEXT, "realloc");
+    return is_refused() ? NULL : granted_realloc(block, size);
+}
+
+__attribute__((destructor)) static void finish(void) {
+    const char *name = getenv("REFUSE_COUNT");
+    counting = 0;
+    FILE *file = name ? fopen(name, "w") : NULL;
+    if (file) {
+        fprintf(file, "%ld\n", (long)requests);
+        fclose(file);
+    }
+}

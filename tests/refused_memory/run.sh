@@ -1,0 +1,29 @@
+#!/usr/bin/env bash
+# Refuses each request for memory of `fj replay` in turn. Each run must end with status 4 and `out of memory`, its output a beginning
+# of the replies, or have all replies and status 0. Needs a C compiler, and the built program: cd crates/fj && rt run -- replay < stdin
+set -euo pipefail
+here=$(cd "$(dirname "${BASH_SOURCE[0]}")" && pwd)
+crate=$here/../../crates/fj
+folder=$(mktemp -d)
+trap 'rm -rf "$folder"' EXIT
+cc -O1 -shared -fPIC -o "$folder/refuse.so" "$here/refuse.c" -ldl
+
+for ((number = 1; ; number++)); do
+    status=0
+    REFUSE_AT=$number REFUSE_COUNT=$folder/count LD_PRELOAD=$folder/refuse.so \
+        "$crate/out/fj" replay < "$crate/stdin" > "$folder/out" 2> "$folder/err" || status=$?
+    if (($(cat "$folder/count") < number)); then
+        break
+    fi
+    if ((status == 4)); then
+        [[ $(cat "$folder/err") == "out of memory" ]] || { echo "request $number: another text" >&2; exit 1; }
+        head -c "$(wc -c < "$folder/out")" "$crate/stdout" | cmp - "$folder/out"
+    elif ((status == 0)); then
+        cmp "$crate/stdout" "$folder/out"
+    else
+        echo "request $number: status $status" >&2
+        exit 1
+    fi
+done
+((number > 1)) || { echo "no request was seen" >&2; exit 1; }
+echo "$((number - 1)) requests for memory, each refused in turn"
