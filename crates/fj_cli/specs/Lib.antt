@@ -1,6 +1,6 @@
 pub mod Cuts
 pub mod Scripts
 pub mod Faults
-pub mod Sessions
+pub mod Playbacks
 pub mod Statuses
 pub mod Commands

@@ -7,10 +7,10 @@
 mod fault;
 mod line;
 mod play;
+mod playback;
 mod replays;
 mod replier;
 mod run;
-mod session;
 #[cfg(test)]
 mod stream_tests;
 #[cfg(test)]

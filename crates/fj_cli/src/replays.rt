@@ -3,7 +3,7 @@ ghost use Rattle.fj_cli.specs.Scripts.{text};
 ghost use Rattle.fj_cli.specs.Faults.{IsScript, IsReplayed, Ends};
 
 use crate::fault::ReplayFault;
-use crate::session::Session;
+use crate::playback::Playback;
 use std::alloc::Global;
 use std::io::{ErrorKind, Read, Write};
 
@@ -19,21 +19,21 @@ pub fn replay<R: Read, W: Write>(alloc: Global, r: &mut R, w: &mut W) -> Result<
     ensures ok { OnOk result ((b : List ℕ) × IsReplayed b (R.remaining r.old) (R.remaining r.new) (W.contents w.old) (W.contents w.new)) }
     ensures err { IfErr result (λ fault. (b : List ℕ) × Ends fault b (R.remaining r.old) (R.remaining r.new) (W.contents w.old) (W.contents w.new)) }
 {
-    let Ok(mut session) = Session::new(alloc) else {
+    let Ok(mut playback) = Playback::new(alloc) else {
         return Err(ReplayFault::Memory);
     };
     let mut chunk = [0u8; CHUNK];
     for _ in 0..u64::MAX {
         // The lines of a chunk are counted in 64 bits.
-        if session.count() >= u64::MAX - CHUNK as u64 {
+        if playback.count() >= u64::MAX - CHUNK as u64 {
             return Err(ReplayFault::Read);
         }
         match r.read(&mut chunk) {
-            Ok(0) => match session.finish() {
+            Ok(0) => match playback.finish() {
                 Ok(()) => return Ok(()),
                 Err(fault) => return Err(fault),
             },
-            Ok(n) => match session.feed_all(alloc, &chunk[..n], w) {
+            Ok(n) => match playback.feed_all(alloc, &chunk[..n], w) {
                 Ok(()) => (),
                 Err(fault) => return Err(fault),
             },

@@ -5,7 +5,7 @@ ghost use Rattle.fj_model.specs.Runs.{Past, fresh, grown};
 ghost use Rattle.fj_model.specs.Lines.{reply_line};
 ghost use Rattle.fj_cli.specs.Cuts.{AppendsSome};
 ghost use Rattle.fj_cli.specs.Scripts.{pool_in};
-ghost use Rattle.fj_cli.specs.Sessions.{IsHeadFault, IsReplyFault};
+ghost use Rattle.fj_cli.specs.Playbacks.{IsHeadFault, IsReplyFault};
 
 use crate::fault::ReplayFault;
 use crate::writes::write_whole;

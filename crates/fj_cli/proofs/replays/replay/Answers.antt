@@ -39,6 +39,6 @@ loop-preserved g c =
     let so_far = c.loop.invariant in
     elim c.match-read.branch [
       | in-Ok-read+in-Ok-feed_all w ↦
-          rw (w.session-is, w.w-is) (so_far.0 ++ take w.in-Ok-read.n c.read.new.buf, consumes_twice _ _ _ _ _ so_far.1 w.in-Ok-read.ensures.bytes.0, w.in-Ok-feed_all.ensures.ok so_far.0 _ so_far.2)
-      | in-Err+else-ne w ↦ rw (w.session-is, w.w-is) (so_far.0, consumes_kept _ _ _ _ so_far.1 w.in-Err.ensures.bytes, so_far.2)
+          rw (w.playback-is, w.w-is) (so_far.0 ++ take w.in-Ok-read.n c.read.new.buf, consumes_twice _ _ _ _ _ so_far.1 w.in-Ok-read.ensures.bytes.0, w.in-Ok-feed_all.ensures.ok so_far.0 _ so_far.2)
+      | in-Err+else-ne w ↦ rw (w.playback-is, w.w-is) (so_far.0, consumes_kept _ _ _ _ so_far.1 w.in-Err.ensures.bytes, so_far.2)
     ]

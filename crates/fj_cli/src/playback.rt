@@ -2,7 +2,7 @@ ghost use Rattle.std.specs.Prelude.{◌≡◌, ◌≢◌, ℕ, ◌+◌, ◌^◌,
 ghost use Rattle.std.specs.Io.KnownBytes.{Appends};
 ghost use Rattle.fj_cli.specs.Cuts.{lines, rest};
 ghost use Rattle.fj_cli.specs.Faults.{FaultOf};
-ghost use Rattle.fj_cli.specs.Sessions.{Kept, nothing_kept, next_kept, fed, Goes, FaultAt, EndsEarly, IsAt};
+ghost use Rattle.fj_cli.specs.Playbacks.{Kept, nothing_kept, next_kept, fed, Goes, FaultAt, EndsEarly, IsAt};
 
 use crate::fault::ReplayFault;
 use crate::replier::Replier;
@@ -13,7 +13,7 @@ use std::marker::Model;
 
 /// What is kept of the bytes so far.
 #[derive(Drop)]
-pub struct Session {
+pub struct Playback {
     // how many whole lines there were
     count: u64,
     // the line that goes on
@@ -22,9 +22,9 @@ pub struct Session {
     replier: Option<Replier>,
 }
 
-impl Model for Session {
+impl Model for Playback {
     ghost use Rattle.std.specs.Prelude.{◌≡◌, ◌≤◌, None, vec_capacity, vec_len};
-    ghost use Rattle.fj_cli.specs.Sessions.{Kept};
+    ghost use Rattle.fj_cli.specs.Playbacks.{Kept};
 
     ghost Value = { Kept };
 
@@ -33,13 +33,13 @@ impl Model for Session {
     ghost invariant = { λ s. (64 ≤ vec_capacity s.line) × (vec_len s.line ≤ 64) × (s.replier ≡ None → s.count ≡ 0) };
 }
 
-impl Session {
-    /// A session that has read nothing.
-    pub fn new(alloc: Global) -> Result<Session, AllocError>
+impl Playback {
+    /// A playback that has read nothing.
+    pub fn new(alloc: Global) -> Result<Playback, AllocError>
         ensures { IfOk result (λ s. s ≡ nothing_kept) }
     {
         let line = Vec::with_capacity(alloc, 64)?;
-        Ok(Session {
+        Ok(Playback {
             count: 0,
             line,
             replier: None,

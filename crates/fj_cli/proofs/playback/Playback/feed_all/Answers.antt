@@ -1,6 +1,6 @@
 use Rattle.fj_cli.proofs.Steps.{at_next, next_count}
 use Rattle.fj_cli.proofs.FaultsFound.{fault_next}
-use Rattle.fj_cli.proofs.session.Session.feed_all.Goals as goal
+use Rattle.fj_cli.proofs.playback.Playback.feed_all.Goals as goal
 
 pub returns-in-Err-clause-err : goal.returns-in-Err-clause-err
 returns-in-Err-clause-err g c b s ahead at =
