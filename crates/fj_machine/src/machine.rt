@@ -9,8 +9,8 @@ ghost use Rattle.fj_model.specs.Headline.{Headline, RepliesTell};
 ghost use Rattle.fj_model.specs.declared.refusal.Refusal.{Refusal as RefusalCase};
 
 mod accept;
-mod choose;
 mod endings;
+mod poll;
 mod queries;
 mod take;
 
