@@ -16,4 +16,5 @@ pub mod Headline
 pub mod Words
 pub mod Readings
 pub mod Replies
+pub mod Shown
 pub mod Lines

@@ -1,4 +1,8 @@
+use std::fmt;
+
 /// How far a task has come. The first status other than `Undone` stays.
+///
+/// It is displayed as the words that stand for it in the reply `state`.
 #[derive(Clone, Copy, Debug, PartialEq, Eq)]
 pub enum Status {
     /// Not completed yet.
@@ -20,5 +24,22 @@ impl Status {
         ensures { result ≡ is_undone self }
     {
         matches!(self, Status::Undone)
+    }
+}
+
+impl fmt::Display for Status {
+    ghost use Rattle.std.specs.Prelude.{Some};
+    ghost use Rattle.fj_model.specs.Words.{joined};
+    ghost use Rattle.fj_model.specs.Replies.{status_words};
+
+    ghost output = { λ s. Some (joined (status_words s)) };
+
+    fn fmt<W: fmt::Write>(&self, f: &mut fmt::Formatter<W>) -> fmt::Result {
+        match self {
+            Status::Undone => f.write_str("undone"),
+            Status::Normal => f.write_str("normal"),
+            Status::Exceptional(code) => write!(f, "exceptional {code}"),
+            Status::Cancelled => f.write_str("cancelled"),
+        }
     }
 }

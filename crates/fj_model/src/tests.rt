@@ -56,6 +56,29 @@ fn replies_are_printed(rt: HostRuntime) -> Result<(), Fail> {
 }
 
 #[test]
+fn replies_are_displayed(rt: HostRuntime) -> Result<(), Fail> {
+    let limits = Limits::new(32, 2, 8, 16)?;
+    let rows = [
+        (Said::Task(Serial(0)), "task 0"),
+        (Said::None, "none"),
+        (Said::Exceptional(4_294_967_295), "exceptional 4294967295"),
+        (
+            Said::State(Place::Queued(Owner::Work(WorkerId(0))), Status::Undone),
+            "state queued 2 undone",
+        ),
+        (
+            Said::State(Place::Gone, Status::Exceptional(12)),
+            "state gone exceptional 12",
+        ),
+    ];
+    for (said, words) in rows {
+        let text = format!(in rt.alloc(); "{}", said.display(&limits))?;
+        assert_eq!(rt; text.as_str(), words);
+    }
+    Ok(())
+}
+
+#[test]
 fn a_reply_is_printed_behind_others(rt: HostRuntime) -> Result<(), Fail> {
     let limits = Limits::new(1, 1, 1, 4)?;
     let mut text = String::new(rt.alloc());
