@@ -1,5 +1,5 @@
-/* Loaded before the C library: refuses the request for memory whose number, counted from 1, is in REFUSE_AT, and grants all others.
-   At the end the number of requests is written to the file that REFUSE_COUNT names. */
+/* Loaded before the C library: refuses the allocation whose number, counted from 1, is in REFUSE_AT, and grants all others.
+   At the end the number of allocations is written to the file that REFUSE_COUNT names. */
 #define _GNU_SOURCE
 #include <dlfcn.h>
 #include <errno.h>
@@ -10,7 +10,7 @@
 static void *(*granted_malloc)(size_t);
 static void *(*granted_realloc)(void *, size_t);
 static long refused_number;
-static atomic_long requests;
+static atomic_long allocations;
 static atomic_int counting;
 
 __attribute__((constructor)) static void start(void) {
@@ -22,7 +22,7 @@ __attribute__((constructor)) static void start(void) {
 }
 
 static int is_refused(void) {
-    if (!counting || atomic_fetch_add(&requests, 1) + 1 != refused_number) return 0;
+    if (!counting || atomic_fetch_add(&allocations, 1) + 1 != refused_number) return 0;
     errno = ENOMEM;
     return 1;
 }
@@ -42,7 +42,7 @@ __attribute__((destructor)) static void finish(void) {
     counting = 0;
     FILE *file = name ? fopen(name, "w") : NULL;
     if (file) {
-        fprintf(file, "%ld\n", (long)requests);
+        fprintf(file, "%ld\n", (long)allocations);
         fclose(file);
     }
 }

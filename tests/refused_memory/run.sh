@@ -1,5 +1,5 @@
 #!/usr/bin/env bash
-# Refuses each request for memory of `fj replay` in turn. Each run must end with status 4 and `out of memory`, its output a beginning
+# Refuses each allocation of `fj replay` in turn. Each run must end with status 4 and `out of memory`, its output a beginning
 # of the replies, or have all replies and status 0. Needs a C compiler, and the built program: cd crates/fj && rt run -- replay < stdin
 set -euo pipefail
 here=$(cd "$(dirname "${BASH_SOURCE[0]}")" && pwd)
@@ -16,14 +16,14 @@ for ((number = 1; ; number++)); do
         break
     fi
     if ((status == 4)); then
-        [[ $(cat "$folder/err") == "out of memory" ]] || { echo "request $number: another text" >&2; exit 1; }
+        [[ $(cat "$folder/err") == "out of memory" ]] || { echo "allocation $number: another text" >&2; exit 1; }
         head -c "$(wc -c < "$folder/out")" "$crate/stdout" | cmp - "$folder/out"
     elif ((status == 0)); then
         cmp "$crate/stdout" "$folder/out"
     else
-        echo "request $number: status $status" >&2
+        echo "allocation $number: status $status" >&2
         exit 1
     fi
 done
-((number > 1)) || { echo "no request was seen" >&2; exit 1; }
-echo "$((number - 1)) requests for memory, each refused in turn"
+((number > 1)) || { echo "no allocation was seen" >&2; exit 1; }
+echo "$((number - 1)) allocations, each refused in turn"

@@ -1,4 +1,4 @@
--- The rule for events as a test, for the worked rows.
+-- The rule for events as a test, for the sample scripts.
 use Rattle.std.specs.Prelude.{ℕ, Bool, true, false, ◌&&◌, ◌||◌, not, ◌+◌, ◌==◌, nat_lt, nat_le, List, [], ◌∷◌, ◌++◌, Option, Some, None, is_none}
 use Rattle.std.specs.List.{list_any, list_all, range_with_len}
 use Rattle.fj_model.specs.declared.event.Event.{Event}

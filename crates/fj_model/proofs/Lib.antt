@@ -12,7 +12,7 @@ pub mod Firings
 pub mod Replies
 pub mod Headlines
 pub mod AllowedTest
-pub mod WorkedRows
+pub mod SampleScripts
 pub mod GoneList
 pub mod Absent
 pub mod PlacesKept

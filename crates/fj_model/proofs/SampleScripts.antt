@@ -1,4 +1,4 @@
--- The worked rows, computed by the definitions.
+-- Sample scripts, computed by the definitions.
 use Rattle.std.specs.Prelude.{Bool, ◌&&◌}
 use Rattle.fj_model.proofs.AllowedTest.{all_allowed, each_placed}
 use Rattle.fj_model.specs.Places.{open_tasks, gone, gone_from, newly_gone}
@@ -51,154 +51,154 @@ is_sound pool h = all_allowed pool [] h && each_placed pool h
 abbrev pub pool_of : Mode → ℕ → ℕ → ℕ → ℕ → Pool
 pool_of mode w s t e = record { mode = mode; limits = record { workers = w; submitters = s; tasks = t; events = e } }
 
-pub row_1 : replies_after (pool_of Async 1 1 1 4) [] (ask.Submit 0 submitted.Plain ∷ ask.Poll 0 0 ∷ ask.End 0 ending.Ok ∷ []) ≡ says.Task 0 ∷ says.Run 0 ∷ says.Done ∷ []
+pub one_task_runs : replies_after (pool_of Async 1 1 1 4) [] (ask.Submit 0 submitted.Plain ∷ ask.Poll 0 0 ∷ ask.End 0 ending.Ok ∷ []) ≡ says.Task 0 ∷ says.Run 0 ∷ says.Done ∷ []
 unfolding accepted tasks released is_kept live kind is_completer parent pushed taken left queue ended stack hooks hand status_from status pending is_spent queued_in held_by opened place path_up path relayed_along relayed arrival passed owners workers first_queued choice is_closed is_stopped has_kept_child is_fired_by_complete is_quiet events_of reply_of refusal_standing
-row_1 = refl
+one_task_runs = refl
 
-pub row_1_sound : is_sound (pool_of Async 1 1 1 4) (history_after (pool_of Async 1 1 1 4) [] (ask.Submit 0 submitted.Plain ∷ ask.Poll 0 0 ∷ ask.End 0 ending.Ok ∷ [])) ≡ true
+pub one_task_runs_sound : is_sound (pool_of Async 1 1 1 4) (history_after (pool_of Async 1 1 1 4) [] (ask.Submit 0 submitted.Plain ∷ ask.Poll 0 0 ∷ ask.End 0 ending.Ok ∷ [])) ≡ true
 unfolding accepted tasks released is_kept live kind is_completer parent pushed taken left queue ended stack hooks hand status_from status pending is_spent queued_in held_by opened place path_up path relayed_along relayed arrival passed owners workers first_queued choice is_closed is_stopped has_kept_child is_fired_by_complete is_quiet events_of reply_of refusal_standing open_tasks newly_gone gone_from gone all_places
-row_1_sound = refl
+one_task_runs_sound = refl
 
-pub row_2 : replies_after (pool_of Async 1 1 1 4) [] (ask.Submit 0 submitted.Plain ∷ ask.Poll 0 0 ∷ ask.End 0 ending.Ok ∷ ask.Cancel 0 ∷ ask.Release 0 ∷ ask.State 0 ∷ []) ≡ says.Task 0 ∷ says.Run 0 ∷ says.Done ∷ says.No ∷ says.Refused refused.LogFull ∷ says.State at.Gone status_is.Normal ∷ []
+pub a_full_log : replies_after (pool_of Async 1 1 1 4) [] (ask.Submit 0 submitted.Plain ∷ ask.Poll 0 0 ∷ ask.End 0 ending.Ok ∷ ask.Cancel 0 ∷ ask.Release 0 ∷ ask.State 0 ∷ []) ≡ says.Task 0 ∷ says.Run 0 ∷ says.Done ∷ says.No ∷ says.Refused refused.LogFull ∷ says.State at.Gone status_is.Normal ∷ []
 unfolding accepted tasks released is_kept live kind is_completer parent pushed taken left queue ended stack hooks hand status_from status pending is_spent queued_in held_by opened place path_up path relayed_along relayed arrival passed owners workers first_queued choice is_closed is_stopped has_kept_child is_fired_by_complete is_quiet events_of reply_of refusal_standing
-row_2 = refl
+a_full_log = refl
 
-pub row_2_sound : is_sound (pool_of Async 1 1 1 4) (history_after (pool_of Async 1 1 1 4) [] (ask.Submit 0 submitted.Plain ∷ ask.Poll 0 0 ∷ ask.End 0 ending.Ok ∷ ask.Cancel 0 ∷ ask.Release 0 ∷ ask.State 0 ∷ [])) ≡ true
+pub a_full_log_sound : is_sound (pool_of Async 1 1 1 4) (history_after (pool_of Async 1 1 1 4) [] (ask.Submit 0 submitted.Plain ∷ ask.Poll 0 0 ∷ ask.End 0 ending.Ok ∷ ask.Cancel 0 ∷ ask.Release 0 ∷ ask.State 0 ∷ [])) ≡ true
 unfolding accepted tasks released is_kept live kind is_completer parent pushed taken left queue ended stack hooks hand status_from status pending is_spent queued_in held_by opened place path_up path relayed_along relayed arrival passed owners workers first_queued choice is_closed is_stopped has_kept_child is_fired_by_complete is_quiet events_of reply_of refusal_standing open_tasks newly_gone gone_from gone all_places
-row_2_sound = refl
+a_full_log_sound = refl
 
-pub row_4 : replies_after (pool_of Async 2 2 8 64) [] (ask.Submit 1 submitted.Plain ∷ ask.Submit 0 submitted.Plain ∷ ask.Submit 1 submitted.Plain ∷ ask.Poll 0 1 ∷ ask.Poll 1 1 ∷ ask.End 0 ending.Ok ∷ ask.Poll 0 0 ∷ ask.End 0 ending.Ok ∷ ask.Poll 0 3 ∷ []) ≡ says.Task 0 ∷ says.Task 1 ∷ says.Task 2 ∷ says.Run 0 ∷ says.Run 2 ∷ says.Done ∷ says.Run 1 ∷ says.Done ∷ says.None ∷ []
+pub two_submitters_and_two_workers : replies_after (pool_of Async 2 2 8 64) [] (ask.Submit 1 submitted.Plain ∷ ask.Submit 0 submitted.Plain ∷ ask.Submit 1 submitted.Plain ∷ ask.Poll 0 1 ∷ ask.Poll 1 1 ∷ ask.End 0 ending.Ok ∷ ask.Poll 0 0 ∷ ask.End 0 ending.Ok ∷ ask.Poll 0 3 ∷ []) ≡ says.Task 0 ∷ says.Task 1 ∷ says.Task 2 ∷ says.Run 0 ∷ says.Run 2 ∷ says.Done ∷ says.Run 1 ∷ says.Done ∷ says.None ∷ []
 unfolding accepted tasks released is_kept live kind is_completer parent pushed taken left queue ended stack hooks hand status_from status pending is_spent queued_in held_by opened place path_up path relayed_along relayed arrival passed owners workers first_queued choice is_closed is_stopped has_kept_child is_fired_by_complete is_quiet events_of reply_of refusal_standing
-row_4 = refl
+two_submitters_and_two_workers = refl
 
-pub row_4_sound : is_sound (pool_of Async 2 2 8 64) (history_after (pool_of Async 2 2 8 64) [] (ask.Submit 1 submitted.Plain ∷ ask.Submit 0 submitted.Plain ∷ ask.Submit 1 submitted.Plain ∷ ask.Poll 0 1 ∷ ask.Poll 1 1 ∷ ask.End 0 ending.Ok ∷ ask.Poll 0 0 ∷ ask.End 0 ending.Ok ∷ ask.Poll 0 3 ∷ [])) ≡ true
+pub two_submitters_and_two_workers_sound : is_sound (pool_of Async 2 2 8 64) (history_after (pool_of Async 2 2 8 64) [] (ask.Submit 1 submitted.Plain ∷ ask.Submit 0 submitted.Plain ∷ ask.Submit 1 submitted.Plain ∷ ask.Poll 0 1 ∷ ask.Poll 1 1 ∷ ask.End 0 ending.Ok ∷ ask.Poll 0 0 ∷ ask.End 0 ending.Ok ∷ ask.Poll 0 3 ∷ [])) ≡ true
 unfolding accepted tasks released is_kept live kind is_completer parent pushed taken left queue ended stack hooks hand status_from status pending is_spent queued_in held_by opened place path_up path relayed_along relayed arrival passed owners workers first_queued choice is_closed is_stopped has_kept_child is_fired_by_complete is_quiet events_of reply_of refusal_standing open_tasks newly_gone gone_from gone all_places
-row_4_sound = refl
+two_submitters_and_two_workers_sound = refl
 
-pub row_5 : replies_after (pool_of Joining 2 1 8 64) [] (ask.Submit 0 submitted.Plain ∷ ask.Poll 0 0 ∷ ask.Fork 0 Plain ∷ ask.Fork 0 Plain ∷ ask.Fork 0 Plain ∷ ask.Help 0 0 ∷ ask.Poll 1 0 ∷ []) ≡ says.Task 0 ∷ says.Run 0 ∷ says.Task 1 ∷ says.Task 2 ∷ says.Task 3 ∷ says.Run 3 ∷ says.Run 1 ∷ []
+pub three_forks_joining : replies_after (pool_of Joining 2 1 8 64) [] (ask.Submit 0 submitted.Plain ∷ ask.Poll 0 0 ∷ ask.Fork 0 Plain ∷ ask.Fork 0 Plain ∷ ask.Fork 0 Plain ∷ ask.Help 0 0 ∷ ask.Poll 1 0 ∷ []) ≡ says.Task 0 ∷ says.Run 0 ∷ says.Task 1 ∷ says.Task 2 ∷ says.Task 3 ∷ says.Run 3 ∷ says.Run 1 ∷ []
 unfolding accepted tasks released is_kept live kind is_completer parent pushed taken left queue ended stack hooks hand status_from status pending is_spent queued_in held_by opened place path_up path relayed_along relayed arrival passed owners workers first_queued choice is_closed is_stopped has_kept_child is_fired_by_complete is_quiet events_of reply_of refusal_standing
-row_5 = refl
+three_forks_joining = refl
 
-pub row_5_sound : is_sound (pool_of Joining 2 1 8 64) (history_after (pool_of Joining 2 1 8 64) [] (ask.Submit 0 submitted.Plain ∷ ask.Poll 0 0 ∷ ask.Fork 0 Plain ∷ ask.Fork 0 Plain ∷ ask.Fork 0 Plain ∷ ask.Help 0 0 ∷ ask.Poll 1 0 ∷ [])) ≡ true
+pub three_forks_joining_sound : is_sound (pool_of Joining 2 1 8 64) (history_after (pool_of Joining 2 1 8 64) [] (ask.Submit 0 submitted.Plain ∷ ask.Poll 0 0 ∷ ask.Fork 0 Plain ∷ ask.Fork 0 Plain ∷ ask.Fork 0 Plain ∷ ask.Help 0 0 ∷ ask.Poll 1 0 ∷ [])) ≡ true
 unfolding accepted tasks released is_kept live kind is_completer parent pushed taken left queue ended stack hooks hand status_from status pending is_spent queued_in held_by opened place path_up path relayed_along relayed arrival passed owners workers first_queued choice is_closed is_stopped has_kept_child is_fired_by_complete is_quiet events_of reply_of refusal_standing open_tasks newly_gone gone_from gone all_places
-row_5_sound = refl
+three_forks_joining_sound = refl
 
-pub row_5_async : replies_after (pool_of Async 2 1 8 64) [] (ask.Submit 0 submitted.Plain ∷ ask.Poll 0 0 ∷ ask.Fork 0 Plain ∷ ask.Fork 0 Plain ∷ ask.Fork 0 Plain ∷ ask.Help 0 0 ∷ ask.Poll 1 0 ∷ []) ≡ says.Task 0 ∷ says.Run 0 ∷ says.Task 1 ∷ says.Task 2 ∷ says.Task 3 ∷ says.Run 1 ∷ says.Run 2 ∷ []
+pub three_forks_async : replies_after (pool_of Async 2 1 8 64) [] (ask.Submit 0 submitted.Plain ∷ ask.Poll 0 0 ∷ ask.Fork 0 Plain ∷ ask.Fork 0 Plain ∷ ask.Fork 0 Plain ∷ ask.Help 0 0 ∷ ask.Poll 1 0 ∷ []) ≡ says.Task 0 ∷ says.Run 0 ∷ says.Task 1 ∷ says.Task 2 ∷ says.Task 3 ∷ says.Run 1 ∷ says.Run 2 ∷ []
 unfolding accepted tasks released is_kept live kind is_completer parent pushed taken left queue ended stack hooks hand status_from status pending is_spent queued_in held_by opened place path_up path relayed_along relayed arrival passed owners workers first_queued choice is_closed is_stopped has_kept_child is_fired_by_complete is_quiet events_of reply_of refusal_standing
-row_5_async = refl
+three_forks_async = refl
 
-pub row_5_async_sound : is_sound (pool_of Async 2 1 8 64) (history_after (pool_of Async 2 1 8 64) [] (ask.Submit 0 submitted.Plain ∷ ask.Poll 0 0 ∷ ask.Fork 0 Plain ∷ ask.Fork 0 Plain ∷ ask.Fork 0 Plain ∷ ask.Help 0 0 ∷ ask.Poll 1 0 ∷ [])) ≡ true
+pub three_forks_async_sound : is_sound (pool_of Async 2 1 8 64) (history_after (pool_of Async 2 1 8 64) [] (ask.Submit 0 submitted.Plain ∷ ask.Poll 0 0 ∷ ask.Fork 0 Plain ∷ ask.Fork 0 Plain ∷ ask.Fork 0 Plain ∷ ask.Help 0 0 ∷ ask.Poll 1 0 ∷ [])) ≡ true
 unfolding accepted tasks released is_kept live kind is_completer parent pushed taken left queue ended stack hooks hand status_from status pending is_spent queued_in held_by opened place path_up path relayed_along relayed arrival passed owners workers first_queued choice is_closed is_stopped has_kept_child is_fired_by_complete is_quiet events_of reply_of refusal_standing open_tasks newly_gone gone_from gone all_places
-row_5_async_sound = refl
+three_forks_async_sound = refl
 
-pub row_6 : replies_after (pool_of Async 1 1 4 64) [] (ask.Submit 0 submitted.Plain ∷ ask.Submit 0 submitted.Plain ∷ ask.Submit 0 submitted.Plain ∷ ask.Cancel 1 ∷ ask.State 1 ∷ ask.Poll 0 0 ∷ ask.End 0 ending.Ok ∷ ask.Poll 0 0 ∷ ask.Poll 0 0 ∷ ask.State 1 ∷ []) ≡ says.Task 0 ∷ says.Task 1 ∷ says.Task 2 ∷ says.Yes ∷ says.State (at.Queued (Sub 0)) status_is.Cancelled ∷ says.Run 0 ∷ says.Done ∷ says.Skip 1 ∷ says.Run 2 ∷ says.State at.Gone status_is.Cancelled ∷ []
+pub a_cancelled_task_is_skipped : replies_after (pool_of Async 1 1 4 64) [] (ask.Submit 0 submitted.Plain ∷ ask.Submit 0 submitted.Plain ∷ ask.Submit 0 submitted.Plain ∷ ask.Cancel 1 ∷ ask.State 1 ∷ ask.Poll 0 0 ∷ ask.End 0 ending.Ok ∷ ask.Poll 0 0 ∷ ask.Poll 0 0 ∷ ask.State 1 ∷ []) ≡ says.Task 0 ∷ says.Task 1 ∷ says.Task 2 ∷ says.Yes ∷ says.State (at.Queued (Sub 0)) status_is.Cancelled ∷ says.Run 0 ∷ says.Done ∷ says.Skip 1 ∷ says.Run 2 ∷ says.State at.Gone status_is.Cancelled ∷ []
 unfolding accepted tasks released is_kept live kind is_completer parent pushed taken left queue ended stack hooks hand status_from status pending is_spent queued_in held_by opened place path_up path relayed_along relayed arrival passed owners workers first_queued choice is_closed is_stopped has_kept_child is_fired_by_complete is_quiet events_of reply_of refusal_standing
-row_6 = refl
+a_cancelled_task_is_skipped = refl
 
-pub row_6_sound : is_sound (pool_of Async 1 1 4 64) (history_after (pool_of Async 1 1 4 64) [] (ask.Submit 0 submitted.Plain ∷ ask.Submit 0 submitted.Plain ∷ ask.Submit 0 submitted.Plain ∷ ask.Cancel 1 ∷ ask.State 1 ∷ ask.Poll 0 0 ∷ ask.End 0 ending.Ok ∷ ask.Poll 0 0 ∷ ask.Poll 0 0 ∷ ask.State 1 ∷ [])) ≡ true
+pub a_cancelled_task_is_skipped_sound : is_sound (pool_of Async 1 1 4 64) (history_after (pool_of Async 1 1 4 64) [] (ask.Submit 0 submitted.Plain ∷ ask.Submit 0 submitted.Plain ∷ ask.Submit 0 submitted.Plain ∷ ask.Cancel 1 ∷ ask.State 1 ∷ ask.Poll 0 0 ∷ ask.End 0 ending.Ok ∷ ask.Poll 0 0 ∷ ask.Poll 0 0 ∷ ask.State 1 ∷ [])) ≡ true
 unfolding accepted tasks released is_kept live kind is_completer parent pushed taken left queue ended stack hooks hand status_from status pending is_spent queued_in held_by opened place path_up path relayed_along relayed arrival passed owners workers first_queued choice is_closed is_stopped has_kept_child is_fired_by_complete is_quiet events_of reply_of refusal_standing open_tasks newly_gone gone_from gone all_places
-row_6_sound = refl
+a_cancelled_task_is_skipped_sound = refl
 
-pub row_7 : replies_after (pool_of Async 1 1 2 16) [] (ask.Submit 0 submitted.Plain ∷ ask.Cancel 0 ∷ ask.Cancel 0 ∷ ask.Submit 0 submitted.Plain ∷ ask.Submit 0 submitted.Plain ∷ ask.Poll 0 0 ∷ ask.Poll 0 0 ∷ ask.End 0 ending.Ok ∷ ask.Cancel 1 ∷ ask.Fault 1 5 ∷ []) ≡ says.Task 0 ∷ says.Yes ∷ says.Yes ∷ says.Task 1 ∷ says.Refused refused.TooManyTasks ∷ says.Skip 0 ∷ says.Run 1 ∷ says.Done ∷ says.No ∷ says.No ∷ []
+pub cancels_and_too_many_tasks : replies_after (pool_of Async 1 1 2 16) [] (ask.Submit 0 submitted.Plain ∷ ask.Cancel 0 ∷ ask.Cancel 0 ∷ ask.Submit 0 submitted.Plain ∷ ask.Submit 0 submitted.Plain ∷ ask.Poll 0 0 ∷ ask.Poll 0 0 ∷ ask.End 0 ending.Ok ∷ ask.Cancel 1 ∷ ask.Fault 1 5 ∷ []) ≡ says.Task 0 ∷ says.Yes ∷ says.Yes ∷ says.Task 1 ∷ says.Refused refused.TooManyTasks ∷ says.Skip 0 ∷ says.Run 1 ∷ says.Done ∷ says.No ∷ says.No ∷ []
 unfolding accepted tasks released is_kept live kind is_completer parent pushed taken left queue ended stack hooks hand status_from status pending is_spent queued_in held_by opened place path_up path relayed_along relayed arrival passed owners workers first_queued choice is_closed is_stopped has_kept_child is_fired_by_complete is_quiet events_of reply_of refusal_standing
-row_7 = refl
+cancels_and_too_many_tasks = refl
 
-pub row_7_sound : is_sound (pool_of Async 1 1 2 16) (history_after (pool_of Async 1 1 2 16) [] (ask.Submit 0 submitted.Plain ∷ ask.Cancel 0 ∷ ask.Cancel 0 ∷ ask.Submit 0 submitted.Plain ∷ ask.Submit 0 submitted.Plain ∷ ask.Poll 0 0 ∷ ask.Poll 0 0 ∷ ask.End 0 ending.Ok ∷ ask.Cancel 1 ∷ ask.Fault 1 5 ∷ [])) ≡ true
+pub cancels_and_too_many_tasks_sound : is_sound (pool_of Async 1 1 2 16) (history_after (pool_of Async 1 1 2 16) [] (ask.Submit 0 submitted.Plain ∷ ask.Cancel 0 ∷ ask.Cancel 0 ∷ ask.Submit 0 submitted.Plain ∷ ask.Submit 0 submitted.Plain ∷ ask.Poll 0 0 ∷ ask.Poll 0 0 ∷ ask.End 0 ending.Ok ∷ ask.Cancel 1 ∷ ask.Fault 1 5 ∷ [])) ≡ true
 unfolding accepted tasks released is_kept live kind is_completer parent pushed taken left queue ended stack hooks hand status_from status pending is_spent queued_in held_by opened place path_up path relayed_along relayed arrival passed owners workers first_queued choice is_closed is_stopped has_kept_child is_fired_by_complete is_quiet events_of reply_of refusal_standing open_tasks newly_gone gone_from gone all_places
-row_7_sound = refl
+cancels_and_too_many_tasks_sound = refl
 
-pub row_8 : replies_after (pool_of Async 1 1 4 64) [] (ask.Submit 0 submitted.Plain ∷ ask.Poll 0 0 ∷ ask.Trigger 0 1 ∷ ask.Fork 0 (Completer (Some 1) 0 true) ∷ ask.Fork 0 (Completer (Some 1) 0 true) ∷ ask.End 0 ending.Ok ∷ ask.Poll 0 0 ∷ ask.End 0 ending.Try ∷ ask.HookDone 0 ∷ ask.Poll 0 0 ∷ ask.End 0 ending.Try ∷ ask.HookDone 0 ∷ ask.HookDone 0 ∷ ask.State 1 ∷ ask.State 2 ∷ []) ≡ says.Task 0 ∷ says.Run 0 ∷ says.Task 1 ∷ says.Task 2 ∷ says.Task 3 ∷ says.Done ∷ says.Run 2 ∷ says.Hook 2 ∷ says.Counted 1 ∷ says.Run 3 ∷ says.Hook 3 ∷ says.Hook 1 ∷ says.Root 1 ∷ says.State at.Gone status_is.Normal ∷ says.State at.Gone status_is.Undone ∷ []
+pub a_trigger_with_two_children : replies_after (pool_of Async 1 1 4 64) [] (ask.Submit 0 submitted.Plain ∷ ask.Poll 0 0 ∷ ask.Trigger 0 1 ∷ ask.Fork 0 (Completer (Some 1) 0 true) ∷ ask.Fork 0 (Completer (Some 1) 0 true) ∷ ask.End 0 ending.Ok ∷ ask.Poll 0 0 ∷ ask.End 0 ending.Try ∷ ask.HookDone 0 ∷ ask.Poll 0 0 ∷ ask.End 0 ending.Try ∷ ask.HookDone 0 ∷ ask.HookDone 0 ∷ ask.State 1 ∷ ask.State 2 ∷ []) ≡ says.Task 0 ∷ says.Run 0 ∷ says.Task 1 ∷ says.Task 2 ∷ says.Task 3 ∷ says.Done ∷ says.Run 2 ∷ says.Hook 2 ∷ says.Counted 1 ∷ says.Run 3 ∷ says.Hook 3 ∷ says.Hook 1 ∷ says.Root 1 ∷ says.State at.Gone status_is.Normal ∷ says.State at.Gone status_is.Undone ∷ []
 unfolding accepted tasks released is_kept live kind is_completer parent pushed taken left queue ended stack hooks hand status_from status pending is_spent queued_in held_by opened place path_up path relayed_along relayed arrival passed owners workers first_queued choice is_closed is_stopped has_kept_child is_fired_by_complete is_quiet events_of reply_of refusal_standing
-row_8 = refl
+a_trigger_with_two_children = refl
 
-pub row_8_sound : is_sound (pool_of Async 1 1 4 64) (history_after (pool_of Async 1 1 4 64) [] (ask.Submit 0 submitted.Plain ∷ ask.Poll 0 0 ∷ ask.Trigger 0 1 ∷ ask.Fork 0 (Completer (Some 1) 0 true) ∷ ask.Fork 0 (Completer (Some 1) 0 true) ∷ ask.End 0 ending.Ok ∷ ask.Poll 0 0 ∷ ask.End 0 ending.Try ∷ ask.HookDone 0 ∷ ask.Poll 0 0 ∷ ask.End 0 ending.Try ∷ ask.HookDone 0 ∷ ask.HookDone 0 ∷ ask.State 1 ∷ ask.State 2 ∷ [])) ≡ true
+pub a_trigger_with_two_children_sound : is_sound (pool_of Async 1 1 4 64) (history_after (pool_of Async 1 1 4 64) [] (ask.Submit 0 submitted.Plain ∷ ask.Poll 0 0 ∷ ask.Trigger 0 1 ∷ ask.Fork 0 (Completer (Some 1) 0 true) ∷ ask.Fork 0 (Completer (Some 1) 0 true) ∷ ask.End 0 ending.Ok ∷ ask.Poll 0 0 ∷ ask.End 0 ending.Try ∷ ask.HookDone 0 ∷ ask.Poll 0 0 ∷ ask.End 0 ending.Try ∷ ask.HookDone 0 ∷ ask.HookDone 0 ∷ ask.State 1 ∷ ask.State 2 ∷ [])) ≡ true
 unfolding accepted tasks released is_kept live kind is_completer parent pushed taken left queue ended stack hooks hand status_from status pending is_spent queued_in held_by opened place path_up path relayed_along relayed arrival passed owners workers first_queued choice is_closed is_stopped has_kept_child is_fired_by_complete is_quiet events_of reply_of refusal_standing open_tasks newly_gone gone_from gone all_places
-row_8_sound = refl
+a_trigger_with_two_children_sound = refl
 
-pub row_9 : replies_after (pool_of Async 1 1 5 64) [] (ask.Submit 0 submitted.Plain ∷ ask.Poll 0 0 ∷ ask.Trigger 0 1 ∷ ask.Fork 0 (Completer (Some 1) 0 true) ∷ ask.Fork 0 (Completer (Some 1) 0 true) ∷ ask.Fork 0 (Completer (Some 1) 0 true) ∷ ask.End 0 ending.Ok ∷ ask.Poll 0 0 ∷ ask.End 0 ending.Try ∷ ask.HookDone 0 ∷ ask.Poll 0 0 ∷ ask.End 0 ending.Try ∷ ask.HookDone 0 ∷ ask.HookDone 0 ∷ ask.State 1 ∷ ask.State 2 ∷ ask.Poll 0 0 ∷ ask.End 0 ending.Try ∷ ask.HookDone 0 ∷ []) ≡ says.Task 0 ∷ says.Run 0 ∷ says.Task 1 ∷ says.Task 2 ∷ says.Task 3 ∷ says.Task 4 ∷ says.Done ∷ says.Run 2 ∷ says.Hook 2 ∷ says.Counted 1 ∷ says.Run 3 ∷ says.Hook 3 ∷ says.Hook 1 ∷ says.Root 1 ∷ says.State at.Gone status_is.Normal ∷ says.State at.Gone status_is.Undone ∷ says.Run 4 ∷ says.Hook 4 ∷ says.Spent 1 ∷ []
+pub a_trigger_with_three_children : replies_after (pool_of Async 1 1 5 64) [] (ask.Submit 0 submitted.Plain ∷ ask.Poll 0 0 ∷ ask.Trigger 0 1 ∷ ask.Fork 0 (Completer (Some 1) 0 true) ∷ ask.Fork 0 (Completer (Some 1) 0 true) ∷ ask.Fork 0 (Completer (Some 1) 0 true) ∷ ask.End 0 ending.Ok ∷ ask.Poll 0 0 ∷ ask.End 0 ending.Try ∷ ask.HookDone 0 ∷ ask.Poll 0 0 ∷ ask.End 0 ending.Try ∷ ask.HookDone 0 ∷ ask.HookDone 0 ∷ ask.State 1 ∷ ask.State 2 ∷ ask.Poll 0 0 ∷ ask.End 0 ending.Try ∷ ask.HookDone 0 ∷ []) ≡ says.Task 0 ∷ says.Run 0 ∷ says.Task 1 ∷ says.Task 2 ∷ says.Task 3 ∷ says.Task 4 ∷ says.Done ∷ says.Run 2 ∷ says.Hook 2 ∷ says.Counted 1 ∷ says.Run 3 ∷ says.Hook 3 ∷ says.Hook 1 ∷ says.Root 1 ∷ says.State at.Gone status_is.Normal ∷ says.State at.Gone status_is.Undone ∷ says.Run 4 ∷ says.Hook 4 ∷ says.Spent 1 ∷ []
 unfolding accepted tasks released is_kept live kind is_completer parent pushed taken left queue ended stack hooks hand status_from status pending is_spent queued_in held_by opened place path_up path relayed_along relayed arrival passed owners workers first_queued choice is_closed is_stopped has_kept_child is_fired_by_complete is_quiet events_of reply_of refusal_standing
-row_9 = refl
+a_trigger_with_three_children = refl
 
-pub row_9_sound : is_sound (pool_of Async 1 1 5 64) (history_after (pool_of Async 1 1 5 64) [] (ask.Submit 0 submitted.Plain ∷ ask.Poll 0 0 ∷ ask.Trigger 0 1 ∷ ask.Fork 0 (Completer (Some 1) 0 true) ∷ ask.Fork 0 (Completer (Some 1) 0 true) ∷ ask.Fork 0 (Completer (Some 1) 0 true) ∷ ask.End 0 ending.Ok ∷ ask.Poll 0 0 ∷ ask.End 0 ending.Try ∷ ask.HookDone 0 ∷ ask.Poll 0 0 ∷ ask.End 0 ending.Try ∷ ask.HookDone 0 ∷ ask.HookDone 0 ∷ ask.State 1 ∷ ask.State 2 ∷ ask.Poll 0 0 ∷ ask.End 0 ending.Try ∷ ask.HookDone 0 ∷ [])) ≡ true
+pub a_trigger_with_three_children_sound : is_sound (pool_of Async 1 1 5 64) (history_after (pool_of Async 1 1 5 64) [] (ask.Submit 0 submitted.Plain ∷ ask.Poll 0 0 ∷ ask.Trigger 0 1 ∷ ask.Fork 0 (Completer (Some 1) 0 true) ∷ ask.Fork 0 (Completer (Some 1) 0 true) ∷ ask.Fork 0 (Completer (Some 1) 0 true) ∷ ask.End 0 ending.Ok ∷ ask.Poll 0 0 ∷ ask.End 0 ending.Try ∷ ask.HookDone 0 ∷ ask.Poll 0 0 ∷ ask.End 0 ending.Try ∷ ask.HookDone 0 ∷ ask.HookDone 0 ∷ ask.State 1 ∷ ask.State 2 ∷ ask.Poll 0 0 ∷ ask.End 0 ending.Try ∷ ask.HookDone 0 ∷ [])) ≡ true
 unfolding accepted tasks released is_kept live kind is_completer parent pushed taken left queue ended stack hooks hand status_from status pending is_spent queued_in held_by opened place path_up path relayed_along relayed arrival passed owners workers first_queued choice is_closed is_stopped has_kept_child is_fired_by_complete is_quiet events_of reply_of refusal_standing open_tasks newly_gone gone_from gone all_places
-row_9_sound = refl
+a_trigger_with_three_children_sound = refl
 
-pub row_10 : replies_after (pool_of Async 2 1 4 64) [] (ask.Submit 0 (submitted.Completer 0 true) ∷ ask.Poll 0 0 ∷ ask.Fork 0 (Completer (Some 0) 0 true) ∷ ask.Poll 1 1 ∷ ask.End 1 ending.Try ∷ ask.HookDone 1 ∷ ask.End 0 ending.Try ∷ ask.HookDone 0 ∷ []) ≡ says.Task 0 ∷ says.Run 0 ∷ says.Task 1 ∷ says.Run 1 ∷ says.Hook 1 ∷ says.Early 0 ∷ says.Hook 0 ∷ says.Root 0 ∷ []
+pub a_child_arrives_early : replies_after (pool_of Async 2 1 4 64) [] (ask.Submit 0 (submitted.Completer 0 true) ∷ ask.Poll 0 0 ∷ ask.Fork 0 (Completer (Some 0) 0 true) ∷ ask.Poll 1 1 ∷ ask.End 1 ending.Try ∷ ask.HookDone 1 ∷ ask.End 0 ending.Try ∷ ask.HookDone 0 ∷ []) ≡ says.Task 0 ∷ says.Run 0 ∷ says.Task 1 ∷ says.Run 1 ∷ says.Hook 1 ∷ says.Early 0 ∷ says.Hook 0 ∷ says.Root 0 ∷ []
 unfolding accepted tasks released is_kept live kind is_completer parent pushed taken left queue ended stack hooks hand status_from status pending is_spent queued_in held_by opened place path_up path relayed_along relayed arrival passed owners workers first_queued choice is_closed is_stopped has_kept_child is_fired_by_complete is_quiet events_of reply_of refusal_standing
-row_10 = refl
+a_child_arrives_early = refl
 
-pub row_10_sound : is_sound (pool_of Async 2 1 4 64) (history_after (pool_of Async 2 1 4 64) [] (ask.Submit 0 (submitted.Completer 0 true) ∷ ask.Poll 0 0 ∷ ask.Fork 0 (Completer (Some 0) 0 true) ∷ ask.Poll 1 1 ∷ ask.End 1 ending.Try ∷ ask.HookDone 1 ∷ ask.End 0 ending.Try ∷ ask.HookDone 0 ∷ [])) ≡ true
+pub a_child_arrives_early_sound : is_sound (pool_of Async 2 1 4 64) (history_after (pool_of Async 2 1 4 64) [] (ask.Submit 0 (submitted.Completer 0 true) ∷ ask.Poll 0 0 ∷ ask.Fork 0 (Completer (Some 0) 0 true) ∷ ask.Poll 1 1 ∷ ask.End 1 ending.Try ∷ ask.HookDone 1 ∷ ask.End 0 ending.Try ∷ ask.HookDone 0 ∷ [])) ≡ true
 unfolding accepted tasks released is_kept live kind is_completer parent pushed taken left queue ended stack hooks hand status_from status pending is_spent queued_in held_by opened place path_up path relayed_along relayed arrival passed owners workers first_queued choice is_closed is_stopped has_kept_child is_fired_by_complete is_quiet events_of reply_of refusal_standing open_tasks newly_gone gone_from gone all_places
-row_10_sound = refl
+a_child_arrives_early_sound = refl
 
-pub row_11 : replies_after (pool_of Async 1 1 4 64) [] (ask.Submit 0 (submitted.Completer 0 true) ∷ ask.Poll 0 0 ∷ ask.Fork 0 (Completer (Some 0) 0 true) ∷ ask.End 0 ending.Quiet ∷ ask.Poll 0 0 ∷ ask.Fork 0 (Completer (Some 1) 0 true) ∷ ask.End 0 ending.Quiet ∷ ask.Poll 0 0 ∷ ask.End 0 ending.Pass ∷ ask.State 0 ∷ ask.State 1 ∷ []) ≡ says.Task 0 ∷ says.Run 0 ∷ says.Task 1 ∷ says.Done ∷ says.Run 1 ∷ says.Task 2 ∷ says.Done ∷ says.Run 2 ∷ says.Root 0 ∷ says.State at.Gone status_is.Normal ∷ says.State at.Gone status_is.Undone ∷ []
+pub a_propagated_completion : replies_after (pool_of Async 1 1 4 64) [] (ask.Submit 0 (submitted.Completer 0 true) ∷ ask.Poll 0 0 ∷ ask.Fork 0 (Completer (Some 0) 0 true) ∷ ask.End 0 ending.Quiet ∷ ask.Poll 0 0 ∷ ask.Fork 0 (Completer (Some 1) 0 true) ∷ ask.End 0 ending.Quiet ∷ ask.Poll 0 0 ∷ ask.End 0 ending.Pass ∷ ask.State 0 ∷ ask.State 1 ∷ []) ≡ says.Task 0 ∷ says.Run 0 ∷ says.Task 1 ∷ says.Done ∷ says.Run 1 ∷ says.Task 2 ∷ says.Done ∷ says.Run 2 ∷ says.Root 0 ∷ says.State at.Gone status_is.Normal ∷ says.State at.Gone status_is.Undone ∷ []
 unfolding accepted tasks released is_kept live kind is_completer parent pushed taken left queue ended stack hooks hand status_from status pending is_spent queued_in held_by opened place path_up path relayed_along relayed arrival passed owners workers first_queued choice is_closed is_stopped has_kept_child is_fired_by_complete is_quiet events_of reply_of refusal_standing
-row_11 = refl
+a_propagated_completion = refl
 
-pub row_11_sound : is_sound (pool_of Async 1 1 4 64) (history_after (pool_of Async 1 1 4 64) [] (ask.Submit 0 (submitted.Completer 0 true) ∷ ask.Poll 0 0 ∷ ask.Fork 0 (Completer (Some 0) 0 true) ∷ ask.End 0 ending.Quiet ∷ ask.Poll 0 0 ∷ ask.Fork 0 (Completer (Some 1) 0 true) ∷ ask.End 0 ending.Quiet ∷ ask.Poll 0 0 ∷ ask.End 0 ending.Pass ∷ ask.State 0 ∷ ask.State 1 ∷ [])) ≡ true
+pub a_propagated_completion_sound : is_sound (pool_of Async 1 1 4 64) (history_after (pool_of Async 1 1 4 64) [] (ask.Submit 0 (submitted.Completer 0 true) ∷ ask.Poll 0 0 ∷ ask.Fork 0 (Completer (Some 0) 0 true) ∷ ask.End 0 ending.Quiet ∷ ask.Poll 0 0 ∷ ask.Fork 0 (Completer (Some 1) 0 true) ∷ ask.End 0 ending.Quiet ∷ ask.Poll 0 0 ∷ ask.End 0 ending.Pass ∷ ask.State 0 ∷ ask.State 1 ∷ [])) ≡ true
 unfolding accepted tasks released is_kept live kind is_completer parent pushed taken left queue ended stack hooks hand status_from status pending is_spent queued_in held_by opened place path_up path relayed_along relayed arrival passed owners workers first_queued choice is_closed is_stopped has_kept_child is_fired_by_complete is_quiet events_of reply_of refusal_standing open_tasks newly_gone gone_from gone all_places
-row_11_sound = refl
+a_propagated_completion_sound = refl
 
-pub row_12 : replies_after (pool_of Async 1 1 4 64) [] (ask.Submit 0 (submitted.Completer 0 true) ∷ ask.Poll 0 0 ∷ ask.Fork 0 (Completer (Some 0) 0 false) ∷ ask.End 0 ending.Quiet ∷ ask.Poll 0 0 ∷ ask.Fork 0 (Completer (Some 1) 0 true) ∷ ask.End 0 ending.Quiet ∷ ask.Poll 0 0 ∷ ask.Fork 0 (Completer (Some 2) 0 true) ∷ ask.End 0 ending.Quiet ∷ ask.Poll 0 0 ∷ ask.End 0 (ending.Fail 7) ∷ ask.State 3 ∷ ask.State 2 ∷ ask.State 1 ∷ ask.State 0 ∷ []) ≡ says.Task 0 ∷ says.Run 0 ∷ says.Task 1 ∷ says.Done ∷ says.Run 1 ∷ says.Task 2 ∷ says.Done ∷ says.Run 2 ∷ says.Task 3 ∷ says.Done ∷ says.Run 3 ∷ says.Done ∷ says.State at.Gone (status_is.Exceptional 7) ∷ says.State at.Gone (status_is.Exceptional 7) ∷ says.State at.Gone (status_is.Exceptional 7) ∷ says.State at.Open status_is.Undone ∷ []
+pub a_relayed_code : replies_after (pool_of Async 1 1 4 64) [] (ask.Submit 0 (submitted.Completer 0 true) ∷ ask.Poll 0 0 ∷ ask.Fork 0 (Completer (Some 0) 0 false) ∷ ask.End 0 ending.Quiet ∷ ask.Poll 0 0 ∷ ask.Fork 0 (Completer (Some 1) 0 true) ∷ ask.End 0 ending.Quiet ∷ ask.Poll 0 0 ∷ ask.Fork 0 (Completer (Some 2) 0 true) ∷ ask.End 0 ending.Quiet ∷ ask.Poll 0 0 ∷ ask.End 0 (ending.Fail 7) ∷ ask.State 3 ∷ ask.State 2 ∷ ask.State 1 ∷ ask.State 0 ∷ []) ≡ says.Task 0 ∷ says.Run 0 ∷ says.Task 1 ∷ says.Done ∷ says.Run 1 ∷ says.Task 2 ∷ says.Done ∷ says.Run 2 ∷ says.Task 3 ∷ says.Done ∷ says.Run 3 ∷ says.Done ∷ says.State at.Gone (status_is.Exceptional 7) ∷ says.State at.Gone (status_is.Exceptional 7) ∷ says.State at.Gone (status_is.Exceptional 7) ∷ says.State at.Open status_is.Undone ∷ []
 unfolding accepted tasks released is_kept live kind is_completer parent pushed taken left queue ended stack hooks hand status_from status pending is_spent queued_in held_by opened place path_up path relayed_along relayed arrival passed owners workers first_queued choice is_closed is_stopped has_kept_child is_fired_by_complete is_quiet events_of reply_of refusal_standing
-row_12 = refl
+a_relayed_code = refl
 
-pub row_12_sound : is_sound (pool_of Async 1 1 4 64) (history_after (pool_of Async 1 1 4 64) [] (ask.Submit 0 (submitted.Completer 0 true) ∷ ask.Poll 0 0 ∷ ask.Fork 0 (Completer (Some 0) 0 false) ∷ ask.End 0 ending.Quiet ∷ ask.Poll 0 0 ∷ ask.Fork 0 (Completer (Some 1) 0 true) ∷ ask.End 0 ending.Quiet ∷ ask.Poll 0 0 ∷ ask.Fork 0 (Completer (Some 2) 0 true) ∷ ask.End 0 ending.Quiet ∷ ask.Poll 0 0 ∷ ask.End 0 (ending.Fail 7) ∷ ask.State 3 ∷ ask.State 2 ∷ ask.State 1 ∷ ask.State 0 ∷ [])) ≡ true
+pub a_relayed_code_sound : is_sound (pool_of Async 1 1 4 64) (history_after (pool_of Async 1 1 4 64) [] (ask.Submit 0 (submitted.Completer 0 true) ∷ ask.Poll 0 0 ∷ ask.Fork 0 (Completer (Some 0) 0 false) ∷ ask.End 0 ending.Quiet ∷ ask.Poll 0 0 ∷ ask.Fork 0 (Completer (Some 1) 0 true) ∷ ask.End 0 ending.Quiet ∷ ask.Poll 0 0 ∷ ask.Fork 0 (Completer (Some 2) 0 true) ∷ ask.End 0 ending.Quiet ∷ ask.Poll 0 0 ∷ ask.End 0 (ending.Fail 7) ∷ ask.State 3 ∷ ask.State 2 ∷ ask.State 1 ∷ ask.State 0 ∷ [])) ≡ true
 unfolding accepted tasks released is_kept live kind is_completer parent pushed taken left queue ended stack hooks hand status_from status pending is_spent queued_in held_by opened place path_up path relayed_along relayed arrival passed owners workers first_queued choice is_closed is_stopped has_kept_child is_fired_by_complete is_quiet events_of reply_of refusal_standing open_tasks newly_gone gone_from gone all_places
-row_12_sound = refl
+a_relayed_code_sound = refl
 
-pub row_13 : replies_after (pool_of Async 1 1 4 64) [] (ask.Submit 0 submitted.Plain ∷ ask.Poll 0 0 ∷ ask.Shutdown ∷ ask.Submit 0 submitted.Plain ∷ ask.Fork 0 Plain ∷ ask.Shutdown ∷ ask.Stop ∷ ask.Fork 0 Plain ∷ ask.End 0 ending.Ok ∷ ask.Poll 0 0 ∷ ask.IsQuiescent ∷ ask.State 0 ∷ []) ≡ says.Task 0 ∷ says.Run 0 ∷ says.Done ∷ says.Refused refused.Closed ∷ says.Task 1 ∷ says.Done ∷ says.Done ∷ says.Refused refused.Closed ∷ says.Done ∷ says.Skip 1 ∷ says.Yes ∷ says.State at.Gone status_is.Cancelled ∷ []
+pub shutdown_and_stop : replies_after (pool_of Async 1 1 4 64) [] (ask.Submit 0 submitted.Plain ∷ ask.Poll 0 0 ∷ ask.Shutdown ∷ ask.Submit 0 submitted.Plain ∷ ask.Fork 0 Plain ∷ ask.Shutdown ∷ ask.Stop ∷ ask.Fork 0 Plain ∷ ask.End 0 ending.Ok ∷ ask.Poll 0 0 ∷ ask.IsQuiescent ∷ ask.State 0 ∷ []) ≡ says.Task 0 ∷ says.Run 0 ∷ says.Done ∷ says.Refused refused.Closed ∷ says.Task 1 ∷ says.Done ∷ says.Done ∷ says.Refused refused.Closed ∷ says.Done ∷ says.Skip 1 ∷ says.Yes ∷ says.State at.Gone status_is.Cancelled ∷ []
 unfolding accepted tasks released is_kept live kind is_completer parent pushed taken left queue ended stack hooks hand status_from status pending is_spent queued_in held_by opened place path_up path relayed_along relayed arrival passed owners workers first_queued choice is_closed is_stopped has_kept_child is_fired_by_complete is_quiet events_of reply_of refusal_standing
-row_13 = refl
+shutdown_and_stop = refl
 
-pub row_13_sound : is_sound (pool_of Async 1 1 4 64) (history_after (pool_of Async 1 1 4 64) [] (ask.Submit 0 submitted.Plain ∷ ask.Poll 0 0 ∷ ask.Shutdown ∷ ask.Submit 0 submitted.Plain ∷ ask.Fork 0 Plain ∷ ask.Shutdown ∷ ask.Stop ∷ ask.Fork 0 Plain ∷ ask.End 0 ending.Ok ∷ ask.Poll 0 0 ∷ ask.IsQuiescent ∷ ask.State 0 ∷ [])) ≡ true
+pub shutdown_and_stop_sound : is_sound (pool_of Async 1 1 4 64) (history_after (pool_of Async 1 1 4 64) [] (ask.Submit 0 submitted.Plain ∷ ask.Poll 0 0 ∷ ask.Shutdown ∷ ask.Submit 0 submitted.Plain ∷ ask.Fork 0 Plain ∷ ask.Shutdown ∷ ask.Stop ∷ ask.Fork 0 Plain ∷ ask.End 0 ending.Ok ∷ ask.Poll 0 0 ∷ ask.IsQuiescent ∷ ask.State 0 ∷ [])) ≡ true
 unfolding accepted tasks released is_kept live kind is_completer parent pushed taken left queue ended stack hooks hand status_from status pending is_spent queued_in held_by opened place path_up path relayed_along relayed arrival passed owners workers first_queued choice is_closed is_stopped has_kept_child is_fired_by_complete is_quiet events_of reply_of refusal_standing open_tasks newly_gone gone_from gone all_places
-row_13_sound = refl
+shutdown_and_stop_sound = refl
 
-pub row_18 : replies_after (pool_of Async 1 1 4 64) [] (ask.Submit 0 submitted.Plain ∷ ask.Poll 0 0 ∷ ask.Join 0 0 0 ∷ ask.Fork 0 Plain ∷ ask.Fork 0 Plain ∷ ask.Join 0 2 0 ∷ ask.End 0 ending.Ok ∷ ask.Join 0 1 0 ∷ []) ≡ says.Task 0 ∷ says.Run 0 ∷ says.Refused refused.OwnStack ∷ says.Task 1 ∷ says.Task 2 ∷ says.Run 1 ∷ says.Done ∷ says.Normal ∷ []
+pub joins_async : replies_after (pool_of Async 1 1 4 64) [] (ask.Submit 0 submitted.Plain ∷ ask.Poll 0 0 ∷ ask.Join 0 0 0 ∷ ask.Fork 0 Plain ∷ ask.Fork 0 Plain ∷ ask.Join 0 2 0 ∷ ask.End 0 ending.Ok ∷ ask.Join 0 1 0 ∷ []) ≡ says.Task 0 ∷ says.Run 0 ∷ says.Refused refused.OwnStack ∷ says.Task 1 ∷ says.Task 2 ∷ says.Run 1 ∷ says.Done ∷ says.Normal ∷ []
 unfolding accepted tasks released is_kept live kind is_completer parent pushed taken left queue ended stack hooks hand status_from status pending is_spent queued_in held_by opened place path_up path relayed_along relayed arrival passed owners workers first_queued choice is_closed is_stopped has_kept_child is_fired_by_complete is_quiet events_of reply_of refusal_standing
-row_18 = refl
+joins_async = refl
 
-pub row_18_sound : is_sound (pool_of Async 1 1 4 64) (history_after (pool_of Async 1 1 4 64) [] (ask.Submit 0 submitted.Plain ∷ ask.Poll 0 0 ∷ ask.Join 0 0 0 ∷ ask.Fork 0 Plain ∷ ask.Fork 0 Plain ∷ ask.Join 0 2 0 ∷ ask.End 0 ending.Ok ∷ ask.Join 0 1 0 ∷ [])) ≡ true
+pub joins_async_sound : is_sound (pool_of Async 1 1 4 64) (history_after (pool_of Async 1 1 4 64) [] (ask.Submit 0 submitted.Plain ∷ ask.Poll 0 0 ∷ ask.Join 0 0 0 ∷ ask.Fork 0 Plain ∷ ask.Fork 0 Plain ∷ ask.Join 0 2 0 ∷ ask.End 0 ending.Ok ∷ ask.Join 0 1 0 ∷ [])) ≡ true
 unfolding accepted tasks released is_kept live kind is_completer parent pushed taken left queue ended stack hooks hand status_from status pending is_spent queued_in held_by opened place path_up path relayed_along relayed arrival passed owners workers first_queued choice is_closed is_stopped has_kept_child is_fired_by_complete is_quiet events_of reply_of refusal_standing open_tasks newly_gone gone_from gone all_places
-row_18_sound = refl
+joins_async_sound = refl
 
-pub row_18_joining : replies_after (pool_of Joining 1 1 4 64) [] (ask.Submit 0 submitted.Plain ∷ ask.Poll 0 0 ∷ ask.Join 0 0 0 ∷ ask.Fork 0 Plain ∷ ask.Fork 0 Plain ∷ ask.Join 0 2 0 ∷ []) ≡ says.Task 0 ∷ says.Run 0 ∷ says.Refused refused.OwnStack ∷ says.Task 1 ∷ says.Task 2 ∷ says.Run 2 ∷ []
+pub joins_joining : replies_after (pool_of Joining 1 1 4 64) [] (ask.Submit 0 submitted.Plain ∷ ask.Poll 0 0 ∷ ask.Join 0 0 0 ∷ ask.Fork 0 Plain ∷ ask.Fork 0 Plain ∷ ask.Join 0 2 0 ∷ []) ≡ says.Task 0 ∷ says.Run 0 ∷ says.Refused refused.OwnStack ∷ says.Task 1 ∷ says.Task 2 ∷ says.Run 2 ∷ []
 unfolding accepted tasks released is_kept live kind is_completer parent pushed taken left queue ended stack hooks hand status_from status pending is_spent queued_in held_by opened place path_up path relayed_along relayed arrival passed owners workers first_queued choice is_closed is_stopped has_kept_child is_fired_by_complete is_quiet events_of reply_of refusal_standing
-row_18_joining = refl
+joins_joining = refl
 
-pub row_18_joining_sound : is_sound (pool_of Joining 1 1 4 64) (history_after (pool_of Joining 1 1 4 64) [] (ask.Submit 0 submitted.Plain ∷ ask.Poll 0 0 ∷ ask.Join 0 0 0 ∷ ask.Fork 0 Plain ∷ ask.Fork 0 Plain ∷ ask.Join 0 2 0 ∷ [])) ≡ true
+pub joins_joining_sound : is_sound (pool_of Joining 1 1 4 64) (history_after (pool_of Joining 1 1 4 64) [] (ask.Submit 0 submitted.Plain ∷ ask.Poll 0 0 ∷ ask.Join 0 0 0 ∷ ask.Fork 0 Plain ∷ ask.Fork 0 Plain ∷ ask.Join 0 2 0 ∷ [])) ≡ true
 unfolding accepted tasks released is_kept live kind is_completer parent pushed taken left queue ended stack hooks hand status_from status pending is_spent queued_in held_by opened place path_up path relayed_along relayed arrival passed owners workers first_queued choice is_closed is_stopped has_kept_child is_fired_by_complete is_quiet events_of reply_of refusal_standing open_tasks newly_gone gone_from gone all_places
-row_18_joining_sound = refl
+joins_joining_sound = refl
 
-pub row_20 : replies_after (pool_of Async 1 1 1 64) [] (ask.Submit 0 (submitted.Completer 5 true) ∷ ask.Poll 0 0 ∷ ask.Add 0 0 2 ∷ ask.Add 0 0 65535 ∷ ask.End 0 ending.Ok ∷ ask.End 0 ending.Complete ∷ ask.Poll 0 0 ∷ ask.HookDone 0 ∷ ask.HookDone 0 ∷ []) ≡ says.Task 0 ∷ says.Run 0 ∷ says.Count 7 ∷ says.Refused refused.CountTooLarge ∷ says.Refused refused.NotCompleter ∷ says.Hook 0 ∷ says.Refused refused.NotIdle ∷ says.Root 0 ∷ says.Refused refused.NotRunning ∷ []
+pub counts_and_complete : replies_after (pool_of Async 1 1 1 64) [] (ask.Submit 0 (submitted.Completer 5 true) ∷ ask.Poll 0 0 ∷ ask.Add 0 0 2 ∷ ask.Add 0 0 65535 ∷ ask.End 0 ending.Ok ∷ ask.End 0 ending.Complete ∷ ask.Poll 0 0 ∷ ask.HookDone 0 ∷ ask.HookDone 0 ∷ []) ≡ says.Task 0 ∷ says.Run 0 ∷ says.Count 7 ∷ says.Refused refused.CountTooLarge ∷ says.Refused refused.NotCompleter ∷ says.Hook 0 ∷ says.Refused refused.NotIdle ∷ says.Root 0 ∷ says.Refused refused.NotRunning ∷ []
 unfolding accepted tasks released is_kept live kind is_completer parent pushed taken left queue ended stack hooks hand status_from status pending is_spent queued_in held_by opened place path_up path relayed_along relayed arrival passed owners workers first_queued choice is_closed is_stopped has_kept_child is_fired_by_complete is_quiet events_of reply_of refusal_standing
-row_20 = refl
+counts_and_complete = refl
 
-pub row_20_sound : is_sound (pool_of Async 1 1 1 64) (history_after (pool_of Async 1 1 1 64) [] (ask.Submit 0 (submitted.Completer 5 true) ∷ ask.Poll 0 0 ∷ ask.Add 0 0 2 ∷ ask.Add 0 0 65535 ∷ ask.End 0 ending.Ok ∷ ask.End 0 ending.Complete ∷ ask.Poll 0 0 ∷ ask.HookDone 0 ∷ ask.HookDone 0 ∷ [])) ≡ true
+pub counts_and_complete_sound : is_sound (pool_of Async 1 1 1 64) (history_after (pool_of Async 1 1 1 64) [] (ask.Submit 0 (submitted.Completer 5 true) ∷ ask.Poll 0 0 ∷ ask.Add 0 0 2 ∷ ask.Add 0 0 65535 ∷ ask.End 0 ending.Ok ∷ ask.End 0 ending.Complete ∷ ask.Poll 0 0 ∷ ask.HookDone 0 ∷ ask.HookDone 0 ∷ [])) ≡ true
 unfolding accepted tasks released is_kept live kind is_completer parent pushed taken left queue ended stack hooks hand status_from status pending is_spent queued_in held_by opened place path_up path relayed_along relayed arrival passed owners workers first_queued choice is_closed is_stopped has_kept_child is_fired_by_complete is_quiet events_of reply_of refusal_standing open_tasks newly_gone gone_from gone all_places
-row_20_sound = refl
+counts_and_complete_sound = refl
 
-pub row_21 : replies_after (pool_of Async 1 1 3 64) [] (ask.Submit 0 (submitted.Completer 0 true) ∷ ask.Poll 0 0 ∷ ask.Fork 0 (Completer (Some 0) 0 true) ∷ ask.End 0 ending.Try ∷ ask.HookDone 0 ∷ ask.Release 0 ∷ ask.Cancel 1 ∷ ask.Poll 0 0 ∷ ask.Release 1 ∷ ask.Release 0 ∷ ask.State 0 ∷ ask.Submit 0 submitted.Plain ∷ []) ≡ says.Task 0 ∷ says.Run 0 ∷ says.Task 1 ∷ says.Hook 0 ∷ says.Root 0 ∷ says.Refused refused.NotDone ∷ says.Yes ∷ says.Skip 1 ∷ says.Done ∷ says.Done ∷ says.Refused refused.Unknown ∷ says.Task 2 ∷ []
+pub releases : replies_after (pool_of Async 1 1 3 64) [] (ask.Submit 0 (submitted.Completer 0 true) ∷ ask.Poll 0 0 ∷ ask.Fork 0 (Completer (Some 0) 0 true) ∷ ask.End 0 ending.Try ∷ ask.HookDone 0 ∷ ask.Release 0 ∷ ask.Cancel 1 ∷ ask.Poll 0 0 ∷ ask.Release 1 ∷ ask.Release 0 ∷ ask.State 0 ∷ ask.Submit 0 submitted.Plain ∷ []) ≡ says.Task 0 ∷ says.Run 0 ∷ says.Task 1 ∷ says.Hook 0 ∷ says.Root 0 ∷ says.Refused refused.NotDone ∷ says.Yes ∷ says.Skip 1 ∷ says.Done ∷ says.Done ∷ says.Refused refused.Unknown ∷ says.Task 2 ∷ []
 unfolding accepted tasks released is_kept live kind is_completer parent pushed taken left queue ended stack hooks hand status_from status pending is_spent queued_in held_by opened place path_up path relayed_along relayed arrival passed owners workers first_queued choice is_closed is_stopped has_kept_child is_fired_by_complete is_quiet events_of reply_of refusal_standing
-row_21 = refl
+releases = refl
 
-pub row_21_sound : is_sound (pool_of Async 1 1 3 64) (history_after (pool_of Async 1 1 3 64) [] (ask.Submit 0 (submitted.Completer 0 true) ∷ ask.Poll 0 0 ∷ ask.Fork 0 (Completer (Some 0) 0 true) ∷ ask.End 0 ending.Try ∷ ask.HookDone 0 ∷ ask.Release 0 ∷ ask.Cancel 1 ∷ ask.Poll 0 0 ∷ ask.Release 1 ∷ ask.Release 0 ∷ ask.State 0 ∷ ask.Submit 0 submitted.Plain ∷ [])) ≡ true
+pub releases_sound : is_sound (pool_of Async 1 1 3 64) (history_after (pool_of Async 1 1 3 64) [] (ask.Submit 0 (submitted.Completer 0 true) ∷ ask.Poll 0 0 ∷ ask.Fork 0 (Completer (Some 0) 0 true) ∷ ask.End 0 ending.Try ∷ ask.HookDone 0 ∷ ask.Release 0 ∷ ask.Cancel 1 ∷ ask.Poll 0 0 ∷ ask.Release 1 ∷ ask.Release 0 ∷ ask.State 0 ∷ ask.Submit 0 submitted.Plain ∷ [])) ≡ true
 unfolding accepted tasks released is_kept live kind is_completer parent pushed taken left queue ended stack hooks hand status_from status pending is_spent queued_in held_by opened place path_up path relayed_along relayed arrival passed owners workers first_queued choice is_closed is_stopped has_kept_child is_fired_by_complete is_quiet events_of reply_of refusal_standing open_tasks newly_gone gone_from gone all_places
-row_21_sound = refl
+releases_sound = refl
 
-pub row_r5 : replies_after (pool_of Async 1 1 4 64) [] (ask.Submit 0 (submitted.Completer 1 true) ∷ ask.Poll 0 0 ∷ ask.End 0 ending.Quiet ∷ ask.State 0 ∷ ask.Submit 0 submitted.Plain ∷ ask.Stop ∷ ask.State 0 ∷ ask.State 1 ∷ ask.Poll 0 0 ∷ ask.IsQuiescent ∷ ask.Stop ∷ ask.Shutdown ∷ ask.Submit 0 submitted.Plain ∷ []) ≡ says.Task 0 ∷ says.Run 0 ∷ says.Done ∷ says.State at.Open status_is.Undone ∷ says.Task 1 ∷ says.Done ∷ says.State at.Gone status_is.Cancelled ∷ says.State (at.Queued (Sub 0)) status_is.Cancelled ∷ says.Skip 1 ∷ says.Yes ∷ says.Done ∷ says.Done ∷ says.Refused refused.Closed ∷ []
+pub a_stop_cancels_all : replies_after (pool_of Async 1 1 4 64) [] (ask.Submit 0 (submitted.Completer 1 true) ∷ ask.Poll 0 0 ∷ ask.End 0 ending.Quiet ∷ ask.State 0 ∷ ask.Submit 0 submitted.Plain ∷ ask.Stop ∷ ask.State 0 ∷ ask.State 1 ∷ ask.Poll 0 0 ∷ ask.IsQuiescent ∷ ask.Stop ∷ ask.Shutdown ∷ ask.Submit 0 submitted.Plain ∷ []) ≡ says.Task 0 ∷ says.Run 0 ∷ says.Done ∷ says.State at.Open status_is.Undone ∷ says.Task 1 ∷ says.Done ∷ says.State at.Gone status_is.Cancelled ∷ says.State (at.Queued (Sub 0)) status_is.Cancelled ∷ says.Skip 1 ∷ says.Yes ∷ says.Done ∷ says.Done ∷ says.Refused refused.Closed ∷ []
 unfolding accepted tasks released is_kept live kind is_completer parent pushed taken left queue ended stack hooks hand status_from status pending is_spent queued_in held_by opened place path_up path relayed_along relayed arrival passed owners workers first_queued choice is_closed is_stopped has_kept_child is_fired_by_complete is_quiet events_of reply_of refusal_standing
-row_r5 = refl
+a_stop_cancels_all = refl
 
-pub row_r5_sound : is_sound (pool_of Async 1 1 4 64) (history_after (pool_of Async 1 1 4 64) [] (ask.Submit 0 (submitted.Completer 1 true) ∷ ask.Poll 0 0 ∷ ask.End 0 ending.Quiet ∷ ask.State 0 ∷ ask.Submit 0 submitted.Plain ∷ ask.Stop ∷ ask.State 0 ∷ ask.State 1 ∷ ask.Poll 0 0 ∷ ask.IsQuiescent ∷ ask.Stop ∷ ask.Shutdown ∷ ask.Submit 0 submitted.Plain ∷ [])) ≡ true
+pub a_stop_cancels_all_sound : is_sound (pool_of Async 1 1 4 64) (history_after (pool_of Async 1 1 4 64) [] (ask.Submit 0 (submitted.Completer 1 true) ∷ ask.Poll 0 0 ∷ ask.End 0 ending.Quiet ∷ ask.State 0 ∷ ask.Submit 0 submitted.Plain ∷ ask.Stop ∷ ask.State 0 ∷ ask.State 1 ∷ ask.Poll 0 0 ∷ ask.IsQuiescent ∷ ask.Stop ∷ ask.Shutdown ∷ ask.Submit 0 submitted.Plain ∷ [])) ≡ true
 unfolding accepted tasks released is_kept live kind is_completer parent pushed taken left queue ended stack hooks hand status_from status pending is_spent queued_in held_by opened place path_up path relayed_along relayed arrival passed owners workers first_queued choice is_closed is_stopped has_kept_child is_fired_by_complete is_quiet events_of reply_of refusal_standing open_tasks newly_gone gone_from gone all_places
-row_r5_sound = refl
+a_stop_cancels_all_sound = refl
 
-pub row_r5_release : replies_after (pool_of Async 1 1 2 64) [] (ask.Submit 0 (submitted.Completer 0 true) ∷ ask.Poll 0 0 ∷ ask.End 0 ending.Try ∷ ask.Release 0 ∷ ask.Submit 0 submitted.Plain ∷ ask.Stop ∷ ask.HookDone 0 ∷ ask.State 0 ∷ ask.State 1 ∷ []) ≡ says.Task 0 ∷ says.Run 0 ∷ says.Hook 0 ∷ says.Done ∷ says.Task 1 ∷ says.Done ∷ says.Spent 0 ∷ says.Refused refused.Unknown ∷ says.State (at.Queued (Sub 0)) status_is.Cancelled ∷ []
+pub a_release_under_a_hook : replies_after (pool_of Async 1 1 2 64) [] (ask.Submit 0 (submitted.Completer 0 true) ∷ ask.Poll 0 0 ∷ ask.End 0 ending.Try ∷ ask.Release 0 ∷ ask.Submit 0 submitted.Plain ∷ ask.Stop ∷ ask.HookDone 0 ∷ ask.State 0 ∷ ask.State 1 ∷ []) ≡ says.Task 0 ∷ says.Run 0 ∷ says.Hook 0 ∷ says.Done ∷ says.Task 1 ∷ says.Done ∷ says.Spent 0 ∷ says.Refused refused.Unknown ∷ says.State (at.Queued (Sub 0)) status_is.Cancelled ∷ []
 unfolding accepted tasks released is_kept live kind is_completer parent pushed taken left queue ended stack hooks hand status_from status pending is_spent queued_in held_by opened place path_up path relayed_along relayed arrival passed owners workers first_queued choice is_closed is_stopped has_kept_child is_fired_by_complete is_quiet events_of reply_of refusal_standing
-row_r5_release = refl
+a_release_under_a_hook = refl
 
-pub row_r5_release_sound : is_sound (pool_of Async 1 1 2 64) (history_after (pool_of Async 1 1 2 64) [] (ask.Submit 0 (submitted.Completer 0 true) ∷ ask.Poll 0 0 ∷ ask.End 0 ending.Try ∷ ask.Release 0 ∷ ask.Submit 0 submitted.Plain ∷ ask.Stop ∷ ask.HookDone 0 ∷ ask.State 0 ∷ ask.State 1 ∷ [])) ≡ true
+pub a_release_under_a_hook_sound : is_sound (pool_of Async 1 1 2 64) (history_after (pool_of Async 1 1 2 64) [] (ask.Submit 0 (submitted.Completer 0 true) ∷ ask.Poll 0 0 ∷ ask.End 0 ending.Try ∷ ask.Release 0 ∷ ask.Submit 0 submitted.Plain ∷ ask.Stop ∷ ask.HookDone 0 ∷ ask.State 0 ∷ ask.State 1 ∷ [])) ≡ true
 unfolding accepted tasks released is_kept live kind is_completer parent pushed taken left queue ended stack hooks hand status_from status pending is_spent queued_in held_by opened place path_up path relayed_along relayed arrival passed owners workers first_queued choice is_closed is_stopped has_kept_child is_fired_by_complete is_quiet events_of reply_of refusal_standing open_tasks newly_gone gone_from gone all_places
-row_r5_release_sound = refl
+a_release_under_a_hook_sound = refl
