@@ -9,10 +9,14 @@ trap 'rm -rf "$folder"' EXIT
 cc -O1 -shared -fPIC -o "$folder/refuse.so" "$here/refuse.c" -ldl
 
 for ((number = 1; ; number++)); do
+    rm -f "$folder/count"
     status=0
     REFUSE_AT=$number REFUSE_COUNT=$folder/count LD_PRELOAD=$folder/refuse.so \
         "$crate/out/fj" replay < "$crate/stdin" > "$folder/out" 2> "$folder/err" || status=$?
+    [[ -s $folder/count ]] || { echo "allocation $number: status $status, and no count" >&2; exit 1; }
     if (($(cat "$folder/count") < number)); then
+        ((status == 0)) || { echo "nothing was refused: status $status" >&2; exit 1; }
+        cmp "$crate/stdout" "$folder/out"
         break
     fi
     if ((status == 4)); then

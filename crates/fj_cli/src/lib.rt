@@ -1,7 +1,8 @@
 //! Scripts of a fork-join pool, and the command line of the program `fj`.
 //!
 //! [`replay`] reads a script from any reader, makes its steps on a `Machine` and writes the replies: what it writes is `text` of the
-//! bytes that it read, a definition of `specs/Scripts.antt`. [`fj`] runs a command over any reader and writers.
+//! bytes that it read, or a beginning of it where memory or the writer failed. `text` is a definition of `specs/Scripts.antt`.
+//! [`fj`] runs a command over any reader and writers.
 #![tactic(auto)]
 
 mod fault;

@@ -81,7 +81,7 @@ impl Playback {
         Ok(())
     }
 
-    /// Takes one byte. A line is ended by a line feed, and is at fault as soon as it is longer than any canonical one.
+    /// Takes one byte. A line is ended by a line feed, and is at fault as soon as it has more than 64 bytes.
     fn feed<W: Write>(&mut self, alloc: Global, byte: u8, w: &mut W) -> Result<(), ReplayFault>
         requires { self.old.count + 1 < 2 ^ 64 }
         ensures goes { OnOk result (Goes self.old byte) }

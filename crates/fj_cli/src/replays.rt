@@ -12,9 +12,9 @@ const CHUNK: usize = 8192;
 
 /// Reads a script, makes its steps and writes the replies.
 ///
-/// What was written is a matter of the bytes `b` that were read alone: it is `text b`. A reply is handed to the writer before the
-/// next line is looked at, so what was replied before a fault is written. An interrupted read or write is tried again. The writer
-/// is not flushed.
+/// What was written is `text b` of the bytes `b` that were read; at `Memory` and `Write` it is a beginning of `text b`. A reply is
+/// handed to the writer before the next line is looked at, so what was replied before a fault is written. An interrupted read or
+/// write is tried again. The writer is not flushed.
 pub fn replay<R: Read, W: Write>(alloc: Global, r: &mut R, w: &mut W) -> Result<(), ReplayFault>
     ensures ok { OnOk result ((b : List ℕ) × IsReplayed b (R.remaining r.old) (R.remaining r.new) (W.contents w.old) (W.contents w.new)) }
     ensures err { IfErr result (λ fault. (b : List ℕ) × Ends fault b (R.remaining r.old) (R.remaining r.new) (W.contents w.old) (W.contents w.new)) }

@@ -14,8 +14,9 @@ use std::io::{self, Read, Write};
 
 /// Runs a command, and gives the exit status. The first of the words is the program's name.
 ///
-/// 0: it was run, or help or the version was asked for and written to `out`. 2: a fault of the words. 3: a fault of the input. 4: the
-/// machine refused memory. 5: a read or a write failed. For all but 0 there is a text on `err`. What was written to `out` is flushed.
+/// 0: it was run, or help or the version was asked for and written to `out`. 2: a fault of the words. 3: a fault of the input. 4: memory
+/// was refused. 5: a read or a write failed. For all but 0 a text is sent to `err`, which may fail. `out` is flushed after a replay, and
+/// after help or the version; a failed flush gives 5.
 pub fn fj<R: Read, W: Write, E: Write>(
     alloc: Global,
     words: &[&str],
@@ -42,7 +43,7 @@ pub fn fj<R: Read, W: Write, E: Write>(
     }
 }
 
-/// What stops the program before it has its words: a word that is not text, or want of memory. Gives the exit status.
+/// Tells what stops the program before a command runs: a word that is not text, or want of memory. Gives the exit status.
 pub fn unread<E: Write>(error: &io::Error, err: &mut E) -> u8
     ensures { (result ≡ 2) ⊎ (result ≡ 4) }
 {

@@ -1,7 +1,8 @@
 //! The scheduler of a fork-join pool as single steps, with the history of what happened.
 //!
-//! A [`Machine`] is known by its history alone: what stands in its queues and on its stacks, how far each task has come and what is
-//! answered to a step are definitions over the history, which stand in `fj_model`. Nothing here waits or starts a thread.
+//! A [`Machine`] is known by what it was made with and its history: what stands in its queues and on its stacks, how far each task
+//! has come and what is answered to a step are definitions over the history, which stand in `fj_model`. Nothing here waits or starts
+//! a thread.
 #![tactic(auto)]
 
 mod log;

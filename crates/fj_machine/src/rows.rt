@@ -7,7 +7,7 @@ use fj_model::Serial;
 use std::alloc::{AllocError, Global};
 use std::marker::Model;
 
-/// Several lists of task numbers, with room for as many in each, which is taken when they are made.
+/// Several lists of task numbers, each with the same room, which is taken when they are made.
 #[derive(Drop)]
 pub struct Rows {
     rows: Vec<Vec<Serial>>,

@@ -20,7 +20,8 @@ pub fn run(
     ensures pool { IfOk result (λ r. r.0.pool ≡ record { mode = mode; limits = limits }) }
     // Each step has the one reply, and the history is that of the steps.
     ensures runs { IfOk result (λ r. Runs r.0.pool steps.now r.1.items r.0.events) }
-    // Each accepted task is in one place and was handed out at most once; each queue was left in the order pushed.
+    // Each accepted task is in one place and was handed out at most once. In async mode each queue, in joining mode each
+    // submitter's, was left in the order pushed.
     ensures headline { IfOk result (λ r. Headline r.0.pool r.0.events) }
     // The reply `run` stands exactly where a task was handed out.
     ensures replies { IfOk result (λ r. RepliesTell r.0.events r.1.items) }

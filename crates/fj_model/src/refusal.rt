@@ -40,7 +40,7 @@ pub enum Refusal {
     /// 11: the lane has taken as many tasks as its capacity.
     #[error("the lane has taken as many tasks as its capacity")]
     LaneSpent,
-    /// 12: the machine refused memory, or the start of a thread.
+    /// 12: memory was refused, or the start of a thread.
     #[error("out of memory")]
     OutOfMemory,
     /// 13: a limit is out of its range.

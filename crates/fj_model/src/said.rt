@@ -28,9 +28,9 @@ pub enum Said {
     Root(Serial),
     /// The new pending count.
     Count(u32),
-    /// The answer to a question, or that the task is as it was asked to be.
+    /// The pool is quiescent; or the task was undone and has got the status asked for (Cancel: or was cancelled already).
     Yes,
-    /// The opposite.
+    /// The pool is not quiescent; or the task was done and nothing changed.
     No,
     /// The joined task is done, without a fault.
     Normal,

@@ -31,7 +31,7 @@ pub enum Step {
     Poll { w: WorkerId, r: u32 },
     /// A running task helps: one turn of `ForkJoinTask.helpQuiesce`.
     Help { w: WorkerId, r: u32 },
-    /// A running task waits for another one: `ForkJoinTask.join`.
+    /// A running task joins another one: the status if it is done, else its worker takes its choice. One turn of `ForkJoinTask.join`.
     Join { w: WorkerId, t: Serial, r: u32 },
     /// The body of a worker's running task ends.
     End { w: WorkerId, ending: Ending },
