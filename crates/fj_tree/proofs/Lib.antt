@@ -1,0 +1,4 @@
+pub mod Children
+pub mod Finds
+pub mod Paths
+pub mod Writes

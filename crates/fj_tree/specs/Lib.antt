@@ -1,0 +1,5 @@
+pub mod Arrivals
+pub mod Handles
+pub mod Makes
+pub mod Paths
+pub mod Records

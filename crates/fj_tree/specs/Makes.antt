@@ -1,0 +1,57 @@
+-- What a make does.
+use Rattle.std.specs.Prelude.{ℕ, ◌+◌, ◌==◌, Bool, false, if◌then◌else◌, nat_lt, nat_le, Option, Some, None, option_map}
+use Rattle.fj_model.specs.declared.kind.Kind.{Kind}
+use Rattle.fj_model.specs.declared.place.Place.{Place}
+use Rattle.fj_model.specs.declared.status.Status.TheVariants.{Undone}
+use Rattle.fj_model.specs.declared.refusal.Refusal.{Refusal}
+use Rattle.fj_model.specs.declared.refusal.Refusal.TheVariants.{Unknown, NotCompleter, CountTooLarge, TooManyTasks}
+use Rattle.fj_model.specs.Lists.{or_else}
+use Rattle.fj_model.specs.Tasks.{parent_in, count_in, is_completer_kind}
+use Rattle.fj_tree.specs.declared.record.Record.{Record}
+use Rattle.fj_tree.specs.Handles.{Handle}
+use Rattle.fj_tree.specs.Records.{Records, count, record_of, entry_of}
+
+-- a record must be there, and be a completer's
+abbrev pub completer_refusal : Option Record → Option Refusal
+completer_refusal None = Some Unknown
+completer_refusal (Some r) = if is_completer_kind (Some r.kind) then None else Some NotCompleter
+
+-- a parent must be kept, and be a completer
+abbrev pub parent_refusal : Records → Option ℕ → Option Refusal
+parent_refusal t None = None
+parent_refusal t (Some p) = completer_refusal (option_map (λ e. e.1) (entry_of t p))
+
+abbrev pub count_refusal : ℕ → Option Refusal
+count_refusal n = if nat_lt 65535 n then Some CountTooLarge else None
+
+abbrev pub room_refusal : Records → Option Refusal
+room_refusal t = if nat_le t.room (count t) then Some TooManyTasks else None
+
+-- why a make is refused, if it is: the first that holds
+abbrev pub make_refusal : Records → Kind → Option Refusal
+make_refusal t k = or_else (parent_refusal t (parent_in (Some k))) (or_else (count_refusal (count_in (Some k))) (room_refusal t))
+
+-- a new record
+abbrev pub fresh : ℕ → Kind → Place → Record
+fresh n k p = record { serial = n; kind = k; place = p; status = Undone; pending = count_in (Some k); spent = false; children = 0 }
+
+-- whether the number is the one that is named, if any is
+abbrev pub is_named : Option ℕ → ℕ → Bool
+is_named None n = false
+is_named (Some p) n = n == p
+
+-- the record, with one child more
+abbrev pub with_child : Record → Record
+with_child r = record r { children = r.children + 1 }
+
+-- the same where it is the parent that is named, and otherwise the record as it is
+abbrev pub with_child_of : Option ℕ → Record → Record
+with_child_of parent r = if is_named parent r.serial then with_child r else r
+
+abbrev pub pending_in : Option Record → ℕ
+pending_in None = 0
+pending_in (Some r) = r.pending
+
+-- why an addition to a pending count is refused, if it is: the first that holds
+abbrev pub add_refusal : Records → Handle → ℕ → Option Refusal
+add_refusal t h n = or_else (completer_refusal (record_of t h)) (count_refusal (pending_in (record_of t h) + n))

@@ -1,0 +1,36 @@
+//! The way from a record to its root.
+ghost use Rattle.std.specs.Prelude.{◌≡◌, ◌<◌, IfSome};
+ghost use Rattle.fj_tree.specs.Records.{IsGood};
+ghost use Rattle.fj_tree.specs.Paths.{above, root_of};
+
+use crate::handle::Handle;
+use crate::kinds;
+use crate::tree::Tree;
+
+impl Tree {
+    /// The last on the way from a record to its parent, the parent's parent and so on. The caller answers for a good handle.
+    pub fn root(&self, h: Handle) -> Handle
+        requires { IsGood self.now h }
+        ensures root { result ≡ root_of self.now h }
+        ensures good { IsGood self.now result }
+    {
+        let mut at = h;
+        while let Some(up) = self.above(at) {
+            at = up;
+        }
+        at
+    }
+
+    /// The parent of a record, if it names one that is kept.
+    pub(crate) fn above(&self, h: Handle) -> Option<Handle>
+        requires { IsGood self.now h }
+        ensures parent { result ≡ above self.now h }
+        ensures good { IfSome result (IsGood self.now) }
+        ensures smaller { IfSome result (λ up. up.serial < h.serial) }
+    {
+        let _ = self.len();
+        let record = self.get(h)?;
+        let serial = kinds::parent(&record.kind)?;
+        self.find(serial)
+    }
+}

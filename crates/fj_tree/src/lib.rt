@@ -1,0 +1,26 @@
+//! The records of the tasks that are kept, and what arrivals do at completers.
+//!
+//! A contract sees a [`Tree`] as its records by key, the number of makes so far, and the room. A [`Handle`] names a record; it is
+//! good while the record at its key has its number. All memory is taken in [`Tree::new`].
+//!
+//! ```
+//! let trigger = tree.make(kind, Place::Open)?;
+//! if tree.arrive(trigger) == Arrived::Fire {
+//!     // the completion action of the trigger runs now
+//! }
+//! ```
+#![tactic(auto)]
+
+mod arrive;
+mod climb;
+mod handle;
+mod kinds;
+mod record;
+#[cfg(test)]
+mod tests;
+mod tree;
+
+pub use arrive::Arrived;
+pub use handle::Handle;
+pub use record::Record;
+pub use tree::Tree;

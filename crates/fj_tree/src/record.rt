@@ -1,0 +1,62 @@
+ghost use Rattle.std.specs.Prelude.{◌≡◌, ◌≤◌};
+ghost use Rattle.fj_tree.specs.Arrivals.{is_spent, arrival_at, arrived};
+
+use crate::arrive::Arrived;
+use fj_model::{Kind, Place, Serial, Status};
+
+/// What is known of a task that is kept.
+#[derive(Clone, Copy, Debug, PartialEq, Eq)]
+pub struct Record {
+    /// The task's number.
+    pub serial: Serial,
+    /// What the task is. It stays as the task was made.
+    pub kind: Kind,
+    /// Where the task is.
+    pub place: Place,
+    /// How far the task has come.
+    pub status: Status,
+    /// How many arrivals a completer still waits for, at most 65,535. A plain task has 0.
+    pub pending: u32,
+    /// Whether the completer was fired or passed. A done one counts as spent too, but need not be marked.
+    pub spent: bool,
+    /// How many kept tasks name this one as their parent.
+    pub children: u64,
+}
+
+impl Record {
+    /// Whether nothing can fire the completer any more: it was fired, was passed, or is done.
+    pub fn is_spent(&self) -> bool
+        ensures { result ≡ is_spent self.now }
+    {
+        self.spent || !self.status.is_undone()
+    }
+
+    /// What an arrival at this record would do.
+    pub fn arrival(&self) -> Arrived
+        ensures { result ≡ arrival_at self.now }
+    {
+        if self.is_spent() {
+            Arrived::Spent
+        } else if self.pending > 0 {
+            Arrived::Counted
+        } else if matches!(self.place, Place::Queued(_) | Place::Held(_)) {
+            Arrived::Early
+        } else {
+            Arrived::Fire
+        }
+    }
+
+    /// Arrives at this record: the count falls, or the record becomes spent, or nothing changes.
+    pub(crate) fn arrive(&mut self) -> Arrived
+        ensures answer { result ≡ arrival_at self.old }
+        ensures arrived { self.new ≡ arrived result self.old }
+    {
+        let arrived = self.arrival();
+        match arrived {
+            Arrived::Counted => self.pending -= 1,
+            Arrived::Fire => self.spent = true,
+            Arrived::Spent | Arrived::Early => {}
+        }
+        arrived
+    }
+}

@@ -1,0 +1,252 @@
+ghost use Rattle.std.specs.Prelude.{◌≡◌, ◌≢◌, ◌⊎◌, ◌<◌, ◌≤◌, ◌+◌, ◌^◌, ℕ, [], Some, None, IfOk, IfSome, IfNone, OnOk, OnErr, IsSomeAnd, MatchResult, option_copied, option_map};
+ghost use Rattle.fj_tree.specs.Records.{count, record_at, record_of, handle_of, IsSound, IsGood, IsCompleter, changed, with_status, with_place, with_added, made_spent};
+ghost use Rattle.fj_tree.specs.Makes.{add_refusal, make_refusal, parent_refusal, fresh, with_child, with_child_of};
+ghost use Rattle.fj_model.specs.Tasks.{parent_in, count_in};
+ghost use Rattle.fj_tree.specs.Arrivals.{arrival_at, arrived};
+ghost use Rattle.fj_tree.specs.declared.arrive.Arrived.TheVariants.{Spent, Early};
+
+use crate::arrive::Arrived;
+use crate::handle::Handle;
+use crate::kinds;
+use crate::record::Record;
+use fj_model::{Kind, OutOfMemory, Place, Refusal, Serial, Status};
+use slab::Slab;
+use std::alloc::Global;
+use std::marker::Model;
+
+/// The largest pending count.
+const MAX_PENDING: u64 = 65_535;
+
+/// The records of the tasks that are kept, with room that is taken when the tree is made.
+#[derive(Drop)]
+pub struct Tree {
+    records: Slab<Record>,
+    /// How many records were made so far, which is the number of the next one.
+    made: u64,
+    room: usize,
+}
+
+impl Model for Tree {
+    ghost use Rattle.std.specs.Prelude.{◌≤◌};
+    ghost use Rattle.fj_tree.specs.Records.{Records, IsSound};
+
+    ghost Value = { Records };
+
+    ghost view = { λ t. record { slots = t.records.slots; made = t.made; room = t.room } };
+
+    ghost invariant = { λ t. IsSound (record { slots = t.records.slots; made = t.made; room = t.room }) × (t.room ≤ t.records.capacity) };
+}
+
+impl Tree {
+    /// A tree without records, with room for so many. Refused only for want of memory.
+    pub fn new(alloc: Global, room: usize) -> Result<Tree, OutOfMemory>
+        ensures { IfOk result (λ t. t ≡ record { slots = []; made = 0; room = room }) }
+    {
+        let records = Slab::with_capacity(alloc, room)?;
+        Ok(Tree {
+            records,
+            made: 0,
+            room,
+        })
+    }
+
+    /// How many records are kept.
+    pub fn len(&self) -> usize
+        ensures kept { result ≡ count self.now }
+        ensures sound { IsSound self.now }
+    {
+        self.records.len()
+    }
+
+    /// The record that a handle names. None if the handle is not good.
+    pub fn get(&self, h: Handle) -> Option<&Record>
+        ensures { option_copied result ≡ record_of self.now h }
+    {
+        let found = self.records.get(h.key)?;
+        if found.serial == h.serial {
+            Some(found)
+        } else {
+            None
+        }
+    }
+
+    /// Writes how far a task has come. The caller answers for a good handle.
+    pub fn set_status(&mut self, h: Handle, status: Status)
+        requires { IsGood self.old h }
+        ensures { self.new ≡ changed self.old h.key (with_status status) }
+    {
+        self.records[h.key].status = status;
+    }
+
+    /// Writes where a task is. The caller answers for a good handle.
+    pub fn set_place(&mut self, h: Handle, place: Place)
+        requires { IsGood self.old h }
+        ensures { self.new ≡ changed self.old h.key (with_place place) }
+    {
+        self.records[h.key].place = place;
+    }
+
+    /// The kept record of a number, by a walk over all records. None if the number was never given out, or its record is not kept.
+    pub fn find(&self, serial: Serial) -> Option<Handle>
+        ensures found { result ≡ handle_of self.now serial }
+        ensures good { IfSome result (IsGood self.now) }
+        ensures absent { IfNone result ((key : ℕ) (r : Record) → record_at self.now key ≡ Some r → r.serial ≢ serial) }
+    {
+        for (key, record) in self.records.iter() {
+            if record.serial == serial {
+                return Some(Handle { key, serial });
+            }
+        }
+        None
+    }
+
+    /// Makes a completer spent. The caller answers for a good handle of a completer.
+    pub fn fire(&mut self, h: Handle)
+        requires { IsCompleter self.old h }
+        ensures { self.new ≡ changed self.old h.key made_spent }
+    {
+        self.records[h.key].spent = true;
+    }
+
+    /// What an arrival at a completer would do, which is what [`Tree::arrive`] answers. The caller answers for a good handle of a
+    /// completer.
+    pub fn arrival(&self, h: Handle) -> Arrived
+        requires { IsCompleter self.now h }
+        ensures { Some result ≡ option_map arrival_at (record_of self.now h) }
+    {
+        self.records[h.key].arrival()
+    }
+
+    /// Arrives at a completer. The caller answers for a good handle of one.
+    ///
+    /// A spent or done one stays as it is, a pending count above 0 falls by one, a queued or held one stays as it is, and otherwise
+    /// the completer becomes spent: it fires. The first of these that holds is answered. Place and status stay.
+    pub fn arrive(&mut self, h: Handle) -> Arrived
+        requires { IsCompleter self.old h }
+        ensures answer { Some result ≡ option_map arrival_at (record_of self.old h) }
+        ensures arrived { self.new ≡ changed self.old h.key (arrived result) }
+        ensures stays { (result ≡ Spent) ⊎ (result ≡ Early) → self.new ≡ self.old }
+    {
+        self.records[h.key].arrive()
+    }
+
+    /// Raises a completer's pending count, and gives the new one. Refused, with nothing changed, by `Unknown` if the handle is not
+    /// good, `NotCompleter` if it names a plain task, and `CountTooLarge` if the count would pass 65,535, in this order.
+    pub fn add(&mut self, h: Handle, n: u32) -> Result<u32, Refusal>
+        ensures refused { MatchResult result (λ _. add_refusal self.old h n ≡ None) (λ e. add_refusal self.old h n ≡ Some e) }
+        ensures added { OnOk result (self.new ≡ changed self.old h.key (with_added n)) }
+        ensures count { IfOk result (λ count. option_map (λ r. r.pending + n) (record_of self.old h) ≡ Some count) }
+        ensures stays { OnErr result (self.new ≡ self.old) }
+    {
+        let key = h.key;
+        let count = self.raised(h, n)?;
+        self.records[key].pending = count;
+        Ok(count)
+    }
+
+    /// The pending count that a completer would have after an addition.
+    fn raised(&self, h: Handle, n: u32) -> Result<u32, Refusal>
+        ensures refused { MatchResult result (λ _. add_refusal self.now h n ≡ None) (λ e. add_refusal self.now h n ≡ Some e) }
+        ensures good { OnOk result (IsGood self.now h) }
+        ensures count { IfOk result (λ count. option_map (λ r. r.pending + n) (record_of self.now h) ≡ Some count) }
+        ensures within { IfOk result (λ count. count ≤ 65535) }
+    {
+        let Some(record) = self.get(h) else {
+            return Err(Refusal::Unknown);
+        };
+        if !kinds::is_completer(&record.kind) {
+            return Err(Refusal::NotCompleter);
+        }
+        let count = u64::from(record.pending) + u64::from(n);
+        if count > MAX_PENDING {
+            return Err(Refusal::CountTooLarge);
+        }
+        Ok(count as u32)
+    }
+
+    /// Makes a task, with the next number. Refused, with nothing changed, by `Unknown` if the parent that the kind names is not
+    /// kept, `NotCompleter` if it is a plain task, `CountTooLarge` if the pending count is above 65,535, and `TooManyTasks` if there
+    /// is no room, in this order. The caller answers for fewer than 2^63 makes so far.
+    pub fn make(&mut self, kind: Kind, place: Place) -> Result<Handle, Refusal>
+        requires { self.old.made < 2 ^ 63 }
+        ensures refused { MatchResult result (λ _. make_refusal self.old kind ≡ None) (λ e. make_refusal self.old kind ≡ Some e) }
+        ensures stays { OnErr result (self.new ≡ self.old) }
+        ensures number { IfOk result (λ h. h.serial ≡ self.old.made) }
+        ensures made { OnOk result (self.new.made ≡ self.old.made + 1) }
+        ensures room { self.new.room ≡ self.old.room }
+        ensures vacant { IfOk result (λ h. record_at self.old h.key ≡ None) }
+        ensures record { IfOk result (λ h. record_of self.new h ≡ Some (fresh self.old.made kind place)) }
+        ensures others { IfOk result (λ h. (key : ℕ) → key ≢ h.key → record_at self.new key ≡ option_map (with_child_of (parent_in (Some kind))) (record_at self.old key)) }
+        ensures kept { OnOk result (count self.new ≡ count self.old + 1) }
+    {
+        let parent = self.parent(&kind)?;
+        if u64::from(kinds::count(&kind)) > MAX_PENDING {
+            return Err(Refusal::CountTooLarge);
+        }
+        if self.records.len() >= self.room {
+            return Err(Refusal::TooManyTasks);
+        }
+        let h = self.insert(kind, place);
+        if let Some(p) = parent {
+            self.count_child(p);
+        }
+        Ok(h)
+    }
+
+    /// The parent that a kind names, if it names one.
+    fn parent(&self, kind: &Kind) -> Result<Option<Handle>, Refusal>
+        ensures refused { MatchResult result (λ _. parent_refusal self.now (parent_in (Some kind.now)) ≡ None) (λ e. parent_refusal self.now (parent_in (Some kind.now)) ≡ Some e) }
+        ensures good { IfOk result (λ parent. IfSome parent (IsGood self.now)) }
+        ensures named { IfOk result (λ parent. option_map (λ h. h.serial) parent ≡ parent_in (Some kind.now)) }
+    {
+        let Some(serial) = kinds::parent(kind) else {
+            return Ok(None);
+        };
+        let Some(h) = self.find(serial) else {
+            return Err(Refusal::Unknown);
+        };
+        if kinds::is_completer(&self.records[h.key].kind) {
+            Ok(Some(h))
+        } else {
+            Err(Refusal::NotCompleter)
+        }
+    }
+
+    /// Puts a new record into the room, with the next number.
+    fn insert(&mut self, kind: Kind, place: Place) -> Handle
+        requires made { self.old.made < 2 ^ 63 }
+        requires room { count self.old < self.old.room }
+        requires pending { count_in (Some kind) ≤ 65535 }
+        requires parent { (p : ℕ) → parent_in (Some kind) ≡ Some p → p < self.old.made }
+        ensures number { result.serial ≡ self.old.made }
+        ensures made { self.new.made ≡ self.old.made + 1 }
+        ensures room { self.new.room ≡ self.old.room }
+        ensures vacant { record_at self.old result.key ≡ None }
+        ensures record { record_at self.new result.key ≡ Some (fresh self.old.made kind place) }
+        ensures others { (key : ℕ) → key ≢ result.key → record_at self.new key ≡ record_at self.old key }
+        ensures kept { count self.new ≡ count self.old + 1 }
+    {
+        let serial = Serial(self.made);
+        let pending = kinds::count(&kind);
+        let key = self.records.insert_reserved(Record {
+            serial,
+            kind,
+            place,
+            status: Status::Undone,
+            pending,
+            spent: false,
+            children: 0,
+        });
+        self.made += 1;
+        Handle { key, serial }
+    }
+
+    /// Counts one child more at a parent.
+    fn count_child(&mut self, h: Handle)
+        requires made { self.old.made ≤ 2 ^ 63 }
+        requires children { IsSomeAnd (record_of self.old h) (λ r. r.children < self.old.made) }
+        ensures { self.new ≡ changed self.old h.key with_child }
+    {
+        self.records[h.key].children += 1;
+    }
+}
