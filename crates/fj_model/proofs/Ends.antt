@@ -19,7 +19,7 @@ use Rattle.fj_model.specs.Allowed.{Allowed, AllowedFrom}
 use Rattle.fj_model.proofs.Members.{times_in_cons, times_in_append, times_in_some, Once, filter_all}
 use Rattle.fj_model.proofs.Growth.{stack_more, stack_same, status_more, status_from_more}
 use Rattle.fj_model.proofs.Lawful.{by_events, taken_once, front_times, said_times, said_fewer}
-use Rattle.fj_model.proofs.AnswersAllowed.{out_takes}
+use Rattle.fj_model.proofs.StacksTaken.{out_takes}
 
 -- ---- no task stands twice on a stack
 

@@ -40,7 +40,7 @@ fires_at_zero h c is = go (is_spent h c) (nat_lt 0 (pending h c)) refl is
 pub fired_at_zero : (pool : Pool) (h : List Event) → AllowedFrom pool [] h → FiredAtZero h
 fired_at_zero pool h so before later c is = fires_at_zero before c (allowed_at pool [] before (Fire c Zero) later (subst (AllowedFrom pool []) is so))
 
-fires_unspent : (h : List Event) (c : ℕ) → arrival h c ≡ Fires → is_spent h c ≡ false
+pub fires_unspent : (h : List Event) (c : ℕ) → arrival h c ≡ Fires → is_spent h c ≡ false
 unfolding arrival
 fires_unspent h c is = go (is_spent h c) refl is
   where

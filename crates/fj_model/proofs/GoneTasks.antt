@@ -21,7 +21,7 @@ use Rattle.fj_model.proofs.Members.{is_in_append, times_in_append, times_in_none
 use Rattle.fj_model.proofs.Growth.{pushed_more, taken_more, stack_more, opened_more, kind_more, status_more, gone_more}
 use Rattle.fj_model.proofs.Lawful.{by_events, number_if_is, is_in_with, front_cases, same_owner, allowed_more, known_more, pushed_accepts, is_new, queued_pushed, queued_fresh, tasks_once, take_chosen, chosen_queued}
 use Rattle.fj_model.proofs.Queues.{left_of_taken}
-use Rattle.fj_model.proofs.AnswersAllowed.{unless_cases, out_takes}
+use Rattle.fj_model.proofs.StacksTaken.{unless_cases, out_takes}
 
 -- ---- where a task is not
 

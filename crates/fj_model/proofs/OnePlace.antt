@@ -20,7 +20,7 @@ use Rattle.fj_model.specs.Headline.{all_places, IsInOnePlace}
 use Rattle.fj_model.proofs.Members.{is_in_append, is_in_filter, times_in_append, times_in_none, times_in_filter, get_is_in, Once, once_more}
 use Rattle.fj_model.proofs.Growth.{pushed_more, stack_more, opened_more, tasks_more}
 use Rattle.fj_model.proofs.Lawful.{by_events, is_in_with, number_if_is, same_owner, is_numbered, is_new, known_more, pushed_known, pushed_once, pushed_apart, queued_pushed, queued_fresh, taken_known, take_chosen, chosen_queued}
-use Rattle.fj_model.proofs.AnswersAllowed.{stack_taken, out_takes}
+use Rattle.fj_model.proofs.StacksTaken.{stack_taken, out_takes}
 use Rattle.fj_model.proofs.Owners.{sub_owner, work_owner, owners_apart}
 use Rattle.fj_model.proofs.Ends.{stack_once}
 use Rattle.fj_model.proofs.GoneTasks.{not_queued, not_held, once_times, gone_once, queue_gains}

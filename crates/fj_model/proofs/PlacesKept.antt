@@ -14,7 +14,7 @@ use Rattle.fj_model.specs.Completers.{is_spent}
 use Rattle.fj_model.specs.Places.{queued_in, held_by, opened, place, place_of, is_gone}
 use Rattle.fj_model.specs.Allowed.{Allowed, AllowedFrom}
 use Rattle.fj_model.proofs.Lawful.{pushed_apart, queued_pushed, queued_fresh}
-use Rattle.fj_model.proofs.AnswersAllowed.{stack_taken}
+use Rattle.fj_model.proofs.StacksTaken.{stack_taken}
 use Rattle.fj_model.proofs.GoneTasks.{not_queued, not_held, no_owner, gone_stays}
 use Rattle.fj_model.proofs.GoneList.{IsCalm, queue_keeps, stack_keeps}
 use Rattle.fj_model.proofs.OnePlace.{queued_there, held_there, stack_apart, never}

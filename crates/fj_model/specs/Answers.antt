@@ -5,8 +5,7 @@ use Rattle.fj_model.specs.declared.event.Event.{Event}
 use Rattle.fj_model.specs.declared.event.Event.TheVariants as event
 use Rattle.fj_model.specs.declared.event.Event.TheVariants.{Acc, Make, Out, Hooked, Dec, Settle, Rel}
 use Rattle.fj_model.specs.declared.owner.Owner.TheVariants.{Sub, Work}
-use Rattle.fj_model.specs.declared.kind.Kind.TheVariants.{Plain, Completer}
-use Rattle.fj_model.specs.declared.kind.SubmittedKind.TheVariants as submitted
+use Rattle.fj_model.specs.declared.kind.Kind.TheVariants.{Completer}
 use Rattle.fj_model.specs.declared.status.Status.{Status}
 use Rattle.fj_model.specs.declared.status.Status.TheVariants as status_is
 use Rattle.fj_model.specs.declared.status.Status.TheVariants.{Undone}
@@ -297,22 +296,30 @@ does_not_fit pool h asked = nat_lt pool.limits.events (length h + length (events
 -- whether the machine makes this step at all: the others are answered `NotYet`
 abbrev pub is_built_ending : Ending → Bool
 is_built_ending Ok = true
-is_built_ending Quiet = false
-is_built_ending Try = false
-is_built_ending Pass = false
-is_built_ending Complete = false
+is_built_ending Quiet = true
+is_built_ending Try = true
+is_built_ending Pass = true
+is_built_ending Complete = true
 is_built_ending (Fail code) = false
 
 abbrev pub is_built : Step → Bool
-is_built (Submit s submitted.Plain) = true
-is_built (Fork w Plain) = true
+is_built (Submit s k) = true
+is_built (Fork w k) = true
+is_built (Trigger w count) = true
 is_built (Poll w r) = true
 is_built (Help w r) = true
 is_built (Join w t r) = true
 is_built (End w ending) = is_built_ending ending
+is_built (HookDone w) = true
+is_built (Add w c n) = true
+is_built (QuietRoot w t) = true
 is_built IsQuiescent = true
 is_built (State t) = true
-is_built _ = false
+is_built (Fault t code) = false
+is_built (Cancel t) = false
+is_built Shutdown = false
+is_built Stop = false
+is_built (Release t) = false
 
 -- why a step that is built is refused, if it is
 unfoldable pub refusal_standing : Pool → List Event → Step → Option Refusal

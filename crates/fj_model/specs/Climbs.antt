@@ -1,8 +1,10 @@
 -- The way from a task to its root, and how far a climb goes.
-use Rattle.std.specs.Prelude.{ℕ, zero, suc, Bool, true, false, ◌||◌, nat_lt, if◌then◌else◌, List, [], ◌∷◌, Option, Some, None, is_some}
-use Rattle.std.specs.List.{take_while}
+use Rattle.std.specs.Prelude.{ℕ, ◌≡◌, zero, suc, Bool, true, false, ◌||◌, nat_lt, if◌then◌else◌, List, [], ◌∷◌, Option, Some, None, is_some}
+use Rattle.std.specs.List.{take_while, filter_map}
 use Rattle.fj_model.specs.declared.event.Event.{Event}
-use Rattle.fj_model.specs.Tasks.{kind, parent, relay_in}
+use Rattle.fj_model.specs.declared.event.Event.TheVariants.{Dec, Fire, Pass}
+use Rattle.fj_model.specs.Lists.{is_in}
+use Rattle.fj_model.specs.Tasks.{kind, parent, relay_in, is_completer}
 use Rattle.fj_model.specs.Statuses.{status, is_undone}
 use Rattle.fj_model.specs.Completers.{is_spent, pending}
 use Rattle.fj_model.specs.Places.{queued_in, held_by}
@@ -50,3 +52,17 @@ does_fire Early = false
 -- the longest beginning of the way at whose members an arrival fires
 unfoldable pub passed : List Event → ℕ → List ℕ
 passed h c = take_while (λ d. does_fire (arrival h d)) (path h c)
+
+-- the completer at which this event counts an arrival, which it fires, or which it passes
+abbrev pub climbed_by : Event → Option ℕ
+climbed_by (Dec c) = Some c
+climbed_by (Fire c how) = Some c
+climbed_by (Pass c) = Some c
+climbed_by _ = None
+
+unfoldable pub climbed : List Event → List ℕ
+climbed h = filter_map climbed_by h
+
+-- each event of a climb is at a completer
+abbrev pub ClimbsCompleters : List Event → Type 0
+ClimbsCompleters h = (c : ℕ) → is_in c (climbed h) ≡ true → is_completer h c ≡ true
