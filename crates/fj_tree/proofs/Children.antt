@@ -1,23 +1,14 @@
--- A parent's children are counted.
+-- One record is changed.
 use Rattle.fj_tree.specs.declared.record.Record.{Record}
 use Rattle.fj_tree.specs.Handles.{Handle}
-use Rattle.fj_tree.specs.Records.{Records, IsSound, IsSoundRecord, record_at, IsGood, changed}
-use Rattle.fj_tree.specs.Makes.{with_child, with_child_of}
-use Rattle.fj_tree.proofs.Writes.{sound_written, slot_within}
+use Rattle.fj_tree.specs.Records.{Records, IsSound, record_at, IsGood, changed}
+use Rattle.fj_tree.specs.Makes.{with_child_of}
+use Rattle.fj_tree.proofs.Writes.{slot_within}
 use Rattle.fj_tree.proofs.Finds.{named_record}
-use Rattle.std.specs.Prelude.{option_map}
-use Rattle.std.proofs.Common.{arith, cond, nat_eq, Bool, true, false, Option, Some, None, ℕ, ◌≡◌, ◌≢◌, ◌<◌, eq-eqb, ap, sym, ◌∙◌, refl, inl, inr}
-use Rattle.std.proofs.Math.ListN.{set}
+use Rattle.std.specs.Prelude.{option_map, if◌then◌else◌, ◌==◌}
+use Rattle.std.proofs.Common.{cond, nat_eq, Bool, true, false, Option, Some, None, ℕ, ◌≡◌, ◌≢◌, eq-eqb, ap, sym, ◌∙◌, refl, inl, inr}
 use Rattle.std.proofs.lemmas.Bool.{cases_eq, eqb-true}
 use Rattle.std.proofs.lemmas.List.{get_or-set_same, get_or-set_other}
-
--- all records stay sound where one gets a child more, and has fewer than there were makes
-pub sound_child : (t : Records) (key : ℕ) (r : Record) → IsSound t → record_at t key ≡ Some r → r.children < t.made
-    → IsSound (record t { slots = set t.slots key (Some (with_child r)) })
-sound_child t key r sound is few =
-    let old = sound.each key r is in
-    let good : IsSoundRecord t.made (with_child r) = record { number = old.number; parent = old.parent; pending = old.pending; children = omega (arith, few) } in
-    sound_written t key r (with_child r) sound is good refl
 
 -- the record at the key of a change
 pub changed_here : (t : Records) (key : ℕ) (r : Record) (change : Record → Record) → record_at t key ≡ Some r → record_at (changed t key change) key ≡ Some (change r)
@@ -33,24 +24,27 @@ pub no_child : (o : Option Record) → o ≡ option_map (with_child_of None) o
 no_child None = refl
 no_child (Some r) = refl
 
--- the parent gets a child more, and no other record does
-pub child_counted : (old new : Records) (p : Handle) (key : ℕ) → IsSound old → IsGood old p → record_at new key ≡ record_at old key → record_at new p.key ≡ record_at old p.key
-    → record_at (changed new p.key with_child) key ≡ option_map (with_child_of (Some p.serial)) (record_at old key)
-child_counted old new p key sound good kept parent_kept =
+-- the record of this number is changed, and no other is
+abbrev pub if_named : (Record → Record) → ℕ → Record → Record
+if_named change n r = if r.serial == n then change r else r
+
+pub one_changed : (old new : Records) (p : Handle) (key : ℕ) (change : Record → Record) → IsSound old → IsGood old p → record_at new key ≡ record_at old key → record_at new p.key ≡ record_at old p.key
+    → record_at (changed new p.key change) key ≡ option_map (if_named change p.serial) (record_at old key)
+one_changed old new p key change sound good kept parent_kept =
     elim (cases_eq key p.key) [
       | inl same ↦
           let named = named_record old p good in
           let there : record_at old key ≡ Some named.0 = ap (record_at old) same ∙ named.1 in
-          let counted : with_child_of (Some p.serial) named.0 ≡ with_child named.0 = ap (λ (b : Bool). cond b (with_child named.0) named.0) (eq-eqb named.0.serial p.serial named.2) in
-          ap (record_at (changed new p.key with_child)) same ∙ changed_here new p.key named.0 with_child (parent_kept ∙ named.1) ∙ ap Some (sym counted) ∙ sym (ap (option_map (with_child_of (Some p.serial))) there)
-      | inr differs ↦ changed_other new p.key key with_child differs ∙ kept ∙ same_record (record_at old key) refl differs
+          let done : if_named change p.serial named.0 ≡ change named.0 = ap (λ (b : Bool). cond b (change named.0) named.0) (eq-eqb named.0.serial p.serial named.2) in
+          ap (record_at (changed new p.key change)) same ∙ changed_here new p.key named.0 change (parent_kept ∙ named.1) ∙ ap Some (sym done) ∙ sym (ap (option_map (if_named change p.serial)) there)
+      | inr differs ↦ changed_other new p.key key change differs ∙ kept ∙ same_record (record_at old key) refl differs
     ]
   where
-    same_record : (o : Option Record) → record_at old key ≡ o → key ≢ p.key → record_at old key ≡ option_map (with_child_of (Some p.serial)) (record_at old key)
+    same_record : (o : Option Record) → record_at old key ≡ o → key ≢ p.key → record_at old key ≡ option_map (if_named change p.serial) (record_at old key)
     same_record None none differs = rw none refl
     same_record (Some s) some differs = which (nat_eq s.serial p.serial) refl
       where
-        which : (b : Bool) → nat_eq s.serial p.serial ≡ b → record_at old key ≡ option_map (with_child_of (Some p.serial)) (record_at old key)
+        which : (b : Bool) → nat_eq s.serial p.serial ≡ b → record_at old key ≡ option_map (if_named change p.serial) (record_at old key)
         which true e =
             let named = named_record old p good in
             absurd (differs (sound.once key p.key s named.0 some named.1 (eqb-true s.serial p.serial e ∙ sym named.2)))

@@ -3,7 +3,7 @@ use Rattle.slab.specs.Slab.{Slab, entries_from}
 use Rattle.slab.proofs.SlabLemmas.{Contains-cons, Contains-cons_cases, Contains-entries}
 use Rattle.fj_tree.specs.declared.record.Record.{Record}
 use Rattle.fj_tree.specs.Handles.{Handle}
-use Rattle.fj_tree.specs.Records.{Records, record_at, record_of, if_numbered, entry_of, handle_of, IsGood}
+use Rattle.fj_tree.specs.Records.{Records, record_at, record_of, if_numbered, entry_of, handle_of, IsGood, IsCompleter, IsSound}
 use Rattle.fj_model.specs.Tasks.{is_completer_kind}
 use Rattle.fj_model.specs.declared.refusal.Refusal.TheVariants.{NotCompleter}
 use Rattle.fj_tree.specs.Makes.{completer_refusal, parent_refusal}
@@ -11,7 +11,7 @@ use Rattle.std.specs.Prelude.{IsSomeAnd, option_map}
 use Rattle.std.proofs.lemmas.Bool.{eqb-true}
 use Rattle.std.proofs.lemmas.Option.{same_Some}
 use Rattle.std.specs.List.{find}
-use Rattle.std.proofs.Common.{arith, cond, nat_eq, Bool, true, false, Option, Some, None, ◌==◌, ℕ, ◌≡◌, ◌⊎◌, List, [], ◌∷◌, Contains, eq-eqb, true≢false, ap, sym, ◌∙◌, refl, inl, inr}
+use Rattle.std.proofs.Common.{arith, cond, nat_eq, Bool, true, false, Option, Some, None, ◌==◌, ℕ, ◌≡◌, ◌<◌, ◌⊎◌, List, [], ◌∷◌, Contains, eq-eqb, true≢false, ap, sym, ◌∙◌, refl, inl, inr}
 
 -- the first entry that is left has the number
 pub found_first : (es rest : List (ℕ × Record)) (n key : ℕ) (r : Record) (all : Option (ℕ × Record)) → es ≡ (key, r) ∷ rest → nat_eq r.serial n ≡ true
@@ -39,15 +39,25 @@ pub good_at : (t : Records) (h : Handle) (r : Record) → record_at t h.key ≡ 
 good_at t h r is hit = rw (is, hit) refl
 
 -- a slab of these records
-abbrev slab_of : Records → Slab Record
+abbrev pub slab_of : Records → Slab Record
 slab_of t = record { slots = t.slots; vacant_key = 0; capacity = 0 }
 
 -- where no entry is found, no record has the number
 pub absent_from : (t : Records) (n key : ℕ) (r : Record) → entry_of t n ≡ None → record_at t key ≡ Some r → r.serial ≡ n → ⊥
 absent_from t n key r none is same = true≢false (sym (eq-eqb r.serial n same) ∙ none_numbered (entries_from 0 t.slots) n none (key, r) ((Contains-entries (slab_of t) key r).1 is))
 
--- an entry that is found is listed
-found_listed : (es : List (ℕ × Record)) (n : ℕ) (x : ℕ × Record) → find (λ e. e.1.serial == n) es ≡ Some x → Contains es x
+-- an entry that is found has the number
+pub found_numbered : (es : List (ℕ × Record)) (n : ℕ) (x : ℕ × Record) → find (λ e. e.1.serial == n) es ≡ Some x → nat_eq x.1.serial n ≡ true
+found_numbered [] n x found = absurd (cc)
+found_numbered (e ∷ es) n x found = go (found_numbered es n x) (nat_eq e.1.serial n) refl found
+  where
+    go : (find (λ e. e.1.serial == n) es ≡ Some x → nat_eq x.1.serial n ≡ true) → (b : Bool) → nat_eq e.1.serial n ≡ b
+        → cond (nat_eq e.1.serial n) (Some e) (find (λ e. e.1.serial == n) es) ≡ Some x → nat_eq x.1.serial n ≡ true
+    go others true is found = ap (λ (y : ℕ × Record). nat_eq y.1.serial n) (sym (same_Some e x (rw is at found))) ∙ is
+    go others false is found = others (rw is at found)
+
+-- and is listed
+pub found_listed : (es : List (ℕ × Record)) (n : ℕ) (x : ℕ × Record) → find (λ e. e.1.serial == n) es ≡ Some x → Contains es x
 found_listed [] n x found = absurd (cc)
 found_listed (e ∷ es) n x found = go (found_listed es n x) (nat_eq e.1.serial n) refl found
   where
@@ -91,3 +101,23 @@ named_record t h good = go (record_at t h.key) refl
         which : (b : Bool) → nat_eq r.serial h.serial ≡ b → r.serial ≡ h.serial
         which true e = eqb-true r.serial h.serial e
         which false e = let bad = rw (some, e) at good in absurd (cc)
+
+-- its number is below the number of makes
+pub number_of : (t : Records) (h : Handle) → IsSound t → IsGood t h → h.serial < t.made
+number_of t h sound good = let named = named_record t h good in omega (arith, (sound.each h.key named.0 named.1).number, named.2)
+
+-- a completer's handle is good
+pub good_completer : (t : Records) (h : Handle) → IsCompleter t h → IsGood t h
+good_completer t h is = go (record_of t h) refl
+  where
+    go : (o : Option Record) → record_of t h ≡ o → IsGood t h
+    go None none = absurd (rw none at is)
+    go (Some r) some = rw some refl
+
+-- its number, and that it is the handle's record
+pub numbered : (t : Records) (h : Handle) (r : Record) (P : Record → Type 0) → record_at t h.key ≡ Some r → IsSomeAnd (record_of t h) P → (r.serial ≡ h.serial) × (record_of t h ≡ Some r)
+numbered t h r P is there = go (nat_eq r.serial h.serial) refl (rw is at there)
+  where
+    go : (b : Bool) → nat_eq r.serial h.serial ≡ b → IsSomeAnd (if_numbered h.serial r) P → (r.serial ≡ h.serial) × (record_of t h ≡ Some r)
+    go true e there = (eqb-true r.serial h.serial e, rw (is, e) refl)
+    go false e there = absurd (rw e at there)

@@ -1,4 +1,15 @@
+pub mod Cancelling
 pub mod Children
+pub mod Climbing
+pub mod Counts
 pub mod Finds
+pub mod Growing
+pub mod Names
+pub mod Numbers
+pub mod Parents
+pub mod Passing
 pub mod Paths
+pub mod Relaying
+pub mod Shrinking
 pub mod Writes
+pub mod Written

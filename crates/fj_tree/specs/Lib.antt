@@ -1,5 +1,9 @@
 pub mod Arrivals
+pub mod Cancels
 pub mod Handles
 pub mod Makes
+pub mod Passes
 pub mod Paths
 pub mod Records
+pub mod Relays
+pub mod Releases

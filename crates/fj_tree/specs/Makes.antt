@@ -1,5 +1,5 @@
 -- What a make does.
-use Rattle.std.specs.Prelude.{ℕ, ◌+◌, ◌==◌, Bool, false, if◌then◌else◌, nat_lt, nat_le, Option, Some, None, option_map}
+use Rattle.std.specs.Prelude.{ℕ, ◌+◌, false, if◌then◌else◌, nat_lt, nat_le, Option, Some, None, option_map}
 use Rattle.fj_model.specs.declared.kind.Kind.{Kind}
 use Rattle.fj_model.specs.declared.place.Place.{Place}
 use Rattle.fj_model.specs.declared.status.Status.TheVariants.{Undone}
@@ -9,7 +9,7 @@ use Rattle.fj_model.specs.Lists.{or_else}
 use Rattle.fj_model.specs.Tasks.{parent_in, count_in, is_completer_kind}
 use Rattle.fj_tree.specs.declared.record.Record.{Record}
 use Rattle.fj_tree.specs.Handles.{Handle}
-use Rattle.fj_tree.specs.Records.{Records, count, record_of, entry_of}
+use Rattle.fj_tree.specs.Records.{Records, count, record_of, entry_of, is_named}
 
 -- a record must be there, and be a completer's
 abbrev pub completer_refusal : Option Record → Option Refusal
@@ -34,11 +34,6 @@ make_refusal t k = or_else (parent_refusal t (parent_in (Some k))) (or_else (cou
 -- a new record
 abbrev pub fresh : ℕ → Kind → Place → Record
 fresh n k p = record { serial = n; kind = k; place = p; status = Undone; pending = count_in (Some k); spent = false; children = 0 }
-
--- whether the number is the one that is named, if any is
-abbrev pub is_named : Option ℕ → ℕ → Bool
-is_named None n = false
-is_named (Some p) n = n == p
 
 -- the record, with one child more
 abbrev pub with_child : Record → Record

@@ -1,5 +1,5 @@
 -- The records of the tasks that are kept, by key.
-use Rattle.std.specs.Prelude.{ℕ, true, ◌≡◌, ◌<◌, ◌≤◌, ◌+◌, ◌==◌, if◌then◌else◌, List, Option, Some, None, is_some, IsSome, IsSomeAnd, IsTrue, option_map, option_and_then, slice_index_or, slice_set}
+use Rattle.std.specs.Prelude.{ℕ, Bool, true, false, ◌≡◌, ◌<◌, ◌≤◌, ◌+◌, ◌==◌, if◌then◌else◌, List, Option, Some, None, is_some, IsSome, IsSomeAnd, IsTrue, option_map, option_and_then, slice_index_or, slice_set}
 use Rattle.std.specs.List.{count_by, find}
 use Rattle.slab.specs.Slab.{entries_from}
 use Rattle.fj_model.specs.declared.status.Status.{Status}
@@ -68,8 +68,32 @@ pub record IsSoundRecord (made : ℕ) (r : Record) : Type 0 where
   pub pending : r.pending ≤ 65535
   pub children : r.children ≤ made
 
+-- whether the number is the one that is named, if any is
+abbrev pub is_named : Option ℕ → ℕ → Bool
+is_named None n = false
+is_named (Some p) n = n == p
+
+-- whether the slot has a record that names this number as its parent
+abbrev pub names_parent : ℕ → Option Record → Bool
+names_parent n None = false
+names_parent n (Some r) = is_named (parent_in (Some r.kind)) n
+
+-- how many records name this number as their parent
+abbrev pub children_of : Records → ℕ → ℕ
+children_of t n = count_by (names_parent n) t.slots
+
+-- a completer of this number is kept
+pub record HasCompleter (t : Records) (n : ℕ) : Type 0 where
+  pub key : ℕ
+  pub there : Record
+  pub is : record_at t key ≡ Some there
+  pub number : there.serial ≡ n
+  pub completer : IsTrue (is_completer_kind (Some there.kind))
+
 -- what is true of all records together
 pub record IsSound (t : Records) : Type 0 where
   pub each : (key : ℕ) (r : Record) → record_at t key ≡ Some r → IsSoundRecord t.made r
   pub once : (key other : ℕ) (r s : Record) → record_at t key ≡ Some r → record_at t other ≡ Some s → r.serial ≡ s.serial → key ≡ other
+  pub children : (key : ℕ) (r : Record) → record_at t key ≡ Some r → r.children ≡ children_of t r.serial
+  pub parents : (key : ℕ) (r : Record) (p : ℕ) → record_at t key ≡ Some r → parent_in (Some r.kind) ≡ Some p → HasCompleter t p
   pub room : count t ≤ t.room

@@ -1,10 +1,9 @@
 //! The way from a record to its root.
 ghost use Rattle.std.specs.Prelude.{◌≡◌, ◌<◌, IfSome};
-ghost use Rattle.fj_tree.specs.Records.{IsGood};
+ghost use Rattle.fj_tree.specs.Records.{IsCompleter, IsGood};
 ghost use Rattle.fj_tree.specs.Paths.{above, root_of};
 
 use crate::handle::Handle;
-use crate::kinds;
 use crate::tree::Tree;
 
 impl Tree {
@@ -21,16 +20,17 @@ impl Tree {
         at
     }
 
-    /// The parent of a record, if it names one that is kept.
-    pub(crate) fn above(&self, h: Handle) -> Option<Handle>
+    /// The parent of a record, if it names one that is kept. The caller answers for a good handle.
+    pub fn above(&self, h: Handle) -> Option<Handle>
         requires { IsGood self.now h }
         ensures parent { result ≡ above self.now h }
         ensures good { IfSome result (IsGood self.now) }
+        ensures completer { IfSome result (IsCompleter self.now) }
         ensures smaller { IfSome result (λ up. up.serial < h.serial) }
     {
         let _ = self.len();
         let record = self.get(h)?;
-        let serial = kinds::parent(&record.kind)?;
+        let serial = record.kind.parent()?;
         self.find(serial)
     }
 }

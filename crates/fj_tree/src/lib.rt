@@ -1,4 +1,4 @@
-//! The records of the tasks that are kept, and what arrivals do at completers.
+//! The records of the tasks that are kept, and what arrivals, climbs, relays and releases do to them.
 //!
 //! A contract sees a [`Tree`] as its records by key, the number of makes so far, and the room. A [`Handle`] names a record; it is
 //! good while the record at its key has its number. All memory is taken in [`Tree::new`].
@@ -14,7 +14,7 @@
 mod arrive;
 mod climb;
 mod handle;
-mod kinds;
+mod pass;
 mod record;
 #[cfg(test)]
 mod tests;
@@ -22,5 +22,6 @@ mod tree;
 
 pub use arrive::Arrived;
 pub use handle::Handle;
+pub use pass::{PassEnd, PassHow};
 pub use record::Record;
 pub use tree::Tree;

@@ -1,5 +1,7 @@
 ghost use Rattle.std.specs.Prelude.{◌≡◌, ◌≤◌};
 ghost use Rattle.fj_tree.specs.Arrivals.{is_spent, arrival_at, arrived};
+ghost use Rattle.fj_tree.specs.Records.{with_place};
+ghost use Rattle.fj_model.specs.declared.place.Place.TheVariants.{Open};
 
 use crate::arrive::Arrived;
 use fj_model::{Kind, Place, Serial, Status};
@@ -43,6 +45,16 @@ impl Record {
             Arrived::Early
         } else {
             Arrived::Fire
+        }
+    }
+
+    /// What an arrival at this record would do once its body has ended: its place is not looked at.
+    pub(crate) fn own_arrival(&self) -> Arrived
+        ensures { result ≡ arrival_at (with_place Open self.now) }
+    {
+        match self.arrival() {
+            Arrived::Early => Arrived::Fire,
+            other => other,
         }
     }
 

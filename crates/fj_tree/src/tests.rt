@@ -1,6 +1,10 @@
 ghost use Rattle.std.specs.Prelude.{IsTrue};
 ghost use Rattle.fj_tree.specs.Records.{IsCompleter};
 
+mod passes;
+mod relays;
+mod releases;
+
 use super::*;
 use fj_model::{Kind, Owner, Place, Refusal, Serial, Status, SubId, WorkerId};
 use std::test::*;
@@ -235,5 +239,48 @@ fn the_root_is_the_last_parent(rt: HostRuntime) -> Result<(), Fail> {
     assert_eq!(rt; tree.root(leaf), root);
     assert_eq!(rt; tree.root(child), root);
     assert_eq!(rt; tree.root(root), root);
+    Ok(())
+}
+
+#[test]
+fn all_undone_tasks_are_cancelled(rt: HostRuntime) -> Result<(), Fail> {
+    let mut tree = Tree::new(rt.alloc(), 4)?;
+    let Ok(open) = tree.make(completer(None, 1), Place::Open) else {
+        panic!(&rt; "there is room");
+    };
+    let Ok(normal) = tree.make(Kind::Plain, Place::Gone) else {
+        panic!(&rt; "there is room");
+    };
+    tree.set_status(normal, Status::Normal);
+    let Ok(failed) = tree.make(Kind::Plain, Place::Gone) else {
+        panic!(&rt; "there is room");
+    };
+    tree.set_status(failed, Status::Exceptional(7));
+    let Ok(held) = tree.make(Kind::Plain, Place::Held(WorkerId(3))) else {
+        panic!(&rt; "there is room");
+    };
+    tree.cancel_undone();
+    let Some(first) = tree.get(open).copied() else {
+        panic!(&rt; "it is kept");
+    };
+    assert_eq!(rt;
+        (first.status, first.place, first.pending),
+        (Status::Cancelled, Place::Open, 1)
+    );
+    let Some(second) = tree.get(normal).copied() else {
+        panic!(&rt; "it is kept");
+    };
+    assert_eq!(rt; second.status, Status::Normal);
+    let Some(third) = tree.get(failed).copied() else {
+        panic!(&rt; "it is kept");
+    };
+    assert_eq!(rt; third.status, Status::Exceptional(7));
+    let Some(last) = tree.get(held).copied() else {
+        panic!(&rt; "it is kept");
+    };
+    assert_eq!(rt;
+        (last.status, last.place),
+        (Status::Cancelled, Place::Held(WorkerId(3)))
+    );
     Ok(())
 }

@@ -1,13 +1,18 @@
-ghost use Rattle.std.specs.Prelude.{◌≡◌, ◌≢◌, ◌⊎◌, ◌<◌, ◌≤◌, ◌+◌, ◌^◌, ℕ, [], Some, None, IfOk, IfSome, IfNone, OnOk, OnErr, IsSomeAnd, MatchResult, option_copied, option_map};
+ghost use Rattle.std.specs.Prelude.{◌≡◌, ◌≢◌, ◌⊎◌, ◌<◌, ◌≤◌, ◌+◌, ◌^◌, ℕ, [], Some, None, IfOk, IfSome, IfNone, OnOk, OnErr, IsSomeAnd, IsTrue, ◌↔◌, MatchResult, option_copied, option_map};
 ghost use Rattle.fj_tree.specs.Records.{count, record_at, record_of, handle_of, IsSound, IsGood, IsCompleter, changed, with_status, with_place, with_added, made_spent};
-ghost use Rattle.fj_tree.specs.Makes.{add_refusal, make_refusal, parent_refusal, fresh, with_child, with_child_of};
+ghost use Rattle.fj_tree.specs.Makes.{add_refusal, make_refusal, parent_refusal, fresh, with_child_of};
 ghost use Rattle.fj_model.specs.Tasks.{parent_in, count_in};
 ghost use Rattle.fj_tree.specs.Arrivals.{arrival_at, arrived};
 ghost use Rattle.fj_tree.specs.declared.arrive.Arrived.TheVariants.{Spent, Early};
 
+mod cancels;
+mod climbs;
+mod passes;
+mod relays;
+mod releases;
+
 use crate::arrive::Arrived;
 use crate::handle::Handle;
-use crate::kinds;
 use crate::record::Record;
 use fj_model::{Kind, OutOfMemory, Place, Refusal, Serial, Status};
 use slab::Slab;
@@ -86,18 +91,35 @@ impl Tree {
         self.records[h.key].place = place;
     }
 
-    /// The kept record of a number, by a walk over all records. None if the number was never given out, or its record is not kept.
+    /// The kept record of a number, by a walk over the records unless its key is its number. None if the number was never given out, or its record is not kept.
     pub fn find(&self, serial: Serial) -> Option<Handle>
         ensures found { result ≡ handle_of self.now serial }
         ensures good { IfSome result (IsGood self.now) }
         ensures absent { IfNone result ((key : ℕ) (r : Record) → record_at self.now key ≡ Some r → r.serial ≢ serial) }
+        ensures sound { IsSound self.now }
     {
+        // Before the first release a record's key is its number.
+        let guess = serial.0 as usize;
+        if self.has_number(guess, serial) {
+            return Some(Handle { key: guess, serial });
+        }
         for (key, record) in self.records.iter() {
             if record.serial == serial {
                 return Some(Handle { key, serial });
             }
         }
         None
+    }
+
+    /// Whether the record at a key has this number.
+    fn has_number(&self, key: usize, serial: Serial) -> bool
+        ensures has { IsTrue result ↔ IsSomeAnd (record_at self.now key) (λ r. r.serial ≡ serial) }
+        ensures sound { IsSound self.now }
+    {
+        match self.records.get(key) {
+            Some(record) => record.serial == serial,
+            None => false,
+        }
     }
 
     /// Makes a completer spent. The caller answers for a good handle of a completer.
@@ -154,7 +176,7 @@ impl Tree {
         let Some(record) = self.get(h) else {
             return Err(Refusal::Unknown);
         };
-        if !kinds::is_completer(&record.kind) {
+        if !record.kind.is_completer() {
             return Err(Refusal::NotCompleter);
         }
         let count = u64::from(record.pending) + u64::from(n);
@@ -180,54 +202,51 @@ impl Tree {
         ensures kept { OnOk result (count self.new ≡ count self.old + 1) }
     {
         let parent = self.parent(&kind)?;
-        if u64::from(kinds::count(&kind)) > MAX_PENDING {
+        if u64::from(kind.count()) > MAX_PENDING {
             return Err(Refusal::CountTooLarge);
         }
         if self.records.len() >= self.room {
             return Err(Refusal::TooManyTasks);
         }
-        let h = self.insert(kind, place);
-        if let Some(p) = parent {
-            self.count_child(p);
-        }
-        Ok(h)
+        Ok(self.insert(kind, place, parent))
     }
 
     /// The parent that a kind names, if it names one.
     fn parent(&self, kind: &Kind) -> Result<Option<Handle>, Refusal>
         ensures refused { MatchResult result (λ _. parent_refusal self.now (parent_in (Some kind.now)) ≡ None) (λ e. parent_refusal self.now (parent_in (Some kind.now)) ≡ Some e) }
-        ensures good { IfOk result (λ parent. IfSome parent (IsGood self.now)) }
+        ensures completer { IfOk result (λ parent. IfSome parent (IsCompleter self.now)) }
         ensures named { IfOk result (λ parent. option_map (λ h. h.serial) parent ≡ parent_in (Some kind.now)) }
     {
-        let Some(serial) = kinds::parent(kind) else {
+        let Some(serial) = kind.parent() else {
             return Ok(None);
         };
         let Some(h) = self.find(serial) else {
             return Err(Refusal::Unknown);
         };
-        if kinds::is_completer(&self.records[h.key].kind) {
+        if self.records[h.key].kind.is_completer() {
             Ok(Some(h))
         } else {
             Err(Refusal::NotCompleter)
         }
     }
 
-    /// Puts a new record into the room, with the next number.
-    fn insert(&mut self, kind: Kind, place: Place) -> Handle
+    /// Puts a new record into the room, with the next number, and counts it as a child of its parent.
+    fn insert(&mut self, kind: Kind, place: Place, parent: Option<Handle>) -> Handle
         requires made { self.old.made < 2 ^ 63 }
         requires room { count self.old < self.old.room }
         requires pending { count_in (Some kind) ≤ 65535 }
-        requires parent { (p : ℕ) → parent_in (Some kind) ≡ Some p → p < self.old.made }
+        requires named { option_map (λ h. h.serial) parent ≡ parent_in (Some kind) }
+        requires completer { IfSome parent (IsCompleter self.old) }
         ensures number { result.serial ≡ self.old.made }
         ensures made { self.new.made ≡ self.old.made + 1 }
         ensures room { self.new.room ≡ self.old.room }
         ensures vacant { record_at self.old result.key ≡ None }
         ensures record { record_at self.new result.key ≡ Some (fresh self.old.made kind place) }
-        ensures others { (key : ℕ) → key ≢ result.key → record_at self.new key ≡ record_at self.old key }
+        ensures others { (key : ℕ) → key ≢ result.key → record_at self.new key ≡ option_map (with_child_of (parent_in (Some kind))) (record_at self.old key) }
         ensures kept { count self.new ≡ count self.old + 1 }
     {
         let serial = Serial(self.made);
-        let pending = kinds::count(&kind);
+        let pending = kind.count();
         let key = self.records.insert_reserved(Record {
             serial,
             kind,
@@ -238,15 +257,9 @@ impl Tree {
             children: 0,
         });
         self.made += 1;
+        if let Some(p) = parent {
+            self.records[p.key].children += 1;
+        }
         Handle { key, serial }
-    }
-
-    /// Counts one child more at a parent.
-    fn count_child(&mut self, h: Handle)
-        requires made { self.old.made ≤ 2 ^ 63 }
-        requires children { IsSomeAnd (record_of self.old h) (λ r. r.children < self.old.made) }
-        ensures { self.new ≡ changed self.old h.key with_child }
-    {
-        self.records[h.key].children += 1;
     }
 }

@@ -2,7 +2,12 @@ use Rattle.std.proofs.Common.{arith, sym, ◌∙◌, ◌≡◌, refl, None}
 use Rattle.slab.proofs.SlabLemmas.{Contains-cons, Contains-entries}
 use Rattle.fj_tree.specs.Records.{entry_of}
 use Rattle.fj_tree.proofs.Finds.{found_first, passed_first, absent_from, good_at}
+use Rattle.fj_tree.proofs.Numbers.{found_there}
 use Rattle.fj_tree.proofs.tree.Tree.find.Goals as goal
+
+pub returns-then-has_number-clause-found : goal.returns-then-has_number-clause-found
+returns-then-has_number-clause-found c =
+    sym (found_there c.args.self.now c.args.serial c.serial.inside.0 c.has_number.ensures.sound (c.has_number.ensures.has.0 c.if-has_number.true))
 
 pub loop-key-init : goal.loop-key-init
 loop-key-init c =

@@ -1,0 +1,8 @@
+use Rattle.fj_tree.proofs.Cancelling.{IsCancelledBelow}
+use Rattle.fj_tree.proofs.tree.Tree.cancel_undone.Given as goal
+
+-- the records of smaller keys are cancelled if they were undone, and no other is written
+abbrev pub invariant-loop-key : goal.invariant-loop-key
+invariant-loop-key l = record {
+  cancelled : IsCancelledBelow l.fn.self l.self l.key;
+}

@@ -1,0 +1,11 @@
+use Rattle.std.proofs.Common.{arith, refl}
+use Rattle.fj_tree.proofs.Writes.{sound_written}
+use Rattle.fj_tree.proofs.tree.Tree.count_down.Goals as goal
+
+pub invariant_of-self : goal.invariant_of-self
+invariant_of-self c =
+    let old = (c.self.invariant.0).each c.h.inside.key c.index_mut.result.now c.index_mut.ensures.value in (
+      sound_written _ c.h.inside.key c.index_mut.result.now _ c.self.invariant.0 c.index_mut.ensures.value
+          (record { number = old.number; parent = old.parent; pending = omega (arith, old.pending); children = old.children }) refl refl refl,
+      c.self.invariant.1,
+    )

@@ -1,0 +1,83 @@
+//! The relay of a code to the parents.
+ghost use Rattle.std.specs.Prelude.{◌≡◌, ◌<◌, ℕ, IfSome, length, option_map};
+ghost use Rattle.fj_tree.specs.Handles.{numbers_of};
+ghost use Rattle.fj_tree.specs.Records.{IsGood, count, record_at};
+ghost use Rattle.fj_tree.specs.Relays.{after_relay, is_undone_at, next_relayed, relayed};
+
+use crate::handle::Handle;
+use crate::tree::Tree;
+use fj_model::Status;
+
+impl Tree {
+    /// How many get a status that is relayed from a task, itself counted, which is what [`Tree::relay_up`] answers. The caller answers
+    /// for a good handle.
+    ///
+    /// A done task gets nothing and ends the relay. An undone one gets the status, and if its kind says relay, the relay goes on at its
+    /// parent. So 0 is answered for a done task.
+    pub fn relay_look(&self, h: Handle) -> u64
+        requires { IsGood self.now h }
+        ensures { result ≡ length (relayed self.now h) }
+    {
+        // fewer records get it than were made
+        let _made = self.made;
+        let mut relayed = 0;
+        let mut at = h;
+        while self.is_undone(at) {
+            relayed += 1;
+            let Some(up) = self.next_relayed(at) else {
+                return relayed;
+            };
+            at = up;
+        }
+        relayed
+    }
+
+    /// Relays a status from a task, and answers how many get it, itself counted. The caller answers for a good handle.
+    ///
+    /// They are those that [`Tree::relay_look`] counts. All else stays.
+    pub fn relay_up(&mut self, h: Handle, status: Status) -> u64
+        requires { IsGood self.old h }
+        ensures relayed { result ≡ length (relayed self.old h) }
+        ensures records { (key : ℕ) → record_at self.new key ≡ option_map (after_relay (numbers_of (relayed self.old h)) status) (record_at self.old key) }
+        ensures kept { count self.new ≡ count self.old }
+        ensures made { self.new.made ≡ self.old.made }
+        ensures room { self.new.room ≡ self.old.room }
+    {
+        // fewer records get it than were made
+        let _made = self.made;
+        let mut relayed = 0;
+        let mut at = h;
+        while self.is_undone(at) {
+            let next = self.next_relayed(at);
+            self.set_status(at, status);
+            relayed += 1;
+            let Some(up) = next else {
+                return relayed;
+            };
+            at = up;
+        }
+        relayed
+    }
+
+    /// Whether a task is undone.
+    fn is_undone(&self, h: Handle) -> bool
+        requires { IsGood self.now h }
+        ensures { result ≡ is_undone_at self.now h }
+    {
+        self.records[h.key].status.is_undone()
+    }
+
+    /// The parent to which a task relays what it gets.
+    fn next_relayed(&self, h: Handle) -> Option<Handle>
+        requires { IsGood self.now h }
+        ensures next { result ≡ next_relayed self.now h }
+        ensures good { IfSome result (IsGood self.now) }
+        ensures smaller { IfSome result (λ up. up.serial < h.serial) }
+    {
+        if self.records[h.key].kind.relays() {
+            self.above(h)
+        } else {
+            None
+        }
+    }
+}

@@ -1,0 +1,52 @@
+//! The release of tasks.
+ghost use Rattle.std.specs.Prelude.{◌≡◌, ◌≢◌, ◌+◌, ℕ, IfSome, IsSomeAnd, MatchResult, None, OnErr, OnOk, Some, option_map};
+ghost use Rattle.fj_model.specs.Tasks.{parent_in};
+ghost use Rattle.fj_tree.specs.Paths.{above};
+ghost use Rattle.fj_tree.specs.Records.{IsGood, count, record_at, record_of};
+ghost use Rattle.fj_tree.specs.Releases.{release_refusal, without_child_of};
+
+use crate::handle::Handle;
+use crate::tree::Tree;
+use fj_model::{Place, Refusal};
+
+impl Tree {
+    /// Forgets a task. Refused, with nothing changed, by `Unknown` if the handle is not good, and `NotDone` if the task is not gone
+    /// or has children that are kept.
+    ///
+    /// The number of the task is not used again, and its handle is never good again. Its parent has one child fewer.
+    pub fn release(&mut self, h: Handle) -> Result<(), Refusal>
+        ensures refused { MatchResult result (λ _. release_refusal (record_of self.old h) ≡ None) (λ e. release_refusal (record_of self.old h) ≡ Some e) }
+        ensures stays { OnErr result (self.new ≡ self.old) }
+        ensures removed { OnOk result (record_at self.new h.key ≡ None) }
+        ensures others { OnOk result ((key : ℕ) → key ≢ h.key → record_at self.new key ≡ option_map (without_child_of (parent_in (option_map (λ r. r.kind) (record_of self.old h)))) (record_at self.old key)) }
+        ensures kept { OnOk result (count self.new + 1 ≡ count self.old) }
+        ensures made { self.new.made ≡ self.old.made }
+        ensures room { self.new.room ≡ self.old.room }
+    {
+        let Some(record) = self.get(h) else {
+            return Err(Refusal::Unknown);
+        };
+        if !matches!(record.place, Place::Gone) || record.children > 0 {
+            return Err(Refusal::NotDone);
+        }
+        let parent = self.above(h);
+        self.remove(h, parent);
+        Ok(())
+    }
+
+    /// Takes a record out, and counts it no more as a child of its parent.
+    fn remove(&mut self, h: Handle, parent: Option<Handle>)
+        requires good { IsSomeAnd (record_of self.old h) (λ r. r.children ≡ 0) }
+        requires parent { parent ≡ above self.old h }
+        ensures removed { record_at self.new h.key ≡ None }
+        ensures others { (key : ℕ) → key ≢ h.key → record_at self.new key ≡ option_map (without_child_of (parent_in (option_map (λ r. r.kind) (record_of self.old h)))) (record_at self.old key) }
+        ensures kept { count self.new + 1 ≡ count self.old }
+        ensures made { self.new.made ≡ self.old.made }
+        ensures room { self.new.room ≡ self.old.room }
+    {
+        let _removed = self.records.remove(h.key);
+        if let Some(p) = parent {
+            self.records[p.key].children -= 1;
+        }
+    }
+}
