@@ -1,5 +1,5 @@
 -- Where a worker's choice stands, found in the queues that a machine keeps.
-use Rattle.std.proofs.Common.{zero, suc, ℕ, ◌≡◌, ◌+◌, ◌-◌, ◌%◌, ◌≤◌, ◌<◌, cond, List, [], ◌∷◌, length, map, get_or, Option, Some, None, refl, ap, sym, ◌∙◌, arith, ⊎_elim, ◌++◌}
+use Rattle.std.proofs.Common.{zero, suc, ℕ, ◌≡◌, ◌+◌, ◌-◌, ◌%◌, ◌≤◌, ◌<◌, cond, List, [], ◌∷◌, length, map, get_or, Option, Some, None, true, refl, ap, sym, subst, ◌∙◌, arith, ⊎_elim}
 use Rattle.std.proofs.lemmas.List.{append-nil}
 use Rattle.std.proofs.lemmas.Bool.{cases_lt}
 use Rattle.std.specs.Prelude.{MatchOption, slice_get}
@@ -17,15 +17,16 @@ use Rattle.fj_model.specs.declared.refusal.Refusal.TheVariants.{LogFull}
 use Rattle.fj_model.specs.declared.said.Said.{Said}
 use Rattle.fj_model.specs.declared.said.Said.TheVariants as says
 use Rattle.fj_model.specs.declared.step.Step.{Step}
-use Rattle.fj_model.specs.Answers.{refusal_of, events_of, reply_of, taking, taking_says}
-use Rattle.fj_model.specs.Runs.{Past, Steps, IsHistory}
+use Rattle.fj_model.specs.Allowed.{AllowedFrom}
+use Rattle.fj_model.specs.Answers.{refusals_of, first_that_stands, is_built, events_of, reply_of, taking, taking_says}
+use Rattle.fj_model.specs.Runs.{Past, Steps, grown}
 use Rattle.fj_model.proofs.Owners.{work_owner}
 use Rattle.fj_queues.specs.Queues.{first_filled, places_from}
 use Rattle.fj_machine.specs.declared.source.Source.{Source}
 use Rattle.fj_machine.specs.declared.source.Source.TheVariants.{Oldest, Newest}
-use Rattle.fj_machine.specs.Sources.{IsChosenFrom, TakesChoice, end_of, tasks_there}
-use Rattle.fj_model.proofs.AnswersAllowed.{history_more}
-use Rattle.fj_machine.proofs.Submitting.{told, refused, allowed}
+use Rattle.fj_machine.specs.Sources.{IsChosenFrom, TakesChoice, end_of, tasks_there, task_at}
+use Rattle.fj_machine.specs.Holds.{IsLawful}
+use Rattle.fj_machine.proofs.Stepping.{steps_full, steps_made, may_step}
 
 -- each of the places is below the count
 abbrev pub AllBelow : ℕ → List ℕ → Type 0
@@ -148,25 +149,35 @@ takes_full past w r source full from =
       fits = λ room. absurd (omega (arith, room, full, taking_one past.events w (choice past.pool past.events w r) t.0 (from.chosen ∙ t.1)));
     }
 
--- a step that takes its worker's choice, and is refused for a full log at most
-pub choice_steps : (old new : Past) (asked : Step) (w r : ℕ) (reply : Said) → TakesChoice old w r reply new
+-- the one task that stands at the end of a filled queue is taken
+pub takes_one : (past : Past) (w r : ℕ) (source : Source) → IsChosenFrom past w r source → length (taking past.events w (choice past.pool past.events w r)) ≡ 1
+takes_one past w r source from =
+    let t = end_there source (tasks_there past source) from.filled in
+    taking_one past.events w (choice past.pool past.events w r) t.0 (from.chosen ∙ t.1)
+
+pub takes_it : (past new : Past) (w r : ℕ) (source : Source) (reply : Said) → length past.events + 1 ≤ past.pool.limits.events → IsChosenFrom past w r source
+    → reply ≡ taking_says past.events (task_at past source) → new ≡ grown past (taking past.events w (task_at past source)) → TakesChoice past w r reply new
+takes_it past new w r source reply room from said events = record {
+  full = λ over. absurd (omega (arith, over, room, takes_one past w r source from));
+  fits = λ fits. (said ∙ ap (taking_says past.events) (sym from.chosen), events ∙ ap (λ t. grown past (taking past.events w t)) (sym from.chosen));
+}
+
+-- a step that takes its worker's choice, and is refused for a full history at most
+pub choice_steps : (old new : Past) (asked : Step) (w r : ℕ) (reply : Said) → TakesChoice old w r reply new → is_built asked ≡ true
+    → first_that_stands (refusals_of old.pool old.events asked) ≡ None
     → events_of old.pool old.events asked ≡ taking old.events w (choice old.pool old.events w r)
     → reply_of old.pool old.events asked ≡ taking_says old.events (choice old.pool old.events w r)
-    → (old.pool.limits.events < length old.events + length (taking old.events w (choice old.pool old.events w r)) → refusal_of old.pool old.events asked ≡ Some LogFull)
-    → (length old.events + length (taking old.events w (choice old.pool old.events w r)) ≤ old.pool.limits.events → refusal_of old.pool old.events asked ≡ None)
     → Steps old asked reply new
-choice_steps old new asked w r reply takes events replies over fits = ⊎_elim
-    (λ full.
-    let refusing = refused old.pool old.events asked LogFull (over full) in
-    rw ((takes.full full).0, (takes.full full).1) (told old asked (says.Refused LogFull) refusing))
-    (λ room.
-    let is = allowed old.pool old.events asked (fits room) in
-    rw (is, events, replies) (takes.fits room))
+choice_steps old new asked w r reply takes built stands events replies = ⊎_elim
+    (λ over. rw ((takes.full over).0, (takes.full over).1) (steps_full old asked built stands (rw events over)))
+    (λ room. steps_made old new asked reply built stands (rw events room) ((takes.fits room).0 ∙ sym replies) ((takes.fits room).1 ∙ ap (grown old) (sym events)))
     (cases_lt old.pool.limits.events (length old.events + length (taking old.events w (choice old.pool old.events w r))))
 
--- and its history is one of a run
-pub choice_history : (past : Past) (asked : Step) (w r : ℕ) → IsHistory past.pool past.events
-    → events_of past.pool past.events asked ≡ taking past.events w (choice past.pool past.events w r) → refusal_of past.pool past.events asked ≡ None
-    → IsHistory past.pool (past.events ++ taking past.events w (choice past.pool past.events w r))
-choice_history past asked w r run events stands =
-    rw (allowed past.pool past.events asked stands, events) at (history_more past.pool past.events asked run)
+-- the choice of such a step may be taken where there is room
+pub choice_may : (now : Past) (asked : Step) (w r : ℕ) → IsLawful now.pool now.events → is_built asked ≡ true
+    → first_that_stands (refusals_of now.pool now.events asked) ≡ None
+    → events_of now.pool now.events asked ≡ taking now.events w (choice now.pool now.events w r)
+    → length now.events + length (taking now.events w (choice now.pool now.events w r)) ≤ now.pool.limits.events
+    → AllowedFrom now.pool now.events (taking now.events w (choice now.pool now.events w r))
+choice_may now asked w r law built stands events room =
+    subst (AllowedFrom now.pool now.events) events (may_step now.pool now.events asked law built stands (rw events room))

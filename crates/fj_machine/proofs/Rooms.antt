@@ -14,8 +14,10 @@ use Rattle.fj_model.specs.Places.{open_tasks, gone}
 use Rattle.fj_model.specs.Allowed.{AllowedFrom}
 use Rattle.fj_model.specs.Headline.{all_places}
 use Rattle.fj_model.proofs.Counting.{few_placed}
+use Rattle.fj_model.proofs.FewLive.{few_live}
 use Rattle.fj_queues.specs.Queues.{Lists as Waiting, total}
 use Rattle.fj_machine.specs.Holds.{KeepsQueues}
+use Rattle.fj_machine.proofs.Built.{IsBuilt, live_is}
 
 -- the lists that stand at numbers have as many members as the lists joined
 joined_rows : (rows : List (List ℕ)) (list : ℕ → List ℕ) (a : ℕ) → ((i : ℕ) → i < length rows → get_or rows i [] ≡ list (a + i))
@@ -29,11 +31,11 @@ joined_rows (row ∷ rows) list a each =
     split ∙ omega (arith, here, rest, sum_by-cons length row rows)
 
 -- the tasks in all queues
-queued_in_all : Bounds → List Event → ℕ
+pub queued_in_all : Bounds → List Event → ℕ
 queued_in_all l h = length (flat_map (queue h) (owners l))
 
 -- the tasks in all stacks
-held_in_all : Bounds → List Event → ℕ
+pub held_in_all : Bounds → List Event → ℕ
 held_in_all l h = length (flat_map (stack h) (workers l))
 
 counted : (l : Bounds) (h : List Event) (queues : Waiting) → KeepsQueues l h queues → total queues ≡ queued_in_all l h
@@ -60,7 +62,7 @@ one_stack l h w within =
     let at : length (stack h (get_or numbers w 0)) ≡ length (stack h w) = ap (λ n. length (stack h n)) (get_or-range_with_len 0 l.workers w 0 within ∙ omega arith) in
     omega (arith, part, at)
 
-all_few : (pool : Pool) (h : List Event) → AllowedFrom pool [] h → queued_in_all pool.limits h + held_in_all pool.limits h ≤ accepted h
+pub all_few : (pool : Pool) (h : List Event) → AllowedFrom pool [] h → queued_in_all pool.limits h + held_in_all pool.limits h + length (open_tasks h) ≤ accepted h
 unfolding all_places queued_in_all held_in_all
 all_few pool h so =
     let l = pool.limits in
@@ -80,3 +82,15 @@ queues_are_short pool h queues so keeps = omega (arith, counted pool.limits h qu
 pub stack_is_short : (pool : Pool) (h : List Event) (w q : ℕ) → AllowedFrom pool [] h → w < pool.limits.workers → q < queues_in pool.limits → 0 < length (queue h (owner_at pool.limits q))
     → length (stack h w) < accepted h
 stack_is_short pool h w q so worker within filled = omega (arith, one_stack pool.limits h w worker, one_queue pool.limits h q within, all_few pool h so)
+
+-- and while a task is held, the open tasks are fewer
+pub open_is_short : (pool : Pool) (h : List Event) (w : ℕ) → AllowedFrom pool [] h → w < pool.limits.workers → 0 < length (stack h w) → length (open_tasks h) < accepted h
+open_is_short pool h w so worker filled = omega (arith, one_stack pool.limits h w worker, all_few pool h so)
+
+-- nothing is released yet, so no more tasks were accepted than may be kept
+pub few_tasks : (pool : Pool) (h : List Event) → AllowedFrom pool [] h → IsBuilt h → accepted h ≤ pool.limits.tasks
+few_tasks pool h so built = omega (arith, few_live pool h so, live_is h built)
+
+-- the open tasks are no more than were accepted
+pub open_few : (pool : Pool) (h : List Event) → AllowedFrom pool [] h → length (open_tasks h) ≤ accepted h
+open_few pool h so = omega (arith, all_few pool h so)

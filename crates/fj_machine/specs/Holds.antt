@@ -1,31 +1,33 @@
 -- What a machine keeps beside its history is what the history says.
-use Rattle.std.specs.Prelude.{ℕ, ◌≡◌, ◌≤◌, ◌<◌, Bool, true, false, List, length, get_or}
-use Rattle.std.specs.List.{list_all}
+use Rattle.std.specs.Prelude.{ℕ, ◌≡◌, ◌≤◌, ◌<◌, Bool, true, false, List, [], length, map, Option, Some, None, IsSome, option_map, get_or}
+use Rattle.std.specs.List.{list_all, list_any}
 use Rattle.fj_model.specs.declared.event.Event.{Event}
-use Rattle.fj_model.specs.declared.event.Event.TheVariants.{Acc, Out, Skip, End, Settle}
-use Rattle.fj_model.specs.declared.kind.Kind.TheVariants.{Plain}
-use Rattle.fj_model.specs.declared.place.Place.{Place}
-use Rattle.fj_model.specs.declared.place.Place.TheVariants.{Gone}
-use Rattle.fj_model.specs.declared.status.Status.{Status}
-use Rattle.fj_model.specs.declared.status.Status.TheVariants.{Undone}
+use Rattle.fj_model.specs.declared.event.Event.TheVariants.{Close, Stop, Rel}
+use Rattle.fj_model.specs.declared.event.How.{How}
+use Rattle.fj_model.specs.declared.event.How.TheVariants.{Zero, Complete}
 use Rattle.fj_model.specs.Bounds.{Bounds, Pool, IsWithin, queues_in, owner_at}
-use Rattle.fj_model.specs.Tasks.{accepted}
+use Rattle.fj_model.specs.Lists.{is_in, times_in}
+use Rattle.fj_model.specs.Tasks.{tasks, accepted, is_kept, live, kind, parent}
 use Rattle.fj_model.specs.Queues.{queue}
 use Rattle.fj_model.specs.Stacks.{stack}
+use Rattle.fj_model.specs.Hooks.{hooks, hand}
 use Rattle.fj_model.specs.Statuses.{status}
-use Rattle.fj_model.specs.Places.{place, gone}
-use Rattle.fj_model.specs.Runs.{IsHistory}
+use Rattle.fj_model.specs.Completers.{pending, fires_or_passes}
+use Rattle.fj_model.specs.Places.{place, open_tasks, gone}
+use Rattle.fj_model.specs.Climbs.{ClimbsCompleters}
+use Rattle.fj_model.specs.Allowed.{AllowedFrom, is_fired_by_complete, is_closed, is_stopped}
 use Rattle.fj_queues.specs.Queues.{Lists as Waiting, queue_at}
+use Rattle.fj_tree.specs.declared.record.Record.{Record}
+use Rattle.fj_tree.specs.Records.{Records, record_at, handle_of, count}
 use Rattle.fj_machine.specs.Rows.{Lists, row_at}
+use Rattle.fj_machine.specs.InHands.{InHand}
 
 -- an event of the steps that are built
-abbrev pub is_plain : Event → Bool
-is_plain (Acc t o Plain) = true
-is_plain (Out t w) = true
-is_plain (Skip t w) = true
-is_plain (End t w) = true
-is_plain (Settle t s) = true
-is_plain _ = false
+abbrev pub is_built_event : Event → Bool
+is_built_event Close = false
+is_built_event Stop = false
+is_built_event (Rel t) = false
+is_built_event _ = true
 
 -- one list for each owner, by the queue's number
 pub record KeepsQueues (l : Bounds) (h : List Event) (queues : Waiting) : Type 0 where
@@ -39,30 +41,76 @@ pub record KeepsStacks (l : Bounds) (h : List Event) (stacks : Lists) : Type 0 w
   pub room : stacks.room ≡ l.tasks
   pub each : (w : ℕ) → w < l.workers → row_at stacks w ≡ stack h w
 
--- one status for each accepted task
-pub record KeepsTasks (l : Bounds) (h : List Event) (statuses : List Status) : Type 0 where
-  pub count : length statuses ≡ accepted h
-  pub few : accepted h ≤ l.tasks
-  pub each : (t : ℕ) → t < accepted h → get_or statuses t Undone ≡ status h t
+-- what a record says of its task is what the history says
+pub record Tells (h : List Event) (r : Record) : Type 0 where
+  pub kept : is_kept h r.serial ≡ true
+  pub kind : kind h r.serial ≡ Some r.kind
+  pub place : place h r.serial ≡ r.place
+  pub status : status h r.serial ≡ r.status
+  pub pending : pending h r.serial ≡ r.pending
+  pub spent : list_any (fires_or_passes r.serial) h ≡ r.spent
 
--- one place for each accepted task
-pub record KeepsPlaces (h : List Event) (places : List Place) : Type 0 where
-  pub count : length places ≡ accepted h
-  pub each : (t : ℕ) → t < accepted h → get_or places t Gone ≡ place h t
+-- the same of a task of this number
+pub record TellsOf (h : List Event) (t : ℕ) (r : Record) : Type 0 where
+  pub number : r.serial ≡ t
+  pub tells : Tells h r
 
--- the gone tasks
-pub record KeepsGone (h : List Event) (gones : List ℕ) : Type 0 where
-  pub list : gones ≡ gone h
-  pub few : length gones ≤ length h
+-- one record for each kept task
+pub record KeepsTree (l : Bounds) (h : List Event) (tree : Records) : Type 0 where
+  pub made : tree.made ≡ accepted h
+  pub room : tree.room ≡ l.tasks
+  pub live : count tree ≡ live h
+  pub each : (key : ℕ) (r : Record) → record_at tree key ≡ Some r → Tells h r
+  pub all : (t : ℕ) → is_kept h t ≡ true → IsSome (handle_of tree t)
 
--- all that is kept, and that the history is one of a run and within the limit
-pub record Holds (pool : Pool) (h : List Event) (queues : Waiting) (stacks : Lists) (statuses : List Status) (places : List Place) (gones : List ℕ) : Type 0 where
+abbrev pub is_complete : How → Bool
+is_complete Zero = false
+is_complete Complete = true
+
+-- what is kept with a hook is what the history says of its completer
+pub record TellsHook (h : List Event) (hook : InHand) : Type 0 where
+  pub kept : is_in hook.completer (tasks h) ≡ true
+  pub parent : parent h hook.completer ≡ hook.parent
+  pub how : is_fired_by_complete h hook.completer ≡ is_complete hook.how
+
+-- the workers, and the completers, of the hooks in hand
+abbrev pub hook_workers : List Event → List ℕ
+hook_workers h = map (λ hook. hook.worker) (hooks h).in_hands
+
+abbrev pub hook_completers : List Event → List ℕ
+hook_completers h = map (λ hook. hook.completer) (hooks h).in_hands
+
+-- at most one hook for each worker
+pub record KeepsHands (l : Bounds) (h : List Event) (hands : List (Option InHand)) : Type 0 where
+  pub count : length hands ≡ l.workers
+  pub each : (w : ℕ) → w < l.workers → option_map (λ hook. hook.completer) (get_or hands w None) ≡ hand h w
+  pub tells : (w : ℕ) (hook : InHand) → get_or hands w None ≡ Some hook → TellsHook h hook
+  pub one_each : (w : ℕ) → times_in w (hook_workers h) ≤ 1
+  pub once : (c : ℕ) → times_in c (hook_completers h) ≤ 1
+  pub fired : (c : ℕ) → is_in c (hook_completers h) ≡ true → list_any (fires_or_passes c) h ≡ true
+
+-- what holds of the history of each ledger, whatever is kept beside it. No step that is built closes, stops or releases anything
+pub record IsLawful (pool : Pool) (h : List Event) : Type 0 where
   pub within : IsWithin pool.limits.workers pool.limits.submitters pool.limits.tasks pool.limits.events
-  pub run : IsHistory pool h
-  pub plain : list_all is_plain h ≡ true
+  pub allowed : AllowedFrom pool [] h
+  pub climbs : ClimbsCompleters h
+  pub fits : length h ≤ pool.limits.events
+  pub unclosed : is_closed h ≡ false
+  pub unstopped : is_stopped h ≡ false
+  pub unreleased : (t : ℕ) → is_kept h t ≡ is_in t (tasks h)
+  pub one_each : (w : ℕ) → times_in w (hook_workers h) ≤ 1
+  pub once : (c : ℕ) → times_in c (hook_completers h) ≤ 1
+
+-- all that is kept, and that the history is lawful and within the limit
+pub record Holds (pool : Pool) (h : List Event) (queues : Waiting) (stacks : Lists) (hands : List (Option InHand)) (tree : Records) (opens gones : List ℕ) : Type 0 where
+  pub within : IsWithin pool.limits.workers pool.limits.submitters pool.limits.tasks pool.limits.events
+  pub lawful : AllowedFrom pool [] h
+  pub climbs : ClimbsCompleters h
+  pub built : list_all is_built_event h ≡ true
   pub fits : length h ≤ pool.limits.events
   pub queues_kept : KeepsQueues pool.limits h queues
   pub stacks_kept : KeepsStacks pool.limits h stacks
-  pub tasks_kept : KeepsTasks pool.limits h statuses
-  pub places_kept : KeepsPlaces h places
-  pub gone_kept : KeepsGone h gones
+  pub hands_kept : KeepsHands pool.limits h hands
+  pub tree_kept : KeepsTree pool.limits h tree
+  pub open_kept : opens ≡ open_tasks h
+  pub gone_kept : gones ≡ gone h

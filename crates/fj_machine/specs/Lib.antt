@@ -1,4 +1,8 @@
-pub mod Rows
-pub mod Logs
+pub mod Arriving
+pub mod Climbing
+pub mod Closing
 pub mod Holds
+pub mod InHands
+pub mod Logs
+pub mod Rows
 pub mod Sources

@@ -1,4 +1,4 @@
-ghost use Rattle.std.specs.Prelude.{◌≡◌, ◌≤◌, ◌↔◌, IfOk, OnErr, IsTrue, length, ◌∷◌, []};
+ghost use Rattle.std.specs.Prelude.{◌≡◌, IfOk, OnErr, ◌∷◌, []};
 ghost use Rattle.fj_model.specs.Queues.{queue};
 ghost use Rattle.fj_model.specs.Stacks.{stack};
 ghost use Rattle.fj_model.specs.Places.{open_tasks, gone};
@@ -8,20 +8,10 @@ ghost use Rattle.fj_model.specs.Runs.{Steps, IsHistory, fresh};
 ghost use Rattle.fj_model.specs.Headline.{Headline, RepliesTell};
 ghost use Rattle.fj_model.specs.declared.refusal.Refusal.{Refusal as RefusalCase};
 
-mod accept;
-mod endings;
-mod poll;
-mod queries;
-mod take;
-
-use crate::log::Log;
-use crate::rows::Rows;
-use fj_model::{
-    Ending, Event, Kind, Limits, Mode, Owner, Place, Refusal, Said, Serial, Status, Step,
-    SubmittedKind, WorkerId,
-};
-use fj_queues::{Numbers, Queues};
-use std::alloc::{AllocError, Global};
+use crate::ledger::Ledger;
+use fj_model::{Ending, Event, Limits, Mode, Owner, Refusal, Said, Serial, Step, WorkerId};
+use fj_queues::Numbers;
+use std::alloc::Global;
 use std::marker::Model;
 
 /// The scheduler of a pool, one step at a time.
@@ -29,34 +19,17 @@ use std::marker::Model;
 /// A contract sees it as what it was made with and its history; all else follows from these.
 #[derive(Drop)]
 pub struct Machine {
-    mode: Mode,
-    limits: Limits,
-    log: Log,
-    queues: Queues,
-    stacks: Rows,
-    statuses: Vec<Status>,
-    places: Vec<Place>,
-    gone: Vec<Serial>,
+    ledger: Ledger,
 }
 
 impl Model for Machine {
-    ghost use Rattle.std.specs.Prelude.{ℕ, ◌≡◌, ◌≤◌, vec_capacity};
-    ghost use Rattle.fj_model.specs.Runs.{Past};
-    ghost use Rattle.fj_machine.specs.Holds.{Holds};
+    ghost use Rattle.fj_model.specs.Runs.{Past, IsHistory};
 
     ghost Value = { Past };
 
-    ghost view = { λ m. record {
-      pool = record { mode = m.mode; limits = m.limits };
-      events = m.log.events;
-    } };
+    ghost view = { λ m. m.ledger };
 
-    ghost invariant = { λ m.
-        Holds (record { mode = m.mode; limits = m.limits }) m.log.events m.queues m.stacks m.statuses.items m.places.items m.gone.items
-        × (m.log.room ≡ m.limits.events)
-        × (m.limits.tasks ≤ vec_capacity m.statuses)
-        × (m.limits.tasks ≤ vec_capacity m.places)
-        × (m.limits.events ≤ vec_capacity m.gone) };
+    ghost invariant = { λ m. IsHistory m.ledger.pool m.ledger.events };
 }
 
 impl Machine {
@@ -67,19 +40,8 @@ impl Machine {
         ensures ok { IfOk result (λ m. m ≡ fresh mode limits) }
         ensures err { OnErr result (result ≡ Err Refusal.OutOfMemory) }
     {
-        let tasks = limits.tasks() as usize;
-        let events = limits.events() as usize;
-        let workers = limits.workers() as usize;
-        let queues = limits.submitters() as usize + workers;
         Ok(Machine {
-            mode,
-            limits,
-            log: Log::new(alloc, events)?,
-            queues: Queues::new(alloc, queues, tasks)?,
-            stacks: Rows::new(alloc, workers, tasks)?,
-            statuses: Vec::with_capacity(alloc, tasks)?,
-            places: Vec::with_capacity(alloc, tasks)?,
-            gone: Vec::with_capacity(alloc, events)?,
+            ledger: Ledger::new(alloc, mode, limits)?,
         })
     }
 
@@ -89,50 +51,57 @@ impl Machine {
         ensures run { IsHistory self.now.pool self.now.events }
         ensures headline { Headline self.now.pool self.now.events }
     {
-        self.log.events()
+        self.ledger.history()
     }
 
     /// The tasks in an owner's queue, the oldest first. There are none for an owner that is not there.
     pub fn queue(&self, owner: Owner) -> Numbers<'_>
         ensures { result ≡ queue self.now.events owner }
     {
-        match self.limits.find_queue(owner) {
-            None => Numbers::none(),
-            Some(number) => self.queues.numbers(number),
-        }
+        self.ledger.queue(owner)
     }
 
     /// The tasks that a worker holds, the oldest first; the last is the running one. There are none for a worker that is not there.
     pub fn stack(&self, w: WorkerId) -> &[Serial]
         ensures { result.now ≡ stack self.now.events w }
     {
-        if self.limits.workers() <= w.0 {
-            return Rows::none();
-        }
-        self.stacks.row(w.0 as usize)
+        self.ledger.stack(w)
     }
 
-    /// The open tasks, in the order in which they came to be open: none, since no step yet makes a completer.
+    /// The open tasks, in the order in which they came to be open: triggers, and completers whose body has ended, that are neither spent
+    /// nor done.
     pub fn open(&self) -> &[Serial]
         ensures { result.now ≡ open_tasks self.now.events }
     {
-        let _ = &self.log;
-        Rows::none()
+        self.ledger.open()
     }
 
     /// The gone tasks, in the order in which they came to be gone.
     pub fn gone(&self) -> &[Serial]
         ensures { result.now ≡ gone self.now.events }
     {
-        self.gone.as_slice()
+        self.ledger.gone()
     }
 
     /// Makes one step: the reply, after which the events of the step stand at the end of the history. It takes no memory.
     ///
-    /// A refused step changes nothing. The refusals, in this order: Submit `NoSuch`, `TooManyTasks`, `LogFull`; Fork `NoSuch`,
-    /// `NotRunning`, `TooManyTasks`, `LogFull`; Poll `NoSuch`, `NotIdle`, `LogFull`; Help `NoSuch`, `NotRunning`, `LogFull`; Join
-    /// `NoSuch`, `NotRunning`, `Unknown`, `OwnStack`, `LogFull`; End `NoSuch`, `NotRunning`, `LogFull`; State `Unknown`; a step that is
-    /// not built `NotYet`.
+    /// A refused step changes nothing. It is refused for the first of these that holds:
+    ///
+    /// | Step | Refusals, in this order |
+    /// |---|---|
+    /// | Submit | `NoSuch`, `CountTooLarge`, `TooManyTasks`, `LogFull` |
+    /// | Fork | `NoSuch`, `NotIdle`, `NotRunning`, `Unknown`, `NotCompleter`, `CountTooLarge`, `TooManyTasks`, `LogFull` |
+    /// | Trigger | `NoSuch`, `NotIdle`, `NotRunning`, `CountTooLarge`, `TooManyTasks`, `LogFull` |
+    /// | Poll | `NoSuch`, `NotIdle`, `LogFull` |
+    /// | Help | `NoSuch`, `NotIdle`, `NotRunning`, `LogFull` |
+    /// | Join | `NoSuch`, `NotIdle`, `NotRunning`, `Unknown`, `OwnStack`, `LogFull` |
+    /// | End by any ending but `Fail` | `NoSuch`, `NotIdle`, `NotRunning`, `NotCompleter`, `LogFull` |
+    /// | HookDone | `NoSuch`, `NotRunning`, `LogFull` |
+    /// | Add | `NoSuch`, `NotIdle`, `NotRunning`, `Unknown`, `NotCompleter`, `CountTooLarge`, `LogFull` |
+    /// | QuietRoot | `NoSuch`, `NotIdle`, `NotRunning`, `Unknown`, `NotCompleter`, `LogFull` |
+    /// | State | `Unknown` |
+    /// | IsQuiescent | none |
+    /// | End by `Fail`, Fault, Cancel, Shutdown, Stop, Release | always `NotYet`: they are not built |
     pub fn step(&mut self, asked: &Step) -> Said
         ensures step { Steps self.old asked.now result self.new }
         // Each event may follow those before it.
@@ -141,40 +110,36 @@ impl Machine {
         ensures tells { RepliesTell (answer self.old.pool self.old.events asked.now).1 (result ∷ []) }
         ensures refused { (r : RefusalCase) → result ≡ Said.Refused r → self.new ≡ self.old }
     {
-        let _ = &self.log;
-        self.dispatch(asked)
+        make(&mut self.ledger, asked)
     }
+}
 
-    fn dispatch(&mut self, asked: &Step) -> Said
-        ensures { Steps self.old asked.now result self.new }
-    {
-        match *asked {
-            Step::Submit { s, kind } => match kind {
-                SubmittedKind::Plain => self.submit(s),
-                SubmittedKind::Completer { .. } => Said::Refused(Refusal::NotYet),
-            },
-            Step::Fork { w, kind } => match kind {
-                Kind::Plain => self.fork(w),
-                Kind::Completer { .. } => Said::Refused(Refusal::NotYet),
-            },
-            Step::Poll { w, r } => self.poll(w, r),
-            Step::Help { w, r } => self.help(w, r),
-            Step::Join { w, t, r } => self.join(w, t, r),
-            Step::End { w, ending } => match ending {
-                Ending::Ok => self.end_ok(w),
-                Ending::Quiet | Ending::Try | Ending::Pass | Ending::Complete | Ending::Fail(_) =>
-                    Said::Refused(Refusal::NotYet),
-            },
-            Step::IsQuiescent => self.is_quiescent(),
-            Step::State { t } => self.state(t),
-            _ => Said::Refused(Refusal::NotYet),
-        }
-    }
-
-    /// Whether the history has no room for one event more.
-    fn is_full(&self) -> bool
-        ensures { IsTrue result ↔ (self.now.pool.limits.events ≤ length self.now.events) }
-    {
-        self.log.len() == self.limits.events() as usize
+/// Makes one step.
+fn make(ledger: &mut Ledger, asked: &Step) -> Said
+    ensures { Steps ledger.old asked.now result ledger.new }
+{
+    match *asked {
+        Step::Submit { s, kind } => ledger.submit(s, &kind),
+        Step::Fork { w, kind } => ledger.fork(w, &kind),
+        Step::Trigger { w, count } => ledger.trigger(w, count),
+        Step::Poll { w, r } => ledger.poll(w, r),
+        Step::Help { w, r } => ledger.help(w, r),
+        Step::Join { w, t, r } => ledger.join(w, t, r),
+        Step::End { w, ending } => match ending {
+            Ending::Ok | Ending::Quiet | Ending::Try | Ending::Pass | Ending::Complete => {
+                ledger.end(w, ending)
+            }
+            Ending::Fail(_) => Said::Refused(Refusal::NotYet),
+        },
+        Step::HookDone { w } => ledger.hook_done(w),
+        Step::Add { w, c, n } => ledger.add(w, c, n),
+        Step::QuietRoot { w, t } => ledger.quiet_root(w, t),
+        Step::IsQuiescent => ledger.is_quiescent(),
+        Step::State { t } => ledger.state(t),
+        Step::Fault { .. }
+        | Step::Cancel { .. }
+        | Step::Shutdown
+        | Step::Stop
+        | Step::Release { .. } => Said::Refused(Refusal::NotYet),
     }
 }

@@ -1,6 +1,6 @@
 ghost use Rattle.std.specs.Prelude.{◌≡◌, IfOk};
 ghost use Rattle.fj_model.specs.Runs.{Runs};
-ghost use Rattle.fj_model.specs.Headline.{Headline, RepliesTell};
+ghost use Rattle.fj_model.specs.Headline.{Headline, FiresByCompleteOnlyOwn, RepliesTell};
 
 use crate::machine::Machine;
 use fj_model::{
@@ -21,10 +21,13 @@ pub fn run(
     // Each step has the one reply, and the history is that of the steps.
     ensures runs { IfOk result (λ r. Runs r.0.pool steps.now r.1.items r.0.events) }
     // Each accepted task is in one place and was handed out at most once. In async mode each queue, in joining mode each
-    // submitter's, was left in the order pushed.
+    // submitter's, was left in the order pushed. Each completer's `onCompletion` was handed out at most once, and, unless
+    // `complete` handed it out, where the pending count over the events before was zero.
     ensures headline { IfOk result (λ r. Headline r.0.pool r.0.events) }
-    // The reply `run` stands exactly where a task was handed out.
+    // The reply `run` stands exactly where a task was handed out, the reply `hook` exactly where an `onCompletion` was.
     ensures replies { IfOk result (λ r. RepliesTell r.0.events r.1.items) }
+    // `complete` hands out an `onCompletion` only where the body of the running task ends by it, and only that task's own.
+    ensures completes { IfOk result (λ r. FiresByCompleteOnlyOwn r.0.pool) }
 {
     // The check wants each type inside a reply to be named where one is moved.
     let _inside: Option<(Place, Owner, Status, Refusal, Serial, SubId, WorkerId)> = None;

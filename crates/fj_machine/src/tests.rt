@@ -187,18 +187,14 @@ fn each_refusal_comes_in_its_place(rt: HostRuntime) -> Result<(), Fail> {
 #[test]
 fn questions_change_nothing(rt: HostRuntime) -> Result<(), Fail> {
     let state = |t| Step::State { t: Serial(t) };
-    let trigger = Step::Trigger {
-        w: WorkerId(0),
-        count: 0,
-    };
     let steps = [
         Step::IsQuiescent,
         submit(0),
         state(0),
         state(1),
         Step::IsQuiescent,
-        trigger,
         poll(0, 0),
+        Step::Shutdown,
         state(0),
         Step::IsQuiescent,
         end_ok(0),
@@ -212,8 +208,8 @@ fn questions_change_nothing(rt: HostRuntime) -> Result<(), Fail> {
         Said::State(Place::Queued(Owner::Sub(SubId(0))), Status::Undone),
         Said::Refused(Refusal::Unknown),
         Said::No,
-        Said::Refused(Refusal::NotYet),
         Said::Run(Serial(0)),
+        Said::Refused(Refusal::NotYet),
         Said::State(Place::Held(WorkerId(0)), Status::Undone),
         Said::No,
         Said::Done,

@@ -1,6 +1,7 @@
 use Rattle.std.proofs.Common.{take}
 use Rattle.fj_model.specs.Bounds.{Pool}
 use Rattle.fj_model.proofs.Headlines.{headline}
+use Rattle.fj_model.proofs.OwnFirings.{fires_by_complete_only_own}
 use Rattle.fj_model.proofs.Replies.{runs_tell}
 use Rattle.fj_machine.proofs.Running.{step_pool, run_step}
 use Rattle.fj_machine.proofs.runs.run.Goals as goal
@@ -26,3 +27,6 @@ pub returns-clause-replies : goal.returns-clause-replies
 returns-clause-replies c =
     let given : Pool = record { mode = c.args.mode; limits = c.args.limits } in
     runs_tell given (take c.loop-asked.asked-index c.args.steps.now) c.loop-asked.replies.items c.loop-asked.machine.events c.loop-asked.invariant.runs
+
+pub returns-clause-completes : goal.returns-clause-completes
+returns-clause-completes c = fires_by_complete_only_own c.loop-asked.machine.pool

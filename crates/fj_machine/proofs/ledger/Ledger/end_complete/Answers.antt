@@ -1,0 +1,83 @@
+use Rattle.std.proofs.Common.{◌≡◌, ◌+◌, ◌∷◌, ◌++◌, [], length, true, false, None, Some, refl, sym, ◌∙◌, subst, inl, inr}
+use Rattle.fj_model.specs.declared.event.Event.TheVariants as event
+use Rattle.fj_model.specs.declared.event.How.TheVariants as how
+use Rattle.fj_model.specs.declared.step.Ending.TheVariants.{Complete}
+use Rattle.fj_model.specs.Tasks.{is_kept, is_completer}
+use Rattle.fj_model.specs.Hooks.{hooks, hand, receiver}
+use Rattle.fj_model.specs.Completers.{is_spent}
+use Rattle.fj_model.specs.Allowed.{Allowed}
+use Rattle.fj_model.specs.Answers.{after_end}
+use Rattle.fj_model.specs.Runs.{Past}
+use Rattle.fj_machine.proofs.BodyEnds.{running_kept, end_full, end_made, may_end, end_suits, ended_kept, ended_completer, ended_free, ended_given, complete_events, complete_says, complete_count}
+use Rattle.fj_machine.proofs.FoundRecords.{kept_found, told_of, spent_of}
+use Rattle.fj_machine.proofs.RoomTests.{is_room, no_room, either_way, grown_none}
+use Rattle.fj_machine.proofs.ledger.Ledger.end_complete.Goals as goal
+use Rattle.fj_machine.proofs.ledger.Ledger.end_complete.Goals.{After-has_room, then-spent, else-spent}
+
+-- whether the task is spent, as its record tells
+told : (c : After-has_room) → is_spent c.args.self.now.events c.args.t ≡ c.is_spent-spent.result
+told c =
+    let h = c.args.self.now.events in
+    spent_of h c.args.t c.unwrap.result.now (told_of h c.args.t c.find.result c.unwrap.result c.find.ensures.record c.unwrap.ensures) ∙ sym c.is_spent-spent.ensures
+
+-- how many events there are
+count : (c : After-has_room) → 1 + length (after_end (c.args.self.now.events ++ event.End c.args.t c.args.w ∷ []) c.args.t Complete) ≡ c.if-spent.has_room
+count c =
+    complete_count c.args.self.now.events c.args.w c.args.t _ _ (told c)
+    (either_way c.is_spent-spent.result c.if-spent.has_room 1 2 (elim c.if-spent.branch [ then-spent w ↦ inl (w.if-spent.true, w.has_room-is) | else-spent w ↦ inr (w.if-spent.false, w.has_room-is) ]))
+
+pub unwrap-requires : goal.unwrap-requires
+unwrap-requires c =
+    let h = c.args.self.now.events in
+    kept_found h c.args.t c.find.result c.find.ensures.record (running_kept c.args.self.now.pool h c.args.w c.args.t c.find.ensures.lawful c.requires.running)
+
+pub returns-then-not-has_room : goal.returns-then-not-has_room
+returns-then-not-has_room c =
+    let at = (goal.at.returns-then-not-has_room c).After-has_room in
+    end_full c.args.self.now c.args.w c.args.t Complete c.if-spent.has_room refl c.requires.stands c.requires.running (count at) (no_room _ _ _ c.has_room.ensures.room c.if-not-has_room.true)
+
+pub returns-then-spent-2 : goal.returns-then-spent-2
+returns-then-spent-2 c =
+    let at = (goal.at.returns-then-spent-2 c).After-has_room in
+    let h = c.args.self.now.events in
+    let t = c.args.t in
+    let is = told at ∙ c.if-spent-2.true in
+    let after = complete_events h c.args.w t true is in
+    end_made c.args.self.now c.end_body.new.self c.args.w t Complete [] _ _ refl c.requires.stands c.requires.running after (complete_says h c.args.w t true is) (rw after at (count at))
+    (is_room _ _ _ c.has_room.ensures.room c.if-not-has_room.false) (c.end_body.ensures ∙ grown_none _)
+
+pub fire-requires-clause-kept : goal.fire-requires-clause-kept
+fire-requires-clause-kept c =
+    subst (λ (p : Past). is_kept p.events c.args.t ≡ true) (sym c.end_body.ensures) (ended_kept c.args.self.now.pool c.args.self.now.events c.args.w c.args.t c.find.ensures.lawful c.requires.running)
+
+pub fire-requires-clause-completer : goal.fire-requires-clause-completer
+fire-requires-clause-completer c =
+    let suits = end_suits c.args.self.now.pool c.args.self.now.events c.args.w c.args.t Complete c.requires.stands c.requires.running in
+    subst (λ (p : Past). is_completer p.events c.args.t ≡ true) (sym c.end_body.ensures) (ended_completer c.args.self.now.events c.args.w c.args.t suits.1)
+
+pub fire-requires-clause-free : goal.fire-requires-clause-free
+fire-requires-clause-free c =
+    let suits = end_suits c.args.self.now.pool c.args.self.now.events c.args.w c.args.t Complete c.requires.stands c.requires.running in
+    subst (λ (p : Past). hand p.events c.args.w ≡ None) (sym c.end_body.ensures) (ended_free c.args.self.now.events c.args.w c.args.t suits.0)
+
+pub fire-requires-clause-given : goal.fire-requires-clause-given
+fire-requires-clause-given c =
+    subst (λ (p : Past). receiver c.args.t (hooks p.events).just_ended (hooks p.events).last_worker ≡ Some c.args.w) (sym c.end_body.ensures) (ended_given c.args.self.now.events c.args.w c.args.t)
+
+pub fire-requires-clause-may : goal.fire-requires-clause-may
+fire-requires-clause-may c =
+    let at = (goal.at.fire-requires-clause-may c).After-has_room in
+    let h = c.args.self.now.events in
+    let may = may_end c.args.self.now.pool h c.args.w c.args.t Complete _ c.find.ensures.lawful refl c.requires.stands c.requires.running (count at) (is_room _ _ _ c.has_room.ensures.room c.if-not-has_room.false) in
+    let both = rw (complete_events h c.args.w c.args.t false (told at ∙ c.if-spent-2.false)) at (may.1) in
+    subst (λ (p : Past). Allowed p.pool p.events (event.Fire c.args.t how.Complete)) (sym c.end_body.ensures) (both.0)
+
+pub returns : goal.returns
+returns c =
+    let at = (goal.at.returns c).After-has_room in
+    let h = c.args.self.now.events in
+    let t = c.args.t in
+    let is = told at ∙ c.if-spent-2.false in
+    let after = complete_events h c.args.w t false is in
+    end_made c.args.self.now c.fire.new.self c.args.w t Complete (event.Fire t how.Complete ∷ []) _ _ refl c.requires.stands c.requires.running after (complete_says h c.args.w t false is)
+    (rw after at (count at)) (is_room _ _ _ c.has_room.ensures.room c.if-not-has_room.false) (c.fire.ensures ∙ rw c.end_body.ensures refl)

@@ -1,0 +1,64 @@
+use Rattle.std.proofs.Common.{ℕ, ◌≡◌, ◌<◌, arith, true, ◌++◌, ◌∷◌, [], ap, sym, ◌∙◌, subst}
+use Rattle.std.proofs.lemmas.Bool.{ltb-true}
+use Rattle.fj_model.specs.declared.event.Event.TheVariants.{End}
+use Rattle.fj_model.specs.Bounds.{Pool}
+use Rattle.fj_model.specs.Tasks.{accepted, is_completer}
+use Rattle.fj_model.specs.Allowed.{Allowed}
+use Rattle.fj_model.specs.Runs.{Past}
+use Rattle.fj_model.proofs.Lawful.{is_numbered}
+use Rattle.fj_model.proofs.Opening.{ended_accepted}
+use Rattle.fj_machine.specs.Climbing.{Climbs}
+use Rattle.fj_machine.proofs.Built.{kept_is}
+use Rattle.fj_machine.proofs.ClimbsTold.{climb_of, climbs_told, few_passed}
+use Rattle.fj_machine.proofs.Located.{located, good_at, completer_at}
+use Rattle.fj_machine.proofs.Spent.{few_accepted}
+use Rattle.fj_machine.proofs.ledger.Ledger.pass_look.Goals as goal
+use Rattle.fj_machine.proofs.ledger.Ledger.pass_look.Goals.{After-self}
+
+may : (c : After-self) → Allowed (record { mode = c.self.inside.mode; limits = c.self.inside.limits }) c.self.inside.log.events (End c.args.t c.args.w)
+may c = subst (λ (p : Past). Allowed p.pool p.events (End c.args.t c.args.w)) (sym c.self.view_is) c.requires.may
+
+completer : (c : After-self) → is_completer c.self.inside.log.events c.args.t ≡ true
+completer c = subst (λ (p : Past). is_completer p.events c.args.t ≡ true) (sym c.self.view_is) c.requires.completer
+
+pub unwrap-requires : goal.unwrap-requires
+unwrap-requires c =
+    let at = (goal.at.unwrap-requires c).After-self in
+    let pool : Pool = record { mode = c.self.inside.mode; limits = c.self.inside.limits } in
+    let h = c.self.inside.log.events in
+    let holds = c.self.invariant.0 in
+    rw c.find.ensures.found (holds.tree_kept.all c.args.t (kept_is h c.args.t holds.built ∙ ended_accepted pool h c.args.t c.args.w holds.lawful (may at)))
+
+pub pass_look-requires : goal.pass_look-requires
+pass_look-requires c =
+    let at = (goal.at.pass_look-requires c).After-self in
+    let h = c.self.inside.log.events in
+    let l = located c.self.inside.tree c.args.t c.find.result c.unwrap.result c.find.ensures.found c.find.ensures.good c.unwrap.ensures in
+    completer_at h c.self.inside.tree c.args.t c.unwrap.result l (c.self.invariant.0.tree_kept.each c.unwrap.result.key l.found l.at) (completer at)
+
+pub returns-clause-climbs : goal.returns-clause-climbs
+returns-clause-climbs c =
+    let at = (goal.at.returns-clause-climbs c).After-self in
+    let pool : Pool = record { mode = c.self.inside.mode; limits = c.self.inside.limits } in
+    let h = c.self.inside.log.events in
+    let holds = c.self.invariant.0 in
+    let l = located c.self.inside.tree c.args.t c.find.result c.unwrap.result c.find.ensures.found c.find.ensures.good c.unwrap.ensures in
+    let ends : Allowed pool h (End c.unwrap.result.serial c.args.w) = subst (λ (u : ℕ). Allowed pool h (End u c.args.w)) (sym l.number) (may at) in
+    let told = climbs_told pool.limits pool h c.self.inside.tree c.unwrap.result c.args.w c.pass_look.result (record { so = holds.lawful; built = holds.built; keeps = holds.tree_kept })
+    c.find.ensures.sound (good_at c.self.inside.tree c.args.t c.unwrap.result l) ends (ap (is_completer h) l.number ∙ completer at) c.pass_look.ensures.passed c.pass_look.ensures.ends in
+    rw (c.by_number.ensures, ← c.self.view_is) (subst (λ (u : ℕ). Climbs (h ++ End u c.args.w ∷ []) u (climb_of c.pass_look.result)) l.number told)
+
+pub returns-clause-few : goal.returns-clause-few
+returns-clause-few c =
+    let at = (goal.at.returns-clause-few c).After-self in
+    let pool : Pool = record { mode = c.self.inside.mode; limits = c.self.inside.limits } in
+    let h = c.self.inside.log.events in
+    let t = c.args.t in
+    let holds = c.self.invariant.0 in
+    let l = located c.self.inside.tree t c.find.result c.unwrap.result c.find.ensures.found c.find.ensures.good c.unwrap.ensures in
+    let ends : Allowed pool h (End c.unwrap.result.serial c.args.w) = subst (λ (u : ℕ). Allowed pool h (End u c.args.w)) (sym l.number) (may at) in
+    let told = climbs_told pool.limits pool h c.self.inside.tree c.unwrap.result c.args.w c.pass_look.result (record { so = holds.lawful; built = holds.built; keeps = holds.tree_kept })
+    c.find.ensures.sound (good_at c.self.inside.tree t c.unwrap.result l) ends (ap (is_completer h) l.number ∙ completer at) c.pass_look.ensures.passed c.pass_look.ensures.ends in
+    let there : t < accepted h = ltb-true t (accepted h) (sym (is_numbered pool h holds.lawful t) ∙ ended_accepted pool h t c.args.w holds.lawful (may at)) in
+    let few = few_passed (h ++ End c.unwrap.result.serial c.args.w ∷ []) c.unwrap.result.serial in
+    rw c.by_number.ensures (omega (arith, told.count, few, l.number, there, few_accepted h, holds.fits, holds.within.few_events))

@@ -1,0 +1,14 @@
+use Rattle.std.proofs.Common.{◌≡◌, ◌≤◌, false, refl, arith}
+use Rattle.std.specs.Prelude.{nat_lt}
+use Rattle.std.proofs.lemmas.Bool.{le-ltb}
+use Rattle.fj_model.specs.Tasks.{live}
+use Rattle.fj_machine.proofs.Refusing.{is_full, not_below}
+use Rattle.fj_machine.proofs.ledger.Ledger.room_refusal.Goals as goal
+
+pub returns-then-not-has_place : goal.returns-then-not-has_place
+returns-then-not-has_place c =
+    let pool = c.args.self.now.pool in
+    let h = c.args.self.now.events in
+    let small : nat_lt 65535 c.args.count ≡ false = le-ltb 65535 c.args.count (omega (arith, c.if-from-gt-MAX_PENDING.false, c.from.ensures)) in
+    let over : pool.limits.tasks ≤ live h = not_below c.has_place.result (live h) pool.limits.tasks c.if-not-has_place.true c.has_place.ensures.1 in
+    rw (small, is_full pool h c.requires.lawful over) refl

@@ -1,0 +1,212 @@
+//! The history, and what stands where after it. Each change here is one event.
+ghost use Rattle.std.specs.Prelude.{◌≡◌, ◌≤◌, ◌<◌, ◌+◌, ◌↔◌, [], IfOk, IfSome, IsTrue, nat_lt, option_map, MatchOption, length, true, false, Some, ◌∷◌, ◌++◌, option_copied, is_none};
+ghost use Rattle.std.specs.List.{list_all};
+ghost use Rattle.fj_model.specs.Queues.{queue};
+ghost use Rattle.fj_model.specs.Stacks.{stack};
+ghost use Rattle.fj_model.specs.Places.{open_tasks, gone};
+ghost use Rattle.fj_model.specs.Tasks.{is_kept, is_completer, live};
+ghost use Rattle.fj_model.specs.Climbs.{path};
+ghost use Rattle.fj_model.specs.Hooks.{hand};
+ghost use Rattle.fj_model.specs.Answers.{running, is_quiet, root_of};
+ghost use Rattle.fj_model.specs.Allowed.{Allowed, AllowedFrom};
+ghost use Rattle.fj_model.specs.Runs.{fresh};
+ghost use Rattle.fj_machine.specs.Holds.{IsLawful, TellsOf, TellsHook};
+
+mod accept;
+mod climb;
+mod close;
+mod complete;
+mod end;
+mod hook;
+mod settle;
+mod take;
+
+pub(crate) use crate::ledger::hook::Hook;
+use crate::log::Log;
+use crate::rows::Rows;
+use fj_model::{Event, Limits, Mode, OutOfMemory, Owner, Serial, SubId, WorkerId};
+use fj_queues::{Numbers, Queues};
+use fj_tree::{Record, Tree};
+use std::alloc::Global;
+use std::marker::Model;
+
+/// The history, with all that is kept beside it. A contract sees what it was made with, and the history.
+#[derive(Drop)]
+pub(crate) struct Ledger {
+    mode: Mode,
+    limits: Limits,
+    log: Log,
+    queues: Queues,
+    stacks: Rows,
+    hands: Vec<Option<Hook>>,
+    tree: Tree,
+    open: Vec<Serial>,
+    gone: Vec<Serial>,
+}
+
+impl Model for Ledger {
+    ghost use Rattle.std.specs.Prelude.{◌≡◌, ◌≤◌, vec_capacity};
+    ghost use Rattle.fj_model.specs.Runs.{Past};
+    ghost use Rattle.fj_machine.specs.Holds.{Holds};
+
+    ghost Value = { Past };
+
+    ghost view = { λ m. record {
+      pool = record { mode = m.mode; limits = m.limits };
+      events = m.log.events;
+    } };
+
+    ghost invariant = { λ m.
+        Holds (record { mode = m.mode; limits = m.limits }) m.log.events m.queues m.stacks m.hands.items m.tree m.open.items m.gone.items
+        × (m.log.room ≡ m.limits.events)
+        × (m.limits.tasks ≤ vec_capacity m.open)
+        × (m.limits.events ≤ vec_capacity m.gone) };
+}
+
+impl Ledger {
+    /// Nothing has happened. All the memory that is needed later is taken here.
+    pub(crate) fn new(alloc: Global, mode: Mode, limits: Limits) -> Result<Ledger, OutOfMemory>
+        ensures { IfOk result (λ l. l ≡ fresh mode limits) }
+    {
+        let tasks = limits.tasks() as usize;
+        let events = limits.events() as usize;
+        let workers = limits.workers() as usize;
+        let queues = limits.submitters() as usize + workers;
+        Ok(Ledger {
+            mode,
+            limits,
+            log: Log::new(alloc, events)?,
+            queues: Queues::new(alloc, queues, tasks)?,
+            stacks: Rows::new(alloc, workers, tasks)?,
+            hands: Vec::from_elem(alloc, None, workers)?,
+            tree: Tree::new(alloc, tasks)?,
+            open: Vec::with_capacity(alloc, tasks)?,
+            gone: Vec::with_capacity(alloc, events)?,
+        })
+    }
+
+    /// What has happened, the oldest first. Each event was allowed where it stands.
+    pub(crate) fn history(&self) -> &[Event]
+        ensures events { result.now ≡ self.now.events }
+        ensures lawful { AllowedFrom self.now.pool [] self.now.events }
+    {
+        self.log.events()
+    }
+
+    /// The tasks in an owner's queue, the oldest first. There are none for an owner that is not there.
+    pub(crate) fn queue(&self, owner: Owner) -> Numbers<'_>
+        ensures { result ≡ queue self.now.events owner }
+    {
+        match self.limits.find_queue(owner) {
+            None => Numbers::none(),
+            Some(number) => self.queues.numbers(number),
+        }
+    }
+
+    /// The tasks that a worker holds, the oldest first. There are none for a worker that is not there.
+    pub(crate) fn stack(&self, w: WorkerId) -> &[Serial]
+        ensures { result.now ≡ stack self.now.events w }
+    {
+        if self.limits.workers() <= w.0 {
+            return Rows::none();
+        }
+        self.stacks.row(w.0 as usize)
+    }
+
+    /// The open tasks, in the order in which they came to be open.
+    pub(crate) fn open(&self) -> &[Serial]
+        ensures { result.now ≡ open_tasks self.now.events }
+    {
+        self.open.as_slice()
+    }
+
+    /// The gone tasks, in the order in which they came to be gone.
+    pub(crate) fn gone(&self) -> &[Serial]
+        ensures { result.now ≡ gone self.now.events }
+    {
+        self.gone.as_slice()
+    }
+
+    /// The record of a task. None if it was never accepted, or was released.
+    pub(crate) fn find(&self, t: Serial) -> Option<&Record>
+        ensures record { MatchOption (option_copied result) (is_kept self.now.events t ≡ false) (TellsOf self.now.events t) }
+        ensures lawful { IsLawful self.now.pool self.now.events }
+    {
+        let h = self.tree.find(t)?;
+        self.tree.get(h)
+    }
+
+    /// The running task of a worker: the newest that it holds. None for a worker that is not there.
+    pub(crate) fn running(&self, w: WorkerId) -> Option<Serial>
+        ensures { result ≡ running self.now.events w }
+    {
+        self.stack(w).last().copied()
+    }
+
+    /// The completion action in a worker's hand. The caller answers for a worker that is there.
+    pub(crate) fn hook(&self, w: WorkerId) -> Option<Hook>
+        requires { w < self.now.pool.limits.workers }
+        ensures hand { option_map (λ k. k.completer) result ≡ hand self.now.events w }
+        ensures tells { IfSome result (TellsHook self.now.events) }
+    {
+        self.hands[w.0 as usize]
+    }
+
+    /// Whether there is such a worker.
+    pub(crate) fn has_worker(&self, w: WorkerId) -> bool
+        ensures there { result ≡ nat_lt w self.now.pool.limits.workers }
+        ensures lawful { IsLawful self.now.pool self.now.events }
+    {
+        w.0 < self.limits.workers()
+    }
+
+    /// Whether there is such a submitter.
+    pub(crate) fn has_submitter(&self, s: SubId) -> bool
+        ensures there { result ≡ nat_lt s self.now.pool.limits.submitters }
+        ensures lawful { IsLawful self.now.pool self.now.events }
+    {
+        s.0 < self.limits.submitters()
+    }
+
+    /// Whether one task more can be kept.
+    pub(crate) fn has_place(&self) -> bool
+        ensures { IsTrue result ↔ (live self.now.events < self.now.pool.limits.tasks) }
+    {
+        self.tree.len() < self.limits.tasks() as usize
+    }
+
+    /// Whether no task is queued or held, and no completion action is in a hand.
+    pub(crate) fn is_quiet(&self) -> bool
+        ensures quiet { result ≡ is_quiet self.now.pool.limits self.now.events }
+        ensures lawful { IsLawful self.now.pool self.now.events }
+    {
+        if self.queues.total() > 0 {
+            return false;
+        }
+        self.stacks.are_empty() && are_free(&self.hands)
+    }
+
+    /// The last on the way from a kept completer to its parent, the parent's parent and so on.
+    pub(crate) fn root(&self, t: Serial) -> Serial
+        requires kept { is_kept self.now.events t ≡ true }
+        ensures root { root_of (path self.now.events t) ≡ Some result }
+        ensures kept { is_kept self.now.events result ≡ true }
+    {
+        self.tree.root(self.tree.find(t).unwrap()).serial
+    }
+
+    /// Whether the history has room for so many events more.
+    pub(crate) fn has_room(&self, events: u64) -> bool
+        ensures room { IsTrue result ↔ (length self.now.events + events ≤ self.now.pool.limits.events) }
+        ensures lawful { IsLawful self.now.pool self.now.events }
+    {
+        events <= u64::from(self.limits.events()) - self.log.len() as u64
+    }
+}
+
+/// Whether no completion action is in any of these hands.
+fn are_free(hands: &[Option<Hook>]) -> bool
+    ensures { result ≡ list_all is_none hands.now }
+{
+    hands.iter().all(|hook| hook.is_none())
+}

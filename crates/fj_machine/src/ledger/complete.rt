@@ -1,0 +1,75 @@
+//! Pending counts change, and completers are fired and passed.
+ghost use Rattle.std.specs.Prelude.{◌≡◌, ◌<◌, ◌∷◌, [], None, Some, true, length};
+ghost use Rattle.fj_model.specs.declared.event.Event.TheVariants.{Add, Dec, Fire, Pass};
+ghost use Rattle.fj_model.specs.Hooks.{hooks, hand, receiver};
+ghost use Rattle.fj_model.specs.Tasks.{is_kept, is_completer};
+ghost use Rattle.fj_model.specs.Allowed.{Allowed};
+ghost use Rattle.fj_model.specs.Runs.{grown};
+
+use crate::ledger::Ledger;
+use crate::ledger::close::close;
+use crate::ledger::hook::Hook;
+use fj_model::{Event, How, Place, Serial, WorkerId};
+
+impl Ledger {
+    /// Raises the pending count of a completer.
+    pub(crate) fn raise(&mut self, c: Serial, n: u32)
+        requires may { Allowed self.old.pool self.old.events (Add c n) }
+        requires fits { length self.old.events < self.old.pool.limits.events }
+        ensures { self.new ≡ grown self.old (Add c n ∷ []) }
+    {
+        let h = self.tree.find(c).unwrap();
+        self.log.push(Event::Add(c, n));
+        self.tree.add(h, n).unwrap();
+    }
+
+    /// Lowers the pending count of a completer by one.
+    pub(crate) fn count_down(&mut self, c: Serial)
+        requires kept { is_kept self.old.events c ≡ true }
+        requires completer { is_completer self.old.events c ≡ true }
+        requires may { Allowed self.old.pool self.old.events (Dec c) }
+        requires fits { length self.old.events < self.old.pool.limits.events }
+        ensures { self.new ≡ grown self.old (Dec c ∷ []) }
+    {
+        let h = self.tree.find(c).unwrap();
+        self.log.push(Event::Dec(c));
+        self.tree.arrive(h);
+    }
+
+    /// Fires a completer: its completion action goes into the hand of the worker.
+    pub(crate) fn fire(&mut self, c: Serial, w: WorkerId, how: How)
+        requires worker { w < self.old.pool.limits.workers }
+        requires kept { is_kept self.old.events c ≡ true }
+        requires completer { is_completer self.old.events c ≡ true }
+        requires free { hand self.old.events w ≡ None }
+        requires given { receiver c (hooks self.old.events).just_ended (hooks self.old.events).last_worker ≡ Some w }
+        requires may { Allowed self.old.pool self.old.events (Fire c how) }
+        requires fits { length self.old.events < self.old.pool.limits.events }
+        ensures { self.new ≡ grown self.old (Fire c how ∷ []) }
+    {
+        let h = self.tree.find(c).unwrap();
+        let parent = self.tree.get(h).unwrap().kind.parent();
+        self.log.push(Event::Fire(c, how));
+        self.tree.fire(h);
+        close(&mut self.tree, &mut self.open, &mut self.gone, h);
+        self.hands[w.0 as usize] = Some(Hook {
+            completer: c,
+            parent,
+            how,
+        });
+    }
+
+    /// Passes a completer: it is spent without its completion action.
+    pub(crate) fn pass(&mut self, c: Serial)
+        requires kept { is_kept self.old.events c ≡ true }
+        requires completer { is_completer self.old.events c ≡ true }
+        requires may { Allowed self.old.pool self.old.events (Pass c) }
+        requires fits { length self.old.events < self.old.pool.limits.events }
+        ensures { self.new ≡ grown self.old (Pass c ∷ []) }
+    {
+        let h = self.tree.find(c).unwrap();
+        self.log.push(Event::Pass(c));
+        self.tree.fire(h);
+        close(&mut self.tree, &mut self.open, &mut self.gone, h);
+    }
+}

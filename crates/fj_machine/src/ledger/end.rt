@@ -1,0 +1,52 @@
+//! Bodies and completion actions end.
+ghost use Rattle.std.specs.Prelude.{◌≡◌, ◌<◌, ◌&&◌, ◌∷◌, [], Some, length, not};
+ghost use Rattle.fj_model.specs.declared.event.Event.TheVariants.{End, Hooked};
+ghost use Rattle.fj_model.specs.Tasks.{is_completer_kind};
+ghost use Rattle.fj_model.specs.Hooks.{hand};
+ghost use Rattle.fj_tree.specs.Arrivals.{is_spent};
+ghost use Rattle.fj_model.specs.Allowed.{Allowed};
+ghost use Rattle.fj_model.specs.Runs.{grown};
+
+use crate::ledger::Ledger;
+use fj_model::{Event, Place, Serial, WorkerId};
+use fj_tree::Record;
+
+impl Ledger {
+    /// The body of a worker's running task ends. A completer that is not spent is open from now on.
+    pub(crate) fn end_body(&mut self, t: Serial, w: WorkerId)
+        requires worker { w < self.old.pool.limits.workers }
+        requires may { Allowed self.old.pool self.old.events (End t w) }
+        requires fits { length self.old.events < self.old.pool.limits.events }
+        ensures { self.new ≡ grown self.old (End t w ∷ []) }
+    {
+        let h = self.tree.find(t).unwrap();
+        let stays = stays_open(self.tree.get(h).unwrap());
+        self.log.push(Event::End(t, w));
+        self.stacks.take_last(w.0 as usize);
+        if stays {
+            self.tree.set_place(h, Place::Open);
+            self.open.push_reserved(t);
+        } else {
+            self.tree.set_place(h, Place::Gone);
+            self.gone.push_reserved(t);
+        }
+    }
+
+    /// The completion action in a worker's hand ends.
+    pub(crate) fn end_hook(&mut self, c: Serial, w: WorkerId)
+        requires worker { w < self.old.pool.limits.workers }
+        requires hand { hand self.old.events w ≡ Some c }
+        requires fits { length self.old.events < self.old.pool.limits.events }
+        ensures { self.new ≡ grown self.old (Hooked c ∷ []) }
+    {
+        self.log.push(Event::Hooked(c));
+        self.hands[w.0 as usize] = None;
+    }
+}
+
+/// Whether a task whose body ends is open then: a completer that is not spent.
+fn stays_open(record: &Record) -> bool
+    ensures { result ≡ (is_completer_kind (Some record.now.kind) && not (is_spent record.now)) }
+{
+    record.kind.is_completer() && !record.is_spent()
+}

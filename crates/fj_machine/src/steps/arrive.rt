@@ -1,0 +1,59 @@
+//! Arrivals at completers.
+ghost use Rattle.std.specs.Prelude.{◌≡◌, ◌<◌, ◌≤◌, ◌+◌, None, Some, true, length};
+ghost use Rattle.fj_model.specs.Tasks.{is_kept, is_completer};
+ghost use Rattle.fj_model.specs.Hooks.{hooks, hand, receiver};
+ghost use Rattle.fj_model.specs.Climbs.{arrival};
+ghost use Rattle.fj_model.specs.Allowed.{AllowedFrom};
+ghost use Rattle.fj_model.specs.Answers.{arriving, arriving_says};
+ghost use Rattle.fj_model.specs.Runs.{grown};
+ghost use Rattle.fj_machine.specs.Arriving.{as_arrival};
+
+use crate::ledger::Ledger;
+use fj_model::{How, Said, Serial, WorkerId};
+use fj_tree::Arrived;
+
+impl Ledger {
+    /// What an arrival at a kept completer would do.
+    pub(super) fn arrival(&self, c: Serial) -> Arrived
+        requires kept { is_kept self.now.events c ≡ true }
+        ensures { as_arrival result ≡ arrival self.now.events c }
+    {
+        self.find(c).unwrap().arrival()
+    }
+
+    /// Arrives at a kept completer. If it fires, its completion action goes into the hand of the worker: to whom the history gives it.
+    pub(super) fn arrive(&mut self, c: Serial, w: WorkerId) -> Said
+        requires worker { w < self.old.pool.limits.workers }
+        requires kept { is_kept self.old.events c ≡ true }
+        requires completer { is_completer self.old.events c ≡ true }
+        requires free { hand self.old.events w ≡ None }
+        requires given { receiver c (hooks self.old.events).just_ended (hooks self.old.events).last_worker ≡ Some w }
+        requires may { AllowedFrom self.old.pool self.old.events (arriving c (arrival self.old.events c)) }
+        requires fits { length self.old.events + length (arriving c (arrival self.old.events c)) ≤ self.old.pool.limits.events }
+        ensures said { result ≡ arriving_says c (arrival self.old.events c) }
+        ensures events { self.new ≡ grown self.old (arriving c (arrival self.old.events c)) }
+    {
+        match self.arrival(c) {
+            Arrived::Spent => Said::Spent(c),
+            Arrived::Counted => {
+                self.count_down(c);
+                Said::Counted(c)
+            }
+            Arrived::Early => Said::Early(c),
+            Arrived::Fire => {
+                self.fire(c, w, How::Zero);
+                Said::Hook(c)
+            }
+        }
+    }
+}
+
+/// How many events an arrival appends.
+pub(super) fn events_of(arrived: Arrived) -> u64
+    ensures { result ≡ length (arriving 0 (as_arrival arrived)) }
+{
+    match arrived {
+        Arrived::Counted | Arrived::Fire => 1,
+        Arrived::Spent | Arrived::Early => 0,
+    }
+}

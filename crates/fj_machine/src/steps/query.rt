@@ -1,0 +1,26 @@
+//! Steps that change nothing.
+ghost use Rattle.std.specs.Prelude.{◌≡◌, []};
+ghost use Rattle.fj_model.specs.declared.step.Step.TheVariants.{IsQuiescent, State};
+ghost use Rattle.fj_model.specs.Answers.{answer};
+
+use crate::ledger::Ledger;
+use fj_model::{Refusal, Said, Serial};
+
+impl Ledger {
+    /// Whether nothing is queued or held and no completion action is in a hand: `ForkJoinPool.isQuiescent`.
+    pub(crate) fn is_quiescent(&self) -> Said
+        ensures { answer self.now.pool self.now.events IsQuiescent ≡ (result, []) }
+    {
+        if self.is_quiet() { Said::Yes } else { Said::No }
+    }
+
+    /// Where a task is, and how far it has come.
+    pub(crate) fn state(&self, t: Serial) -> Said
+        ensures { answer self.now.pool self.now.events (State t) ≡ (result, []) }
+    {
+        match self.find(t) {
+            None => Said::Refused(Refusal::Unknown),
+            Some(record) => Said::State(record.place, record.status),
+        }
+    }
+}
