@@ -5,6 +5,8 @@
 //! [`fj`] runs a command over any reader and writers.
 #![tactic(auto)]
 
+#[cfg(test)]
+mod completer_tests;
 mod fault;
 mod line;
 mod play;

@@ -88,7 +88,7 @@ const ROWS: [(&str, &str, &str, u8); 21] = [
     ("async 1 1 1 4;;submit 0;", "", "fault: line 2;", 3),
     ("async 1 1 1 4;async 1 1 1 4;", "", "fault: line 2;", 3),
     (
-        "async 1 1 2 8;quiet;submit 0;state 0;state 1;quiet;trigger 0 0;",
+        "async 1 1 2 8;quiet;submit 0;state 0;state 1;quiet;shutdown;",
         "yes;task 0;state queued 0 undone;refused 5;no;refused 15;",
         "",
         0,
@@ -132,27 +132,18 @@ const ROWS: [(&str, &str, &str, u8); 21] = [
 ];
 
 // A good line of each kind of step that is not built.
-const NOT_BUILT: [&str; 20] = [
-    "submit 0 1 relay",
-    "submit 0 1 stop",
-    "fork 0 - 0 relay",
-    "fork 0 7 65536 stop",
-    "trigger 0 4294967295",
-    "end 0 quiet",
-    "end 0 try",
-    "end 0 pass",
-    "end 0 complete",
+const NOT_BUILT: [&str; 11] = [
     "end 0 fail 0",
-    "hook 0",
-    "add 0 0 1",
-    "root 0 0",
+    "end 0 fail 4294967295",
+    "end 40 fail 7",
     "fault 0 12",
+    "fault 9 0",
     "cancel 0",
+    "cancel 4294967295",
     "shutdown",
     "stop",
     "release 0",
-    "end 40 quiet",
-    "hook 4294967295",
+    "release 9",
 ];
 
 // What no script has as a line.
