@@ -1,6 +1,6 @@
 #!/usr/bin/env bash
 # Times `fj replay` on a generated script: seconds, lines a second, peak memory.
-# Usage: bench/run.sh [KIND [ROUNDS]]     KIND is submissions (default) or forks; a round is three lines (default: 200000 rounds)
+# Usage: bench/run.sh [KIND [ROUNDS]]     KIND is submissions (default), forks, chain or tree; a round is three lines (default: 200000 rounds)
 set -euo pipefail
 cd "$(dirname "${BASH_SOURCE[0]}")/.."
 
