@@ -1,5 +1,5 @@
 -- The parent of a kept task is kept, for a task with a kept child is not released.
-use Rattle.std.proofs.Common.{ℕ, ◌≡◌, ◌≢◌, Bool, true, false, not, ◌&&◌, List, [], ◌∷◌, ◌++◌, Option, Some, None, refl, ap, sym, ◌∙◌, zero, suc, subst, ⊎_elim, ◌⊎◌, inl, inr}
+use Rattle.std.proofs.Common.{ℕ, ◌≡◌, ◌≢◌, Bool, true, false, ◌&&◌, List, [], ◌∷◌, ◌++◌, Option, Some, None, refl, ap, sym, ◌∙◌, zero, suc, subst, ⊎_elim, ◌⊎◌, inl, inr}
 use Rattle.std.specs.Prelude.{◌==◌, IfSome, if◌then◌else◌}
 use Rattle.std.specs.List.{list_any}
 use Rattle.std.proofs.lemmas.Bool.{eqb-true, eq-eqb, and_parts, or_cases, or_right, true≢false, cases_eq}
@@ -8,7 +8,7 @@ use Rattle.fj_model.specs.declared.event.Event.TheVariants.{Acc, Make, Rel}
 use Rattle.fj_model.specs.declared.kind.Kind.{Kind}
 use Rattle.fj_model.specs.Bounds.{Pool}
 use Rattle.fj_model.specs.Lists.{is_in, or_else}
-use Rattle.fj_model.specs.Tasks.{tasks, accepted_by, released, released_by, is_kept, kind, kind_by, is_completer, parent, parent_in}
+use Rattle.fj_model.specs.Tasks.{tasks, accepted_by, released_by, is_kept, kind, kind_by, is_completer, parent, parent_in}
 use Rattle.fj_model.specs.Climbs.{path, path_up, relayed}
 use Rattle.fj_model.specs.Allowed.{Allowed, AllowedFrom, MayAccept, is_child_of, has_kept_child}
 use Rattle.fj_model.proofs.Growth.{kind_more}
@@ -16,12 +16,8 @@ use Rattle.fj_model.proofs.Lawful.{by_events}
 use Rattle.fj_model.proofs.KindsKept.{accepts_kind}
 use Rattle.fj_model.proofs.PlaceLaws.{not_new}
 use Rattle.fj_model.proofs.Unknown.{unknown_kind}
-use Rattle.fj_model.proofs.Releasing.{kept_same, accepting_keeps, release_keeps, release_forgets}
+use Rattle.fj_model.proofs.Releasing.{kept_known, kept_same, accepting_keeps, release_keeps, release_forgets}
 use Rattle.fj_model.proofs.SettlesAllowed.{relayed_on_way}
-
-kept_known : (h : List Event) (t : ℕ) → is_kept h t ≡ true → is_in t (tasks h) ≡ true
-unfolding is_kept
-kept_known h t kept = (and_parts (is_in t (tasks h)) (not (is_in t (released h))) kept).0
 
 -- ---- kept children
 

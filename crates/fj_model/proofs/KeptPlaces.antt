@@ -2,7 +2,7 @@
 use Rattle.std.proofs.Common.{ℕ, ◌≡◌, ◌≢◌, ◌+◌, ◌≤◌, Bool, true, false, not, List, [], ◌∷◌, ◌++◌, length, Some, refl, ap, sym, ◌∙◌, arith, suc, ⊎_elim, length-append}
 use Rattle.std.specs.Prelude.{nat_lt, if◌then◌else◌}
 use Rattle.std.specs.List.{filter, flat_map}
-use Rattle.std.proofs.lemmas.Bool.{eq-eqb, ne_eqb, and_parts, true≢false, cases_eq}
+use Rattle.std.proofs.lemmas.Bool.{eq-eqb, ne_eqb, true≢false, cases_eq}
 use Rattle.fj_model.specs.declared.event.Event.{Event}
 use Rattle.fj_model.specs.declared.event.Event.TheVariants.{Rel}
 use Rattle.fj_model.specs.declared.owner.Owner.{Owner}
@@ -28,7 +28,8 @@ use Rattle.fj_model.proofs.GoneList.{queued_here, held_here}
 use Rattle.fj_model.proofs.OnePlace.{one_place, queue_once, never}
 use Rattle.fj_model.proofs.OpenList.{in_open, open_accepted, open_once}
 use Rattle.fj_model.proofs.ArrivalPlaces.{gone_spent}
-use Rattle.fj_model.proofs.Releasing.{released_known}
+use Rattle.fj_model.proofs.Releasing.{kept_known, released_known}
+use Rattle.fj_model.proofs.ShutsAllowed.{gone_is}
 
 -- ---- released tasks are gone
 
@@ -39,15 +40,11 @@ releases_gone : (pool : Pool) (h : List Event) (e : Event) (t : ℕ) → Allowed
 releases_gone pool h (Rel u) t may is = let same : u ≡ t = cc in (ap (is_kept h) (sym same) ∙ may.0, ap (λ v. is_gone (place h v)) (sym same) ∙ ap is_gone may.1)
 releases_gone pool h _ t may is = absurd cc
 
-kept_parts : (h : List Event) (t : ℕ) → is_kept h t ≡ true → is_in t (tasks h) ≡ true
-unfolding is_kept
-kept_parts h t kept = (and_parts (is_in t (tasks h)) (not (is_in t (released h))) kept).0
-
 released_gone_more : (pool : Pool) (h : List Event) (e : Event) → AllowedFrom pool [] h → IsReleasedGone h → Allowed pool h e → IsReleasedGone (h ++ e ∷ [])
 released_gone_more pool h e so were may t there =
     ⊎_elim
     (λ old. gone_stays pool h e t so may (released_known pool h so t old) (were t old))
-    (λ new. let now = releases_gone pool h e t may new in gone_stays pool h e t so may (kept_parts h t now.0) now.1)
+    (λ new. let now = releases_gone pool h e t may new in gone_stays pool h e t so may (kept_known h t now.0) now.1)
     (is_in_with t (released h) (released_by e) (rw released_more at there))
 
 released_gone_none : IsReleasedGone []
@@ -64,12 +61,6 @@ unfolding is_kept
 ungone_kept pool h t so known still =
     let unreleased : is_in t (released h) ≡ false = never (is_in t (released h)) (λ there. true≢false (sym (released_gone pool h so t there) ∙ still)) in
     rw (known, unreleased) refl
-
-gone_is : (p : Place) → is_gone p ≡ true → p ≡ Gone
-gone_is Gone is = refl
-gone_is (Queued o) is = absurd cc
-gone_is (Held w) is = absurd cc
-gone_is Open is = absurd cc
 
 -- a released completer is spent, so an arrival there changes nothing
 pub released_spent : (pool : Pool) (h : List Event) (c : ℕ) → AllowedFrom pool [] h → is_completer h c ≡ true → is_in c (released h) ≡ true → is_spent h c ≡ true
@@ -134,7 +125,7 @@ few_within (x ∷ xs) ys once within =
 pub few_kept : (pool : Pool) (h : List Event) (ts : List ℕ) → AllowedFrom pool [] h → Once ts → ((t : ℕ) → is_in t ts ≡ true → is_kept h t ≡ true) → length ts ≤ live h
 unfolding live
 few_kept pool h ts so once kept =
-    few_within ts (filter (is_kept h) (tasks h)) once (λ t there. is_in_filter (is_kept h) t (tasks h) ∙ rw (kept_parts h t (kept t there), kept t there) refl)
+    few_within ts (filter (is_kept h) (tasks h)) once (λ t there. is_in_filter (is_kept h) t (tasks h) ∙ rw (kept_known h t (kept t there), kept t there) refl)
 
 pub few_queued : (pool : Pool) (h : List Event) (o : Owner) → AllowedFrom pool [] h → length (queue h o) ≤ live h
 few_queued pool h o so = few_kept pool h (queue h o) so (queue_once pool h o so) (λ t there. queued_kept pool h o t so there)
@@ -145,37 +136,46 @@ few_held pool h w so = few_kept pool h (stack h w) so (stack_once pool h w so) (
 pub few_open : (pool : Pool) (h : List Event) → AllowedFrom pool [] h → length (open_tasks h) ≤ live h
 few_open pool h so = few_kept pool h (open_tasks h) so (open_once pool h so) (λ t there. open_kept pool h t so (sym (in_open h t) ∙ there))
 
--- in all queues, on all stacks and among the open ones together there are no more than are kept
-pub few_busy : (pool : Pool) (h : List Event) → AllowedFrom pool [] h
-    → length (flat_map (queue h) (owners pool.limits) ++ flat_map (stack h) (workers pool.limits) ++ open_tasks h) ≤ live h
+-- the number of times that a task stands in a queue, on a stack or among the open ones, and among the gone ones
+busy_times : (pool : Pool) (h : List Event) (t : ℕ) → AllowedFrom pool [] h
+    → times_in t (flat_map (queue h) (owners pool.limits) ++ flat_map (stack h) (workers pool.limits) ++ open_tasks h) + times_in t (gone h) ≡ (if nat_lt t (accepted h) then 1 else 0)
 unfolding all_places
-few_busy pool h so = few_kept pool h busy so once kept
+busy_times pool h t so = sym (times_in_append t (flat_map (queue h) (owners pool.limits) ++ flat_map (stack h) (workers pool.limits) ++ open_tasks h) (gone h)) ∙ one_place pool h so t
+
+-- in all queues, on all stacks and among the open ones together each number stands once at most
+pub busy_once : (pool : Pool) (h : List Event) → AllowedFrom pool [] h → Once (flat_map (queue h) (owners pool.limits) ++ flat_map (stack h) (workers pool.limits) ++ open_tasks h)
+busy_once pool h so t = go (nat_lt t (accepted h)) (busy_times pool h t so)
   where
     busy : List ℕ
     busy = flat_map (queue h) (owners pool.limits) ++ flat_map (stack h) (workers pool.limits) ++ open_tasks h
 
-    placed : (t : ℕ) → times_in t busy + times_in t (gone h) ≡ (if nat_lt t (accepted h) then 1 else 0)
-    placed t = sym (times_in_append t busy (gone h)) ∙ one_place pool h so t
+    go : (b : Bool) → times_in t busy + times_in t (gone h) ≡ (if b then 1 else 0) → times_in t busy ≤ 1
+    go true is = omega (arith, is)
+    go false is = omega (arith, is)
 
-    once : Once busy
-    once t = go (nat_lt t (accepted h)) (placed t)
-      where
-        go : (b : Bool) → times_in t busy + times_in t (gone h) ≡ (if b then 1 else 0) → times_in t busy ≤ 1
-        go true is = omega (arith, is)
-        go false is = omega (arith, is)
+-- each of them is kept
+pub busy_kept : (pool : Pool) (h : List Event) (t : ℕ) → AllowedFrom pool [] h
+    → is_in t (flat_map (queue h) (owners pool.limits) ++ flat_map (stack h) (workers pool.limits) ++ open_tasks h) ≡ true → is_kept h t ≡ true
+busy_kept pool h t so there = go (nat_lt t (accepted h)) refl (busy_times pool h t so)
+  where
+    busy : List ℕ
+    busy = flat_map (queue h) (owners pool.limits) ++ flat_map (stack h) (workers pool.limits) ++ open_tasks h
 
-    kept : (t : ℕ) → is_in t busy ≡ true → is_kept h t ≡ true
-    kept t there = go (nat_lt t (accepted h)) refl (placed t)
-      where
-        still : (b : Bool) → is_in t (tasks h) ≡ true → is_gone (place h t) ≡ b → times_in t (gone h) ≡ 0 → b ≡ false
-        still false known is none = refl
-        still true known is none = let here : times_in t (gone h) ≡ 1 = gone_once pool h so t ∙ rw (known, is) refl in absurd (omega (arith, here, none))
+    still : (b : Bool) → is_in t (tasks h) ≡ true → is_gone (place h t) ≡ b → times_in t (gone h) ≡ 0 → b ≡ false
+    still false known is none = refl
+    still true known is none = let here : times_in t (gone h) ≡ 1 = gone_once pool h so t ∙ rw (known, is) refl in absurd (omega (arith, here, none))
 
-        go : (b : Bool) → nat_lt t (accepted h) ≡ b → times_in t busy + times_in t (gone h) ≡ (if b then 1 else 0) → is_kept h t ≡ true
-        go true is at =
-            let known = is_numbered pool h so t ∙ is in
-            ungone_kept pool h t so known (still (is_gone (place h t)) known refl (omega (arith, at, times_in_some t busy there)))
-        go false is at = absurd (omega (arith, at, times_in_some t busy there))
+    go : (b : Bool) → nat_lt t (accepted h) ≡ b → times_in t busy + times_in t (gone h) ≡ (if b then 1 else 0) → is_kept h t ≡ true
+    go true is at =
+        let known = is_numbered pool h so t ∙ is in
+        ungone_kept pool h t so known (still (is_gone (place h t)) known refl (omega (arith, at, times_in_some t busy there)))
+    go false is at = absurd (omega (arith, at, times_in_some t busy there))
+
+-- so they are no more than the kept tasks
+pub few_busy : (pool : Pool) (h : List Event) → AllowedFrom pool [] h
+    → length (flat_map (queue h) (owners pool.limits) ++ flat_map (stack h) (workers pool.limits) ++ open_tasks h) ≤ live h
+few_busy pool h so =
+    few_kept pool h (flat_map (queue h) (owners pool.limits) ++ flat_map (stack h) (workers pool.limits) ++ open_tasks h) so (busy_once pool h so) (λ t there. busy_kept pool h t so there)
 
 -- the same by their lengths
 pub few_in_all : (pool : Pool) (h : List Event) → AllowedFrom pool [] h

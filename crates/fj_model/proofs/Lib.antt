@@ -19,6 +19,7 @@ pub mod EndsAllowed
 pub mod SettlesAllowed
 pub mod ShutsAllowed
 pub mod FlatSteps
+pub mod StepsAllowed
 pub mod AnswersAllowed
 pub mod Queues
 pub mod Ends
@@ -58,4 +59,5 @@ pub mod Releasing
 pub mod KeptPlaces
 pub mod Closing
 pub mod KeptParents
+pub mod Settling
 pub mod ArrivalPlaces

@@ -28,6 +28,11 @@ use Rattle.fj_model.proofs.Calm.{calm_status, calm_spent, calm_place, calm_open,
 
 -- ---- which tasks are kept
 
+-- a kept task was accepted
+pub kept_known : (h : List Event) (t : ℕ) → is_kept h t ≡ true → is_in t (tasks h) ≡ true
+unfolding is_kept
+kept_known h t kept = (and_parts (is_in t (tasks h)) (not (is_in t (released h))) kept).0
+
 -- an event that releases nothing leaves the released ones
 pub released_same : (h : List Event) (e : Event) → released_by e ≡ None → released (h ++ e ∷ []) ≡ released h
 released_same h e none = released_more h e ∙ rw none (append-nil (released h))
@@ -81,10 +86,6 @@ one_less p q t (x ∷ xs) once there passes fails others =
         go : (b : Bool) → length (cond b (x ∷ filter q xs) (filter q xs)) + 1 ≡ length (cond b (x ∷ filter p xs) (filter p xs))
         go true = omega (arith, less)
         go false = less
-
-kept_known : (h : List Event) (t : ℕ) → is_kept h t ≡ true → is_in t (tasks h) ≡ true
-unfolding is_kept
-kept_known h t kept = (and_parts (is_in t (tasks h)) (not (is_in t (released h))) kept).0
 
 -- one task less is kept
 pub release_live : (pool : Pool) (h : List Event) (t : ℕ) → AllowedFrom pool [] h → Allowed pool h (Rel t) → live (h ++ Rel t ∷ []) + 1 ≡ live h

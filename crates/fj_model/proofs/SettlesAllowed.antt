@@ -1,7 +1,7 @@
 -- The events of Cancel, of Fault and of End Fail are allowed: each settles a task that is undone.
-use Rattle.std.proofs.Common.{ℕ, ◌≡◌, ◌+◌, ◌-◌, ◌≤◌, Bool, true, false, map, List, [], ◌∷◌, ◌++◌, length, not, Option, Some, None, refl, ap, sym, ◌∙◌, arith, zero, suc, ⊎_elim}
+use Rattle.std.proofs.Common.{ℕ, ◌≡◌, ◌+◌, ◌-◌, ◌≤◌, Bool, true, false, map, List, [], ◌∷◌, ◌++◌, length, Option, Some, None, refl, ap, sym, ◌∙◌, arith, zero, suc, ⊎_elim}
 use Rattle.std.specs.Prelude.{◌==◌, if◌then◌else◌}
-use Rattle.std.proofs.lemmas.Bool.{eqb-true, eq-eqb, ne_eqb, not-false, and_parts, or_cases, or_right}
+use Rattle.std.proofs.lemmas.Bool.{eqb-true, eq-eqb, ne_eqb, not-false, or_cases, or_right}
 use Rattle.fj_model.specs.declared.event.Event.{Event}
 use Rattle.fj_model.specs.declared.event.Event.TheVariants as event
 use Rattle.fj_model.specs.declared.status.Status.TheVariants as status_is
@@ -9,7 +9,7 @@ use Rattle.fj_model.specs.declared.step.Ending.TheVariants.{Fail}
 use Rattle.fj_model.specs.declared.step.Step.TheVariants.{End, Fault, Cancel}
 use Rattle.fj_model.specs.Bounds.{Pool}
 use Rattle.fj_model.specs.Lists.{is_in, times_in}
-use Rattle.fj_model.specs.Tasks.{tasks, released, is_kept, kind, relay_in, parent}
+use Rattle.fj_model.specs.Tasks.{tasks, is_kept, kind, relay_in, parent}
 use Rattle.fj_model.specs.Stacks.{stack}
 use Rattle.fj_model.specs.Hooks.{hand}
 use Rattle.fj_model.specs.Statuses.{status, is_undone}
@@ -21,6 +21,7 @@ use Rattle.fj_model.proofs.Lawful.{allowed_more, known_more, taken_known}
 use Rattle.fj_model.proofs.Statuses.{status_same}
 use Rattle.fj_model.proofs.StacksTaken.{stack_taken}
 use Rattle.fj_model.proofs.Parents.{parent_known, path_once}
+use Rattle.fj_model.proofs.Releasing.{kept_known}
 use Rattle.fj_model.proofs.Standing.{Stands, some_or_none}
 
 -- ---- those to whom a code is relayed
@@ -121,10 +122,6 @@ failing_allowed pool h t code so known = go (is_undone (status h t))
     go false = tt
 
 -- ---- the steps
-
-kept_known : (h : List Event) (t : ℕ) → is_kept h t ≡ true → is_in t (tasks h) ≡ true
-unfolding is_kept
-kept_known h t kept = (and_parts (is_in t (tasks h)) (not (is_in t (released h))) kept).0
 
 pub fault_allowed : (pool : Pool) (h : List Event) (t code : ℕ) → AllowedFrom pool [] h → Stands pool h (Fault t code) → AllowedFrom pool h (events_of pool h (Fault t code))
 unfolding events_of

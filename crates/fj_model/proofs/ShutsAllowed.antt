@@ -30,7 +30,7 @@ stop_allowed pool h = go (is_stopped h) refl
     go true is = tt
     go false is = (is, tt)
 
-gone_is : (p : Place) → is_gone p ≡ true → p ≡ Gone
+pub gone_is : (p : Place) → is_gone p ≡ true → p ≡ Gone
 gone_is Gone is = refl
 gone_is (Queued o) is = absurd cc
 gone_is (Held w) is = absurd cc
