@@ -1,4 +1,3 @@
-pub mod Cancelling
 pub mod Children
 pub mod Climbing
 pub mod Counts
@@ -11,5 +10,6 @@ pub mod Passing
 pub mod Paths
 pub mod Relaying
 pub mod Shrinking
+pub mod Sweeping
 pub mod Writes
 pub mod Written

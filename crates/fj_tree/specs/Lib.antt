@@ -1,5 +1,6 @@
 pub mod Arrivals
 pub mod Cancels
+pub mod Closes
 pub mod Handles
 pub mod Makes
 pub mod Passes

@@ -7,6 +7,7 @@ ghost use Rattle.fj_tree.specs.declared.arrive.Arrived.TheVariants.{Spent, Early
 
 mod cancels;
 mod climbs;
+mod closes;
 mod passes;
 mod relays;
 mod releases;
