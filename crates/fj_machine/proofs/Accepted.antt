@@ -5,7 +5,7 @@ use Rattle.std.specs.List.{list_any}
 use Rattle.std.proofs.Math.ListN.{length-set}
 use Rattle.std.proofs.lemmas.List.{get_or-set_other}
 use Rattle.std.proofs.lemmas.Option.{same_Some}
-use Rattle.std.proofs.lemmas.Bool.{or_right, eq-eqb, lt-leb, le-ltb, cases_eq}
+use Rattle.std.proofs.lemmas.Bool.{eq-eqb, lt-leb, le-ltb, cases_eq}
 use Rattle.fj_model.specs.declared.event.Event.{Event}
 use Rattle.fj_model.specs.declared.event.Event.TheVariants.{Acc, Make}
 use Rattle.fj_model.specs.declared.kind.Kind.{Kind}
@@ -15,19 +15,18 @@ use Rattle.fj_model.specs.declared.place.Place.{Place}
 use Rattle.fj_model.specs.declared.refusal.Refusal.{Refusal}
 use Rattle.fj_model.specs.declared.place.Place.TheVariants.{Queued, Open}
 use Rattle.fj_model.specs.Bounds.{Bounds, Pool, IsOwner, queues_in, queue_number, owner_at}
-use Rattle.fj_model.specs.Lists.{is_in}
-use Rattle.fj_model.specs.Tasks.{tasks, accepted_by, is_kept, is_completer, is_completer_kind, kind, parent_in, count_in}
+use Rattle.fj_model.specs.Tasks.{accepted_by, is_kept, is_completer, is_completer_kind, kind, parent_in, count_in}
 use Rattle.fj_model.specs.Queues.{queue, is_same}
 use Rattle.fj_model.specs.Completers.{is_spent, fires_or_passes}
 use Rattle.fj_model.specs.Places.{place}
 use Rattle.fj_model.specs.Allowed.{Allowed, AllowedFrom, MayAccept}
-use Rattle.fj_model.proofs.Growth.{tasks_more, stack_same}
+use Rattle.fj_model.proofs.Growth.{stack_same}
 use Rattle.fj_model.proofs.Lawful.{is_new, same_owner}
-use Rattle.fj_model.proofs.Members.{is_in_append}
 use Rattle.fj_model.proofs.NewTasks.{kind_given, new_kind, new_count, new_undone, submitted_place, submitted_open, submitted_gone, made_place, made_open, made_gone}
 use Rattle.fj_model.proofs.OnePlace.{never}
 use Rattle.fj_model.proofs.Owners.{sub_owner, work_owner, owners_apart}
 use Rattle.fj_model.proofs.Queues.{queue_same, queue_push}
+use Rattle.fj_model.proofs.Releasing.{new_kept}
 use Rattle.fj_model.proofs.Unfired.{climbs_unfired}
 use Rattle.fj_model.proofs.Unknown.{unknown_unspent}
 use Rattle.fj_queues.specs.Queues.{Lists as Waiting, queue_at, with_queue}
@@ -39,8 +38,7 @@ use Rattle.fj_tree.proofs.Finds.{parent_found}
 use Rattle.fj_tree.proofs.Numbers.{good_found}
 use Rattle.fj_machine.specs.Rows.{Lists}
 use Rattle.fj_machine.specs.InHands.{InHand}
-use Rattle.fj_machine.specs.Holds.{Holds, KeepsQueues, KeepsTree, Tells, is_built_event}
-use Rattle.fj_machine.proofs.Built.{IsBuilt, built_more, kept_is}
+use Rattle.fj_machine.specs.Holds.{Holds, KeepsQueues, KeepsTree, Tells}
 use Rattle.fj_machine.proofs.Growing.{grown_holds}
 use Rattle.fj_machine.proofs.HandParts.{hands_same}
 use Rattle.fj_machine.proofs.Located.{located}
@@ -103,15 +101,11 @@ made_is old new r x k p is number made room vacant found others kept =
 
 -- ---- the record
 
-new_known : (h : List Event) (e : Event) (t : ℕ) → accepted_by e ≡ Some t → is_in t (tasks (h ++ e ∷ [])) ≡ true
-new_known h e t new =
-    rw (tasks_more, new, is_in_append t (tasks h) (t ∷ [])) (or_right (is_in t (tasks h)) (is_in t (t ∷ [])) (rw (eq-eqb t t refl) refl))
-
 -- what the new record says
-fresh_tells : (pool : Pool) (h : List Event) (e : Event) (t : ℕ) (k : Kind) (p : Place) → AllowedFrom pool [] h → Allowed pool h e → IsBuilt h → is_built_event e ≡ true → accepted_by e ≡ Some t → kind_given e ≡ Some k
+fresh_tells : (pool : Pool) (h : List Event) (e : Event) (t : ℕ) (k : Kind) (p : Place) → AllowedFrom pool [] h → Allowed pool h e → accepted_by e ≡ Some t → kind_given e ≡ Some k
     → fires_or_passes t e ≡ false → list_any (fires_or_passes t) h ≡ false → place (h ++ e ∷ []) t ≡ p → Tells (h ++ e ∷ []) (fresh t k p)
-fresh_tells pool h e t k p so may built is new given unfired before placed = record {
-  kept = kept_is (h ++ e ∷ []) t (built_more h e built is) ∙ new_known h e t new;
+fresh_tells pool h e t k p so may new given unfired before placed = record {
+  kept = new_kept pool h e t so may new;
   kind = new_kind pool h e t k so may new given;
   place = placed;
   status = new_undone pool h e t so may new;
@@ -167,12 +161,12 @@ pub accept_holds : (pool : Pool) (h : List Event) (t : ℕ) (o : Owner) (k : Kin
 accept_holds pool h t o k queues stacks hands tree new opens gones key holds may fits made =
     let e = Acc t o k in
     let so = holds.lawful in
-    let tells = fresh_tells pool h e t k (Queued o) so may holds.built refl refl refl refl (unspent_new pool h e t queues stacks hands tree opens gones holds may refl) (submitted_place pool h t o k so may) in
-    grown_holds pool h e queues _ stacks stacks hands hands tree new opens opens gones gones holds may refl fits (λ d none. absurd cc) (record {
+    let tells = fresh_tells pool h e t k (Queued o) so may refl refl refl (unspent_new pool h e t queues stacks hands tree opens gones holds may refl) (submitted_place pool h t o k so may) in
+    grown_holds pool h e queues _ stacks stacks hands hands tree new opens opens gones gones holds may fits (λ d none. absurd cc) (record {
       queues_kept = queues_after_accept pool h queues o t k so may may.1 holds.queues_kept;
       stacks_kept = stacks_same pool.limits h (h ++ e ∷ []) stacks (λ w. stack_same h w e refl refl) holds.stacks_kept;
-      hands_kept = hands_same pool h e hands so may refl holds.hands_kept;
-      tree_kept = tree_made pool h e tree new key t k (Queued o) so may holds.built refl refl refl made tells holds.tree_kept;
+      hands_kept = hands_same pool h e hands so may refl refl (λ c said there. absurd cc) holds.hands_kept;
+      tree_kept = tree_made pool h e tree new key t k (Queued o) so may refl refl refl made tells holds.tree_kept;
       open_kept = holds.open_kept ∙ sym (submitted_open pool h t o k so may);
       gone_kept = holds.gone_kept ∙ sym (submitted_gone pool h t o k so may);
     })
@@ -185,12 +179,12 @@ trigger_holds pool h t k queues stacks hands tree new opens gones key holds may 
     let so = holds.lawful in
     let absent = is_new pool h e t so may refl in
     let unspent : is_spent h t ≡ false = unknown_unspent pool h t so (climbs_unfired h holds.climbs) absent in
-    let tells = fresh_tells pool h e t k Open so may holds.built refl refl refl refl (climbs_unfired h holds.climbs t absent) (made_place pool h t k so may unspent) in
-    grown_holds pool h e queues queues stacks stacks hands hands tree new opens (opens ++ t ∷ []) gones gones holds may refl fits (λ d none. absurd cc) (record {
+    let tells = fresh_tells pool h e t k Open so may refl refl refl (climbs_unfired h holds.climbs t absent) (made_place pool h t k so may unspent) in
+    grown_holds pool h e queues queues stacks stacks hands hands tree new opens (opens ++ t ∷ []) gones gones holds may fits (λ d none. absurd cc) (record {
       queues_kept = queues_same pool.limits h (h ++ e ∷ []) queues (λ o. queue_same h e o refl refl) holds.queues_kept;
       stacks_kept = stacks_same pool.limits h (h ++ e ∷ []) stacks (λ w. stack_same h w e refl refl) holds.stacks_kept;
-      hands_kept = hands_same pool h e hands so may refl holds.hands_kept;
-      tree_kept = tree_made pool h e tree new key t k Open so may holds.built refl refl refl made tells holds.tree_kept;
+      hands_kept = hands_same pool h e hands so may refl refl (λ c said there. absurd cc) holds.hands_kept;
+      tree_kept = tree_made pool h e tree new key t k Open so may refl refl refl made tells holds.tree_kept;
       open_kept = ap (λ (ts : List ℕ). ts ++ t ∷ []) holds.open_kept ∙ sym (made_open pool h t k so may unspent);
       gone_kept = holds.gone_kept ∙ sym (made_gone pool h t k so may unspent);
     })

@@ -69,18 +69,18 @@ ended_holds pool h t w b p queues stacks hands tree opened gones opened2 gones2 
     let tells = holds.tree_kept.each at.key r l.at in
     let known : is_in t (tasks h) ≡ true = ended_accepted pool h t w so may in
     let new : Tells (h ++ e ∷ []) (with_place p r) = record {
-      kept = kept_more h e r.serial holds.built refl tells.kept;
+      kept = kept_more h e r.serial refl tells.kept;
       kind = kind_same h e r.serial (λ said. absurd cc) ∙ tells.kind;
       place = ap (place (h ++ e ∷ [])) number ∙ ended_place pool h t w so may ∙ rw is (sym placed);
       status = moved_status h e r.serial refl ∙ tells.status;
       pending = pending_same h e r.serial (kind_same h e r.serial (λ said. absurd cc)) refl refl ∙ tells.pending;
       spent = fired_same h e r.serial refl ∙ tells.spent;
     } in
-    grown_holds pool h e queues queues stacks _ hands hands tree _ opened opened2 gones gones2 holds may refl fits (λ d none. absurd cc) (record {
+    grown_holds pool h e queues queues stacks _ hands hands tree _ opened opened2 gones gones2 holds may fits (λ d none. absurd cc) (record {
       queues_kept = queues_same pool.limits h (h ++ e ∷ []) queues (λ o. queue_same h e o refl refl) holds.queues_kept;
       stacks_kept = stacks_after_end pool h stacks w t so within may.0 holds.stacks_kept;
-      hands_kept = hands_same pool h e hands so may refl holds.hands_kept;
-      tree_kept = tree_written pool h e tree (changed tree at.key (with_place p)) at.key r (with_place p r) so may holds.built refl refl (ap Some (sym number)) sound (written tree at.key r (with_place p) l.at) refl new holds.tree_kept;
+      hands_kept = hands_same pool h e hands so may refl refl (λ c said there. absurd cc) holds.hands_kept;
+      tree_kept = tree_written pool h e tree (changed tree at.key (with_place p)) at.key r (with_place p r) so may refl refl (ap Some (sym number)) sound (written tree at.key r (with_place p) l.at) refl new holds.tree_kept;
       open_kept = open_is ∙ ap (λ (ts : List ℕ). ts ++ (if b then t ∷ [] else [])) holds.open_kept ∙ sym (ended_open pool h t w so may ∙ rw is refl);
       gone_kept = gone_is ∙ ap (λ (ts : List ℕ). ts ++ (if b then [] else t ∷ [])) holds.gone_kept ∙ sym (ended_gone pool h t w so may ∙ rw is refl);
     })

@@ -23,12 +23,12 @@ use Rattle.fj_model.specs.declared.place.Place.TheVariants.{Open, Gone}
 use Rattle.fj_model.specs.Places.{is_open}
 use Rattle.fj_model.specs.Climbs.{Spent, Counted, Early, Fires, arrival}
 use Rattle.fj_model.specs.Allowed.{Allowed, AllowedFrom}
-use Rattle.fj_model.specs.Answers.{running, first_that_stands, refusals_of, events_of, reply_of, after_end, end_says, arriving, is_built_ending, is_misfit, no_such_worker, hook_in_hand, nothing_running}
+use Rattle.fj_model.specs.Answers.{running, first_that_stands, refusals_of, events_of, reply_of, after_end, end_says, arriving, is_misfit, no_such_worker, hook_in_hand, nothing_running}
 use Rattle.fj_model.specs.Runs.{Past, Steps, grown}
 use Rattle.fj_model.proofs.Growth.{hooks_more}
 use Rattle.fj_model.proofs.Members.{get_is_in}
-use Rattle.fj_model.proofs.Lawful.{taken_known, allowed_more}
-use Rattle.fj_model.proofs.StacksTaken.{stack_taken}
+use Rattle.fj_model.proofs.Lawful.{allowed_more}
+use Rattle.fj_model.proofs.KeptPlaces.{held_kept}
 use Rattle.fj_model.proofs.KindsKept.{completer_same}
 use Rattle.fj_model.proofs.Opening.{ended_place}
 use Rattle.fj_model.proofs.ArrivalPlaces.{arrival_at}
@@ -44,7 +44,7 @@ use Rattle.fj_machine.proofs.Stepping.{steps_full, steps_made, may_step}
 
 -- a running task is kept
 pub running_kept : (pool : Pool) (h : List Event) (w t : ℕ) → IsLawful pool h → running h w ≡ Some t → is_kept h t ≡ true
-running_kept pool h w t law is = law.unreleased t ∙ taken_known pool h law.allowed t (stack_taken h w t (get_is_in t (stack h w) (length (stack h w) - 1) is))
+running_kept pool h w t law is = held_kept pool h w t law.allowed (get_is_in t (stack h w) (length (stack h w) - 1) is)
 
 -- where the worker runs a task, only a misfit of the ending can stand against it
 end_tests : (pool : Pool) (h : List Event) (w t : ℕ) (ending : Ending)
@@ -97,30 +97,30 @@ unfolding reply_of
 end_reply pool h w t ending is = rw is refl
 
 -- the events do not fit
-pub end_full : (now : Past) (w t : ℕ) (ending : Ending) (n : ℕ) → is_built_ending ending ≡ true → first_that_stands (refusals_of now.pool now.events (End w ending)) ≡ None → running now.events w ≡ Some t
+pub end_full : (now : Past) (w t : ℕ) (ending : Ending) (n : ℕ) → first_that_stands (refusals_of now.pool now.events (End w ending)) ≡ None → running now.events w ≡ Some t
     → 1 + length (after_end (now.events ++ event.End t w ∷ []) t ending) ≡ n → now.pool.limits.events < length now.events + n → Steps now (End w ending) (says.Refused LogFull) now
-end_full now w t ending n built stands is count over =
-    steps_full now (End w ending) built stands (rw (end_events now.pool now.events w t ending is) (omega (arith, count, over)))
+end_full now w t ending n stands is count over =
+    steps_full now (End w ending) stands (rw (end_events now.pool now.events w t ending is) (omega (arith, count, over)))
 
 -- the body ends, and then comes what its ending says
-pub end_made : (old new : Past) (w t : ℕ) (ending : Ending) (events : List Event) (reply : Said) (n : ℕ) → is_built_ending ending ≡ true
+pub end_made : (old new : Past) (w t : ℕ) (ending : Ending) (events : List Event) (reply : Said) (n : ℕ)
     → first_that_stands (refusals_of old.pool old.events (End w ending)) ≡ None → running old.events w ≡ Some t
     → after_end (old.events ++ event.End t w ∷ []) t ending ≡ events → reply ≡ end_says (old.events ++ event.End t w ∷ []) t ending
     → 1 + length events ≡ n → length old.events + n ≤ old.pool.limits.events
     → new ≡ grown (grown old (event.End t w ∷ [])) events → Steps old (End w ending) reply new
-end_made old new w t ending events reply n built stands is after said count fits are =
-    steps_made old new (End w ending) reply built stands
+end_made old new w t ending events reply n stands is after said count fits are =
+    steps_made old new (End w ending) reply stands
     (rw (end_events old.pool old.events w t ending is) (omega (arith, ap length after, count, fits)))
     (said ∙ sym (end_reply old.pool old.events w t ending is))
     (are ∙ grown_twice old (event.End t w ∷ []) events ∙ ap (grown old) (ap (λ (es : List Event). event.End t w ∷ es) (sym after) ∙ sym (end_events old.pool old.events w t ending is)))
 
 -- the end of the body is allowed, and so is what comes after it
-pub may_end : (pool : Pool) (h : List Event) (w t : ℕ) (ending : Ending) (n : ℕ) → IsLawful pool h → is_built_ending ending ≡ true → first_that_stands (refusals_of pool h (End w ending)) ≡ None → running h w ≡ Some t
+pub may_end : (pool : Pool) (h : List Event) (w t : ℕ) (ending : Ending) (n : ℕ) → IsLawful pool h → first_that_stands (refusals_of pool h (End w ending)) ≡ None → running h w ≡ Some t
     → 1 + length (after_end (h ++ event.End t w ∷ []) t ending) ≡ n → length h + n ≤ pool.limits.events
     → Allowed pool h (event.End t w) × AllowedFrom pool (h ++ event.End t w ∷ []) (after_end (h ++ event.End t w ∷ []) t ending)
-may_end pool h w t ending n law built stands is count fits =
+may_end pool h w t ending n law stands is count fits =
     subst (AllowedFrom pool h) (end_events pool h w t ending is)
-    (may_step pool h (End w ending) law built stands (rw (end_events pool h w t ending is) (omega (arith, count, fits))))
+    (may_step pool h (End w ending) law stands (rw (end_events pool h w t ending is) (omega (arith, count, fits))))
 
 -- ---- after it
 

@@ -1,5 +1,5 @@
 -- Where a worker's choice stands, found in the queues that a machine keeps.
-use Rattle.std.proofs.Common.{zero, suc, ℕ, ◌≡◌, ◌+◌, ◌-◌, ◌%◌, ◌≤◌, ◌<◌, cond, List, [], ◌∷◌, length, map, get_or, Option, Some, None, true, refl, ap, sym, subst, ◌∙◌, arith, ⊎_elim}
+use Rattle.std.proofs.Common.{zero, suc, ℕ, ◌≡◌, ◌+◌, ◌-◌, ◌%◌, ◌≤◌, ◌<◌, cond, List, [], ◌∷◌, length, map, get_or, Option, Some, None, refl, ap, sym, subst, ◌∙◌, arith, ⊎_elim}
 use Rattle.std.proofs.lemmas.List.{append-nil}
 use Rattle.std.proofs.lemmas.Bool.{cases_lt}
 use Rattle.std.specs.Prelude.{MatchOption, slice_get}
@@ -18,7 +18,7 @@ use Rattle.fj_model.specs.declared.said.Said.{Said}
 use Rattle.fj_model.specs.declared.said.Said.TheVariants as says
 use Rattle.fj_model.specs.declared.step.Step.{Step}
 use Rattle.fj_model.specs.Allowed.{AllowedFrom}
-use Rattle.fj_model.specs.Answers.{refusals_of, first_that_stands, is_built, events_of, reply_of, taking, taking_says}
+use Rattle.fj_model.specs.Answers.{refusals_of, first_that_stands, events_of, reply_of, taking, taking_says}
 use Rattle.fj_model.specs.Runs.{Past, Steps, grown}
 use Rattle.fj_model.proofs.Owners.{work_owner}
 use Rattle.fj_queues.specs.Queues.{first_filled, places_from}
@@ -163,21 +163,21 @@ takes_it past new w r source reply room from said events = record {
 }
 
 -- a step that takes its worker's choice, and is refused for a full history at most
-pub choice_steps : (old new : Past) (asked : Step) (w r : ℕ) (reply : Said) → TakesChoice old w r reply new → is_built asked ≡ true
+pub choice_steps : (old new : Past) (asked : Step) (w r : ℕ) (reply : Said) → TakesChoice old w r reply new
     → first_that_stands (refusals_of old.pool old.events asked) ≡ None
     → events_of old.pool old.events asked ≡ taking old.events w (choice old.pool old.events w r)
     → reply_of old.pool old.events asked ≡ taking_says old.events (choice old.pool old.events w r)
     → Steps old asked reply new
-choice_steps old new asked w r reply takes built stands events replies = ⊎_elim
-    (λ over. rw ((takes.full over).0, (takes.full over).1) (steps_full old asked built stands (rw events over)))
-    (λ room. steps_made old new asked reply built stands (rw events room) ((takes.fits room).0 ∙ sym replies) ((takes.fits room).1 ∙ ap (grown old) (sym events)))
+choice_steps old new asked w r reply takes stands events replies = ⊎_elim
+    (λ over. rw ((takes.full over).0, (takes.full over).1) (steps_full old asked stands (rw events over)))
+    (λ room. steps_made old new asked reply stands (rw events room) ((takes.fits room).0 ∙ sym replies) ((takes.fits room).1 ∙ ap (grown old) (sym events)))
     (cases_lt old.pool.limits.events (length old.events + length (taking old.events w (choice old.pool old.events w r))))
 
 -- the choice of such a step may be taken where there is room
-pub choice_may : (now : Past) (asked : Step) (w r : ℕ) → IsLawful now.pool now.events → is_built asked ≡ true
+pub choice_may : (now : Past) (asked : Step) (w r : ℕ) → IsLawful now.pool now.events
     → first_that_stands (refusals_of now.pool now.events asked) ≡ None
     → events_of now.pool now.events asked ≡ taking now.events w (choice now.pool now.events w r)
     → length now.events + length (taking now.events w (choice now.pool now.events w r)) ≤ now.pool.limits.events
     → AllowedFrom now.pool now.events (taking now.events w (choice now.pool now.events w r))
-choice_may now asked w r law built stands events room =
-    subst (AllowedFrom now.pool now.events) events (may_step now.pool now.events asked law built stands (rw events room))
+choice_may now asked w r law stands events room =
+    subst (AllowedFrom now.pool now.events) events (may_step now.pool now.events asked law stands (rw events room))

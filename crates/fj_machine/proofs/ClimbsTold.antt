@@ -184,7 +184,7 @@ climbs_told l pool h tree at w end k sound good_at may completer count ends = re
         (ends_list l pool h tree at w (root_of (path h1 at.serial)) end rest k sound good_at may completer root (drop_good tree (length (take_while (is_passed tree at) hs)) hs way.good) ends)
 
 -- a way is no longer than its first number and one
-way_short : (n : ℕ) (h : List Event) (from : Option ℕ) → length (path_up n h from) ≤ n
+pub way_short : (n : ℕ) (h : List Event) (from : Option ℕ) → length (path_up n h from) ≤ n
 unfolding path_up
 way_short zero h from = omega arith
 way_short (suc n) h None = omega arith

@@ -6,7 +6,7 @@ use Rattle.std.proofs.lemmas.Option.{same_Some}
 use Rattle.fj_model.specs.declared.event.Event.{Event}
 use Rattle.fj_model.specs.declared.event.Event.TheVariants.{Add, Dec}
 use Rattle.fj_model.specs.Bounds.{Pool}
-use Rattle.fj_model.specs.Tasks.{is_completer, is_completer_kind}
+use Rattle.fj_model.specs.Tasks.{is_kept, is_completer, is_completer_kind}
 use Rattle.fj_model.specs.Completers.{pending, fires_or_passes}
 use Rattle.fj_model.specs.Climbs.{climbed_by}
 use Rattle.fj_model.specs.Allowed.{Allowed, AllowedFrom}
@@ -15,6 +15,8 @@ use Rattle.fj_model.specs.Climbs.{arrival}
 use Rattle.fj_model.specs.Climbs as climb
 use Rattle.fj_model.proofs.PlaceLaws.{none_accepted, kind_same, not_new, unmoved_queue, unmoved_stack}
 use Rattle.fj_model.proofs.Calm.{is_calm, calm_unmoved, calm_status, calm_place, calm_open, calm_gone}
+use Rattle.fj_model.proofs.Releasing.{kept_known}
+use Rattle.fj_model.proofs.Spending.{settled_by}
 use Rattle.fj_model.proofs.Pending.{pending_added, pending_counted}
 use Rattle.fj_queues.specs.Queues.{Lists as Waiting}
 use Rattle.fj_tree.specs.declared.record.Record.{Record}
@@ -29,22 +31,22 @@ use Rattle.fj_tree.proofs.Numbers.{written}
 use Rattle.fj_machine.specs.Arriving.{as_arrival}
 use Rattle.fj_machine.specs.Rows.{Lists}
 use Rattle.fj_machine.specs.InHands.{InHand}
-use Rattle.fj_machine.specs.Holds.{Holds, Tells, is_built_event}
+use Rattle.fj_machine.specs.Holds.{Holds, Tells}
 use Rattle.fj_machine.proofs.ArrivalsTold.{arrival_told}
-use Rattle.fj_machine.proofs.Built.{IsBuilt, kept_known}
 use Rattle.fj_machine.proofs.Growing.{grown_holds}
 use Rattle.fj_machine.proofs.HandParts.{is_of_hook, hands_same}
 use Rattle.fj_machine.proofs.Located.{IsLocated}
 use Rattle.fj_machine.proofs.Parts.{queues_same, stacks_same}
 use Rattle.fj_machine.proofs.Records.{tree_written}
-use Rattle.fj_machine.proofs.Telling.{touched, kept_more, fired_same}
+use Rattle.fj_machine.proofs.Telling.{touched, is_of_one, kept_more, fired_same}
 
 -- an event that changes the pending count of one task alone
 record IsCount (e : Event) (t : ℕ) : Type 0 where
   calm : is_calm e ≡ true
-  built : is_built_event e ≡ true
+  one : is_of_one e ≡ true
   about : touched e ≡ Some t
   other : is_of_hook e ≡ false
+  unsettled : settled_by e ≡ None
 
 count_holds : (pool : Pool) (h : List Event) (e : Event) (queues : Waiting) (stacks : Lists) (hands : List (Option InHand)) (tree : Records) (opens gones : List ℕ) (at : Handle) (r : Record) (change : Record → Record)
     → Holds pool h queues stacks hands tree opens gones → Allowed pool h e → length h < pool.limits.events → IsCount e r.serial
@@ -53,25 +55,28 @@ count_holds : (pool : Pool) (h : List Event) (e : Event) (queues : Waiting) (sta
 count_holds pool h e queues stacks hands tree opens gones at r change holds may fits is at_completers sound found same tells =
     let so = holds.lawful in
     let unmoved = calm_unmoved e is.calm in
-    grown_holds pool h e queues queues stacks stacks hands hands tree (changed tree at.key change) opens opens gones gones holds may is.built fits at_completers (record {
+    grown_holds pool h e queues queues stacks stacks hands hands tree (changed tree at.key change) opens opens gones gones holds may fits at_completers (record {
       queues_kept = queues_same pool.limits h (h ++ e ∷ []) queues (λ o. unmoved_queue h e o unmoved) holds.queues_kept;
       stacks_kept = stacks_same pool.limits h (h ++ e ∷ []) stacks (λ w. unmoved_stack h e w unmoved) holds.stacks_kept;
-      hands_kept = hands_same pool h e hands so may is.other holds.hands_kept;
-      tree_kept = tree_written pool h e tree (changed tree at.key change) at.key r (change r) so may holds.built is.built (none e is.calm) is.about sound (written tree at.key r change found) same tells holds.tree_kept;
+      hands_kept = hands_same pool h e hands so may is.one is.other (λ c said there. settles_none is.unsettled said) holds.hands_kept;
+      tree_kept = tree_written pool h e tree (changed tree at.key change) at.key r (change r) so may is.one (none e is.calm) is.about sound (written tree at.key r change found) same tells holds.tree_kept;
       open_kept = holds.open_kept ∙ sym (calm_open pool h e so may is.calm);
       gone_kept = holds.gone_kept ∙ sym (calm_gone pool h e so may is.calm);
     })
   where
+    settles_none : {c : ℕ} → settled_by e ≡ None → settled_by e ≡ Some c → is_kept h c ≡ true
+    settles_none none said = absurd cc
+
     none : (e : Event) → is_calm e ≡ true → accepted_by e ≡ None
     none e calm = none_accepted e (calm_unmoved e calm)
 
 -- what the record says then
-count_tells : (pool : Pool) (h : List Event) (e : Event) (r : Record) (n : ℕ) → AllowedFrom pool [] h → Allowed pool h e → IsBuilt h → IsCount e r.serial → fires_or_passes r.serial e ≡ false
+count_tells : (pool : Pool) (h : List Event) (e : Event) (r : Record) (n : ℕ) → AllowedFrom pool [] h → Allowed pool h e → IsCount e r.serial → fires_or_passes r.serial e ≡ false
     → Tells h r → pending (h ++ e ∷ []) r.serial ≡ n → Tells (h ++ e ∷ []) (record r { pending = n })
-count_tells pool h e r n so may built is unfired tells count =
+count_tells pool h e r n so may is unfired tells count =
     let known = kept_known h r.serial tells.kept in
     record {
-      kept = kept_more h e r.serial built is.built tells.kept;
+      kept = kept_more h e r.serial is.one tells.kept;
       kind = kind_same h e r.serial (not_new pool h e r.serial so may known) ∙ tells.kind;
       place = calm_place pool h e r.serial so may is.calm known ∙ tells.place;
       status = calm_status h e r.serial is.calm ∙ tells.status;
@@ -88,10 +93,10 @@ raise_holds pool h c n queues stacks hands tree opens gones at holds sound l may
     let number : r.serial ≡ c = l.serial ∙ l.number in
     let may_r : Allowed pool h e = subst (λ (u : ℕ). Allowed pool h (Add u n)) (sym number) may in
     let tells = holds.tree_kept.each at.key r l.at in
-    let is : IsCount e r.serial = record { calm = refl; built = refl; about = refl; other = refl } in
+    let is : IsCount e r.serial = record { calm = refl; one = refl; about = refl; other = refl; unsettled = refl } in
     subst (λ (u : ℕ). Holds pool (h ++ Add u n ∷ []) queues stacks hands (changed tree at.key (with_added n)) opens gones) number
     (count_holds pool h e queues stacks hands tree opens gones at r (with_added n) holds may_r fits is (λ d none. absurd cc) sound l.at refl
-    (count_tells pool h e r (r.pending + n) holds.lawful may_r holds.built is refl tells (pending_added pool h r.serial n holds.lawful ∙ ap (λ (m : ℕ). m + n) tells.pending)))
+    (count_tells pool h e r (r.pending + n) holds.lawful may_r is refl tells (pending_added pool h r.serial n holds.lawful ∙ ap (λ (m : ℕ). m + n) tells.pending)))
 
 pub count_down_holds : (pool : Pool) (h : List Event) (c : ℕ) (queues : Waiting) (stacks : Lists) (hands : List (Option InHand)) (tree : Records) (opens gones : List ℕ) (at : Handle)
     → Holds pool h queues stacks hands tree opens gones → IsSound tree → IsLocated tree c at → Allowed pool h (Dec c) → is_completer h c ≡ true → length h < pool.limits.events
@@ -102,10 +107,10 @@ count_down_holds pool h c queues stacks hands tree opens gones at holds sound l 
     let number : r.serial ≡ c = l.serial ∙ l.number in
     let may_r : Allowed pool h e = subst (λ (u : ℕ). Allowed pool h (Dec u)) (sym number) may in
     let tells = holds.tree_kept.each at.key r l.at in
-    let is : IsCount e r.serial = record { calm = refl; built = refl; about = refl; other = refl } in
+    let is : IsCount e r.serial = record { calm = refl; one = refl; about = refl; other = refl; unsettled = refl } in
     subst (λ (u : ℕ). Holds pool (h ++ Dec u ∷ []) queues stacks hands (changed tree at.key (arrived Counted)) opens gones) number
     (count_holds pool h e queues stacks hands tree opens gones at r (arrived Counted) holds may_r fits is (λ d same. ap (is_completer h) (same_Some d c (sym same ∙ ap Some number)) ∙ completer) sound l.at refl
-    (count_tells pool h e r (r.pending - 1) holds.lawful may_r holds.built is refl tells (pending_counted h r.serial ∙ ap (λ (m : ℕ). m - 1) tells.pending)))
+    (count_tells pool h e r (r.pending - 1) holds.lawful may_r is refl tells (pending_counted h r.serial ∙ ap (λ (m : ℕ). m - 1) tells.pending)))
 
 -- the arrival that the record tells is the one of the event
 pub counted_at : (pool : Pool) (h : List Event) (c : ℕ) (queues : Waiting) (stacks : Lists) (hands : List (Option InHand)) (tree : Records) (opens gones : List ℕ) (at : Handle) (a : Arrived)

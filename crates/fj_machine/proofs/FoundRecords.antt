@@ -17,6 +17,11 @@ pub kept_found : (h : List Event) (t : ℕ) (found : Option (Bor Record)) → Ma
 kept_found h t None told kept = absurd (true≢false (sym kept ∙ told))
 kept_found h t (Some r) told kept = refl
 
+-- and a task without one is not kept
+pub unkept : (h : List Event) (t : ℕ) (found : Option (Bor Record)) → MatchOption (option_copied found) (is_kept h t ≡ false) (TellsOf h t) → found ≡ None → is_kept h t ≡ false
+unkept h t None told none = told
+unkept h t (Some r) told none = absurd cc
+
 pub told_of : (h : List Event) (t : ℕ) (found : Option (Bor Record)) (r : Bor Record) → MatchOption (option_copied found) (is_kept h t ≡ false) (TellsOf h t) → found ≡ Some r → TellsOf h t r.now
 told_of h t found r told is = MatchOption-at_some (is_kept h t ≡ false) (TellsOf h t) r.now (ap option_copied is) told
 

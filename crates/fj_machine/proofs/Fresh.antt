@@ -59,7 +59,6 @@ fresh_holds pool within = record {
   within = within;
   lawful = tt;
   climbs = climbs_none;
-  built = refl;
   fits = omega arith;
   queues_kept = record {
     count = length-replicate (queues_in pool.limits) [];

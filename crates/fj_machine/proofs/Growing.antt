@@ -12,8 +12,7 @@ use Rattle.fj_queues.specs.Queues.{Lists as Waiting}
 use Rattle.fj_tree.specs.Records.{Records}
 use Rattle.fj_machine.specs.Rows.{Lists}
 use Rattle.fj_machine.specs.InHands.{InHand}
-use Rattle.fj_machine.specs.Holds.{Holds, KeepsQueues, KeepsStacks, KeepsHands, KeepsTree, is_built_event}
-use Rattle.fj_machine.proofs.Built.{built_more}
+use Rattle.fj_machine.specs.Holds.{Holds, KeepsQueues, KeepsStacks, KeepsHands, KeepsTree}
 
 -- each part after the event
 pub record Parts (pool : Pool) (h : List Event) (queues : Waiting) (stacks : Lists) (hands : List (Option InHand)) (tree : Records) (opens gones : List ℕ) : Type 0 where
@@ -29,15 +28,14 @@ unfolding climbed
 climbs_one h e climbs at_completers = climbs_more h (e ∷ []) climbs (λ c there. ⊎_elim (at_completers c) (λ none. absurd cc) (front_cases c (climbed_by e) [] there))
 
 pub grown_holds : (pool : Pool) (h : List Event) (e : Event) (queues queues2 : Waiting) (stacks stacks2 : Lists) (hands hands2 : List (Option InHand)) (tree tree2 : Records) (opens opens2 gones gones2 : List ℕ)
-    → Holds pool h queues stacks hands tree opens gones → Allowed pool h e → is_built_event e ≡ true → length h < pool.limits.events
+    → Holds pool h queues stacks hands tree opens gones → Allowed pool h e → length h < pool.limits.events
     → ((c : ℕ) → climbed_by e ≡ Some c → is_completer h c ≡ true)
     → Parts pool (h ++ e ∷ []) queues2 stacks2 hands2 tree2 opens2 gones2
     → Holds pool (h ++ e ∷ []) queues2 stacks2 hands2 tree2 opens2 gones2
-grown_holds pool h e queues queues2 stacks stacks2 hands hands2 tree tree2 opens opens2 gones gones2 holds may is fits at_completers parts = record {
+grown_holds pool h e queues queues2 stacks stacks2 hands hands2 tree tree2 opens opens2 gones gones2 holds may fits at_completers parts = record {
   within = holds.within;
   lawful = allowed_more pool [] h e holds.lawful may;
   climbs = climbs_one h e holds.climbs at_completers;
-  built = built_more h e holds.built is;
   fits = omega (arith, length-append h (e ∷ []));
   queues_kept = parts.queues_kept;
   stacks_kept = parts.stacks_kept;

@@ -25,11 +25,11 @@ hook_end_holds pool h c w queues stacks hands tree opens gones holds within is f
     let e = Hooked c in
     let may : Allowed pool h e = (w, is) in
     let so = holds.lawful in
-    grown_holds pool h e queues queues stacks stacks hands (set hands w None) tree tree opens opens gones gones holds may refl fits (λ d none. absurd cc) (record {
+    grown_holds pool h e queues queues stacks stacks hands (set hands w None) tree tree opens opens gones gones holds may fits (λ d none. absurd cc) (record {
       queues_kept = queues_same pool.limits h (h ++ e ∷ []) queues (λ o. unmoved_queue h e o refl) holds.queues_kept;
       stacks_kept = stacks_same pool.limits h (h ++ e ∷ []) stacks (λ v. unmoved_stack h e v refl) holds.stacks_kept;
       hands_kept = hands_ended pool h c w hands so may within is holds.hands_kept;
-      tree_kept = tree_same pool h e tree so may holds.built refl refl refl holds.tree_kept;
+      tree_kept = tree_same pool h e tree so may refl refl refl holds.tree_kept;
       open_kept = holds.open_kept ∙ sym (calm_open pool h e so may refl);
       gone_kept = holds.gone_kept ∙ sym (calm_gone pool h e so may refl);
     })

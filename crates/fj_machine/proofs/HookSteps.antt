@@ -13,7 +13,8 @@ use Rattle.fj_model.specs.declared.said.Said.{Said}
 use Rattle.fj_model.specs.declared.said.Said.TheVariants as says
 use Rattle.fj_model.specs.declared.step.Step.TheVariants.{HookDone}
 use Rattle.fj_model.specs.Bounds.{Pool}
-use Rattle.fj_model.specs.Tasks.{is_kept, is_completer, parent}
+use Rattle.fj_model.specs.Lists.{is_in}
+use Rattle.fj_model.specs.Tasks.{is_completer, parent}
 use Rattle.fj_model.specs.Hooks.{hooks, hand, receiver, completer_in}
 use Rattle.fj_model.specs.Statuses.{status, is_undone}
 use Rattle.fj_model.specs.Climbs.{Arrival, Spent, Counted, Early, Fires, arrival}
@@ -24,14 +25,13 @@ use Rattle.fj_model.proofs.Growth.{hooks_more, or_false}
 use Rattle.fj_model.proofs.Lawful.{allowed_more}
 use Rattle.fj_model.proofs.Ends.{status_settle}
 use Rattle.fj_model.proofs.Statuses.{status_same}
-use Rattle.fj_model.proofs.KindsKept.{completer_same, completer_known}
-use Rattle.fj_model.proofs.Parents.{parent_smaller, parent_completer, parent_known}
+use Rattle.fj_model.proofs.KindsKept.{completer_same}
+use Rattle.fj_model.proofs.Parents.{parent_smaller, parent_completer}
 use Rattle.fj_model.proofs.Arrivals.{arrival_untouched}
 use Rattle.fj_model.proofs.Climbed.{hand_climbed}
-use Rattle.fj_machine.specs.Holds.{IsLawful}
+use Rattle.fj_machine.specs.Holds.{IsLawful, hook_completers}
 use Rattle.fj_machine.proofs.HandParts.{hand_same}
-use Rattle.fj_machine.proofs.HookLists.{hand_emptied, worker_found}
-use Rattle.fj_machine.proofs.KeptTasks.{kept_still}
+use Rattle.fj_machine.proofs.HookLists.{completers, hand_emptied, worker_found, but_unlisted}
 use Rattle.fj_machine.proofs.RoomTests.{grown_twice}
 use Rattle.fj_machine.proofs.Stepping.{steps_refused, steps_full, steps_made, may_step}
 
@@ -43,11 +43,11 @@ hook_stands pool h w c within is = rw (lt-leb pool.limits.workers w within, is) 
 
 -- there is no such worker
 pub hook_no_such : (now : Past) (w : ℕ) → nat_lt w now.pool.limits.workers ≡ false → Steps now (HookDone w) (says.Refused NoSuch) now
-hook_no_such now w over = steps_refused now (HookDone w) NoSuch refl (rw (le-leb now.pool.limits.workers w (ltb-false w now.pool.limits.workers over)) refl)
+hook_no_such now w over = steps_refused now (HookDone w) NoSuch (rw (le-leb now.pool.limits.workers w (ltb-false w now.pool.limits.workers over)) refl)
 
 -- no action is in its hand
 pub hook_none : (now : Past) (w : ℕ) → nat_lt w now.pool.limits.workers ≡ true → hand now.events w ≡ None → Steps now (HookDone w) (says.Refused NotRunning) now
-hook_none now w within none = steps_refused now (HookDone w) NotRunning refl (rw (lt-leb now.pool.limits.workers w (ltb-true w now.pool.limits.workers within), none) refl)
+hook_none now w within none = steps_refused now (HookDone w) NotRunning (rw (lt-leb now.pool.limits.workers w (ltb-true w now.pool.limits.workers within), none) refl)
 
 hook_done_events : (pool : Pool) (h : List Event) (w c : ℕ) (events : List Event) → hand h w ≡ Some c → hook_events h (Some c) ≡ Hooked c ∷ events → events_of pool h (HookDone w) ≡ Hooked c ∷ events
 unfolding events_of
@@ -61,14 +61,14 @@ hook_done_reply pool h w c is = ap (hook_done_says h) is
 pub hook_full : (now : Past) (w c : ℕ) (events : List Event) (n : ℕ) → w < now.pool.limits.workers → hand now.events w ≡ Some c → hook_events now.events (Some c) ≡ Hooked c ∷ events
     → 1 + length events ≡ n → now.pool.limits.events < length now.events + n → Steps now (HookDone w) (says.Refused LogFull) now
 hook_full now w c events n within is after count over =
-    steps_full now (HookDone w) refl (hook_stands now.pool now.events w c within is) (rw (hook_done_events now.pool now.events w c events is after) (omega (arith, count, over)))
+    steps_full now (HookDone w) (hook_stands now.pool now.events w c within is) (rw (hook_done_events now.pool now.events w c events is after) (omega (arith, count, over)))
 
 -- the completion action ends, and then comes what follows
 pub hook_made : (old new : Past) (w c : ℕ) (events : List Event) (reply : Said) (n : ℕ) → w < old.pool.limits.workers → hand old.events w ≡ Some c → hook_events old.events (Some c) ≡ Hooked c ∷ events
     → reply ≡ hook_done_says old.events (Some c) → 1 + length events ≡ n → length old.events + n ≤ old.pool.limits.events
     → new ≡ grown (grown old (Hooked c ∷ [])) events → Steps old (HookDone w) reply new
 hook_made old new w c events reply n within is after said count fits are =
-    steps_made old new (HookDone w) reply refl (hook_stands old.pool old.events w c within is)
+    steps_made old new (HookDone w) reply (hook_stands old.pool old.events w c within is)
     (rw (hook_done_events old.pool old.events w c events is after) (omega (arith, count, fits)))
     (said ∙ sym (hook_done_reply old.pool old.events w c is))
     (are ∙ grown_twice old (Hooked c ∷ []) events ∙ ap (grown old) (sym (hook_done_events old.pool old.events w c events is after)))
@@ -78,7 +78,7 @@ pub may_hook : (pool : Pool) (h : List Event) (w c : ℕ) (events : List Event) 
     → 1 + length events ≡ n → length h + n ≤ pool.limits.events → AllowedFrom pool (h ++ Hooked c ∷ []) events
 may_hook pool h w c events n law within is after count fits =
     (subst (AllowedFrom pool h) (hook_done_events pool h w c events is after)
-    (may_step pool h (HookDone w) law refl (hook_stands pool h w c within is) (rw (hook_done_events pool h w c events is after) (omega (arith, count, fits))))).1
+    (may_step pool h (HookDone w) law (hook_stands pool h w c within is) (rw (hook_done_events pool h w c events is after) (omega (arith, count, fits))))).1
 
 -- ---- its completer
 
@@ -86,11 +86,9 @@ may_hook pool h w c events n law within is after count fits =
 hand_is_completer : (pool : Pool) (h : List Event) (w c : ℕ) → IsLawful pool h → hand h w ≡ Some c → is_completer h c ≡ true
 hand_is_completer pool h w c law is = law.climbs c (hand_climbed pool h w c law.allowed is)
 
-pub hand_kept : (pool : Pool) (h : List Event) (w c : ℕ) → IsLawful pool h → hand h w ≡ Some c → is_kept h c ≡ true
-hand_kept pool h w c law is = law.unreleased c ∙ completer_known h c (hand_is_completer pool h w c law is)
-
-pub hooked_kept : (pool : Pool) (h : List Event) (w c : ℕ) → IsLawful pool h → hand h w ≡ Some c → is_kept (h ++ Hooked c ∷ []) c ≡ true
-hooked_kept pool h w c law is = kept_still h (Hooked c) c refl refl ∙ hand_kept pool h w c law is
+-- once the action has ended it is in no hand any more
+pub hooked_unlisted : (h : List Event) (c : ℕ) → is_in c (hook_completers (h ++ Hooked c ∷ [])) ≡ false
+hooked_unlisted h c = ap (λ s. is_in c (completers s.in_hands)) (hooks_more h (Hooked c)) ∙ but_unlisted c (hooks h).in_hands
 
 hooked_undone : (h : List Event) (c : ℕ) → is_undone (status (h ++ Hooked c ∷ []) c) ≡ is_undone (status h c)
 hooked_undone h c = ap is_undone (status_same h (Hooked c) c (λ before. refl))
@@ -141,8 +139,8 @@ own_count c n false count = sym count
 parent_other : (pool : Pool) (h : List Event) (c p : ℕ) → IsLawful pool h → parent h c ≡ Some p → c ≢ p
 parent_other pool h c p law is same = omega (arith, parent_smaller pool h c p law.allowed is, same)
 
-pub parent_kept : (pool : Pool) (h : List Event) (c p : ℕ) → IsLawful pool h → parent h c ≡ Some p → is_kept h p ≡ true
-parent_kept pool h c p law is = law.unreleased p ∙ parent_known pool h c p law.allowed is
+pub parent_is_completer : (pool : Pool) (h : List Event) (c p : ℕ) → IsLawful pool h → parent h c ≡ Some p → is_completer h p ≡ true
+parent_is_completer pool h c p law is = parent_completer pool h c p law.allowed is
 
 -- the history after the end of the action, and after the completion of its own completer
 abbrev pub past_own : List Event → ℕ → Bool → List Event
@@ -152,11 +150,6 @@ past_own h c settles = (h ++ Hooked c ∷ []) ++ own c settles
 either_own : (P : List Event → Type 0) (h : List Event) (c : ℕ) (settles : Bool) → P (h ++ Hooked c ∷ []) → P ((h ++ Hooked c ∷ []) ++ Settle c Normal ∷ []) → P (past_own h c settles)
 either_own P h c true ended settled = settled
 either_own P h c false ended settled = subst P (sym (append-nil (h ++ Hooked c ∷ []))) ended
-
-pub parent_still_kept : (pool : Pool) (h : List Event) (c p : ℕ) (settles : Bool) → IsLawful pool h → parent h c ≡ Some p → is_kept (past_own h c settles) p ≡ true
-parent_still_kept pool h c p settles law is =
-    let ended = kept_still h (Hooked c) p refl refl ∙ parent_kept pool h c p law is in
-    either_own (λ (g : List Event). is_kept g p ≡ true) h c settles ended (kept_still (h ++ Hooked c ∷ []) (Settle c Normal) p refl refl ∙ ended)
 
 pub parent_still_completer : (pool : Pool) (h : List Event) (c p : ℕ) (settles : Bool) → IsLawful pool h → parent h c ≡ Some p → is_completer (past_own h c settles) p ≡ true
 parent_still_completer pool h c p settles law is =

@@ -7,7 +7,6 @@ use Rattle.fj_tree.specs.Records.{Records}
 use Rattle.fj_machine.specs.Rows.{Lists}
 use Rattle.fj_machine.specs.InHands.{InHand}
 use Rattle.fj_machine.specs.Holds.{Holds, IsLawful}
-use Rattle.fj_machine.proofs.Built.{never_closed, never_stopped, kept_is}
 
 pub lawful : (pool : Pool) (h : List Event) (queues : Waiting) (stacks : Lists) (hands : List (Option InHand)) (tree : Records) (opens gones : List ℕ)
     → Holds pool h queues stacks hands tree opens gones → IsLawful pool h
@@ -16,9 +15,6 @@ lawful pool h queues stacks hands tree opens gones holds = record {
   allowed = holds.lawful;
   climbs = holds.climbs;
   fits = holds.fits;
-  unclosed = never_closed h holds.built;
-  unstopped = never_stopped h holds.built;
-  unreleased = λ t. kept_is h t holds.built;
   one_each = holds.hands_kept.one_each;
   once = holds.hands_kept.once;
 }

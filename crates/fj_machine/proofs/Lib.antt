@@ -3,7 +3,6 @@ pub mod Accepted
 pub mod ArrivalsTold
 pub mod BodyEnded
 pub mod BodyEnds
-pub mod Built
 pub mod Choosing
 pub mod ClimbsTold
 pub mod CompleterSteps
@@ -16,10 +15,10 @@ pub mod HandParts
 pub mod HookEnds
 pub mod HookLists
 pub mod HookSteps
+pub mod KeptChildren
 pub mod KeptTasks
 pub mod Lawfuls
 pub mod Located
-pub mod NotYets
 pub mod OneEvent
 pub mod Parts
 pub mod PassSteps
@@ -30,11 +29,17 @@ pub mod Records
 pub mod Refused
 pub mod RefusedSteps
 pub mod Refusing
+pub mod RelaysTold
+pub mod Relaying
+pub mod Released
 pub mod RoomTests
 pub mod Rooms
 pub mod RowWrites
 pub mod Running
+pub mod SettleSteps
 pub mod Settled
+pub mod Shut
+pub mod ShutSteps
 pub mod Spent
 pub mod Stepping
 pub mod TakeSteps

@@ -8,7 +8,7 @@ use Rattle.fj_model.specs.declared.refusal.Refusal.TheVariants.{LogFull}
 use Rattle.fj_model.specs.declared.said.Said.{Said}
 use Rattle.fj_model.specs.declared.said.Said.TheVariants as says
 use Rattle.fj_model.specs.Allowed.{Allowed, AllowedFrom}
-use Rattle.fj_model.specs.Answers.{answer, refusals_of, first_that_stands, events_of, reply_of, is_built}
+use Rattle.fj_model.specs.Answers.{answer, refusals_of, first_that_stands, events_of, reply_of}
 use Rattle.fj_model.specs.Runs.{Past, Steps, grown}
 use Rattle.fj_machine.specs.Holds.{IsLawful}
 use Rattle.fj_machine.proofs.Stepping.{allowed, none_stands, steps_full, steps_made, may_step}
@@ -22,7 +22,6 @@ no_room b n m is says = ⊎_elim (λ over. over) (λ fits. absurd (true≢false 
 
 -- the step needs exactly the event e
 pub record IsOf (now : Past) (asked : Step) (e : Event) : Type 0 where
-  pub built : is_built asked ≡ true
   pub stands : first_that_stands (refusals_of now.pool now.events asked) ≡ None
   pub event : events_of now.pool now.events asked ≡ e ∷ []
 
@@ -31,7 +30,7 @@ one now asked e is = ap length is.event
 
 pub one_full : (now : Past) (asked : Step) (e : Event) (b : Bool) → IsOf now asked e → b ≡ false → (IsTrue b ↔ (length now.events + 1 ≤ now.pool.limits.events)) → Steps now asked (says.Refused LogFull) now
 one_full now asked e b is full says =
-    steps_full now asked is.built is.stands (omega (arith, one now asked e is, no_room b (length now.events + 1) now.pool.limits.events full says))
+    steps_full now asked is.stands (omega (arith, one now asked e is, no_room b (length now.events + 1) now.pool.limits.events full says))
 
 one_fits : (now : Past) (asked : Step) (e : Event) (b : Bool) → IsOf now asked e → b ≡ true → (IsTrue b ↔ (length now.events + 1 ≤ now.pool.limits.events))
     → length now.events + length (events_of now.pool now.events asked) ≤ now.pool.limits.events
@@ -40,19 +39,19 @@ one_fits now asked e b is room says = omega (arith, one now asked e is, has_room
 pub one_may : (now : Past) (asked : Step) (e : Event) (b : Bool) → IsLawful now.pool now.events → IsOf now asked e → b ≡ true → (IsTrue b ↔ (length now.events + 1 ≤ now.pool.limits.events))
     → Allowed now.pool now.events e
 one_may now asked e b law is room says =
-    let all = may_step now.pool now.events asked law is.built is.stands (one_fits now asked e b is room says) in
+    let all = may_step now.pool now.events asked law is.stands (one_fits now asked e b is room says) in
     (subst (AllowedFrom now.pool now.events) is.event all).0
 
 pub one_made : (old new : Past) (asked : Step) (e : Event) (reply : Said) (b : Bool) → IsOf old asked e → b ≡ true → (IsTrue b ↔ (length old.events + 1 ≤ old.pool.limits.events))
     → reply ≡ reply_of old.pool old.events asked → new ≡ grown old (e ∷ []) → Steps old asked reply new
 one_made old new asked e reply b is room says said event =
-    steps_made old new asked reply is.built is.stands (one_fits old asked e b is room says) said (event ∙ ap (grown old) (sym is.event))
+    steps_made old new asked reply is.stands (one_fits old asked e b is room says) said (event ∙ ap (grown old) (sym is.event))
 
 -- ---- without events
 
 -- a step that is not refused and appends nothing only tells
-pub only_tells : (now : Past) (asked : Step) (reply : Said) → IsLawful now.pool now.events → is_built asked ≡ true → first_that_stands (refusals_of now.pool now.events asked) ≡ None
+pub only_tells : (now : Past) (asked : Step) (reply : Said) → IsLawful now.pool now.events → first_that_stands (refusals_of now.pool now.events asked) ≡ None
     → events_of now.pool now.events asked ≡ [] → reply_of now.pool now.events asked ≡ reply → answer now.pool now.events asked ≡ (reply, [])
-only_tells now asked reply law built stands events says =
+only_tells now asked reply law stands events says =
     let fits : length now.events + length (events_of now.pool now.events asked) ≤ now.pool.limits.events = omega (arith, ap length events, law.fits) in
-    allowed now.pool now.events asked (none_stands now.pool now.events asked built stands fits) ∙ rw (events, says) refl
+    allowed now.pool now.events asked (none_stands now.pool now.events asked stands fits) ∙ rw (events, says) refl

@@ -18,6 +18,7 @@ use Rattle.fj_tree.specs.declared.pass.PassHow.{PassHow}
 use Rattle.fj_tree.specs.declared.pass.PassHow.TheVariants as how
 use Rattle.fj_machine.specs.declared.ledger.climb.Climb.{Climb}
 use Rattle.fj_machine.specs.Climbing.{IsEnd, EndsAt, Climbs, climb_end, climb_says}
+use Rattle.fj_model.proofs.KeptParents.{path_kept}
 use Rattle.fj_machine.proofs.KeptTasks.{kept_still}
 
 -- what ends the climb, as the history says it
@@ -66,6 +67,10 @@ on_way h t [] end is ends = get_is_in end.at (path h t) (length (path h t) - 1) 
 -- the one at which the climb ends is a completer
 pub climb_completer : (pool : Pool) (h : List Event) (t : ℕ) (end : Climb) → AllowedFrom pool [] h → is_completer h t ≡ true → Climbs h t end → is_completer h end.at ≡ true
 climb_completer pool h t end so completer climbs = path_completers pool h t end.at so completer (on_way h t (drop (length (passed h t)) (path h t)) end refl climbs.ends)
+
+-- and it is kept
+pub climb_kept : (pool : Pool) (h : List Event) (t : ℕ) (end : Climb) → AllowedFrom pool [] h → is_kept h t ≡ true → Climbs h t end → is_kept h end.at ≡ true
+climb_kept pool h t end so kept climbs = path_kept pool h t end.at so kept (on_way h t (drop (length (passed h t)) (path h t)) end refl climbs.ends)
 
 pub kept_past : (h : List Event) (ts : List ℕ) (t : ℕ) → is_kept h t ≡ true → is_kept (h ++ map event.Pass ts) t ≡ true
 kept_past h [] t kept = ap (λ (es : List Event). is_kept es t) (append-nil h) ∙ kept

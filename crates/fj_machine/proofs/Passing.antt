@@ -64,12 +64,13 @@ path_begins h t = refl
 pub passes_of : List ℕ → List Event
 passes_of ts = map Pass ts
 
-pub may_pass : (pool : Pool) (before : List Event) (ts : List ℕ) (i c : ℕ) → AllowedFrom pool before (map Pass ts) → slice_get ts i ≡ Some c → Allowed pool (before ++ map Pass (take i ts)) (Pass c)
-may_pass pool before [] i c so is = absurd cc
-may_pass pool before (t ∷ ts) zero c so is =
-    subst (λ (h : List Event). Allowed pool h (Pass c)) (sym (append-nil before)) (subst (λ (u : ℕ). Allowed pool before (Pass u)) (same_Some t c is) so.0)
-may_pass pool before (t ∷ ts) (suc i) c so is =
-    subst (λ (h : List Event). Allowed pool h (Pass c)) (append_assoc before (Pass t ∷ []) (map Pass (take i ts))) (may_pass pool (before ++ Pass t ∷ []) ts i c so.1 is)
+pub may_next : (pool : Pool) (event : ℕ → Event) (before : List Event) (ts : List ℕ) (i c : ℕ) → AllowedFrom pool before (map event ts) → slice_get ts i ≡ Some c
+    → Allowed pool (before ++ map event (take i ts)) (event c)
+may_next pool event before [] i c so is = absurd cc
+may_next pool event before (t ∷ ts) zero c so is =
+    subst (λ (h : List Event). Allowed pool h (event c)) (sym (append-nil before)) (subst (λ (u : ℕ). Allowed pool before (event u)) (same_Some t c is) so.0)
+may_next pool event before (t ∷ ts) (suc i) c so is =
+    subst (λ (h : List Event). Allowed pool h (event c)) (append_assoc before (event t ∷ []) (map event (take i ts))) (may_next pool event (before ++ event t ∷ []) ts i c so.1 is)
 
 no_tasks : (ts : List ℕ) → tasks (map Pass ts) ≡ []
 unfolding tasks
@@ -88,8 +89,8 @@ pub allowed_front : (pool : Pool) (before xs ys : List Event) → AllowedFrom po
 allowed_front pool before [] ys so = tt
 allowed_front pool before (x ∷ xs) ys so = (so.0, allowed_front pool (before ++ x ∷ []) xs ys so.1)
 
--- one more is passed
-pub passed_more : (past : Past) (ts : List ℕ) (i c : ℕ) → slice_get ts i ≡ Some c → grown (grown past (map Pass (take i ts))) (Pass c ∷ []) ≡ grown past (map Pass (take (i + 1) ts))
-passed_more past ts i c is =
+-- one more has its event
+pub next_more : (event : ℕ → Event) (past : Past) (ts : List ℕ) (i c : ℕ) → slice_get ts i ≡ Some c → grown (grown past (map event (take i ts))) (event c ∷ []) ≡ grown past (map event (take (i + 1) ts))
+next_more event past ts i c is =
     ap (λ (es : List Event). let p : Past = record { pool = past.pool; events = es } in p)
-    (append_assoc past.events (map Pass (take i ts)) (Pass c ∷ []) ∙ ap (λ (es : List Event). past.events ++ es) (sym (ap (map Pass) (take_get ts i c is) ∙ map-append Pass (take i ts) (c ∷ []))))
+    (append_assoc past.events (map event (take i ts)) (event c ∷ []) ∙ ap (λ (es : List Event). past.events ++ es) (sym (ap (map event) (take_get ts i c is) ∙ map-append event (take i ts) (c ∷ []))))

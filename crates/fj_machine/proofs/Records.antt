@@ -8,32 +8,36 @@ use Rattle.fj_model.specs.declared.event.Event.{Event}
 use Rattle.fj_model.specs.declared.kind.Kind.{Kind}
 use Rattle.fj_model.specs.declared.place.Place.{Place}
 use Rattle.fj_model.specs.Bounds.{Pool}
-use Rattle.fj_model.specs.Lists.{is_in}
-use Rattle.fj_model.specs.Tasks.{tasks, accepted_by, parent_in}
+use Rattle.fj_model.specs.Tasks.{accepted_by, is_kept, parent_in}
 use Rattle.fj_model.specs.Allowed.{Allowed, AllowedFrom}
-use Rattle.fj_model.proofs.Growth.{tasks_more, accepted_more}
-use Rattle.fj_model.proofs.Lawful.{is_in_with}
+use Rattle.fj_model.proofs.Growth.{accepted_more}
+use Rattle.fj_model.proofs.KeptParents.{kept_before}
 use Rattle.fj_model.proofs.PlaceLaws.{accepted_same, not_new}
+use Rattle.fj_model.proofs.Releasing.{kept_known, kept_same, live_same, accepting_live}
 use Rattle.fj_tree.specs.declared.record.Record.{Record}
 use Rattle.fj_tree.specs.Records.{Records, is_named, IsSound, record_at, handle_of, count}
 use Rattle.fj_tree.specs.Makes.{fresh, with_child, with_child_of}
 use Rattle.fj_tree.proofs.Numbers.{there, at_found, IsWritten}
-use Rattle.fj_machine.specs.Holds.{Tells, KeepsTree, is_built_event}
-use Rattle.fj_machine.proofs.Built.{IsBuilt, kept_is, kept_known, kept_same, live_same, live_new}
-use Rattle.fj_machine.proofs.Telling.{touched, tells_same}
+use Rattle.fj_machine.specs.Holds.{Tells, KeepsTree}
+use Rattle.fj_machine.proofs.Telling.{touched, is_of_one, no_release, tells_same}
 
 -- ---- one record is changed, or none
 
--- nothing is said of any record
-pub tree_same : (pool : Pool) (h : List Event) (e : Event) (tree : Records) → AllowedFrom pool [] h → Allowed pool h e → IsBuilt h → is_built_event e ≡ true
-    → touched e ≡ None → accepted_by e ≡ None → KeepsTree pool.limits h tree → KeepsTree pool.limits (h ++ e ∷ []) tree
-tree_same pool h e tree so may built is none same keeps = record {
+-- the event speaks of no task that has a record
+pub tree_other : (pool : Pool) (h : List Event) (e : Event) (tree : Records) → AllowedFrom pool [] h → Allowed pool h e → is_of_one e ≡ true → accepted_by e ≡ None
+    → ((r : Record) → Tells h r → touched e ≡ Some r.serial → ⊥) → KeepsTree pool.limits h tree → KeepsTree pool.limits (h ++ e ∷ []) tree
+tree_other pool h e tree so may is same other keeps = record {
   made = keeps.made ∙ sym (accepted_same h e same);
   room = keeps.room;
-  live = keeps.live ∙ sym (live_same h e built is same);
-  each = λ key r at. tells_same pool h e r so may built is (λ said. nothing none said) (keeps.each key r at);
-  all = λ t kept. keeps.all t (sym (kept_same h e t built is same) ∙ kept);
+  live = keeps.live ∙ sym (live_same h e same (no_release e is));
+  each = λ key r at. let tells = keeps.each key r at in tells_same pool h e r so may is (other r tells) tells;
+  all = λ t kept. keeps.all t (sym (kept_same h e t same (no_release e is)) ∙ kept);
 }
+
+-- nothing is said of any task
+pub tree_same : (pool : Pool) (h : List Event) (e : Event) (tree : Records) → AllowedFrom pool [] h → Allowed pool h e → is_of_one e ≡ true
+    → touched e ≡ None → accepted_by e ≡ None → KeepsTree pool.limits h tree → KeepsTree pool.limits (h ++ e ∷ []) tree
+tree_same pool h e tree so may is none same keeps = tree_other pool h e tree so may is same (λ r tells said. nothing none said) keeps
   where
     nothing : {t : ℕ} → touched e ≡ None → touched e ≡ Some t → ⊥
     nothing none said = absurd cc
@@ -49,20 +53,20 @@ written_there old new key t r s wrote same found =
     (cases_eq a.key key)
 
 -- the event speaks of the task whose record was written
-pub tree_written : (pool : Pool) (h : List Event) (e : Event) (old new : Records) (key : ℕ) (r s : Record) → AllowedFrom pool [] h → Allowed pool h e → IsBuilt h → is_built_event e ≡ true
+pub tree_written : (pool : Pool) (h : List Event) (e : Event) (old new : Records) (key : ℕ) (r s : Record) → AllowedFrom pool [] h → Allowed pool h e → is_of_one e ≡ true
     → accepted_by e ≡ None → touched e ≡ Some r.serial → IsSound old → IsWritten old new key r s → s.serial ≡ r.serial → Tells (h ++ e ∷ []) s
     → KeepsTree pool.limits h old → KeepsTree pool.limits (h ++ e ∷ []) new
-tree_written pool h e old new key r s so may built is none about sound wrote same tells keeps = record {
+tree_written pool h e old new key r s so may is none about sound wrote same tells keeps = record {
   made = wrote.made ∙ keeps.made ∙ sym (accepted_same h e none);
   room = wrote.room ∙ keeps.room;
-  live = wrote.count ∙ keeps.live ∙ sym (live_same h e built is none);
+  live = wrote.count ∙ keeps.live ∙ sym (live_same h e none (no_release e is));
   each = λ k u at. ⊎_elim
       (λ here. subst (Tells (h ++ e ∷ [])) (same_Some s u (sym wrote.after ∙ ap (record_at new) (sym here) ∙ at)) tells)
       (λ other.
       let at_old : record_at old k ≡ Some u = sym (wrote.others k other) ∙ at in
-      tells_same pool h e u so may built is (λ said. other (sound.once k key u r at_old wrote.before (number u said))) (keeps.each k u at_old))
+      tells_same pool h e u so may is (λ said. other (sound.once k key u r at_old wrote.before (number u said))) (keeps.each k u at_old))
       (cases_eq k key);
-  all = λ t kept. written_there old new key t r s wrote same (keeps.all t (sym (kept_same h e t built is none) ∙ kept));
+  all = λ t kept. written_there old new key t r s wrote same (keeps.all t (sym (kept_same h e t none (no_release e is)) ∙ kept));
 }
   where
     number : (u : Record) → touched e ≡ Some u.serial → u.serial ≡ r.serial
@@ -110,21 +114,21 @@ with_child_tells h true r tells = record { kept = tells.kept; kind = tells.kind;
 with_child_tells h false r tells = tells
 
 -- a task is accepted, and a record made for it
-pub tree_made : (pool : Pool) (h : List Event) (e : Event) (old new : Records) (key n : ℕ) (k : Kind) (p : Place) → AllowedFrom pool [] h → Allowed pool h e → IsBuilt h → is_built_event e ≡ true
+pub tree_made : (pool : Pool) (h : List Event) (e : Event) (old new : Records) (key n : ℕ) (k : Kind) (p : Place) → AllowedFrom pool [] h → Allowed pool h e → is_of_one e ≡ true
     → accepted_by e ≡ Some n → touched e ≡ Some n → IsMade old new key n k p → Tells (h ++ e ∷ []) (fresh n k p)
     → KeepsTree pool.limits h old → KeepsTree pool.limits (h ++ e ∷ []) new
-tree_made pool h e old new key n k p so may built is new_one about made tells keeps = record {
+tree_made pool h e old new key n k p so may is new_one about made tells keeps = record {
   made = omega (arith, made.made, keeps.made, ap length_of new_one, accepted_more h e);
   room = made.room ∙ keeps.room;
-  live = made.count ∙ ap (λ m. m + 1) keeps.live ∙ sym (live_new h e n built is new_one);
+  live = made.count ∙ ap (λ m. m + 1) keeps.live ∙ sym (accepting_live pool h e n so may new_one);
   each = λ j s at. ⊎_elim
       (λ here. subst (Tells (h ++ e ∷ [])) (same_Some (fresh n k p) s (sym made.fresh ∙ ap (record_at new) (sym here) ∙ at)) tells)
       (λ other.
       let was = made_other old new key j n k p s made other at in
-      let old_tells = tells_same pool h e was.0 so may built is (λ said. fresh_number was.0 (keeps.each j was.0 was.1) said) (keeps.each j was.0 was.1) in
+      let old_tells = tells_same pool h e was.0 so may is (λ said. fresh_number was.0 (keeps.each j was.0 was.1) said) (keeps.each j was.0 was.1) in
       subst (Tells (h ++ e ∷ [])) (sym was.2) (with_child_tells (h ++ e ∷ []) (is_named (parent_in (Some k)) was.0.serial) was.0 old_tells))
       (cases_eq j key);
-  all = λ t kept. either t (is_in_with t (tasks h) (accepted_by e) (rw tasks_more at (kept_known (h ++ e ∷ []) t kept)));
+  all = λ t kept. either t (kept_before h e t kept);
 }
   where
     length_of : Option ℕ → ℕ
@@ -136,6 +140,6 @@ tree_made pool h e old new key n k p so may built is new_one about made tells ke
         let both : Some n ≡ Some r.serial = sym about ∙ said in
         not_new pool h e r.serial so may (kept_known h r.serial was.kept) (new_one ∙ both)
 
-    either : (t : ℕ) → (is_in t (tasks h) ≡ true) ⊎ (accepted_by e ≡ Some t) → IsSome (handle_of new t)
-    either t (inl old_one) = made_there old new key t n k p made (keeps.all t (kept_is h t built ∙ old_one))
+    either : (t : ℕ) → (is_kept h t ≡ true) ⊎ (accepted_by e ≡ Some t) → IsSome (handle_of new t)
+    either t (inl old_one) = made_there old new key t n k p made (keeps.all t old_one)
     either t (inr said) = let both : Some n ≡ Some t = sym new_one ∙ said in there new t key (fresh n k p) made.fresh (same_Some n t both)

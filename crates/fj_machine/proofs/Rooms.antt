@@ -7,17 +7,16 @@ use Rattle.std.proofs.lemmas.List.Folds.{length-flat_map-take, flat_map-map}
 use Rattle.std.proofs.lemmas.List.FromFn.{length-range_with_len, get_or-range_with_len}
 use Rattle.fj_model.specs.declared.event.Event.{Event}
 use Rattle.fj_model.specs.Bounds.{Bounds, Pool, queues_in, owner_at, owners, workers}
-use Rattle.fj_model.specs.Tasks.{accepted}
+use Rattle.fj_model.specs.Tasks.{accepted, live}
 use Rattle.fj_model.specs.Queues.{queue}
 use Rattle.fj_model.specs.Stacks.{stack}
 use Rattle.fj_model.specs.Places.{open_tasks, gone}
 use Rattle.fj_model.specs.Allowed.{AllowedFrom}
 use Rattle.fj_model.specs.Headline.{all_places}
 use Rattle.fj_model.proofs.Counting.{few_placed}
-use Rattle.fj_model.proofs.FewLive.{few_live}
+use Rattle.fj_model.proofs.KeptPlaces.{few_in_all}
 use Rattle.fj_queues.specs.Queues.{Lists as Waiting, total}
 use Rattle.fj_machine.specs.Holds.{KeepsQueues}
-use Rattle.fj_machine.proofs.Built.{IsBuilt, live_is}
 
 -- the lists that stand at numbers have as many members as the lists joined
 joined_rows : (rows : List (List ℕ)) (list : ℕ → List ℕ) (a : ℕ) → ((i : ℕ) → i < length rows → get_or rows i [] ≡ list (a + i))
@@ -62,35 +61,26 @@ one_stack l h w within =
     let at : length (stack h (get_or numbers w 0)) ≡ length (stack h w) = ap (λ n. length (stack h n)) (get_or-range_with_len 0 l.workers w 0 within ∙ omega arith) in
     omega (arith, part, at)
 
-pub all_few : (pool : Pool) (h : List Event) → AllowedFrom pool [] h → queued_in_all pool.limits h + held_in_all pool.limits h + length (open_tasks h) ≤ accepted h
-unfolding all_places queued_in_all held_in_all
-all_few pool h so =
-    let l = pool.limits in
-    let queued = flat_map (queue h) (owners l) in
-    let held = flat_map (stack h) (workers l) in
-    let few : length (queued ++ held ++ open_tasks h ++ gone h) ≤ accepted h = few_placed pool h so in
-    let first = length-append (queued ++ held ++ open_tasks h) (gone h) in
-    let second = length-append (queued ++ held) (open_tasks h) in
-    let third = length-append queued held in
-    omega (arith, few, first, second, third)
+pub all_few : (pool : Pool) (h : List Event) → AllowedFrom pool [] h → queued_in_all pool.limits h + held_in_all pool.limits h + length (open_tasks h) ≤ live h
+unfolding queued_in_all held_in_all
+all_few pool h so = few_in_all pool h so
 
--- all queues together have no more tasks than were accepted
-pub queues_are_short : (pool : Pool) (h : List Event) (queues : Waiting) → AllowedFrom pool [] h → KeepsQueues pool.limits h queues → total queues ≤ accepted h
+-- all queues together have no more tasks than are kept
+pub queues_are_short : (pool : Pool) (h : List Event) (queues : Waiting) → AllowedFrom pool [] h → KeepsQueues pool.limits h queues → total queues ≤ live h
 queues_are_short pool h queues so keeps = omega (arith, counted pool.limits h queues keeps, all_few pool h so)
 
 -- while a task is queued, a stack has fewer
 pub stack_is_short : (pool : Pool) (h : List Event) (w q : ℕ) → AllowedFrom pool [] h → w < pool.limits.workers → q < queues_in pool.limits → 0 < length (queue h (owner_at pool.limits q))
-    → length (stack h w) < accepted h
+    → length (stack h w) < live h
 stack_is_short pool h w q so worker within filled = omega (arith, one_stack pool.limits h w worker, one_queue pool.limits h q within, all_few pool h so)
 
 -- and while a task is held, the open tasks are fewer
-pub open_is_short : (pool : Pool) (h : List Event) (w : ℕ) → AllowedFrom pool [] h → w < pool.limits.workers → 0 < length (stack h w) → length (open_tasks h) < accepted h
+pub open_is_short : (pool : Pool) (h : List Event) (w : ℕ) → AllowedFrom pool [] h → w < pool.limits.workers → 0 < length (stack h w) → length (open_tasks h) < live h
 open_is_short pool h w so worker filled = omega (arith, one_stack pool.limits h w worker, all_few pool h so)
 
--- nothing is released yet, so no more tasks were accepted than may be kept
-pub few_tasks : (pool : Pool) (h : List Event) → AllowedFrom pool [] h → IsBuilt h → accepted h ≤ pool.limits.tasks
-few_tasks pool h so built = omega (arith, few_live pool h so, live_is h built)
-
--- the open tasks are no more than were accepted
-pub open_few : (pool : Pool) (h : List Event) → AllowedFrom pool [] h → length (open_tasks h) ≤ accepted h
-open_few pool h so = omega (arith, all_few pool h so)
+-- the gone tasks and the open ones are no more than were accepted
+pub going_few : (pool : Pool) (h : List Event) → AllowedFrom pool [] h → length (gone h) + length (open_tasks h) ≤ accepted h
+unfolding all_places
+going_few pool h so =
+    let busy = flat_map (queue h) (owners pool.limits) ++ flat_map (stack h) (workers pool.limits) in
+    omega (arith, few_placed pool h so, length-append (busy ++ open_tasks h) (gone h), length-append busy (open_tasks h))

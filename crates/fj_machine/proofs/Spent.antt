@@ -20,6 +20,7 @@ use Rattle.fj_model.proofs.PlaceLaws.{none_accepted, kind_same, unmoved_queue, u
 use Rattle.fj_model.proofs.Spending.{spends, closed, spends_unmoved, spent_place, spending_open, spending_gone}
 use Rattle.fj_model.proofs.OpenList.{in_open, gone_short}
 use Rattle.fj_model.proofs.Queues.{without_absent}
+use Rattle.fj_model.proofs.Releasing.{kept_known}
 use Rattle.fj_queues.specs.Queues.{Lists as Waiting}
 use Rattle.fj_tree.specs.declared.record.Record.{Record}
 use Rattle.fj_tree.specs.Handles.{Handle}
@@ -29,12 +30,11 @@ use Rattle.fj_machine.specs.Rows.{Lists}
 use Rattle.fj_machine.specs.InHands.{InHand}
 use Rattle.fj_machine.specs.Closing.{is_open_at, is_open_in}
 use Rattle.fj_machine.specs.Closing as closing
-use Rattle.fj_machine.specs.Holds.{Holds, Tells, KeepsHands, is_built_event}
-use Rattle.fj_machine.proofs.Built.{kept_known}
+use Rattle.fj_machine.specs.Holds.{Holds, Tells, KeepsHands}
 use Rattle.fj_machine.proofs.Growing.{grown_holds}
 use Rattle.fj_machine.proofs.Parts.{queues_same, stacks_same}
 use Rattle.fj_machine.proofs.Records.{tree_written}
-use Rattle.fj_machine.proofs.Telling.{touched, kept_more}
+use Rattle.fj_machine.proofs.Telling.{touched, is_of_one, kept_more}
 
 -- ---- room for one gone task more
 
@@ -120,12 +120,12 @@ spent_tells pool h e r s so may is kept tells re = go (is_open s.place) refl
 
 -- ---- the lists
 
-open_after : (h : List Event) (opens : List ℕ) (c : ℕ) (b : Bool) → opens ≡ open_tasks h → is_open (place h c) ≡ b
+pub open_after : (h : List Event) (opens : List ℕ) (c : ℕ) (b : Bool) → opens ≡ open_tasks h → is_open (place h c) ≡ b
     → (if b then without opens (c ∷ []) else opens) ≡ without (open_tasks h) (c ∷ [])
 open_after h opens c true is open_now = ap (λ ts. without ts (c ∷ [])) is
 open_after h opens c false is shut = is ∙ sym (without_absent (open_tasks h) c (in_open h c ∙ shut))
 
-gone_after : (h : List Event) (gones : List ℕ) (c : ℕ) (b : Bool) → gones ≡ gone h → is_open (place h c) ≡ b
+pub gone_after : (h : List Event) (gones : List ℕ) (c : ℕ) (b : Bool) → gones ≡ gone h → is_open (place h c) ≡ b
     → (if b then gones ++ c ∷ [] else gones) ≡ gone h ++ (if is_open (place h c) then c ∷ [] else [])
 gone_after h gones c true is open_now = rw open_now (ap (λ ts. ts ++ c ∷ []) is)
 gone_after h gones c false is shut = rw shut (is ∙ sym (append-nil (gone h)))
@@ -138,11 +138,11 @@ spends_touched (Pass d) c is = is
 spends_touched (Settle d s) c is = is
 spends_touched _ c is = absurd cc
 
-spends_built : (e : Event) (c : ℕ) → spends e ≡ Some c → is_built_event e ≡ true
-spends_built (Fire d how) c is = refl
-spends_built (Pass d) c is = refl
-spends_built (Settle d s) c is = refl
-spends_built _ c is = absurd cc
+spends_one : (e : Event) (c : ℕ) → spends e ≡ Some c → is_of_one e ≡ true
+spends_one (Fire d how) c is = refl
+spends_one (Pass d) c is = refl
+spends_one (Settle d s) c is = refl
+spends_one _ c is = absurd cc
 
 pub spent_holds : (pool : Pool) (h : List Event) (e : Event) (queues : Waiting) (stacks : Lists) (hands hands2 : List (Option InHand)) (tree mid : Records) (opens gones : List ℕ) (at : Handle) (r s : Record)
     → Holds pool h queues stacks hands tree opens gones → Allowed pool h e → length h < pool.limits.events → spends e ≡ Some at.serial
@@ -151,7 +151,7 @@ pub spent_holds : (pool : Pool) (h : List Event) (e : Event) (queues : Waiting) 
     → Holds pool (h ++ e ∷ []) queues stacks hands2 (closing.closed mid at) (if is_open_at mid at then without opens (at.serial ∷ []) else opens) (if is_open_at mid at then gones ++ at.serial ∷ [] else gones)
 spent_holds pool h e queues stacks hands hands2 tree mid opens gones at r s holds may fits is at_completers sound wrote number re hands_kept =
     let so = holds.lawful in
-    let built = spends_built e at.serial is in
+    let one = spends_one e at.serial is in
     let unmoved = spends_unmoved e at.serial is in
     let tells = holds.tree_kept.each at.key r wrote.before in
     let is_r : spends e ≡ Some r.serial = is ∙ ap Some (sym number) in
@@ -159,12 +159,12 @@ spent_holds pool h e queues stacks hands hands2 tree mid opens gones at r s hold
     let known = kept_known h r.serial tells.kept in
     let known_at : is_in at.serial (tasks h) ≡ true = ap (λ (t : ℕ). is_in t (tasks h)) (sym number) ∙ known in
     let opened : is_open (place h at.serial) ≡ is_open_at mid at = ap (λ (t : ℕ). is_open (place h t)) (sym number) ∙ ap is_open (tells.place ∙ sym re.place) ∙ sym shut.0 in
-    grown_holds pool h e queues queues stacks stacks hands hands2 tree _ opens _ gones _ holds may built fits at_completers (record {
+    grown_holds pool h e queues queues stacks stacks hands hands2 tree _ opens _ gones _ holds may fits at_completers (record {
       queues_kept = queues_same pool.limits h (h ++ e ∷ []) queues (λ o. unmoved_queue h e o unmoved) holds.queues_kept;
       stacks_kept = stacks_same pool.limits h (h ++ e ∷ []) stacks (λ w. unmoved_stack h e w unmoved) holds.stacks_kept;
       hands_kept = hands_kept;
-      tree_kept = tree_written pool h e tree (closing.closed mid at) at.key r _ so may holds.built built (none_accepted e unmoved) (spends_touched e r.serial is_r) sound shut.1
-          (closed_serial (is_open s.place) s ∙ re.serial) (spent_tells pool h e r s so may is_r (kept_more h e r.serial holds.built built tells.kept) tells re) holds.tree_kept;
+      tree_kept = tree_written pool h e tree (closing.closed mid at) at.key r _ so may one (none_accepted e unmoved) (spends_touched e r.serial is_r) sound shut.1
+          (closed_serial (is_open s.place) s ∙ re.serial) (spent_tells pool h e r s so may is_r (kept_more h e r.serial one tells.kept) tells re) holds.tree_kept;
       open_kept = open_after h opens at.serial (is_open_at mid at) holds.open_kept opened ∙ sym (spending_open pool h e at.serial so may is);
       gone_kept = gone_after h gones at.serial (is_open_at mid at) holds.gone_kept opened ∙ sym (spending_gone pool h e at.serial so may is known_at);
     })

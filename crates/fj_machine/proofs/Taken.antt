@@ -37,14 +37,13 @@ use Rattle.fj_machine.specs.declared.source.Source.TheVariants.{Oldest, Newest}
 use Rattle.fj_machine.specs.Rows.{Lists, row_at, with_row}
 use Rattle.fj_machine.specs.InHands.{InHand}
 use Rattle.fj_machine.specs.Sources.{queue_of, end_of, rest_of}
-use Rattle.fj_machine.specs.Holds.{Holds, KeepsQueues, KeepsStacks, Tells, is_built_event}
-use Rattle.fj_machine.proofs.Built.{IsBuilt}
+use Rattle.fj_machine.specs.Holds.{Holds, KeepsQueues, KeepsStacks, Tells}
 use Rattle.fj_machine.proofs.Growing.{grown_holds}
 use Rattle.fj_machine.proofs.HandParts.{hands_same}
 use Rattle.fj_machine.proofs.Located.{IsLocated}
 use Rattle.fj_machine.proofs.Parts.{new_row, stacks_same}
 use Rattle.fj_machine.proofs.Records.{tree_written}
-use Rattle.fj_machine.proofs.Telling.{kept_more, pending_same, fired_same}
+use Rattle.fj_machine.proofs.Telling.{is_of_one, kept_more, pending_same, fired_same}
 
 -- what is taken was there
 pub in_end : (source : Source) (ts : List ℕ) (t : ℕ) → end_of source ts ≡ Some t → is_in t ts ≡ true
@@ -97,10 +96,10 @@ stacks_after_out l h stacks w t within keeps = record {
 }
 
 -- what the record says then
-place_tells : (h : List Event) (e : Event) (r : Record) (p : Place) → IsBuilt h → is_built_event e ≡ true → moves e ≡ true → accepted_by e ≡ None → fires_or_passes r.serial e ≡ false → added_by r.serial e ≡ None → counted_by r.serial e ≡ None
+place_tells : (h : List Event) (e : Event) (r : Record) (p : Place) → is_of_one e ≡ true → moves e ≡ true → accepted_by e ≡ None → fires_or_passes r.serial e ≡ false → added_by r.serial e ≡ None → counted_by r.serial e ≡ None
     → Tells h r → place (h ++ e ∷ []) r.serial ≡ p → Tells (h ++ e ∷ []) (with_place p r)
-place_tells h e r p built is moved none unfired added counted tells placed = record {
-  kept = kept_more h e r.serial built is tells.kept;
+place_tells h e r p is moved none unfired added counted tells placed = record {
+  kept = kept_more h e r.serial is tells.kept;
   kind = kind_same h e r.serial (λ said. some_none none said) ∙ tells.kind;
   place = placed;
   status = moved_status h e r.serial moved ∙ tells.status;
@@ -122,12 +121,12 @@ skipped_holds pool h t w source queues stacks hands tree opens gones at holds so
     let so = holds.lawful in
     let number : r.serial ≡ t = l.serial ∙ l.number in
     let tells = holds.tree_kept.each at.key r l.at in
-    let new = place_tells h e r Gone holds.built refl refl refl refl refl refl tells (ap (place (h ++ e ∷ [])) number ∙ skipped_place pool h t w so may) in
-    grown_holds pool h e queues _ stacks stacks hands hands tree _ opens opens gones _ holds may refl fits (λ d none. absurd cc) (record {
+    let new = place_tells h e r Gone refl refl refl refl refl refl tells (ap (place (h ++ e ∷ [])) number ∙ skipped_place pool h t w so may) in
+    grown_holds pool h e queues _ stacks stacks hands hands tree _ opens opens gones _ holds may fits (λ d none. absurd cc) (record {
       queues_kept = queues_after_take pool h queues source t e so within first refl (λ o. refl) holds.queues_kept;
       stacks_kept = stacks_same pool.limits h (h ++ e ∷ []) stacks (λ v. stack_same h v e refl refl) holds.stacks_kept;
-      hands_kept = hands_same pool h e hands so may refl holds.hands_kept;
-      tree_kept = tree_written pool h e tree (changed tree at.key (with_place Gone)) at.key r (with_place Gone r) so may holds.built refl refl (ap Some (sym number)) sound (written tree at.key r (with_place Gone) l.at) refl new holds.tree_kept;
+      hands_kept = hands_same pool h e hands so may refl refl (λ c said there. absurd cc) holds.hands_kept;
+      tree_kept = tree_written pool h e tree (changed tree at.key (with_place Gone)) at.key r (with_place Gone r) so may refl refl (ap Some (sym number)) sound (written tree at.key r (with_place Gone) l.at) refl new holds.tree_kept;
       open_kept = holds.open_kept ∙ sym (taking_open pool h e t so may refl);
       gone_kept = ap (λ (ts : List ℕ). ts ++ t ∷ []) holds.gone_kept ∙ sym (skipped_gone pool h t w so may);
     })
@@ -143,12 +142,12 @@ handed_holds pool h t w source queues stacks hands tree opens gones at holds sou
     let so = holds.lawful in
     let number : r.serial ≡ t = l.serial ∙ l.number in
     let tells = holds.tree_kept.each at.key r l.at in
-    let new = place_tells h e r (Held w) holds.built refl refl refl refl refl refl tells (ap (place (h ++ e ∷ [])) number ∙ handed_place pool h t w so may) in
-    grown_holds pool h e queues _ stacks _ hands hands tree _ opens opens gones gones holds may refl fits (λ d none. absurd cc) (record {
+    let new = place_tells h e r (Held w) refl refl refl refl refl refl tells (ap (place (h ++ e ∷ [])) number ∙ handed_place pool h t w so may) in
+    grown_holds pool h e queues _ stacks _ hands hands tree _ opens opens gones gones holds may fits (λ d none. absurd cc) (record {
       queues_kept = queues_after_take pool h queues source t e so within first refl (λ o. refl) holds.queues_kept;
       stacks_kept = stacks_after_out pool.limits h stacks w t worker holds.stacks_kept;
-      hands_kept = hands_same pool h e hands so may refl holds.hands_kept;
-      tree_kept = tree_written pool h e tree (changed tree at.key (with_place (Held w))) at.key r (with_place (Held w) r) so may holds.built refl refl (ap Some (sym number)) sound (written tree at.key r (with_place (Held w)) l.at) refl new holds.tree_kept;
+      hands_kept = hands_same pool h e hands so may refl refl (λ c said there. absurd cc) holds.hands_kept;
+      tree_kept = tree_written pool h e tree (changed tree at.key (with_place (Held w))) at.key r (with_place (Held w) r) so may refl refl (ap Some (sym number)) sound (written tree at.key r (with_place (Held w)) l.at) refl new holds.tree_kept;
       open_kept = holds.open_kept ∙ sym (taking_open pool h e t so may refl);
       gone_kept = holds.gone_kept ∙ sym (handed_gone pool h t w so may);
     })

@@ -1,26 +1,41 @@
 -- What a record says of its task still holds after an event that does not touch the task.
-use Rattle.std.proofs.Common.{ℕ, ◌≡◌, true, false, List, [], ◌∷◌, ◌++◌, Option, Some, None, refl, ap, ◌∙◌}
+use Rattle.std.proofs.Common.{ℕ, ◌≡◌, Bool, true, false, not, List, [], ◌∷◌, ◌++◌, Option, Some, None, refl, ap, ◌∙◌}
 use Rattle.std.specs.Prelude.{◌==◌}
 use Rattle.std.specs.List.{filter_map, list_any}
-use Rattle.std.proofs.lemmas.Bool.{eqb-true}
+use Rattle.std.proofs.lemmas.Bool.{eqb-true, and_parts}
 use Rattle.std.proofs.lemmas.List.{append-nil}
 use Rattle.std.proofs.lemmas.List.Folds.{list_any-append}
 use Rattle.fj_model.specs.declared.event.Event.{Event}
-use Rattle.fj_model.specs.declared.event.Event.TheVariants.{Acc, Make, Out, Skip, End, Add, Dec, Fire, Pass, Settle}
+use Rattle.fj_model.specs.declared.event.Event.TheVariants.{Acc, Make, Out, Skip, End, Add, Dec, Fire, Pass, Settle, Stop, Rel}
 use Rattle.fj_model.specs.Bounds.{Pool}
-use Rattle.fj_model.specs.Tasks.{is_kept, kind}
+use Rattle.fj_model.specs.Lists.{is_in}
+use Rattle.fj_model.specs.Tasks.{tasks, released, released_by, is_kept, kind}
 use Rattle.fj_model.specs.Queues.{taken_by}
 use Rattle.fj_model.specs.Stacks.{ended_by}
 use Rattle.fj_model.specs.Completers.{pending, added_by, counted_by, fires_or_passes}
-use Rattle.fj_model.specs.Allowed.{Allowed, AllowedFrom}
+use Rattle.fj_model.specs.Allowed.{Allowed, AllowedFrom, is_stop}
 use Rattle.fj_model.proofs.Growth.{filter_map_more, or_false}
 use Rattle.fj_model.proofs.Lawful.{known_more, number_if_is}
 use Rattle.fj_model.proofs.OnePlace.{never}
 use Rattle.fj_model.proofs.PlaceLaws.{not_new, kind_same, place_kept}
+use Rattle.fj_model.proofs.Releasing.{kept_known, released_same}
 use Rattle.fj_model.proofs.Spending.{spends, settled_by, spent_kept, status_kept}
 use Rattle.fj_tree.specs.declared.record.Record.{Record}
-use Rattle.fj_machine.specs.Holds.{Tells, is_built_event}
-use Rattle.fj_machine.proofs.Built.{IsBuilt, no_stop, built_more, kept_is, kept_known}
+use Rattle.fj_machine.specs.Holds.{Tells}
+
+-- whether the event says something of one task at most, and releases none
+abbrev pub is_of_one : Event → Bool
+is_of_one Stop = false
+is_of_one (Rel t) = false
+is_of_one _ = true
+
+pub no_stop : (e : Event) → is_of_one e ≡ true → is_stop e ≡ false
+no_stop Stop is = absurd cc
+no_stop _ is = refl
+
+pub no_release : (e : Event) → is_of_one e ≡ true → released_by e ≡ None
+no_release (Rel t) is = absurd cc
+no_release _ is = refl
 
 -- the task of which this event says something that its record says too
 abbrev pub touched : Event → Option ℕ
@@ -81,19 +96,22 @@ pending_same h e t same added counted =
     rw (same, adds, counts) refl
 
 -- a task that was kept is kept
-pub kept_more : (h : List Event) (e : Event) (t : ℕ) → IsBuilt h → is_built_event e ≡ true → is_kept h t ≡ true → is_kept (h ++ e ∷ []) t ≡ true
-kept_more h e t built is kept = kept_is (h ++ e ∷ []) t (built_more h e built is) ∙ known_more h e t (kept_known h t kept)
+pub kept_more : (h : List Event) (e : Event) (t : ℕ) → is_of_one e ≡ true → is_kept h t ≡ true → is_kept (h ++ e ∷ []) t ≡ true
+unfolding is_kept
+kept_more h e t is kept =
+    let parts = and_parts (is_in t (tasks h)) (not (is_in t (released h))) kept in
+    rw (known_more h e t parts.0, released_same h e (no_release e is)) parts.1
 
-pub tells_same : (pool : Pool) (h : List Event) (e : Event) (r : Record) → AllowedFrom pool [] h → Allowed pool h e → IsBuilt h → is_built_event e ≡ true
+pub tells_same : (pool : Pool) (h : List Event) (e : Event) (r : Record) → AllowedFrom pool [] h → Allowed pool h e → is_of_one e ≡ true
     → (touched e ≡ Some r.serial → ⊥) → Tells h r → Tells (h ++ e ∷ []) r
-tells_same pool h e r so may built is other tells =
+tells_same pool h e r so may is other tells =
     let t = r.serial in
     let known = kept_known h t tells.kept in
     let unstopped = no_stop e is in
     let kinds = kind_same h e t (not_new pool h e t so may known) in
     let spent = spent_kept h e t unstopped (λ said. other (spends_touched e t said)) in
     record {
-      kept = kept_more h e t built is tells.kept;
+      kept = kept_more h e t is tells.kept;
       kind = kinds ∙ tells.kind;
       place = place_kept pool h e t so may known (λ said. other (taken_touched e t said)) (λ w said. other (ended_touched w e t said)) spent ∙ tells.place;
       status = status_kept h e t unstopped (λ said. other (settled_touched e t said)) ∙ tells.status;

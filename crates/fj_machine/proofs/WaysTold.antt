@@ -1,15 +1,15 @@
 -- The way from a record to its root is the way from its task.
-use Rattle.std.proofs.Common.{ℕ, zero, suc, ◌≡◌, ◌-◌, List, [], ◌∷◌, length, map, Option, Some, None, refl, ap, sym, ◌∙◌, arith}
+use Rattle.std.proofs.Common.{ℕ, zero, suc, ◌≡◌, ◌-◌, true, List, [], ◌∷◌, length, map, Option, Some, None, refl, ap, sym, ◌∙◌, arith}
 use Rattle.std.specs.Prelude.{IsSome, slice_get, option_and_then}
 use Rattle.std.proofs.lemmas.Bool.{eq-eqb}
 use Rattle.fj_model.specs.declared.event.Event.{Event}
 use Rattle.fj_model.specs.Bounds.{Bounds, Pool}
 use Rattle.fj_model.specs.Lists.{last_of}
-use Rattle.fj_model.specs.Tasks.{kind, parent}
+use Rattle.fj_model.specs.Tasks.{is_kept, kind, parent}
 use Rattle.fj_model.specs.Climbs.{path_up, path}
 use Rattle.fj_model.specs.Answers.{root_of}
 use Rattle.fj_model.specs.Allowed.{AllowedFrom}
-use Rattle.fj_model.proofs.Parents.{parent_known}
+use Rattle.fj_model.proofs.KeptParents.{parent_kept}
 use Rattle.fj_tree.specs.Handles.{Handle}
 use Rattle.fj_tree.specs.Records.{Records, IsGood, record_of, handle_of}
 use Rattle.fj_tree.specs.Paths.{above, and_on, last_from}
@@ -17,7 +17,6 @@ use Rattle.fj_tree.specs.Paths as ways
 use Rattle.fj_tree.proofs.Finds.{named_record}
 use Rattle.fj_tree.proofs.Numbers.{good_found}
 use Rattle.fj_machine.specs.Holds.{KeepsTree}
-use Rattle.fj_machine.proofs.Built.{IsBuilt, kept_is}
 use Rattle.fj_machine.proofs.Located.{numbered}
 
 -- each of the handles is good
@@ -31,7 +30,6 @@ numbers hs = map (λ x. x.serial) hs
 -- what is known of the records and the history
 pub record Knows (l : Bounds) (pool : Pool) (h : List Event) (tree : Records) : Type 0 where
   pub so : AllowedFrom pool [] h
-  pub built : IsBuilt h
   pub keeps : KeepsTree l h tree
 
 -- the parent that a record names
@@ -52,8 +50,13 @@ pub record IsAbove (tree : Records) (at : Handle) (p : ℕ) : Type 0 where
   pub good : IsGood tree up
   pub number : up.serial ≡ p
 
+-- the task of a record is kept
+good_kept : (l : Bounds) (h : List Event) (tree : Records) (at : Handle) → KeepsTree l h tree → IsGood tree at → is_kept h at.serial ≡ true
+good_kept l h tree at keeps good =
+    let named = named_record tree at good in ap (is_kept h) (sym named.2) ∙ (keeps.each at.key named.0 named.1).kept
+
 above_some : (l : Bounds) (pool : Pool) (h : List Event) (tree : Records) (at : Handle) (p : ℕ) → Knows l pool h tree → IsGood tree at → parent h at.serial ≡ Some p → IsAbove tree at p
-above_some l pool h tree at p k good is = go (handle_of tree p) refl (k.keeps.all p (kept_is h p k.built ∙ parent_known pool h at.serial p k.so is))
+above_some l pool h tree at p k good is = go (handle_of tree p) refl (k.keeps.all p (parent_kept pool h at.serial p k.so (good_kept l h tree at k.keeps good) is))
   where
     go : (found : Option Handle) → handle_of tree p ≡ found → IsSome found → IsAbove tree at p
     go None none there = absurd cc

@@ -1,10 +1,10 @@
 -- What a machine keeps beside its history is what the history says.
 use Rattle.std.specs.Prelude.{ℕ, ◌≡◌, ◌≤◌, ◌<◌, Bool, true, false, List, [], length, map, Option, Some, None, IsSome, option_map, get_or}
-use Rattle.std.specs.List.{list_all, list_any}
+use Rattle.std.specs.List.{list_any}
 use Rattle.fj_model.specs.declared.event.Event.{Event}
-use Rattle.fj_model.specs.declared.event.Event.TheVariants.{Close, Stop, Rel}
 use Rattle.fj_model.specs.declared.event.How.{How}
 use Rattle.fj_model.specs.declared.event.How.TheVariants.{Zero, Complete}
+use Rattle.fj_model.specs.declared.status.Status.{Status}
 use Rattle.fj_model.specs.Bounds.{Bounds, Pool, IsWithin, queues_in, owner_at}
 use Rattle.fj_model.specs.Lists.{is_in, times_in}
 use Rattle.fj_model.specs.Tasks.{tasks, accepted, is_kept, live, kind, parent}
@@ -15,19 +15,12 @@ use Rattle.fj_model.specs.Statuses.{status}
 use Rattle.fj_model.specs.Completers.{pending, fires_or_passes}
 use Rattle.fj_model.specs.Places.{place, open_tasks, gone}
 use Rattle.fj_model.specs.Climbs.{ClimbsCompleters}
-use Rattle.fj_model.specs.Allowed.{AllowedFrom, is_fired_by_complete, is_closed, is_stopped}
+use Rattle.fj_model.specs.Allowed.{AllowedFrom, is_fired_by_complete}
 use Rattle.fj_queues.specs.Queues.{Lists as Waiting, queue_at}
 use Rattle.fj_tree.specs.declared.record.Record.{Record}
 use Rattle.fj_tree.specs.Records.{Records, record_at, handle_of, count}
 use Rattle.fj_machine.specs.Rows.{Lists, row_at}
 use Rattle.fj_machine.specs.InHands.{InHand}
-
--- an event of the steps that are built
-abbrev pub is_built_event : Event → Bool
-is_built_event Close = false
-is_built_event Stop = false
-is_built_event (Rel t) = false
-is_built_event _ = true
 
 -- one list for each owner, by the queue's number
 pub record KeepsQueues (l : Bounds) (h : List Event) (queues : Waiting) : Type 0 where
@@ -67,11 +60,17 @@ abbrev pub is_complete : How → Bool
 is_complete Zero = false
 is_complete Complete = true
 
+-- the completer is kept, or it was released and has this status
+abbrev pub TellsLeft : List Event → ℕ → Option Status → Type 0
+TellsLeft h c None = is_kept h c ≡ true
+TellsLeft h c (Some s) = (is_kept h c ≡ false) × (status h c ≡ s)
+
 -- what is kept with a hook is what the history says of its completer
 pub record TellsHook (h : List Event) (hook : InHand) : Type 0 where
-  pub kept : is_in hook.completer (tasks h) ≡ true
+  pub known : is_in hook.completer (tasks h) ≡ true
   pub parent : parent h hook.completer ≡ hook.parent
   pub how : is_fired_by_complete h hook.completer ≡ is_complete hook.how
+  pub left : TellsLeft h hook.completer hook.left
 
 -- the workers, and the completers, of the hooks in hand
 abbrev pub hook_workers : List Event → List ℕ
@@ -89,15 +88,12 @@ pub record KeepsHands (l : Bounds) (h : List Event) (hands : List (Option InHand
   pub once : (c : ℕ) → times_in c (hook_completers h) ≤ 1
   pub fired : (c : ℕ) → is_in c (hook_completers h) ≡ true → list_any (fires_or_passes c) h ≡ true
 
--- what holds of the history of each ledger, whatever is kept beside it. No step that is built closes, stops or releases anything
+-- what holds of the history of each ledger, whatever is kept beside it
 pub record IsLawful (pool : Pool) (h : List Event) : Type 0 where
   pub within : IsWithin pool.limits.workers pool.limits.submitters pool.limits.tasks pool.limits.events
   pub allowed : AllowedFrom pool [] h
   pub climbs : ClimbsCompleters h
   pub fits : length h ≤ pool.limits.events
-  pub unclosed : is_closed h ≡ false
-  pub unstopped : is_stopped h ≡ false
-  pub unreleased : (t : ℕ) → is_kept h t ≡ is_in t (tasks h)
   pub one_each : (w : ℕ) → times_in w (hook_workers h) ≤ 1
   pub once : (c : ℕ) → times_in c (hook_completers h) ≤ 1
 
@@ -106,7 +102,6 @@ pub record Holds (pool : Pool) (h : List Event) (queues : Waiting) (stacks : Lis
   pub within : IsWithin pool.limits.workers pool.limits.submitters pool.limits.tasks pool.limits.events
   pub lawful : AllowedFrom pool [] h
   pub climbs : ClimbsCompleters h
-  pub built : list_all is_built_event h ≡ true
   pub fits : length h ≤ pool.limits.events
   pub queues_kept : KeepsQueues pool.limits h queues
   pub stacks_kept : KeepsStacks pool.limits h stacks

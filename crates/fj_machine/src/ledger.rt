@@ -1,5 +1,5 @@
 //! The history, and what stands where after it. Each change here is one event.
-ghost use Rattle.std.specs.Prelude.{◌≡◌, ◌≤◌, ◌<◌, ◌+◌, ◌↔◌, [], IfOk, IfSome, IsTrue, nat_lt, option_map, MatchOption, length, true, false, Some, ◌∷◌, ◌++◌, option_copied, is_none};
+ghost use Rattle.std.specs.Prelude.{◌≡◌, ◌≤◌, ◌<◌, ◌+◌, ◌↔◌, [], IfOk, IfSome, IsTrue, nat_lt, option_map, MatchOption, length, true, false, Some, ◌∷◌, ◌++◌, option_copied, is_none, ◌||◌};
 ghost use Rattle.std.specs.List.{list_all};
 ghost use Rattle.fj_model.specs.Queues.{queue};
 ghost use Rattle.fj_model.specs.Stacks.{stack};
@@ -8,7 +8,7 @@ ghost use Rattle.fj_model.specs.Tasks.{is_kept, is_completer, live};
 ghost use Rattle.fj_model.specs.Climbs.{path};
 ghost use Rattle.fj_model.specs.Hooks.{hand};
 ghost use Rattle.fj_model.specs.Answers.{running, is_quiet, root_of};
-ghost use Rattle.fj_model.specs.Allowed.{Allowed, AllowedFrom};
+ghost use Rattle.fj_model.specs.Allowed.{Allowed, AllowedFrom, is_closed, is_stopped};
 ghost use Rattle.fj_model.specs.Runs.{fresh};
 ghost use Rattle.fj_machine.specs.Holds.{IsLawful, TellsOf, TellsHook};
 
@@ -18,7 +18,10 @@ mod close;
 mod complete;
 mod end;
 mod hook;
+mod relay;
+mod release;
 mod settle;
+mod shut;
 mod take;
 
 pub(crate) use crate::ledger::hook::Hook;
@@ -166,6 +169,22 @@ impl Ledger {
         ensures lawful { IsLawful self.now.pool self.now.events }
     {
         s.0 < self.limits.submitters()
+    }
+
+    /// Whether submissions are refused: there was a shutdown or a stop.
+    pub(crate) fn is_closed(&self) -> bool
+        ensures closed { result ≡ (is_closed self.now.events || is_stopped self.now.events) }
+        ensures lawful { IsLawful self.now.pool self.now.events }
+    {
+        self.log.is_closed() || self.log.is_stopped()
+    }
+
+    /// Whether forks and triggers are refused too: there was a stop.
+    pub(crate) fn is_stopped(&self) -> bool
+        ensures stopped { result ≡ is_stopped self.now.events }
+        ensures lawful { IsLawful self.now.pool self.now.events }
+    {
+        self.log.is_stopped()
     }
 
     /// Whether one task more can be kept.

@@ -9,7 +9,7 @@ ghost use Rattle.fj_model.specs.Headline.{Headline, RepliesTell};
 ghost use Rattle.fj_model.specs.declared.refusal.Refusal.{Refusal as RefusalCase};
 
 use crate::ledger::Ledger;
-use fj_model::{Ending, Event, Limits, Mode, Owner, Refusal, Said, Serial, Step, WorkerId};
+use fj_model::{Event, Limits, Mode, Owner, Refusal, Said, Serial, Step, WorkerId};
 use fj_queues::Numbers;
 use std::alloc::Global;
 use std::marker::Model;
@@ -89,19 +89,21 @@ impl Machine {
     ///
     /// | Step | Refusals, in this order |
     /// |---|---|
-    /// | Submit | `NoSuch`, `CountTooLarge`, `TooManyTasks`, `LogFull` |
-    /// | Fork | `NoSuch`, `NotIdle`, `NotRunning`, `Unknown`, `NotCompleter`, `CountTooLarge`, `TooManyTasks`, `LogFull` |
-    /// | Trigger | `NoSuch`, `NotIdle`, `NotRunning`, `CountTooLarge`, `TooManyTasks`, `LogFull` |
+    /// | Submit | `NoSuch`, `Closed`, `CountTooLarge`, `TooManyTasks`, `LogFull` |
+    /// | Fork | `NoSuch`, `NotIdle`, `NotRunning`, `Unknown`, `NotCompleter`, `Closed`, `CountTooLarge`, `TooManyTasks`, `LogFull` |
+    /// | Trigger | `NoSuch`, `NotIdle`, `NotRunning`, `Closed`, `CountTooLarge`, `TooManyTasks`, `LogFull` |
     /// | Poll | `NoSuch`, `NotIdle`, `LogFull` |
     /// | Help | `NoSuch`, `NotIdle`, `NotRunning`, `LogFull` |
     /// | Join | `NoSuch`, `NotIdle`, `NotRunning`, `Unknown`, `OwnStack`, `LogFull` |
-    /// | End by any ending but `Fail` | `NoSuch`, `NotIdle`, `NotRunning`, `NotCompleter`, `LogFull` |
+    /// | End | `NoSuch`, `NotIdle`, `NotRunning`, `NotCompleter`, `LogFull` |
     /// | HookDone | `NoSuch`, `NotRunning`, `LogFull` |
     /// | Add | `NoSuch`, `NotIdle`, `NotRunning`, `Unknown`, `NotCompleter`, `CountTooLarge`, `LogFull` |
     /// | QuietRoot | `NoSuch`, `NotIdle`, `NotRunning`, `Unknown`, `NotCompleter`, `LogFull` |
+    /// | Fault, Cancel | `Unknown`, `LogFull` |
     /// | State | `Unknown` |
+    /// | Release | `Unknown`, `NotDone`, `LogFull` |
+    /// | Shutdown, Stop | `LogFull` |
     /// | IsQuiescent | none |
-    /// | End by `Fail`, Fault, Cancel, Shutdown, Stop, Release | always `NotYet`: they are not built |
     pub fn step(&mut self, asked: &Step) -> Said
         ensures step { Steps self.old asked.now result self.new }
         // Each event may follow those before it.
@@ -125,21 +127,16 @@ fn make(ledger: &mut Ledger, asked: &Step) -> Said
         Step::Poll { w, r } => ledger.poll(w, r),
         Step::Help { w, r } => ledger.help(w, r),
         Step::Join { w, t, r } => ledger.join(w, t, r),
-        Step::End { w, ending } => match ending {
-            Ending::Ok | Ending::Quiet | Ending::Try | Ending::Pass | Ending::Complete => {
-                ledger.end(w, ending)
-            }
-            Ending::Fail(_) => Said::Refused(Refusal::NotYet),
-        },
+        Step::End { w, ending } => ledger.end(w, ending),
         Step::HookDone { w } => ledger.hook_done(w),
         Step::Add { w, c, n } => ledger.add(w, c, n),
         Step::QuietRoot { w, t } => ledger.quiet_root(w, t),
         Step::IsQuiescent => ledger.is_quiescent(),
         Step::State { t } => ledger.state(t),
-        Step::Fault { .. }
-        | Step::Cancel { .. }
-        | Step::Shutdown
-        | Step::Stop
-        | Step::Release { .. } => Said::Refused(Refusal::NotYet),
+        Step::Fault { t, code } => ledger.fault(t, code),
+        Step::Cancel { t } => ledger.cancel(t),
+        Step::Shutdown => ledger.shutdown(),
+        Step::Stop => ledger.stop(),
+        Step::Release { t } => ledger.release(t),
     }
 }

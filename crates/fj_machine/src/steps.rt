@@ -10,4 +10,7 @@ mod hook;
 mod pass;
 mod query;
 mod refuse;
+mod release;
+mod settle;
+mod shut;
 mod take;

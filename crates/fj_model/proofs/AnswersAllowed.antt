@@ -1,69 +1,34 @@
 -- The events of each answer are allowed, one after another; so the history of a run is lawful.
-use Rattle.std.proofs.Common.{ℕ, ◌≡◌, ◌+◌, true, List, [], ◌∷◌, ◌++◌, Option, Some, None, refl, ap, sym, subst}
-use Rattle.std.proofs.lemmas.Bool.{not-false, ltb-false}
+use Rattle.std.proofs.Common.{ℕ, ◌≡◌, true, List, [], ◌∷◌, ◌++◌, Option, Some, None, refl, ap, sym, subst}
 use Rattle.fj_model.specs.declared.event.Event.{Event}
 use Rattle.fj_model.specs.declared.step.Step.{Step}
-use Rattle.fj_model.specs.declared.step.Step.TheVariants.{Submit, Fork, Trigger, Poll, Help, Join, End, HookDone, Add, QuietRoot, Fault, Cancel, Shutdown, Stop, IsQuiescent, State, Release}
 use Rattle.fj_model.specs.declared.refusal.Refusal.{Refusal}
 use Rattle.fj_model.specs.declared.said.Said.{Said}
 use Rattle.fj_model.specs.Bounds.{Pool}
-use Rattle.fj_model.specs.Tasks.{is_kept, is_completer}
-use Rattle.fj_model.specs.Completers.{pending}
+use Rattle.fj_model.specs.Tasks.{is_completer}
 use Rattle.fj_model.specs.Allowed.{AllowedFrom}
-use Rattle.fj_model.specs.Answers.{answer, answer_of, refusal_of, events_of, is_built}
+use Rattle.fj_model.specs.Answers.{answer, answer_of, refusal_of}
 use Rattle.fj_model.specs.Runs.{Answers, RunsFrom, IsHistory}
 use Rattle.fj_model.specs.Lists.{is_in}
 use Rattle.fj_model.specs.Hooks.{hand}
-use Rattle.fj_model.proofs.Standing.{allowed_append, Stands, built_stands}
-use Rattle.fj_model.proofs.AcceptsAllowed.{submit_allowed, fork_allowed, trigger_allowed}
-use Rattle.fj_model.proofs.TakesAllowed.{poll_allowed, help_allowed, join_allowed}
-use Rattle.fj_model.proofs.EndsAllowed.{end_allowed}
-use Rattle.fj_model.proofs.ClimbsAllowed.{hook_allowed, quiet_root_allowed}
+use Rattle.fj_model.proofs.Standing.{allowed_append, stands}
+use Rattle.fj_model.proofs.StepsAllowed.{step_allowed}
 use Rattle.fj_model.proofs.StepsClimb.{step_climbs}
 use Rattle.fj_model.specs.Climbs.{climbed, ClimbsCompleters}
 use Rattle.fj_model.proofs.Climbed.{climbs_more, climbs_none, hand_climbed}
 pub use Rattle.fj_model.proofs.StacksTaken.{stack_taken}
-
-add_allowed : (pool : Pool) (h : List Event) (w c n : ℕ) → Stands pool h (Add w c n) → AllowedFrom pool h (events_of pool h (Add w c n))
-unfolding events_of
-add_allowed pool h w c n st =
-    let later = st.tests.1.1.1 in
-    ((not-false (is_kept h c) later.0, not-false (is_completer h c) later.1.0, ltb-false 65535 (pending h c + n) later.1.1.0), tt)
-
-no_events : (pool : Pool) (h : List Event) (t : ℕ) → (events_of pool h IsQuiescent ≡ []) × (events_of pool h (State t) ≡ [])
-unfolding events_of
-no_events pool h t = (refl, refl)
 
 -- what holds of the history of every run: its events were allowed, and each event of a climb was at a completer
 pub record IsSound (pool : Pool) (h : List Event) : Type 0 where
   pub allowed : AllowedFrom pool [] h
   pub climbs : ClimbsCompleters h
 
-step_allowed : (pool : Pool) (h : List Event) (asked : Step) → IsSound pool h → is_built asked ≡ true → Stands pool h asked → AllowedFrom pool h (events_of pool h asked)
-step_allowed pool h (Submit s k) sound built st = submit_allowed pool h s k sound.allowed st
-step_allowed pool h (Fork w k) sound built st = fork_allowed pool h w k sound.allowed st
-step_allowed pool h (Trigger w count) sound built st = trigger_allowed pool h w count sound.allowed st
-step_allowed pool h (Poll w r) sound built st = poll_allowed pool h w r st
-step_allowed pool h (Help w r) sound built st = help_allowed pool h w r st
-step_allowed pool h (Join w t r) sound built st = join_allowed pool h w t r st
-step_allowed pool h (End w ending) sound built st = end_allowed pool h w ending sound.allowed built st
-step_allowed pool h (HookDone w) sound built st = hook_allowed pool h w sound.allowed sound.climbs
-step_allowed pool h (Add w c n) sound built st = add_allowed pool h w c n st
-step_allowed pool h (QuietRoot w t) sound built st = quiet_root_allowed pool h w t sound.allowed st
-step_allowed pool h IsQuiescent sound built st = rw (no_events pool h 0).0 tt
-step_allowed pool h (State t) sound built st = rw (no_events pool h t).1 tt
-step_allowed pool h (Fault t code) sound built st = absurd cc
-step_allowed pool h (Cancel t) sound built st = absurd cc
-step_allowed pool h Shutdown sound built st = absurd cc
-step_allowed pool h Stop sound built st = absurd cc
-step_allowed pool h (Release t) sound built st = absurd cc
-
 pub sound_allowed : (pool : Pool) (h : List Event) (asked : Step) → IsSound pool h → AllowedFrom pool h (answer pool h asked).1
 unfolding answer
 sound_allowed pool h asked sound = go (refusal_of pool h asked) refl
   where
     go : (r : Option Refusal) → refusal_of pool h asked ≡ r → AllowedFrom pool h (answer_of pool h asked r).1
-    go None is = let built = built_stands pool h asked is in step_allowed pool h asked sound built.0 built.1
+    go None is = step_allowed pool h asked sound.allowed sound.climbs (stands pool h asked is)
     go (Some refusal) is = tt
 
 sound_climbs : (pool : Pool) (h : List Event) (asked : Step) → IsSound pool h → (c : ℕ) → is_in c (climbed (answer pool h asked).1) ≡ true → is_completer h c ≡ true
@@ -71,7 +36,7 @@ unfolding answer climbed
 sound_climbs pool h asked sound c = go (refusal_of pool h asked) refl
   where
     go : (r : Option Refusal) → refusal_of pool h asked ≡ r → is_in c (climbed (answer_of pool h asked r).1) ≡ true → is_completer h c ≡ true
-    go None is there = step_climbs pool h asked sound.allowed (built_stands pool h asked is).1 c there
+    go None is there = step_climbs pool h asked sound.allowed (stands pool h asked is) c there
     go (Some refusal) is there = absurd cc
 
 -- ---- whole runs

@@ -17,13 +17,14 @@ use Rattle.fj_model.specs.Hooks.{hand}
 use Rattle.fj_model.specs.Statuses.{is_undone, status}
 use Rattle.fj_model.specs.Completers.{is_spent}
 use Rattle.fj_model.specs.Allowed.{Allowed, AllowedFrom}
-use Rattle.fj_model.specs.Answers.{events_of, running, ending_events, after_end, is_misfit, is_built_ending}
+use Rattle.fj_model.specs.Answers.{events_of, running, ending_events, after_end, is_misfit}
 use Rattle.fj_model.proofs.Members.{get_is_in}
 use Rattle.fj_model.proofs.Lawful.{known_more, taken_known, allowed_more}
 use Rattle.fj_model.proofs.StacksTaken.{stack_taken}
 use Rattle.fj_model.proofs.KindsKept.{completer_same}
 use Rattle.fj_model.proofs.Standing.{Stands, some_or_none, newest_more}
 use Rattle.fj_model.proofs.ClimbsAllowed.{arriving_allowed, passing_allowed}
+use Rattle.fj_model.proofs.SettlesAllowed.{failing_allowed}
 
 -- the last of a stack was accepted
 running_known : (pool : Pool) (h : List Event) (w t : ℕ) → AllowedFrom pool [] h → running h w ≡ Some t → is_in t (tasks h) ≡ true
@@ -46,22 +47,22 @@ complete_allowed pool h w t = go (is_spent (h ++ event.End t w ∷ []) t) refl
     go false spent = ((spent, rw (newest_more h (event.End t w)) (eq-eqb t t refl)), tt)
 
 after_allowed : (pool : Pool) (h : List Event) (w t : ℕ) (ending : Ending) → AllowedFrom pool [] (h ++ event.End t w ∷ []) → is_in t (tasks (h ++ event.End t w ∷ [])) ≡ true
-    → is_built_ending ending ≡ true → is_misfit h ending (Some t) ≡ false → AllowedFrom pool (h ++ event.End t w ∷ []) (after_end (h ++ event.End t w ∷ []) t ending)
-after_allowed pool h w t Ok so known built fit = ok_allowed pool h w t known fit
-after_allowed pool h w t Quiet so known built fit = tt
-after_allowed pool h w t Try so known built fit = arriving_allowed pool (h ++ event.End t w ∷ []) t
-after_allowed pool h w t Complete so known built fit = complete_allowed pool h w t
-after_allowed pool h w t Pass so known built fit =
+    → is_misfit h ending (Some t) ≡ false → AllowedFrom pool (h ++ event.End t w ∷ []) (after_end (h ++ event.End t w ∷ []) t ending)
+after_allowed pool h w t Ok so known fit = ok_allowed pool h w t known fit
+after_allowed pool h w t Quiet so known fit = tt
+after_allowed pool h w t Try so known fit = arriving_allowed pool (h ++ event.End t w ∷ []) t
+after_allowed pool h w t Complete so known fit = complete_allowed pool h w t
+after_allowed pool h w t Pass so known fit =
     passing_allowed pool (h ++ event.End t w ∷ []) t so (completer_same h (event.End t w) t refl ∙ not-false (is_completer h t) fit)
-after_allowed pool h w t (Fail code) so known built fit = absurd cc
+after_allowed pool h w t (Fail code) so known fit = failing_allowed pool (h ++ event.End t w ∷ []) t code so known
 
-pub end_allowed : (pool : Pool) (h : List Event) (w : ℕ) (ending : Ending) → AllowedFrom pool [] h → is_built_ending ending ≡ true → Stands pool h (End w ending) → AllowedFrom pool h (events_of pool h (End w ending))
+pub end_allowed : (pool : Pool) (h : List Event) (w : ℕ) (ending : Ending) → AllowedFrom pool [] h → Stands pool h (End w ending) → AllowedFrom pool h (events_of pool h (End w ending))
 unfolding events_of
-end_allowed pool h w ending so built st = go (running h w) refl st.tests.1.1.1.0
+end_allowed pool h w ending so st = go (running h w) refl st.tests.1.1.1.0
   where
     go : (t : Option ℕ) → running h w ≡ t → is_misfit h ending t ≡ false → AllowedFrom pool h (ending_events h w ending t)
     go None is fit = tt
     go (Some t) is fit =
         let may : Allowed pool h (event.End t w) = (is, some_or_none (hand h w) st.tests.1.0) in
         let known = known_more h (event.End t w) t (running_known pool h w t so is) in
-        (may, after_allowed pool h w t ending (allowed_more pool [] h (event.End t w) so may) known built fit)
+        (may, after_allowed pool h w t ending (allowed_more pool [] h (event.End t w) so may) known fit)

@@ -18,7 +18,6 @@ pub mod ClimbsAllowed
 pub mod EndsAllowed
 pub mod SettlesAllowed
 pub mod ShutsAllowed
-pub mod FlatSteps
 pub mod StepsAllowed
 pub mod AnswersAllowed
 pub mod Queues

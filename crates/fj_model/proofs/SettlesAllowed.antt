@@ -1,28 +1,24 @@
 -- The events of Cancel, of Fault and of End Fail are allowed: each settles a task that is undone.
-use Rattle.std.proofs.Common.{ℕ, ◌≡◌, ◌+◌, ◌-◌, ◌≤◌, Bool, true, false, map, List, [], ◌∷◌, ◌++◌, length, Option, Some, None, refl, ap, sym, ◌∙◌, arith, zero, suc, ⊎_elim}
+use Rattle.std.proofs.Common.{ℕ, ◌≡◌, ◌+◌, ◌≤◌, Bool, true, false, map, List, [], ◌∷◌, ◌++◌, Option, Some, None, refl, ap, sym, ◌∙◌, arith, zero, suc, ⊎_elim}
 use Rattle.std.specs.Prelude.{◌==◌, if◌then◌else◌}
 use Rattle.std.proofs.lemmas.Bool.{eqb-true, eq-eqb, ne_eqb, not-false, or_cases, or_right}
 use Rattle.fj_model.specs.declared.event.Event.{Event}
 use Rattle.fj_model.specs.declared.event.Event.TheVariants as event
 use Rattle.fj_model.specs.declared.status.Status.TheVariants as status_is
-use Rattle.fj_model.specs.declared.step.Ending.TheVariants.{Fail}
-use Rattle.fj_model.specs.declared.step.Step.TheVariants.{End, Fault, Cancel}
+use Rattle.fj_model.specs.declared.step.Step.TheVariants.{Fault, Cancel}
 use Rattle.fj_model.specs.Bounds.{Pool}
 use Rattle.fj_model.specs.Lists.{is_in, times_in}
 use Rattle.fj_model.specs.Tasks.{tasks, is_kept, kind, relay_in, parent}
-use Rattle.fj_model.specs.Stacks.{stack}
-use Rattle.fj_model.specs.Hooks.{hand}
 use Rattle.fj_model.specs.Statuses.{status, is_undone}
 use Rattle.fj_model.specs.Climbs.{path, path_up, relayed, relayed_along}
-use Rattle.fj_model.specs.Allowed.{Allowed, AllowedFrom}
-use Rattle.fj_model.specs.Answers.{events_of, running, ending_events, failing}
-use Rattle.fj_model.proofs.Members.{get_is_in, times_in_cons, times_in_some, Once}
-use Rattle.fj_model.proofs.Lawful.{allowed_more, known_more, taken_known}
+use Rattle.fj_model.specs.Allowed.{AllowedFrom}
+use Rattle.fj_model.specs.Answers.{events_of, failing}
+use Rattle.fj_model.proofs.Members.{times_in_cons, times_in_some, Once}
+use Rattle.fj_model.proofs.Lawful.{known_more}
 use Rattle.fj_model.proofs.Statuses.{status_same}
-use Rattle.fj_model.proofs.StacksTaken.{stack_taken}
 use Rattle.fj_model.proofs.Parents.{parent_known, path_once}
 use Rattle.fj_model.proofs.Releasing.{kept_known}
-use Rattle.fj_model.proofs.Standing.{Stands, some_or_none}
+use Rattle.fj_model.proofs.Standing.{Stands}
 
 -- ---- those to whom a code is relayed
 
@@ -134,14 +130,3 @@ cancel_allowed pool h t st = go (is_undone (status h t)) refl
     go : (b : Bool) → is_undone (status h t) ≡ b → AllowedFrom pool h (if b then event.Settle t status_is.Cancelled ∷ [] else [])
     go true undone = ((kept_known h t (not-false (is_kept h t) st.tests.0), undone, refl, tt), tt)
     go false undone = tt
-
-pub end_fail_allowed : (pool : Pool) (h : List Event) (w code : ℕ) → AllowedFrom pool [] h → Stands pool h (End w (Fail code)) → AllowedFrom pool h (events_of pool h (End w (Fail code)))
-unfolding events_of
-end_fail_allowed pool h w code so st = go (running h w) refl
-  where
-    go : (t : Option ℕ) → running h w ≡ t → AllowedFrom pool h (ending_events h w (Fail code) t)
-    go None is = tt
-    go (Some t) is =
-        let may : Allowed pool h (event.End t w) = (is, some_or_none (hand h w) st.tests.1.0) in
-        let known = taken_known pool h so t (stack_taken h w t (get_is_in t (stack h w) (length (stack h w) - 1) is)) in
-        (may, failing_allowed pool (h ++ event.End t w ∷ []) t code (allowed_more pool [] h (event.End t w) so may) (known_more h (event.End t w) t known))

@@ -5,11 +5,11 @@ use Rattle.std.proofs.lemmas.List.{append-nil}
 use Rattle.fj_model.specs.declared.event.Event.{Event}
 use Rattle.fj_model.specs.declared.step.Step.{Step}
 use Rattle.fj_model.specs.declared.refusal.Refusal.{Refusal}
-use Rattle.fj_model.specs.declared.refusal.Refusal.TheVariants.{LogFull, NotYet}
+use Rattle.fj_model.specs.declared.refusal.Refusal.TheVariants.{LogFull}
 use Rattle.fj_model.specs.Bounds.{Pool}
 use Rattle.fj_model.specs.Lists.{or_else}
 use Rattle.fj_model.specs.Allowed.{AllowedFrom, newest}
-use Rattle.fj_model.specs.Answers.{refusal_of, refusal_standing, first_that_stands, refusals_of, does_not_fit, is_built}
+use Rattle.fj_model.specs.Answers.{refusal_of, first_that_stands, refusals_of, does_not_fit}
 
 -- events that may follow, after events that may
 pub allowed_append : (pool : Pool) (before xs ys : List Event) → AllowedFrom pool before xs → AllowedFrom pool (before ++ xs) ys → AllowedFrom pool before (xs ++ ys)
@@ -54,8 +54,8 @@ pub record Stands (pool : Pool) (h : List Event) (asked : Step) : Type 0 where
   pub tests : AllFail (refusals_of pool h asked)
   pub fits : does_not_fit pool h asked ≡ false
 
-pub stands : (pool : Pool) (h : List Event) (asked : Step) → refusal_standing pool h asked ≡ None → Stands pool h asked
-unfolding refusal_standing
+pub stands : (pool : Pool) (h : List Event) (asked : Step) → refusal_of pool h asked ≡ None → Stands pool h asked
+unfolding refusal_of
 stands pool h asked none =
     let parts = neither (first_that_stands (refusals_of pool h asked)) (if does_not_fit pool h asked then Some LogFull else None) none in
     record { tests = all_fail (refusals_of pool h asked) parts.0; fits = fitting (does_not_fit pool h asked) parts.1 }
@@ -63,12 +63,3 @@ stands pool h asked none =
     fitting : (b : Bool) → ◌≡◌ {A = Option Refusal} (if b then Some LogFull else None) None → b ≡ false
     fitting true none = absurd cc
     fitting false none = refl
-
--- a step that is not refused is built, and nothing stands against it
-pub built_stands : (pool : Pool) (h : List Event) (asked : Step) → refusal_of pool h asked ≡ None → (is_built asked ≡ true) × Stands pool h asked
-unfolding refusal_of
-built_stands pool h asked none = go (is_built asked) refl none
-  where
-    go : (b : Bool) → is_built asked ≡ b → (if b then refusal_standing pool h asked else Some NotYet) ≡ None → (is_built asked ≡ true) × Stands pool h asked
-    go true is none = (is, stands pool h asked none)
-    go false is none = absurd cc

@@ -15,7 +15,7 @@ use Rattle.fj_model.specs.declared.event.How.TheVariants as how
 use Rattle.fj_model.specs.declared.step.Step.{Step}
 use Rattle.fj_model.specs.declared.step.Step.TheVariants.{Submit, Fork, Trigger, Poll, Help, Join, End, HookDone, Add, QuietRoot, Fault, Cancel, Shutdown, Stop, IsQuiescent, State, Release}
 use Rattle.fj_model.specs.declared.refusal.Refusal.{Refusal}
-use Rattle.fj_model.specs.declared.refusal.Refusal.TheVariants.{Closed, TooManyTasks, LogFull, NoSuch, Unknown, NotRunning, OwnStack, NotCompleter, NotDone, CountTooLarge, NotIdle, NotYet}
+use Rattle.fj_model.specs.declared.refusal.Refusal.TheVariants.{Closed, TooManyTasks, LogFull, NoSuch, Unknown, NotRunning, OwnStack, NotCompleter, NotDone, CountTooLarge, NotIdle}
 use Rattle.fj_model.specs.declared.said.Said.{Said}
 use Rattle.fj_model.specs.declared.said.Said.TheVariants as says
 use Rattle.fj_model.specs.Bounds.{Bounds, Pool, owners, workers}
@@ -293,41 +293,9 @@ refusals_of pool h (Release t) = unknown_task h t ∷ (not (is_gone (place h t))
 abbrev pub does_not_fit : Pool → List Event → Step → Bool
 does_not_fit pool h asked = nat_lt pool.limits.events (length h + length (events_of pool h asked))
 
--- whether the machine makes this step at all: the others are answered `NotYet`
-abbrev pub is_built_ending : Ending → Bool
-is_built_ending Ok = true
-is_built_ending Quiet = true
-is_built_ending Try = true
-is_built_ending Pass = true
-is_built_ending Complete = true
-is_built_ending (Fail code) = false
-
-abbrev pub is_built : Step → Bool
-is_built (Submit s k) = true
-is_built (Fork w k) = true
-is_built (Trigger w count) = true
-is_built (Poll w r) = true
-is_built (Help w r) = true
-is_built (Join w t r) = true
-is_built (End w ending) = is_built_ending ending
-is_built (HookDone w) = true
-is_built (Add w c n) = true
-is_built (QuietRoot w t) = true
-is_built IsQuiescent = true
-is_built (State t) = true
-is_built (Fault t code) = false
-is_built (Cancel t) = false
-is_built Shutdown = false
-is_built Stop = false
-is_built (Release t) = false
-
--- why a step that is built is refused, if it is
-unfoldable pub refusal_standing : Pool → List Event → Step → Option Refusal
-refusal_standing pool h asked = or_else (first_that_stands (refusals_of pool h asked)) (if does_not_fit pool h asked then Some LogFull else None)
-
--- why the step is refused, if it is
+-- why the step is refused, if it is: the first test that stands, and else where its events do not fit
 unfoldable pub refusal_of : Pool → List Event → Step → Option Refusal
-refusal_of pool h asked = if is_built asked then refusal_standing pool h asked else Some NotYet
+refusal_of pool h asked = or_else (first_that_stands (refusals_of pool h asked)) (if does_not_fit pool h asked then Some LogFull else None)
 
 -- what a refused step, and one that is not refused, replies and appends
 abbrev pub answer_of : Pool → List Event → Step → Option Refusal → Said × List Event

@@ -26,7 +26,6 @@ refusal_number refusal.LaneSpent = 11
 refusal_number refusal.OutOfMemory = 12
 refusal_number refusal.BadLimits = 13
 refusal_number refusal.NotIdle = 14
-refusal_number refusal.NotYet = 15
 
 abbrev pub place_words : Bounds → Place → List (List ℕ)
 place_words limits (place.Queued owner) = codes "queued" ∷ decimal (queue_number limits owner) ∷ []

@@ -3,8 +3,7 @@ use thiserror::Error;
 /// Why a call was refused. A refused call changes nothing.
 ///
 /// Where several hold, a step is answered the first in this order: `NoSuch`, `NotIdle`, `NotRunning`, `Unknown`, `NotCompleter`,
-/// `NotDone`, `OwnStack`, `Closed`, `CountTooLarge`, `TooManyTasks`, `LogFull`. A step that is not built is answered `NotYet` before
-/// all of these.
+/// `NotDone`, `OwnStack`, `Closed`, `CountTooLarge`, `TooManyTasks`, `LogFull`.
 #[derive(Clone, Copy, Debug, PartialEq, Eq, Error)]
 pub enum Refusal {
     /// 1: nothing more is accepted.
@@ -49,16 +48,13 @@ pub enum Refusal {
     /// 14: the worker is not idle, or has a completion action in its hand.
     #[error("the worker is not idle")]
     NotIdle,
-    /// 15: the step is not built yet.
-    #[error("the step is not built yet")]
-    NotYet,
 }
 
 impl Refusal {
     ghost use Rattle.std.specs.Prelude.{◌≡◌};
     ghost use Rattle.fj_model.specs.Replies.{refusal_number};
 
-    /// The number that a reply prints for this refusal, 1 to 15.
+    /// The number that a reply prints for this refusal, 1 to 14.
     pub fn number(self) -> u32
         ensures { result ≡ refusal_number self }
     {
@@ -77,7 +73,6 @@ impl Refusal {
             Refusal::OutOfMemory => 12,
             Refusal::BadLimits => 13,
             Refusal::NotIdle => 14,
-            Refusal::NotYet => 15,
         }
     }
 }

@@ -25,7 +25,6 @@ fn replies_are_printed(rt: HostRuntime) -> Result<(), Fail> {
         (Said::Normal, "normal\n"),
         (Said::Exceptional(4_294_967_295), "exceptional 4294967295\n"),
         (Said::Cancelled, "cancelled\n"),
-        (Said::Refused(Refusal::NotYet), "refused 15\n"),
         (
             Said::State(Place::Queued(Owner::Sub(SubId(1))), Status::Undone),
             "state queued 1 undone\n",
@@ -106,7 +105,6 @@ fn refusals_have_numbers(rt: HostRuntime) {
         (Refusal::OutOfMemory, 12),
         (Refusal::BadLimits, 13),
         (Refusal::NotIdle, 14),
-        (Refusal::NotYet, 15),
     ];
     for (refusal, number) in rows {
         assert_eq!(rt; refusal.number(), number);

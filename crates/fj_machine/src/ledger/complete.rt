@@ -56,6 +56,7 @@ impl Ledger {
             completer: c,
             parent,
             how,
+            left: None,
         });
     }
 

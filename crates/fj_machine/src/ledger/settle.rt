@@ -1,25 +1,28 @@
 //! Tasks get their status.
 ghost use Rattle.std.specs.Prelude.{◌≡◌, ◌<◌, ◌∷◌, [], true, length};
 ghost use Rattle.fj_model.specs.declared.event.Event.TheVariants.{Settle};
+ghost use Rattle.fj_model.specs.Lists.{is_in};
 ghost use Rattle.fj_model.specs.Tasks.{is_kept};
 ghost use Rattle.fj_model.specs.Allowed.{Allowed};
 ghost use Rattle.fj_model.specs.Runs.{grown};
+ghost use Rattle.fj_machine.specs.Holds.{hook_completers};
 
 use crate::ledger::Ledger;
 use crate::ledger::close::close;
 use fj_model::{Event, Place, Serial, Status};
 
 impl Ledger {
-    /// An undone task gets its status.
+    /// An undone task gets its status, which its record tells if it is kept. A released one has no completion action in a hand any more.
     pub(crate) fn settle(&mut self, t: Serial, status: Status)
-        requires kept { is_kept self.old.events t ≡ true }
+        requires kept { is_in t (hook_completers self.old.events) ≡ true → is_kept self.old.events t ≡ true }
         requires may { Allowed self.old.pool self.old.events (Settle t status) }
         requires fits { length self.old.events < self.old.pool.limits.events }
         ensures { self.new ≡ grown self.old (Settle t status ∷ []) }
     {
-        let h = self.tree.find(t).unwrap();
         self.log.push(Event::Settle(t, status));
-        self.tree.set_status(h, status);
-        close(&mut self.tree, &mut self.open, &mut self.gone, h);
+        if let Some(h) = self.tree.find(t) {
+            self.tree.set_status(h, status);
+            close(&mut self.tree, &mut self.open, &mut self.gone, h);
+        }
     }
 }

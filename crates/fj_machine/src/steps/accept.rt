@@ -55,6 +55,9 @@ impl Ledger {
         if !self.has_submitter(s) {
             return Some(Refusal::NoSuch);
         }
+        if self.is_closed() {
+            return Some(Refusal::Closed);
+        }
         self.room_refusal(kind.to_kind().count())
     }
 
@@ -68,6 +71,9 @@ impl Ledger {
         let refusal = self.parent_refusal(kind);
         if refusal.is_some() {
             return refusal;
+        }
+        if self.is_stopped() {
+            return Some(Refusal::Closed);
         }
         self.room_refusal(kind.count())
     }
@@ -95,6 +101,9 @@ impl Ledger {
         let refusal = self.running_refusal(w);
         if refusal.is_some() {
             return refusal;
+        }
+        if self.is_stopped() {
+            return Some(Refusal::Closed);
         }
         self.room_refusal(count)
     }

@@ -1,30 +1,34 @@
 //! Arrivals at completers.
 ghost use Rattle.std.specs.Prelude.{◌≡◌, ◌<◌, ◌≤◌, ◌+◌, None, Some, true, length};
-ghost use Rattle.fj_model.specs.Tasks.{is_kept, is_completer};
+ghost use Rattle.fj_model.specs.Tasks.{is_completer};
 ghost use Rattle.fj_model.specs.Hooks.{hooks, hand, receiver};
 ghost use Rattle.fj_model.specs.Climbs.{arrival};
 ghost use Rattle.fj_model.specs.Allowed.{AllowedFrom};
 ghost use Rattle.fj_model.specs.Answers.{arriving, arriving_says};
 ghost use Rattle.fj_model.specs.Runs.{grown};
 ghost use Rattle.fj_machine.specs.Arriving.{as_arrival};
+ghost use Rattle.fj_machine.specs.Holds.{IsLawful};
 
 use crate::ledger::Ledger;
 use fj_model::{How, Said, Serial, WorkerId};
 use fj_tree::Arrived;
 
 impl Ledger {
-    /// What an arrival at a kept completer would do.
+    /// What an arrival at a completer would do. One that was released is spent.
     pub(super) fn arrival(&self, c: Serial) -> Arrived
-        requires kept { is_kept self.now.events c ≡ true }
-        ensures { as_arrival result ≡ arrival self.now.events c }
+        requires completer { is_completer self.now.events c ≡ true }
+        ensures arrival { as_arrival result ≡ arrival self.now.events c }
+        ensures lawful { IsLawful self.now.pool self.now.events }
     {
-        self.find(c).unwrap().arrival()
+        match self.find(c) {
+            None => Arrived::Spent,
+            Some(record) => record.arrival(),
+        }
     }
 
-    /// Arrives at a kept completer. If it fires, its completion action goes into the hand of the worker: to whom the history gives it.
+    /// Arrives at a completer. If it fires, its completion action goes into the hand of the worker: to whom the history gives it.
     pub(super) fn arrive(&mut self, c: Serial, w: WorkerId) -> Said
         requires worker { w < self.old.pool.limits.workers }
-        requires kept { is_kept self.old.events c ≡ true }
         requires completer { is_completer self.old.events c ≡ true }
         requires free { hand self.old.events w ≡ None }
         requires given { receiver c (hooks self.old.events).just_ended (hooks self.old.events).last_worker ≡ Some w }

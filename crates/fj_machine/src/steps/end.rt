@@ -1,8 +1,9 @@
 //! Bodies end.
-ghost use Rattle.std.specs.Prelude.{◌≡◌, None, Some, true};
+ghost use Rattle.std.specs.Prelude.{◌≡◌, None, Some};
 ghost use Rattle.fj_model.specs.declared.step.Step.TheVariants.{End};
-ghost use Rattle.fj_model.specs.Answers.{first_that_stands, refusals_of, running, is_built_ending};
+ghost use Rattle.fj_model.specs.Answers.{first_that_stands, refusals_of, running};
 ghost use Rattle.fj_model.specs.Runs.{Steps};
+ghost use Rattle.fj_machine.specs.Holds.{IsLawful};
 
 use crate::ledger::Ledger;
 use fj_model::{Ending, How, Refusal, Said, Serial, Status, WorkerId};
@@ -10,7 +11,6 @@ use fj_model::{Ending, How, Refusal, Said, Serial, Status, WorkerId};
 impl Ledger {
     /// The body of a worker's running task ends.
     pub(crate) fn end(&mut self, w: WorkerId, ending: Ending) -> Said
-        requires { is_built_ending ending ≡ true }
         ensures { Steps self.old (End w ending) result self.new }
     {
         if let Some(refusal) = self.end_refusal(w, ending) {
@@ -23,12 +23,13 @@ impl Ledger {
             Ending::Try => self.end_try(t, w),
             Ending::Pass => self.end_pass(t, w),
             Ending::Complete => self.end_complete(t, w),
-            Ending::Fail(_) => Said::Refused(Refusal::NotYet),
+            Ending::Fail(code) => self.end_fail(t, w, code),
         }
     }
 
     fn end_refusal(&self, w: WorkerId, ending: Ending) -> Option<Refusal>
-        ensures { result ≡ first_that_stands (refusals_of self.now.pool self.now.events (End w ending)) }
+        ensures refusal { result ≡ first_that_stands (refusals_of self.now.pool self.now.events (End w ending)) }
+        ensures lawful { IsLawful self.now.pool self.now.events }
     {
         let refusal = self.running_refusal(w);
         if refusal.is_some() {
@@ -108,5 +109,21 @@ impl Ledger {
         }
         self.fire(t, w, How::Complete);
         Said::Hook(t)
+    }
+
+    /// The end of a body that failed, by which the task becomes exceptional, and with it those to whom the code is relayed.
+    fn end_fail(&mut self, t: Serial, w: WorkerId, code: u32) -> Said
+        requires lawful { IsLawful self.old.pool self.old.events }
+        requires stands { first_that_stands (refusals_of self.old.pool self.old.events (End w (Ending.Fail code))) ≡ None }
+        requires running { running self.old.events w ≡ Some t }
+        ensures { Steps self.old (End w (Ending.Fail code)) result self.new }
+    {
+        let count = self.relay_look(t);
+        if !self.has_room(1 + count) {
+            return Said::Refused(Refusal::LogFull);
+        }
+        self.end_body(t, w);
+        self.relay(t, count, code);
+        Said::Done
     }
 }

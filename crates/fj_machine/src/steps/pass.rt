@@ -55,6 +55,7 @@ impl Ledger {
 
     /// Passes so many completers, the task first.
     fn climb(&mut self, t: Serial, count: u64)
+        requires kept { is_kept self.old.events t ≡ true }
         requires completer { is_completer self.old.events t ≡ true }
         requires count { count ≡ length (passed self.old.events t) }
         requires may { AllowedFrom self.old.pool self.old.events (map event.Pass (passed self.old.events t)) }

@@ -7,7 +7,6 @@ use Rattle.fj_model.specs.Allowed.{Allowed}
 use Rattle.fj_model.specs.Runs.{Past}
 use Rattle.fj_tree.specs.Handles.{Handle}
 use Rattle.fj_machine.proofs.Accepted.{makeable, made_is, accept_holds}
-use Rattle.fj_machine.proofs.Built.{live_is}
 use Rattle.fj_machine.proofs.Records.{IsMade}
 use Rattle.fj_machine.proofs.Refused.{unrefused, of_value}
 use Rattle.fj_machine.proofs.Rooms.{queues_are_short}
@@ -37,7 +36,7 @@ push-requires-2-clause-room c =
     let h = c.self.inside.log.events in
     let holds = c.self.invariant.0 in
     let may : Allowed pool h (Acc (accepted h) c.args.owner.now c.args.kind.now) = subst (λ (p : Past). Allowed p.pool p.events (Acc (accepted p.events) c.args.owner.now c.args.kind.now)) (sym c.self.view_is) c.requires.may in
-    omega (arith, queues_are_short pool h c.self.inside.queues holds.lawful holds.queues_kept, holds.queues_kept.room, may.0.room, live_is h holds.built)
+    omega (arith, queues_are_short pool h c.self.inside.queues holds.lawful holds.queues_kept, holds.queues_kept.room, may.0.room)
 
 -- what the make left
 made : (c : After-queue_number) → IsMade c.self.inside.tree c.make.new.self c.unwrap.result.key c.unwrap.result.serial c.args.kind.now (Queued c.args.owner.now)

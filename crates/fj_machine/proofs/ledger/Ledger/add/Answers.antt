@@ -1,4 +1,4 @@
-use Rattle.std.proofs.Common.{◌+◌, refl, ap, sym, ◌∙◌}
+use Rattle.std.proofs.Common.{◌+◌, ap, sym, ◌∙◌}
 use Rattle.fj_model.specs.declared.said.Said.TheVariants as says
 use Rattle.fj_model.specs.declared.step.Step.TheVariants.{Add}
 use Rattle.fj_machine.specs.Holds.{TellsOf}
@@ -9,7 +9,7 @@ use Rattle.fj_machine.proofs.CompleterSteps.{adds, add_says}
 use Rattle.fj_machine.proofs.ledger.Ledger.add.Goals as goal
 
 pub returns-in-Some : goal.returns-in-Some
-returns-in-Some c = steps_refused c.args.self.now (Add c.args.w c.args.c c.args.n) c.in-Some.refusal refl (sym c.add_refusal.ensures ∙ c.in-Some.is)
+returns-in-Some c = steps_refused c.args.self.now (Add c.args.w c.args.c c.args.n) c.in-Some.refusal (sym c.add_refusal.ensures ∙ c.in-Some.is)
 
 pub returns-then-not-has_room : goal.returns-then-not-has_room
 returns-then-not-has_room c =

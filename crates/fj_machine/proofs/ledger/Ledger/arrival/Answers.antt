@@ -3,10 +3,15 @@ use Rattle.std.specs.Prelude.{option_copied}
 use Rattle.std.proofs.lemmas.Option.{MatchOption-at_some}
 use Rattle.fj_model.specs.Climbs.{arrival}
 use Rattle.fj_machine.specs.Arriving.{as_arrival}
-use Rattle.fj_machine.proofs.ArrivalsTold.{arrival_told}
+use Rattle.fj_machine.proofs.ArrivalsTold.{arrival_told, released_told}
+use Rattle.fj_machine.proofs.FoundRecords.{unkept}
 use Rattle.fj_machine.proofs.ledger.Ledger.arrival.Goals as goal
 
-pub returns : goal.returns
-returns c =
-    let told = MatchOption-at_some _ _ _ (ap option_copied c.unwrap.ensures) c.find.ensures.record in
-    ap as_arrival c.arrival.ensures ∙ arrival_told c.args.self.now.events c.unwrap.result.now told.tells ∙ ap (arrival c.args.self.now.events) told.number
+pub returns-in-None-clause-arrival : goal.returns-in-None-clause-arrival
+returns-in-None-clause-arrival c =
+    released_told c.args.self.now.pool c.args.self.now.events c.args.c c.find.ensures.lawful.allowed c.requires.completer (unkept c.args.self.now.events c.args.c c.find.result c.find.ensures.record c.in-None.is)
+
+pub returns-in-Some-clause-arrival : goal.returns-in-Some-clause-arrival
+returns-in-Some-clause-arrival c =
+    let told = MatchOption-at_some _ _ _ (ap option_copied c.in-Some.is) c.find.ensures.record in
+    ap as_arrival c.arrival.ensures ∙ arrival_told c.args.self.now.events c.in-Some.record.now told.tells ∙ ap (arrival c.args.self.now.events) told.number

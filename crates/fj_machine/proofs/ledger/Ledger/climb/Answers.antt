@@ -7,12 +7,13 @@ use Rattle.fj_model.specs.Tasks.{is_completer, is_kept, kind, parent, parent_in}
 use Rattle.fj_model.specs.Climbs.{passed, path}
 use Rattle.fj_model.specs.Allowed.{Allowed}
 use Rattle.fj_model.specs.Runs.{Past, grown}
-use Rattle.fj_model.proofs.KindsKept.{completer_known}
 use Rattle.fj_model.proofs.Members.{get_is_in}
 use Rattle.fj_model.proofs.Parents.{path_completers}
 use Rattle.fj_machine.specs.Holds.{IsLawful}
 use Rattle.fj_machine.proofs.FoundRecords.{kept_found, told_of}
-use Rattle.fj_machine.proofs.Passing.{passed_at, some_get, next_up, path_begins, may_pass, still_completer, still_parent, allowed_front, passed_more}
+use Rattle.fj_machine.proofs.Passing.{passed_at, some_get, next_up, path_begins, may_next, still_completer, still_parent, allowed_front, next_more}
+use Rattle.fj_model.proofs.KeptParents.{path_kept}
+use Rattle.fj_machine.proofs.PassSteps.{kept_past}
 use Rattle.fj_machine.proofs.ledger.Ledger.climb.Goals as goal
 use Rattle.fj_machine.proofs.ledger.Ledger.climb.Goals.{In-loop, After-unwrap-c, After-find, After-parent-at}
 
@@ -50,15 +51,22 @@ completer c at is =
     let was = path_completers c.args.self.now.pool h t c.unwrap-c.result so c.requires.completer (get_is_in c.unwrap-c.result (path h t) i on_way) in
     subst (λ (p : Past). is_completer p.events c.unwrap-c.result ≡ true) (sym c.loop.invariant.past) (still_completer h (take i ps) c.unwrap-c.result was)
 
-kept : (c : After-find) → is_completer c.loop.self.events c.unwrap-c.result ≡ true → is_kept c.loop.self.events c.unwrap-c.result ≡ true
-kept c is = c.find.ensures.lawful.unreleased c.unwrap-c.result ∙ completer_known c.loop.self.events c.unwrap-c.result is
+kept : (c : After-find) → slice_get (passed c.args.self.now.events c.args.t) c.loop.counter ≡ Some c.unwrap-c.result → is_kept c.loop.self.events c.unwrap-c.result ≡ true
+kept c is =
+    let h = c.args.self.now.events in
+    let t = c.args.t in
+    let i = c.loop.counter in
+    let ps = passed h t in
+    let law : IsLawful c.args.self.now.pool (h ++ map Pass (take i ps)) = subst (λ (p : Past). IsLawful p.pool p.events) c.loop.invariant.past c.find.ensures.lawful in
+    let so = allowed_front c.args.self.now.pool [] h (map Pass (take i ps)) law.allowed in
+    let on_way : slice_get (path h t) i ≡ Some c.unwrap-c.result = passed_at h t i (omega (arith, c.loop-test.true, c.requires.count)) ∙ is in
+    let was = path_kept c.args.self.now.pool h t c.unwrap-c.result so c.requires.kept (get_is_in c.unwrap-c.result (path h t) i on_way) in
+    subst (λ (p : Past). is_kept p.events c.unwrap-c.result ≡ true) (sym c.loop.invariant.past) (kept_past h (take i ps) c.unwrap-c.result was)
 
 pub unwrap-requires : goal.unwrap-requires
 unwrap-requires c =
     let at = goal.at.unwrap-requires c in
-    let here = place at.In-loop in
-    let is = completer at.After-find here (member at.After-unwrap-c here) in
-    kept_found c.loop.self.events c.unwrap-c.result c.find.result c.find.ensures.record (kept at.After-find is)
+    kept_found c.loop.self.events c.unwrap-c.result c.find.result c.find.ensures.record (kept at.After-find (member at.After-unwrap-c (place at.In-loop)))
 
 pub pass-requires-clause-completer : goal.pass-requires-clause-completer
 pass-requires-clause-completer c =
@@ -70,7 +78,7 @@ pub pass-requires-clause-may : goal.pass-requires-clause-may
 pass-requires-clause-may c =
     let at = goal.at.pass-requires-clause-may c in
     let is = member at.After-unwrap-c (place at.In-loop) in
-    let may = may_pass c.args.self.now.pool c.args.self.now.events (passed c.args.self.now.events c.args.t) c.loop.counter c.unwrap-c.result c.requires.may is in
+    let may = may_next c.args.self.now.pool Pass c.args.self.now.events (passed c.args.self.now.events c.args.t) c.loop.counter c.unwrap-c.result c.requires.may is in
     subst (λ (p : Past). Allowed p.pool p.events (Pass c.unwrap-c.result)) (sym c.loop.invariant.past) may
 
 -- what was read is the parent
@@ -89,7 +97,7 @@ loop-preserved c =
     let ps = passed now.events t in
     let is = member at.After-unwrap-c (place at.In-loop) in
     record {
-      past = c.pass.ensures ∙ ap (λ (p : Past). grown p (Pass c.unwrap-c.result ∷ [])) c.loop.invariant.past ∙ passed_more now ps i c.unwrap-c.result is;
+      past = c.pass.ensures ∙ ap (λ (p : Past). grown p (Pass c.unwrap-c.result ∷ [])) c.loop.invariant.past ∙ next_more Pass now ps i c.unwrap-c.result is;
       next = λ some.
           let later = some_get ps (i + 1) (omega (arith, some, c.requires.count)) in
           let on_way : slice_get (path now.events t) i ≡ Some c.unwrap-c.result = passed_at now.events t i (omega (arith, some, c.requires.count)) ∙ is in

@@ -1,4 +1,4 @@
-use Rattle.std.proofs.Common.{ℕ, ◌≡◌, ◌<◌, true, false, not, List, length, ◌∷◌, [], Some, refl, ap, sym, ◌∙◌, subst, arith}
+use Rattle.std.proofs.Common.{ℕ, ◌≡◌, ◌-◌, ◌<◌, true, false, not, List, length, ◌∷◌, [], Some, refl, ap, sym, ◌∙◌, subst, arith}
 use Rattle.std.specs.Prelude.{◌&&◌}
 use Rattle.std.proofs.lemmas.List.{append-nil}
 use Rattle.fj_model.specs.declared.event.Event.TheVariants.{End}
@@ -8,13 +8,15 @@ use Rattle.fj_model.specs.Tasks.{is_completer_kind}
 use Rattle.fj_model.specs.Stacks.{stack}
 use Rattle.fj_model.specs.Allowed.{Allowed}
 use Rattle.fj_model.specs.Runs.{Past}
-use Rattle.fj_model.proofs.Opening.{opens, ended_accepted}
+use Rattle.fj_model.proofs.FewLive.{few_live}
+use Rattle.fj_model.proofs.KeptPlaces.{held_kept}
+use Rattle.fj_model.proofs.Members.{get_is_in}
+use Rattle.fj_model.proofs.Opening.{opens}
 use Rattle.fj_tree.specs.declared.record.Record.{Record}
 use Rattle.fj_tree.specs.Arrivals.{is_spent}
 use Rattle.fj_machine.proofs.BodyEnded.{stays_told, ended_holds}
-use Rattle.fj_machine.proofs.Built.{kept_is}
 use Rattle.fj_machine.proofs.Located.{IsLocated, located, read_at}
-use Rattle.fj_machine.proofs.Rooms.{open_is_short, few_tasks}
+use Rattle.fj_machine.proofs.Rooms.{open_is_short}
 use Rattle.fj_machine.proofs.Spent.{gone_room}
 use Rattle.fj_machine.proofs.ledger.Ledger.end_body.Goals as goal
 use Rattle.fj_machine.proofs.ledger.Ledger.end_body.Goals.{After-self, After-unwrap-h, After-stays_open-stays}
@@ -34,7 +36,7 @@ unwrap-h-requires c =
     let pool : Pool = record { mode = c.self.inside.mode; limits = c.self.inside.limits } in
     let h = c.self.inside.log.events in
     let holds = c.self.invariant.0 in
-    rw c.find.ensures.found (holds.tree_kept.all c.args.t (kept_is h c.args.t holds.built ∙ ended_accepted pool h c.args.t c.args.w holds.lawful (may at)))
+    rw c.find.ensures.found (holds.tree_kept.all c.args.t (held_kept pool h c.args.w c.args.t holds.lawful (get_is_in c.args.t (stack h c.args.w) (length (stack h c.args.w) - 1) (may at).0)))
 
 found : (c : After-unwrap-h) → IsLocated c.self.inside.tree c.args.t c.unwrap-h.result
 found c = located c.self.inside.tree c.args.t c.find.result c.unwrap-h.result c.find.ensures.found c.find.ensures.good c.unwrap-h.ensures
@@ -60,7 +62,7 @@ push_reserved-requires c =
     let h = c.self.inside.log.events in
     let holds = c.self.invariant.0 in
     let short = open_is_short pool h c.args.w holds.lawful (within at) (some_last (stack h c.args.w) c.args.t (may at).0) in
-    omega (arith, short, few_tasks pool h holds.lawful holds.built, ap (λ (ts : List ℕ). length ts) holds.open_kept, c.self.inside.open.ok.0, c.self.invariant.2)
+    omega (arith, short, few_live pool h holds.lawful, ap (λ (ts : List ℕ). length ts) holds.open_kept, c.self.inside.open.ok.0, c.self.invariant.2)
 
 pub invariant_of-self : goal.invariant_of-self
 invariant_of-self c =

@@ -34,7 +34,7 @@ unwrap-requires c =
 pub returns-then-not-has_room : goal.returns-then-not-has_room
 returns-then-not-has_room c =
     let at = (goal.at.returns-then-not-has_room c).After-has_room in
-    end_full c.args.self.now c.args.w c.args.t Complete c.if-spent.has_room refl c.requires.stands c.requires.running (count at) (no_room _ _ _ c.has_room.ensures.room c.if-not-has_room.true)
+    end_full c.args.self.now c.args.w c.args.t Complete c.if-spent.has_room c.requires.stands c.requires.running (count at) (no_room _ _ _ c.has_room.ensures.room c.if-not-has_room.true)
 
 pub returns-then-spent-2 : goal.returns-then-spent-2
 returns-then-spent-2 c =
@@ -43,7 +43,7 @@ returns-then-spent-2 c =
     let t = c.args.t in
     let is = told at ∙ c.if-spent-2.true in
     let after = complete_events h c.args.w t true is in
-    end_made c.args.self.now c.end_body.new.self c.args.w t Complete [] _ _ refl c.requires.stands c.requires.running after (complete_says h c.args.w t true is) (rw after at (count at))
+    end_made c.args.self.now c.end_body.new.self c.args.w t Complete [] _ _ c.requires.stands c.requires.running after (complete_says h c.args.w t true is) (rw after at (count at))
     (is_room _ _ _ c.has_room.ensures.room c.if-not-has_room.false) (c.end_body.ensures ∙ grown_none _)
 
 pub fire-requires-clause-kept : goal.fire-requires-clause-kept
@@ -68,7 +68,7 @@ pub fire-requires-clause-may : goal.fire-requires-clause-may
 fire-requires-clause-may c =
     let at = (goal.at.fire-requires-clause-may c).After-has_room in
     let h = c.args.self.now.events in
-    let may = may_end c.args.self.now.pool h c.args.w c.args.t Complete _ c.find.ensures.lawful refl c.requires.stands c.requires.running (count at) (is_room _ _ _ c.has_room.ensures.room c.if-not-has_room.false) in
+    let may = may_end c.args.self.now.pool h c.args.w c.args.t Complete _ c.find.ensures.lawful c.requires.stands c.requires.running (count at) (is_room _ _ _ c.has_room.ensures.room c.if-not-has_room.false) in
     let both = rw (complete_events h c.args.w c.args.t false (told at ∙ c.if-spent-2.false)) at (may.1) in
     subst (λ (p : Past). Allowed p.pool p.events (event.Fire c.args.t how.Complete)) (sym c.end_body.ensures) (both.0)
 
@@ -79,5 +79,5 @@ returns c =
     let t = c.args.t in
     let is = told at ∙ c.if-spent-2.false in
     let after = complete_events h c.args.w t false is in
-    end_made c.args.self.now c.fire.new.self c.args.w t Complete (event.Fire t how.Complete ∷ []) _ _ refl c.requires.stands c.requires.running after (complete_says h c.args.w t false is)
+    end_made c.args.self.now c.fire.new.self c.args.w t Complete (event.Fire t how.Complete ∷ []) _ _ c.requires.stands c.requires.running after (complete_says h c.args.w t false is)
     (rw after at (count at)) (is_room _ _ _ c.has_room.ensures.room c.if-not-has_room.false) (c.fire.ensures ∙ rw c.end_body.ensures refl)

@@ -33,17 +33,17 @@ unwrap-requires c =
 pub returns-then-not-has_room : goal.returns-then-not-has_room
 returns-then-not-has_room c =
     let at = (goal.at.returns-then-not-has_room c).After-has_room in
-    end_full c.args.self.now c.args.w c.args.t Ok _ refl c.requires.stands c.requires.running (count at) (no_room _ _ _ c.has_room.ensures.room c.if-not-has_room.true)
+    end_full c.args.self.now c.args.w c.args.t Ok _ c.requires.stands c.requires.running (count at) (no_room _ _ _ c.has_room.ensures.room c.if-not-has_room.true)
 
 pub settle-requires-clause-kept : goal.settle-requires-clause-kept
-settle-requires-clause-kept c =
+settle-requires-clause-kept c there =
     subst (λ (p : Past). is_kept p.events c.args.t ≡ true) (sym c.end_body.ensures) (ended_kept c.args.self.now.pool c.args.self.now.events c.args.w c.args.t c.find.ensures.lawful c.requires.running)
 
 pub settle-requires-clause-may : goal.settle-requires-clause-may
 settle-requires-clause-may c =
     let at = (goal.at.settle-requires-clause-may c).After-has_room in
     let h = c.args.self.now.events in
-    let may = may_end c.args.self.now.pool h c.args.w c.args.t Ok _ c.find.ensures.lawful refl c.requires.stands c.requires.running (count at) (is_room _ _ _ c.has_room.ensures.room c.if-not-has_room.false) in
+    let may = may_end c.args.self.now.pool h c.args.w c.args.t Ok _ c.find.ensures.lawful c.requires.stands c.requires.running (count at) (is_room _ _ _ c.has_room.ensures.room c.if-not-has_room.false) in
     let both = rw (ok_events h c.args.w c.args.t true (told at ∙ c.if-undone-2.true)) at (may.1) in
     subst (λ (p : Past). Allowed p.pool p.events (Settle c.args.t Normal)) (sym c.end_body.ensures) (both.0)
 
@@ -56,10 +56,10 @@ returns c =
     elim c.if-undone-2.branch [
       | then-undone-2 w ↦
           let after = ok_events h c.args.w t true (told at ∙ w.if-undone-2.true) in
-          end_made c.args.self.now c.if-undone-2.self c.args.w t Ok (Settle t Normal ∷ []) _ _ refl c.requires.stands c.requires.running after refl (rw after at (count at)) room
+          end_made c.args.self.now c.if-undone-2.self c.args.w t Ok (Settle t Normal ∷ []) _ _ c.requires.stands c.requires.running after refl (rw after at (count at)) room
           (w.self-is ∙ w.settle.ensures ∙ rw c.end_body.ensures refl)
       | else-undone-2 w ↦
           let after = ok_events h c.args.w t false (told at ∙ w.if-undone-2.false) in
-          end_made c.args.self.now c.if-undone-2.self c.args.w t Ok [] _ _ refl c.requires.stands c.requires.running after refl (rw after at (count at)) room
+          end_made c.args.self.now c.if-undone-2.self c.args.w t Ok [] _ _ c.requires.stands c.requires.running after refl (rw after at (count at)) room
           (w.self-is ∙ c.end_body.ensures ∙ grown_none _)
     ]

@@ -1,4 +1,4 @@
-use Rattle.std.proofs.Common.{ℕ, ◌≡◌, ◌+◌, ◌∷◌, ◌++◌, [], List, length, map, true, refl, ap, sym, ◌∙◌, subst}
+use Rattle.std.proofs.Common.{ℕ, ◌≡◌, ◌+◌, ◌∷◌, ◌++◌, [], List, length, map, true, ap, sym, ◌∙◌, subst}
 use Rattle.fj_model.specs.declared.event.Event.{Event}
 use Rattle.fj_model.specs.declared.event.Event.TheVariants as event
 use Rattle.fj_model.specs.declared.step.Ending.TheVariants.{Pass}
@@ -7,14 +7,14 @@ use Rattle.fj_model.specs.Climbs.{passed}
 use Rattle.fj_model.specs.Allowed.{AllowedFrom}
 use Rattle.fj_model.specs.Answers.{after_end}
 use Rattle.fj_model.specs.Runs.{Past, grown}
-use Rattle.fj_model.proofs.KindsKept.{completer_known, completer_same}
 use Rattle.fj_model.proofs.Lawful.{allowed_more}
 use Rattle.fj_machine.specs.Climbing.{climb_end}
 use Rattle.fj_machine.proofs.BodyEnds.{end_full, end_made, end_suits, may_end, ended_completer}
-use Rattle.fj_machine.proofs.KeptTasks.{kept_still}
 use Rattle.fj_machine.proofs.Passing.{still_completer, allowed_front}
 use Rattle.fj_machine.proofs.PassSteps.{pass_events, pass_reply, pass_count, climb_completer, kept_past, allowed_back}
 use Rattle.fj_machine.proofs.RoomTests.{is_room, no_room, grown_twice}
+use Rattle.fj_machine.proofs.BodyEnds.{ended_kept}
+use Rattle.fj_machine.proofs.PassSteps.{climb_kept}
 use Rattle.fj_machine.proofs.ledger.Ledger.end_pass.Goals as goal
 use Rattle.fj_machine.proofs.ledger.Ledger.end_pass.Goals.{After-has_room, After-climb}
 
@@ -32,7 +32,7 @@ count_after c = ap (λ (es : List Event). 1 + length es) (pass_events (ended c) 
 pub returns-then-not-has_room : goal.returns-then-not-has_room
 returns-then-not-has_room c =
     let at = (goal.at.returns-then-not-has_room c).After-has_room in
-    end_full c.args.self.now c.args.w c.args.t Pass _ refl c.requires.stands c.requires.running (count_after at) (no_room _ _ _ c.has_room.ensures.room c.if-not-has_room.true)
+    end_full c.args.self.now c.args.w c.args.t Pass _ c.requires.stands c.requires.running (count_after at) (no_room _ _ _ c.has_room.ensures.room c.if-not-has_room.true)
 
 -- what follows the end of the body is allowed
 may : (c : After-has_room) → c.has_room.result ≡ true → AllowedFrom c.args.self.now.pool (ended c) (map event.Pass (passed (ended c) c.args.t) ++ climb_end c.pass_look-climb.result.how c.pass_look-climb.result.at)
@@ -40,7 +40,7 @@ may c room =
     let now = c.args.self.now in
     let fits = is_room _ _ _ c.has_room.ensures.room room in
     subst (AllowedFrom now.pool (ended c)) (pass_events (ended c) c.args.t c.pass_look-climb.result c.pass_look-climb.ensures.climbs)
-    (may_end now.pool now.events c.args.w c.args.t Pass _ c.has_room.ensures.lawful refl c.requires.stands c.requires.running (count_after c) fits).1
+    (may_end now.pool now.events c.args.w c.args.t Pass _ c.has_room.ensures.lawful c.requires.stands c.requires.running (count_after c) fits).1
 
 -- the task is a completer
 completer : (c : After-has_room) → is_completer (ended c) c.args.t ≡ true
@@ -71,14 +71,21 @@ end_completer c =
     let so = allowed_more now.pool [] now.events (event.End c.args.t c.args.w) c.has_room.ensures.lawful.allowed (c.requires.running, suits.0) in
     climb_completer now.pool (ended c) c.args.t c.pass_look-climb.result so (completer c) c.pass_look-climb.ensures.climbs
 
+pub climb-requires-clause-kept : goal.climb-requires-clause-kept
+climb-requires-clause-kept c =
+    let now = c.args.self.now in
+    subst (λ (p : Past). is_kept p.events c.args.t ≡ true) (sym c.end_body.ensures) (ended_kept now.pool now.events c.args.w c.args.t c.has_room.ensures.lawful c.requires.running)
+
 pub end_climb-requires-clause-kept : goal.end_climb-requires-clause-kept
 end_climb-requires-clause-kept c =
     let at = goal.at.end_climb-requires-clause-kept c in
     let here = at.After-has_room in
     let now = c.args.self.now in
     let d = c.pass_look-climb.result.at in
-    let before : is_completer now.events d ≡ true = sym (completer_same now.events (event.End c.args.t c.args.w) d refl) ∙ end_completer here in
-    let kept = kept_still now.events (event.End c.args.t c.args.w) d refl refl ∙ c.has_room.ensures.lawful.unreleased d ∙ completer_known now.events d before in
+    let law = c.has_room.ensures.lawful in
+    let suits = end_suits now.pool now.events c.args.w c.args.t Pass c.requires.stands c.requires.running in
+    let so = allowed_more now.pool [] now.events (event.End c.args.t c.args.w) law.allowed (c.requires.running, suits.0) in
+    let kept = climb_kept now.pool (ended here) c.args.t c.pass_look-climb.result so (ended_kept now.pool now.events c.args.w c.args.t law c.requires.running) c.pass_look-climb.ensures.climbs in
     subst (λ (p : Past). is_kept p.events d ≡ true) (sym (climbed at.After-climb)) (kept_past (ended here) (passed (ended here) c.args.t) d kept)
 
 pub end_climb-requires-clause-completer : goal.end_climb-requires-clause-completer
@@ -103,5 +110,5 @@ returns c =
     let climb = c.pass_look-climb.result in
     let ps = map event.Pass (passed (ended here) c.args.t) in
     let events = c.end_climb.ensures.events ∙ ap (λ (p : Past). grown p (climb_end climb.how climb.at)) (climbed at.After-climb) ∙ grown_twice (grown now (event.End c.args.t c.args.w ∷ [])) ps (climb_end climb.how climb.at) in
-    end_made now c.end_climb.new.self c.args.w c.args.t Pass (ps ++ climb_end climb.how climb.at) _ _ refl c.requires.stands c.requires.running (pass_events (ended here) c.args.t climb c.pass_look-climb.ensures.climbs)
+    end_made now c.end_climb.new.self c.args.w c.args.t Pass (ps ++ climb_end climb.how climb.at) _ _ c.requires.stands c.requires.running (pass_events (ended here) c.args.t climb c.pass_look-climb.ensures.climbs)
     (c.end_climb.ensures.said ∙ pass_reply (ended here) c.args.t climb c.pass_look-climb.ensures.climbs) (count here) (is_room _ _ _ c.has_room.ensures.room c.if-not-has_room.false) events

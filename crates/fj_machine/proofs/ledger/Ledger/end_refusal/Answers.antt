@@ -28,8 +28,8 @@ unwrap-requires c =
     let is : running h c.args.w ≡ Some c.in_ok-t.t = sym c.running.ensures ∙ c.in_ok-t.was in
     kept_found h c.in_ok-t.t c.find.result c.find.ensures.record (running_kept c.args.self.now.pool h c.args.w c.in_ok-t.t c.find.ensures.lawful is)
 
-pub returns-then-fits : goal.returns-then-fits
-returns-then-fits c = rw c.if-fits.true at (decided (goal.at.returns-then-fits c).Joined-ending)
+pub returns-then-fits-clause-refusal : goal.returns-then-fits-clause-refusal
+returns-then-fits-clause-refusal c = rw c.if-fits.true at (decided (goal.at.returns-then-fits-clause-refusal c).Joined-ending)
 
-pub returns-else-fits : goal.returns-else-fits
-returns-else-fits c = rw c.if-fits.false at (decided (goal.at.returns-else-fits c).Joined-ending)
+pub returns-else-fits-clause-refusal : goal.returns-else-fits-clause-refusal
+returns-else-fits-clause-refusal c = rw c.if-fits.false at (decided (goal.at.returns-else-fits-clause-refusal c).Joined-ending)

@@ -3,12 +3,12 @@ use Rattle.std.proofs.lemmas.Bool.{not-false}
 use Rattle.std.proofs.lemmas.List.{length-append}
 use Rattle.fj_model.specs.declared.event.Event.TheVariants as event
 use Rattle.fj_model.specs.declared.step.Ending.TheVariants.{Try}
-use Rattle.fj_model.specs.Tasks.{is_kept, is_completer}
+use Rattle.fj_model.specs.Tasks.{is_completer}
 use Rattle.fj_model.specs.Hooks.{hooks, hand, receiver}
 use Rattle.fj_model.specs.Climbs.{arrival}
 use Rattle.fj_model.specs.Answers.{arriving, arriving_says}
 use Rattle.fj_model.specs.Runs.{Past, grown}
-use Rattle.fj_machine.proofs.BodyEnds.{running_kept, end_full, end_made, end_suits, ended_kept, ended_completer, ended_free, ended_given, try_count}
+use Rattle.fj_machine.proofs.BodyEnds.{running_kept, end_full, end_made, end_suits, ended_completer, ended_free, ended_given, try_count}
 use Rattle.fj_machine.proofs.FoundRecords.{kept_found, told_of, spent_of}
 use Rattle.fj_machine.proofs.RoomTests.{is_room, no_room, either_way}
 use Rattle.fj_machine.proofs.ledger.Ledger.end_try.Goals as goal
@@ -31,11 +31,7 @@ unwrap-requires c =
 pub returns-then-not-has_room : goal.returns-then-not-has_room
 returns-then-not-has_room c =
     let at = (goal.at.returns-then-not-has_room c).After-has_room in
-    end_full c.args.self.now c.args.w c.args.t Try c.if-spent.has_room refl c.requires.stands c.requires.running (count at) (no_room _ _ _ c.has_room.ensures.room c.if-not-has_room.true)
-
-pub arrive-requires-clause-kept : goal.arrive-requires-clause-kept
-arrive-requires-clause-kept c =
-    subst (λ (p : Past). is_kept p.events c.args.t ≡ true) (sym c.end_body.ensures) (ended_kept c.args.self.now.pool c.args.self.now.events c.args.w c.args.t c.find.ensures.lawful c.requires.running)
+    end_full c.args.self.now c.args.w c.args.t Try c.if-spent.has_room c.requires.stands c.requires.running (count at) (no_room _ _ _ c.has_room.ensures.room c.if-not-has_room.true)
 
 pub arrive-requires-clause-completer : goal.arrive-requires-clause-completer
 arrive-requires-clause-completer c =
@@ -66,4 +62,4 @@ returns c =
     let t = c.args.t in
     let said = c.arrive.ensures.said ∙ ap (λ (p : Past). arriving_says t (arrival p.events t)) c.end_body.ensures in
     let events = c.arrive.ensures.events ∙ ap (λ (p : Past). grown p (arriving t (arrival p.events t))) c.end_body.ensures in
-    end_made c.args.self.now c.arrive.new.self c.args.w t Try _ _ _ refl c.requires.stands c.requires.running refl said (count at) (is_room _ _ _ c.has_room.ensures.room c.if-not-has_room.false) events
+    end_made c.args.self.now c.arrive.new.self c.args.w t Try _ _ _ c.requires.stands c.requires.running refl said (count at) (is_room _ _ _ c.has_room.ensures.room c.if-not-has_room.false) events

@@ -24,7 +24,7 @@ read c =
     found_status c.args.self.now.events c.args.t c.unwrap.result.now found
 
 pub returns-in-Some : goal.returns-in-Some
-returns-in-Some c = steps_refused c.args.self.now (Join c.args.w c.args.t c.args.r) c.in-Some.refusal refl (sym c.join_refusal.ensures ∙ c.in-Some.is)
+returns-in-Some c = steps_refused c.args.self.now (Join c.args.w c.args.t c.args.r) c.in-Some.refusal (sym c.join_refusal.ensures ∙ c.in-Some.is)
 
 -- ---- a task that is undone
 
@@ -33,7 +33,7 @@ take_choice-requires-clause-may c =
     let now = c.args.self.now in
     let at = (goal.at.take_choice-requires-clause-may c).After-unwrap in
     let undone : is_undone (status now.events c.args.t) ≡ true = ap is_undone (read at ∙ c.in-Undone.is) in
-    choice_may now (Join c.args.w c.args.t c.args.r) c.args.w c.args.r c.find.ensures.lawful refl (stands at) (join_takes now.pool now.events c.args.w c.args.t c.args.r undone).0
+    choice_may now (Join c.args.w c.args.t c.args.r) c.args.w c.args.r c.find.ensures.lawful (stands at) (join_takes now.pool now.events c.args.w c.args.t c.args.r undone).0
 
 pub returns-in-Undone : goal.returns-in-Undone
 returns-in-Undone c =
@@ -41,7 +41,7 @@ returns-in-Undone c =
     let at = (goal.at.returns-in-Undone c).After-unwrap in
     let undone : is_undone (status now.events c.args.t) ≡ true = ap is_undone (read at ∙ c.in-Undone.is) in
     let takes = join_takes now.pool now.events c.args.w c.args.t c.args.r undone in
-    choice_steps now c.take_choice.new.self (Join c.args.w c.args.t c.args.r) c.args.w c.args.r c.take_choice.result c.take_choice.ensures refl (stands at) takes.0 takes.1
+    choice_steps now c.take_choice.new.self (Join c.args.w c.args.t c.args.r) c.args.w c.args.r c.take_choice.result c.take_choice.ensures (stands at) takes.0 takes.1
 
 -- ---- a task that is done
 
@@ -49,7 +49,7 @@ done : (now : Past) (w t r : ℕ) (s : Status) → IsLawful now.pool now.events 
     → status now.events t ≡ s → is_undone s ≡ false → Steps now (Join w t r) (status_says s) now
 done now w t r s law none is ended =
     let tells = join_tells now.pool now.events w t r (ap is_undone is ∙ ended) in
-    told now (Join w t r) (status_says s) (only_tells now (Join w t r) (status_says s) law refl none tells.0 (tells.1 ∙ ap status_says is))
+    told now (Join w t r) (status_says s) (only_tells now (Join w t r) (status_says s) law none tells.0 (tells.1 ∙ ap status_says is))
 
 pub returns-in-Normal : goal.returns-in-Normal
 returns-in-Normal c =

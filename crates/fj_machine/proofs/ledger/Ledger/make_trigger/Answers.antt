@@ -8,10 +8,9 @@ use Rattle.fj_model.specs.Allowed.{Allowed}
 use Rattle.fj_model.specs.Runs.{Past}
 use Rattle.fj_tree.specs.Handles.{Handle}
 use Rattle.fj_machine.proofs.Accepted.{makeable, made_is, trigger_holds}
-use Rattle.fj_machine.proofs.Built.{live_is}
 use Rattle.fj_machine.proofs.Records.{IsMade}
 use Rattle.fj_machine.proofs.Refused.{unrefused, of_value}
-use Rattle.fj_machine.proofs.Rooms.{open_few}
+use Rattle.fj_model.proofs.KeptPlaces.{few_open}
 use Rattle.fj_machine.proofs.Spent.{few_accepted}
 use Rattle.fj_machine.proofs.ledger.Ledger.make_trigger.Goals as goal
 use Rattle.fj_machine.proofs.ledger.Ledger.make_trigger.Goals.{After-self, After-unwrap}
@@ -38,7 +37,7 @@ push_reserved-requires c =
     let h = c.self.inside.log.events in
     let holds = c.self.invariant.0 in
     let may : Allowed pool h (Make (accepted h) (Completer None c.args.count true)) = subst (λ (p : Past). Allowed p.pool p.events (Make (accepted p.events) (Completer None c.args.count true))) (sym c.self.view_is) c.requires.may in
-    omega (arith, open_few pool h holds.lawful, may.0.room, live_is h holds.built, ap (λ (ts : List ℕ). length ts) holds.open_kept, c.self.inside.open.ok.0, c.self.invariant.2)
+    omega (arith, few_open pool h holds.lawful, may.0.room, ap (λ (ts : List ℕ). length ts) holds.open_kept, c.self.inside.open.ok.0, c.self.invariant.2)
 
 -- what the make left
 made : (c : After-unwrap) → IsMade c.self.inside.tree c.make.new.self c.unwrap.result.key c.unwrap.result.serial c.trigger.result Open

@@ -1,14 +1,16 @@
-use Rattle.std.proofs.Common.{ℕ, ◌≡◌, ◌<◌, arith, true, ◌++◌, ◌∷◌, [], ap, sym, ◌∙◌, subst}
+use Rattle.std.proofs.Common.{ℕ, ◌≡◌, ◌-◌, ◌<◌, arith, true, length, ◌++◌, ◌∷◌, [], ap, sym, ◌∙◌, subst}
 use Rattle.std.proofs.lemmas.Bool.{ltb-true}
 use Rattle.fj_model.specs.declared.event.Event.TheVariants.{End}
 use Rattle.fj_model.specs.Bounds.{Pool}
 use Rattle.fj_model.specs.Tasks.{accepted, is_completer}
+use Rattle.fj_model.specs.Stacks.{stack}
 use Rattle.fj_model.specs.Allowed.{Allowed}
 use Rattle.fj_model.specs.Runs.{Past}
 use Rattle.fj_model.proofs.Lawful.{is_numbered}
+use Rattle.fj_model.proofs.KeptPlaces.{held_kept}
+use Rattle.fj_model.proofs.Members.{get_is_in}
 use Rattle.fj_model.proofs.Opening.{ended_accepted}
 use Rattle.fj_machine.specs.Climbing.{Climbs}
-use Rattle.fj_machine.proofs.Built.{kept_is}
 use Rattle.fj_machine.proofs.ClimbsTold.{climb_of, climbs_told, few_passed}
 use Rattle.fj_machine.proofs.Located.{located, good_at, completer_at}
 use Rattle.fj_machine.proofs.Spent.{few_accepted}
@@ -27,7 +29,7 @@ unwrap-requires c =
     let pool : Pool = record { mode = c.self.inside.mode; limits = c.self.inside.limits } in
     let h = c.self.inside.log.events in
     let holds = c.self.invariant.0 in
-    rw c.find.ensures.found (holds.tree_kept.all c.args.t (kept_is h c.args.t holds.built ∙ ended_accepted pool h c.args.t c.args.w holds.lawful (may at)))
+    rw c.find.ensures.found (holds.tree_kept.all c.args.t (held_kept pool h c.args.w c.args.t holds.lawful (get_is_in c.args.t (stack h c.args.w) (length (stack h c.args.w) - 1) (may at).0)))
 
 pub pass_look-requires : goal.pass_look-requires
 pass_look-requires c =
@@ -44,7 +46,7 @@ returns-clause-climbs c =
     let holds = c.self.invariant.0 in
     let l = located c.self.inside.tree c.args.t c.find.result c.unwrap.result c.find.ensures.found c.find.ensures.good c.unwrap.ensures in
     let ends : Allowed pool h (End c.unwrap.result.serial c.args.w) = subst (λ (u : ℕ). Allowed pool h (End u c.args.w)) (sym l.number) (may at) in
-    let told = climbs_told pool.limits pool h c.self.inside.tree c.unwrap.result c.args.w c.pass_look.result (record { so = holds.lawful; built = holds.built; keeps = holds.tree_kept })
+    let told = climbs_told pool.limits pool h c.self.inside.tree c.unwrap.result c.args.w c.pass_look.result (record { so = holds.lawful; keeps = holds.tree_kept })
     c.find.ensures.sound (good_at c.self.inside.tree c.args.t c.unwrap.result l) ends (ap (is_completer h) l.number ∙ completer at) c.pass_look.ensures.passed c.pass_look.ensures.ends in
     rw (c.by_number.ensures, ← c.self.view_is) (subst (λ (u : ℕ). Climbs (h ++ End u c.args.w ∷ []) u (climb_of c.pass_look.result)) l.number told)
 
@@ -57,7 +59,7 @@ returns-clause-few c =
     let holds = c.self.invariant.0 in
     let l = located c.self.inside.tree t c.find.result c.unwrap.result c.find.ensures.found c.find.ensures.good c.unwrap.ensures in
     let ends : Allowed pool h (End c.unwrap.result.serial c.args.w) = subst (λ (u : ℕ). Allowed pool h (End u c.args.w)) (sym l.number) (may at) in
-    let told = climbs_told pool.limits pool h c.self.inside.tree c.unwrap.result c.args.w c.pass_look.result (record { so = holds.lawful; built = holds.built; keeps = holds.tree_kept })
+    let told = climbs_told pool.limits pool h c.self.inside.tree c.unwrap.result c.args.w c.pass_look.result (record { so = holds.lawful; keeps = holds.tree_kept })
     c.find.ensures.sound (good_at c.self.inside.tree t c.unwrap.result l) ends (ap (is_completer h) l.number ∙ completer at) c.pass_look.ensures.passed c.pass_look.ensures.ends in
     let there : t < accepted h = ltb-true t (accepted h) (sym (is_numbered pool h holds.lawful t) ∙ ended_accepted pool h t c.args.w holds.lawful (may at)) in
     let few = few_passed (h ++ End c.unwrap.result.serial c.args.w ∷ []) c.unwrap.result.serial in

@@ -1,4 +1,4 @@
-use Rattle.std.proofs.Common.{◌≡◌, None, refl, ap, sym, ◌∙◌}
+use Rattle.std.proofs.Common.{◌≡◌, None, ap, sym, ◌∙◌}
 use Rattle.fj_model.specs.declared.said.Said.TheVariants as says
 use Rattle.fj_model.specs.declared.step.Step.TheVariants.{QuietRoot}
 use Rattle.fj_model.specs.Statuses.{status, is_undone}
@@ -21,7 +21,7 @@ read c =
     ap is_undone (found_status c.args.self.now.events c.root-root.result c.unwrap.result.now found) ∙ sym c.is_undone.ensures
 
 pub returns-in-Some : goal.returns-in-Some
-returns-in-Some c = steps_refused c.args.self.now (QuietRoot c.args.w c.args.t) c.in-Some.refusal refl (sym c.quiet_root_refusal.ensures ∙ c.in-Some.is)
+returns-in-Some c = steps_refused c.args.self.now (QuietRoot c.args.w c.args.t) c.in-Some.refusal (sym c.quiet_root_refusal.ensures ∙ c.in-Some.is)
 
 pub returns-then-not-is_undone : goal.returns-then-not-is_undone
 returns-then-not-is_undone c =
@@ -29,7 +29,7 @@ returns-then-not-is_undone c =
     let at = (goal.at.returns-then-not-is_undone c).After-is_undone in
     let asked = QuietRoot c.args.w c.args.t in
     let leaves = leaves_root now c.args.w c.args.t c.root-root.result c.root-root.ensures.root (read at ∙ c.if-not-is_undone.true) in
-    told now asked (says.Spent c.root-root.result) (only_tells now asked (says.Spent c.root-root.result) c.find.ensures.lawful refl (stands at) leaves.0 leaves.1)
+    told now asked (says.Spent c.root-root.result) (only_tells now asked (says.Spent c.root-root.result) c.find.ensures.lawful (stands at) leaves.0 leaves.1)
 
 pub returns-then-not-has_room : goal.returns-then-not-has_room
 returns-then-not-has_room c =

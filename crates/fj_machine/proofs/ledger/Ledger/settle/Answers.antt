@@ -1,28 +1,57 @@
-use Rattle.std.proofs.Common.{◌<◌, length, sym, subst, arith}
+use Rattle.std.proofs.Common.{◌≡◌, ◌<◌, true, false, length, sym, ◌∙◌, subst, arith}
+use Rattle.std.specs.Prelude.{Option, None, IsSome}
+use Rattle.std.proofs.lemmas.Bool.{true≢false}
 use Rattle.fj_model.specs.declared.event.Event.TheVariants.{Settle}
 use Rattle.fj_model.specs.Bounds.{Pool}
+use Rattle.fj_model.specs.Lists.{is_in}
+use Rattle.fj_model.specs.Tasks.{is_kept}
 use Rattle.fj_model.specs.Allowed.{Allowed}
 use Rattle.fj_model.specs.Runs.{Past}
+use Rattle.fj_model.proofs.OnePlace.{never}
+use Rattle.fj_machine.specs.Holds.{hook_completers}
 use Rattle.fj_machine.proofs.Located.{located}
-use Rattle.fj_machine.proofs.Settled.{settle_holds}
+use Rattle.fj_machine.proofs.Settled.{settle_holds, settle_left_holds}
 use Rattle.fj_machine.proofs.Spent.{gone_room}
 use Rattle.fj_machine.proofs.ledger.Ledger.settle.Goals as goal
+use Rattle.fj_machine.proofs.ledger.Ledger.settle.Goals.{After-self}
+
+fits : (c : After-self) → length c.self.inside.log.events < c.self.inside.limits.events
+fits c = subst (λ (p : Past). length p.events < p.pool.limits.events) (sym c.self.view_is) c.requires.fits
+
+may : (c : After-self) → Allowed (record { mode = c.self.inside.mode; limits = c.self.inside.limits }) c.self.inside.log.events (Settle c.args.t c.args.status)
+may c = subst (λ (p : Past). Allowed p.pool p.events (Settle c.args.t c.args.status)) (sym c.self.view_is) c.requires.may
 
 pub close-requires-clause-room : goal.close-requires-clause-room
 close-requires-clause-room c =
-    let fits : length c.self.inside.log.events < c.self.inside.limits.events = subst (λ (p : Past). length p.events < p.pool.limits.events) (sym c.self.view_is) c.requires.fits in
-    omega (arith, gone_room _ _ _ _ _ _ _ _ c.self.invariant.0, fits, c.self.invariant.3)
+    omega (arith, gone_room _ _ _ _ _ _ _ _ c.self.invariant.0, fits (goal.at.close-requires-clause-room c).After-self, c.self.invariant.3)
 
 pub invariant_of-self : goal.invariant_of-self
 invariant_of-self c =
+    let at = (goal.at.invariant_of-self c).After-self in
     let pool : Pool = record { mode = c.self.inside.mode; limits = c.self.inside.limits } in
     let h = c.self.inside.log.events in
-    let fits : length h < c.self.inside.limits.events = subst (λ (p : Past). length p.events < p.pool.limits.events) (sym c.self.view_is) c.requires.fits in
-    let may : Allowed pool h (Settle c.args.t c.args.status) = subst (λ (p : Past). Allowed p.pool p.events (Settle c.args.t c.args.status)) (sym c.self.view_is) c.requires.may in
-    let l = located c.self.inside.tree c.args.t c.find.result c.unwrap-h.result c.find.ensures.found c.find.ensures.good c.unwrap-h.ensures in (
+    let l = located c.self.inside.tree c.args.t c.find.result c.in-Some.h c.find.ensures.found c.find.ensures.good c.in-Some.is in (
       rw (c.push.ensures, c.close.ensures.tree, c.close.ensures.open, c.close.ensures.gone, c.set_status.ensures)
-          (settle_holds pool h c.args.t c.args.status _ _ _ _ _ _ c.unwrap-h.result c.self.invariant.0 c.find.ensures.sound l may fits),
+          (settle_holds pool h c.args.t c.args.status _ _ _ _ _ _ c.in-Some.h c.self.invariant.0 c.find.ensures.sound l (may at) (fits at)),
       rw c.push.ensures (c.self.invariant.1),
       omega (arith, c.close.ensures.open_room, c.self.invariant.2),
       omega (arith, c.close.ensures.gone_room, c.self.invariant.3),
+    )
+
+none_there : {A : Type 0} {o : Option A} → o ≡ None → IsSome o → ⊥
+none_there none some = let bad = rw none at some in absurd cc
+
+pub invariant_of-self-in_default : goal.invariant_of-self-in_default
+invariant_of-self-in_default c =
+    let at = (goal.at.invariant_of-self-in_default c).After-self in
+    let pool : Pool = record { mode = c.self.inside.mode; limits = c.self.inside.limits } in
+    let h = c.self.inside.log.events in
+    let holds = c.self.invariant.0 in
+    let none : is_kept h c.args.t ≡ false = never (is_kept h c.args.t) (λ kept. none_there (sym c.find.ensures.found ∙ c.in_default.is) (holds.tree_kept.all c.args.t kept)) in
+    let kept : is_in c.args.t (hook_completers h) ≡ true → is_kept h c.args.t ≡ true = subst (λ (p : Past). is_in c.args.t (hook_completers p.events) ≡ true → is_kept p.events c.args.t ≡ true) (sym c.self.view_is) c.requires.kept in
+    let unlisted : is_in c.args.t (hook_completers h) ≡ false = never (is_in c.args.t (hook_completers h)) (λ there. true≢false (sym (kept there) ∙ none)) in (
+      rw c.push.ensures (settle_left_holds pool h c.args.t c.args.status _ _ _ _ _ _ holds (may at) (fits at) none unlisted),
+      rw c.push.ensures (c.self.invariant.1),
+      c.self.invariant.2,
+      c.self.invariant.3,
     )

@@ -19,4 +19,4 @@ returns-in-Some c =
     let r = c.in-Some.record.now in
     let found : TellsOf now.events t r = c.in-Some.ensures.record in
     let asks = asks_state now t in
-    only_tells now (State t) _ c.find.ensures.lawful refl (rw (found_kept now.events t r found) refl) asks.0 (asks.1 ∙ rw (found_place now.events t r found, found_status now.events t r found) refl)
+    only_tells now (State t) _ c.find.ensures.lawful (rw (found_kept now.events t r found) refl) asks.0 (asks.1 ∙ rw (found_place now.events t r found, found_status now.events t r found) refl)

@@ -1,4 +1,4 @@
-use Rattle.std.proofs.Common.{refl, ap, sym, ◌∙◌}
+use Rattle.std.proofs.Common.{ap, sym, ◌∙◌}
 use Rattle.fj_model.specs.declared.said.Said.TheVariants as says
 use Rattle.fj_model.specs.declared.step.Step.TheVariants.{Submit}
 use Rattle.fj_machine.proofs.Stepping.{steps_refused}
@@ -7,7 +7,7 @@ use Rattle.fj_machine.proofs.AcceptSteps.{submits, submit_says}
 use Rattle.fj_machine.proofs.ledger.Ledger.submit.Goals as goal
 
 pub returns-in-Some : goal.returns-in-Some
-returns-in-Some c = steps_refused c.args.self.now (Submit c.args.s c.args.kind.now) c.in-Some.refusal refl (sym c.submit_refusal.ensures ∙ c.in-Some.is)
+returns-in-Some c = steps_refused c.args.self.now (Submit c.args.s c.args.kind.now) c.in-Some.refusal (sym c.submit_refusal.ensures ∙ c.in-Some.is)
 
 pub returns-then-not-has_room : goal.returns-then-not-has_room
 returns-then-not-has_room c =

@@ -2,19 +2,17 @@ use Rattle.std.proofs.Common.{◌≡◌, ◌<◌, length, Bool, true, false, Som
 use Rattle.std.specs.Prelude.{if◌then◌else◌}
 use Rattle.fj_model.specs.declared.event.Event.TheVariants.{Out, Skip}
 use Rattle.fj_model.specs.Bounds.{Pool, queues_in, owner_at}
-use Rattle.fj_model.specs.Lists.{is_in}
-use Rattle.fj_model.specs.Tasks.{tasks}
 use Rattle.fj_model.specs.Queues.{queue}
 use Rattle.fj_model.specs.Statuses.{status, is_undone}
 use Rattle.fj_model.specs.Allowed.{Allowed, AllowedFrom}
 use Rattle.fj_model.specs.Answers.{taking}
 use Rattle.fj_model.specs.Runs.{Past}
-use Rattle.fj_model.proofs.Lawful.{pushed_known, queued_pushed}
+use Rattle.fj_model.proofs.FewLive.{few_live}
+use Rattle.fj_model.proofs.KeptPlaces.{queued_kept}
 use Rattle.fj_tree.specs.declared.record.Record.{Record}
 use Rattle.fj_machine.specs.Sources.{queue_of, end_of, task_at, tasks_there}
-use Rattle.fj_machine.proofs.Built.{kept_is}
 use Rattle.fj_machine.proofs.Located.{IsLocated, located, read_at}
-use Rattle.fj_machine.proofs.Rooms.{stack_is_short, few_tasks}
+use Rattle.fj_machine.proofs.Rooms.{stack_is_short}
 use Rattle.fj_machine.proofs.Spent.{gone_room}
 use Rattle.fj_machine.proofs.Taken.{in_end, skipped_holds, handed_holds}
 use Rattle.fj_machine.proofs.ledger.Ledger.take.Goals as goal
@@ -40,8 +38,8 @@ unwrap-h-requires c =
     let t = c.take_from-t.result in
     let o = owner_at c.self.inside.limits (queue_of c.args.source) in
     let holds = c.self.invariant.0 in
-    let known : is_in t (tasks h) ≡ true = pushed_known h o t (queued_pushed h o t (in_end c.args.source (queue h o) t (taken at.After-take_from-t (within at.After-self)))) in
-    rw c.find.ensures.found (holds.tree_kept.all t (kept_is h t holds.built ∙ known))
+    let pool : Pool = record { mode = c.self.inside.mode; limits = c.self.inside.limits } in
+    rw c.find.ensures.found (holds.tree_kept.all t (queued_kept pool h o t holds.lawful (in_end c.args.source (queue h o) t (taken at.After-take_from-t (within at.After-self)))))
 
 found : (c : After-unwrap-h) → IsLocated c.self.inside.tree c.take_from-t.result c.unwrap-h.result
 found c = located c.self.inside.tree c.take_from-t.result c.find.result c.unwrap-h.result c.find.ensures.found c.find.ensures.good c.unwrap-h.ensures
@@ -91,7 +89,7 @@ push-requires-3-clause-room c =
     let w = worker at.After-self in
     let filled : 0 < length (queue h (owner_at c.self.inside.limits (queue_of c.args.source))) = subst (λ (p : Past). 0 < length (tasks_there p c.args.source)) (sym c.self.view_is) c.requires.filled in
     let short = stack_is_short pool h c.args.w (queue_of c.args.source) holds.lawful w (within at.After-self) filled in
-    rw c.w.view_is (omega (arith, short, ap length (holds.stacks_kept.each c.args.w w), holds.stacks_kept.room, few_tasks pool h holds.lawful holds.built))
+    rw c.w.view_is (omega (arith, short, ap length (holds.stacks_kept.each c.args.w w), holds.stacks_kept.room, few_live pool h holds.lawful))
 
 pub invariant_of-self-2 : goal.invariant_of-self-2
 invariant_of-self-2 c =

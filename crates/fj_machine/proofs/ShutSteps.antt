@@ -1,0 +1,37 @@
+-- Steps that shut the pool, and that release tasks.
+use Rattle.std.proofs.Common.{ℕ, ◌≡◌, true, false, None, refl}
+use Rattle.std.specs.Prelude.{◌||◌}
+use Rattle.fj_model.specs.declared.event.Event.TheVariants as event
+use Rattle.fj_model.specs.declared.said.Said.TheVariants as says
+use Rattle.fj_model.specs.declared.step.Step.TheVariants.{Shutdown, Stop, Release}
+use Rattle.fj_model.specs.Allowed.{is_closed, is_stopped}
+use Rattle.fj_model.specs.Answers.{refusals_of, first_that_stands, events_of, reply_of}
+use Rattle.fj_model.specs.Runs.{Past, Steps}
+use Rattle.fj_machine.specs.Holds.{IsLawful}
+use Rattle.fj_machine.proofs.OneEvent.{IsOf, only_tells}
+use Rattle.fj_machine.proofs.Stepping.{told}
+
+pub closes : (now : Past) → (is_closed now.events || is_stopped now.events) ≡ false → IsOf now Shutdown event.Close
+unfolding events_of
+closes now open_yet = record { stands = refl; event = rw open_yet refl }
+
+-- a second one, and one after a stop, changes nothing
+pub closed_tells : (now : Past) → IsLawful now.pool now.events → (is_closed now.events || is_stopped now.events) ≡ true → Steps now Shutdown says.Done now
+unfolding events_of reply_of
+closed_tells now law closed = told now Shutdown says.Done (only_tells now Shutdown says.Done law refl (rw closed refl) refl)
+
+pub stops : (now : Past) → is_stopped now.events ≡ false → IsOf now Stop event.Stop
+unfolding events_of
+stops now open_yet = record { stands = refl; event = rw open_yet refl }
+
+pub stopped_tells : (now : Past) → IsLawful now.pool now.events → is_stopped now.events ≡ true → Steps now Stop says.Done now
+unfolding events_of reply_of
+stopped_tells now law stopped = told now Stop says.Done (only_tells now Stop says.Done law refl (rw stopped refl) refl)
+
+pub releases : (now : Past) (t : ℕ) → first_that_stands (refusals_of now.pool now.events (Release t)) ≡ None → IsOf now (Release t) (event.Rel t)
+unfolding events_of
+releases now t stands = record { stands = stands; event = refl }
+
+pub done_says : (now : Past) (t : ℕ) → (says.Done ≡ reply_of now.pool now.events Shutdown) × (says.Done ≡ reply_of now.pool now.events Stop) × (says.Done ≡ reply_of now.pool now.events (Release t))
+unfolding reply_of
+done_says now t = (refl, refl, refl)

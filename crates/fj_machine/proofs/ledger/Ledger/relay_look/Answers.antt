@@ -1,0 +1,52 @@
+use Rattle.std.proofs.Common.{ℕ, ◌≡◌, ◌<◌, true, length, ap, sym, ◌∙◌, subst, arith}
+use Rattle.std.proofs.lemmas.Bool.{ltb-true}
+use Rattle.fj_model.specs.Bounds.{Pool}
+use Rattle.fj_model.specs.Tasks.{accepted, is_kept}
+use Rattle.fj_model.specs.Climbs.{relayed}
+use Rattle.fj_model.specs.Runs.{Past}
+use Rattle.fj_model.proofs.Lawful.{is_numbered}
+use Rattle.fj_model.proofs.Releasing.{kept_known}
+use Rattle.fj_machine.proofs.Located.{located, good_at}
+use Rattle.fj_machine.proofs.RelaysTold.{relayed_told, few_relayed}
+use Rattle.fj_machine.proofs.Spent.{few_accepted}
+use Rattle.fj_machine.proofs.ledger.Ledger.relay_look.Goals as goal
+use Rattle.fj_machine.proofs.ledger.Ledger.relay_look.Goals.{After-self, After-relay_look}
+
+kept : (c : After-self) → is_kept c.self.inside.log.events c.args.t ≡ true
+kept c = subst (λ (p : Past). is_kept p.events c.args.t ≡ true) (sym c.self.view_is) c.requires.kept
+
+pub unwrap-requires : goal.unwrap-requires
+unwrap-requires c =
+    let at = (goal.at.unwrap-requires c).After-self in
+    rw c.find.ensures.found (c.self.invariant.0.tree_kept.all c.args.t (kept at))
+
+pub relay_look-requires : goal.relay_look-requires
+relay_look-requires c =
+    let l = located c.self.inside.tree c.args.t c.find.result c.unwrap.result c.find.ensures.found c.find.ensures.good c.unwrap.ensures in
+    good_at c.self.inside.tree c.args.t c.unwrap.result l
+
+-- how many they are
+count : (c : After-relay_look) → c.relay_look.result ≡ length (relayed c.self.inside.log.events c.args.t)
+count c =
+    let pool : Pool = record { mode = c.self.inside.mode; limits = c.self.inside.limits } in
+    let h = c.self.inside.log.events in
+    let holds = c.self.invariant.0 in
+    let l = located c.self.inside.tree c.args.t c.find.result c.unwrap.result c.find.ensures.found c.find.ensures.good c.unwrap.ensures in
+    c.relay_look.ensures
+    ∙ relayed_told pool.limits pool h c.self.inside.tree c.unwrap.result (record { so = holds.lawful; keeps = holds.tree_kept }) (good_at c.self.inside.tree c.args.t c.unwrap.result l)
+    ∙ ap (λ (u : ℕ). length (relayed h u)) l.number
+
+pub returns-clause-count : goal.returns-clause-count
+returns-clause-count c =
+    let at = goal.at.returns-clause-count c in
+    count at.After-relay_look ∙ ap (λ (p : Past). length (relayed p.events c.args.t)) at.After-self.self.view_is
+
+pub returns-clause-few : goal.returns-clause-few
+returns-clause-few c =
+    let at = goal.at.returns-clause-few c in
+    let pool : Pool = record { mode = c.self.inside.mode; limits = c.self.inside.limits } in
+    let h = c.self.inside.log.events in
+    let t = c.args.t in
+    let holds = c.self.invariant.0 in
+    let there : t < accepted h = ltb-true t (accepted h) (sym (is_numbered pool h holds.lawful t) ∙ kept_known h t (kept at.After-self)) in
+    omega (arith, count at.After-relay_look, few_relayed h t, there, few_accepted h, holds.fits, holds.within.few_events)

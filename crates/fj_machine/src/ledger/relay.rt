@@ -1,0 +1,18 @@
+//! How far a code is relayed.
+ghost use Rattle.std.specs.Prelude.{◌≡◌, ◌≤◌, length, true};
+ghost use Rattle.fj_model.specs.Tasks.{is_kept};
+ghost use Rattle.fj_model.specs.Climbs.{relayed};
+
+use crate::ledger::Ledger;
+use fj_model::Serial;
+
+impl Ledger {
+    /// How many tasks get a code that is relayed from a kept task, itself counted. There are none if it is done.
+    pub(crate) fn relay_look(&self, t: Serial) -> u64
+        requires kept { is_kept self.now.events t ≡ true }
+        ensures count { result ≡ length (relayed self.now.events t) }
+        ensures few { result ≤ 1048576 }
+    {
+        self.tree.relay_look(self.tree.find(t).unwrap())
+    }
+}
