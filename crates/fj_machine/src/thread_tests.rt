@@ -1,6 +1,7 @@
 use crate::Machine;
 use fj_model::{
-    Ending, Event, Kind, Limits, Mode, Owner, Said, Serial, Step, SubId, SubmittedKind, WorkerId,
+    Ending, Event, Kind, Limits, Mode, Owner, Refusal, Said, Serial, Step, SubId, SubmittedKind,
+    WorkerId,
 };
 use std::alloc::{AllocError, Global};
 use std::sync::{Mutex, Wait};
@@ -79,28 +80,39 @@ fn share<R: Threads + Wait + Sync>(rt: &R, machine: &Mutex<Machine>) {
     );
 }
 
-// Two submitters and a worker share a machine behind a lock, which each step takes once.
-#[test]
-fn threads_share_a_machine(rt: HostRuntime) -> Result<(), Fail> {
-    let limits = Limits::new(1, 2, 4096, 4096)?;
-    let machine = Mutex::new(Machine::new(rt.alloc(), Mode::Async, limits)?);
-    share(&rt, &machine);
+// The worker takes what is left.
+fn finish(rt: &impl Wait, machine: &Mutex<Machine>) {
     for r in 0..=2 * EACH as u32 {
-        if turn(&rt, &machine, r) == Said::None {
+        if turn(rt, machine, r) == Said::None {
             break;
         }
     }
-    let machine = machine.into_inner();
+}
+
+// How many tasks were pushed into the queue of a submitter, and whether all of them left in the order pushed.
+fn flow(alloc: Global, machine: &Machine, s: u32) -> Result<(usize, bool), AllocError> {
+    let owner = Owner::Sub(SubId(s));
+    let tasks = pushed(alloc, machine.history(), owner)?;
+    let taken = left(alloc, machine.history(), tasks.as_slice())?;
+    let in_order = tasks.as_slice() == taken.as_slice();
+    Ok((tasks.len(), in_order && machine.queue(owner).next() == None))
+}
+
+// The machine that two submitters and a worker have shared behind a lock, which each step takes once.
+fn shared<R: Threads + Wait + Sync>(rt: &R, alloc: Global) -> Result<Machine, Refusal> {
+    let limits = Limits::new(1, 2, 4096, 4096)?;
+    let machine = Mutex::new(Machine::new(alloc, Mode::Async, limits)?);
+    share(rt, &machine);
+    finish(rt, &machine);
+    Ok(machine.into_inner())
+}
+
+#[test]
+fn threads_share_a_machine(rt: HostRuntime) -> Result<(), Fail> {
+    let machine = shared(&rt, rt.alloc())?;
     assert_eq!(rt; machine.gone().len(), 2 * EACH);
     for s in 0..2 {
-        let owner = Owner::Sub(SubId(s));
-        assert_eq!(rt; machine.queue(owner).next(), None);
-        let tasks = pushed(rt.alloc(), machine.history(), owner)?;
-        assert_eq!(rt; tasks.len(), EACH);
-        assert_eq!(rt;
-            left(rt.alloc(), machine.history(), tasks.as_slice())?,
-            tasks
-        );
+        assert_eq!(rt; flow(rt.alloc(), &machine, s)?, (EACH, true));
     }
     assert_eq!(rt; machine.queue(Owner::Work(WorkerId(0))).next(), None);
     Ok(())

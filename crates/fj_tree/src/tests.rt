@@ -1,286 +1,179 @@
-ghost use Rattle.std.specs.Prelude.{IsTrue};
-ghost use Rattle.fj_tree.specs.Records.{IsCompleter};
+mod rows;
+mod trial;
 
-mod passes;
-mod relays;
-mod releases;
+use rows::{first_other, wrong};
+use std::alloc::Global;
+use std::test::Fail;
 
-use super::*;
-use fj_model::{Kind, Owner, Place, Refusal, Serial, Status, SubId, WorkerId};
-use std::test::*;
+// Records, handles, and what is written.
+const MAKES: &str = "each make has the next number
+3; len > 0; make - 1 stop open > 0:0; make 0 65535 stop submitted > 1:1; len > 2;
+get 1 > Record { serial: Serial(1), kind: Completer { parent: Some(Serial(0)), count: 65535, relay: false }, place: Queued(Sub(SubId(2))), status: Undone, pending: 65535, spent: false, children: 0 };
+state 0 > Open undone 1 unspent 1
 
-/// A completer without relay.
-fn completer(parent: Option<Serial>, count: u32) -> Kind {
-    Kind::Completer {
-        parent,
-        count,
-        relay: false,
+a make is refused by the first cause
+1; make - 65536 stop open > refused 10; make plain gone > 0:0; make plain gone > refused 2; make - 65536 stop open > refused 10;
+make 0 65536 stop open > refused 8; make 1 65536 stop open > refused 5; len > 1
+
+a handle is found by its number
+2; make plain open > 0:0; make plain open > 1:1; find 0 > 0:0; find 1 > 1:1; find 2 > none; get 0:1 > none; get 9:0 > none
+
+status and place are written
+1; make plain open > 0:0; status 0 7 > done; place 0 held > done; state 0 > Held(WorkerId(3)) exceptional 7 0 spent 0
+
+the root is the last parent
+3; make - 1 stop open > 0:0; make 0 1 stop open > 1:1; make 1 0 stop open > 2:2; root 2 > 0:0; root 1 > 0:0; root 0 > 0:0
+
+all undone tasks are cancelled
+4; make - 1 stop open > 0:0; make plain gone > 1:1; status 1 normal > done; make plain gone > 2:2; status 2 7 > done;
+make plain held > 3:3; cancel > done; state 0 > Open cancelled 1 spent 0; state 1 > Gone normal 0 spent 0;
+state 2 > Gone exceptional 7 0 spent 0; state 3 > Held(WorkerId(3)) cancelled 0 spent 0
+
+all open tasks go
+5; make - 1 stop open > 0:0; make plain gone > 1:1; make plain held > 2:2; make - 2 stop open > 3:3; make plain submitted > 4:4;
+status 3 normal > done; close > done; state 0 > Gone undone 1 unspent 0; state 1 > Gone undone 0 unspent 0;
+state 2 > Held(WorkerId(3)) undone 0 unspent 0; state 3 > Gone normal 2 spent 0; state 4 > Queued(Sub(SubId(2))) undone 0 unspent 0; len > 5";
+
+// Arrivals and additions.
+const ARRIVALS: &str = "a completer fires at the arrival after its last
+1; make - 1 stop forked > 0:0; arrive 0 > Counted; arrive 0 > Early; place 0 held > done; arrive 0 > Early; place 0 open > done;
+arrive 0 > Fire; arrive 0 > Spent
+
+a spent or done completer is not counted
+2; make - 4 stop open > 0:0; make - 4 stop open > 1:1; status 1 cancelled > done; fire 0 > done; arrive 0 > Spent; arrive 1 > Spent;
+add 1 1 > 5; add 0 0 > 4
+
+an addition is refused by the first cause
+2; make - 65530 stop open > 0:0; make plain open > 1:1; add 0 5 > 65535; add 0 1 > refused 10; add 0 4294967295 > refused 10;
+add 1 4294967295 > refused 8; add 0:9 4294967295 > refused 5; add 0 0 > 65535";
+
+// What climbs change.
+const CLIMBS: &str = "a climb makes the passed ones spent and lowers one count
+4; make - 2 stop open > 0:0; make 0 0 stop open > 1:1; make 1 0 stop open > 2:2; make 2 0 stop open > 3:3; pass 2 > 2 0 Counted;
+state 0 > Open undone 1 unspent 1; state 1 > Open undone 0 spent 1; state 2 > Open undone 0 spent 1;
+state 3 > Open undone 0 unspent 0
+
+a second climb ends where the first began
+4; make - 0 stop open > 0:0; make 0 0 stop open > 1:1; make 1 0 stop open > 2:2; make 2 0 stop open > 3:3; pass 2 > 3 0 Root;
+pass 2 > 0 2 Spent; pass 3 > 1 2 Spent
+
+a climb is not early at its own task, queued
+4; make - 0 stop open > 0:0; make 0 0 stop open > 1:1; make 1 0 stop open > 2:2; make 2 0 stop open > 3:3; place 0 submitted > done;
+pass 0 > 1 0 Root
+
+a climb is not early at its own task, held
+4; make - 0 stop open > 0:0; make 0 0 stop open > 1:1; make 1 0 stop open > 2:2; make 2 0 stop open > 3:3; place 0 held > done;
+pass 0 > 1 0 Root";
+
+// Relays.
+const RELAYS: &str = "a relay goes up to the root
+3; make - 0 relay open > 0:0; make 0 0 relay gone > 1:1; make 1 0 relay open > 2:2; relay 1 7 > 2;
+state 0 > Open exceptional 7 0 spent 1; state 1 > Gone exceptional 7 0 spent 1; state 2 > Open undone 0 unspent 0; relay 2 8 > 1;
+state 2 > Open exceptional 8 0 spent 0; state 1 > Gone exceptional 7 0 spent 1
+
+a relay ends at a completer that says stop
+4; make - 0 relay open > 0:0; make 0 0 stop open > 1:1; make 1 0 relay open > 2:2; make 2 0 relay open > 3:3; relay 3 1 > 3;
+state 1 > Open exceptional 1 0 spent 1; state 0 > Open undone 0 unspent 1
+
+a relay ends before a done completer
+3; make - 0 relay open > 0:0; make 0 0 relay open > 1:1; status 1 normal > done; make 1 0 relay open > 2:2; relay 2 2 > 1;
+state 2 > Open exceptional 2 0 spent 0; state 1 > Open normal 0 spent 1; state 0 > Open undone 0 unspent 1; relay 1 cancelled > 0;
+state 1 > Open normal 0 spent 1
+
+a plain task gets its status alone
+2; make - 0 relay open > 0:0; make plain open > 1:1; relay 1 3 > 1; state 1 > Open exceptional 3 0 spent 0;
+state 0 > Open undone 0 unspent 0";
+
+// Releases.
+const RELEASES: &str = "a release is refused by the first cause
+3; make - 0 stop open > 0:0; make plain held > 1:1; make - 0 stop gone > 2:2; release 0 > refused 9; release 1 > refused 9;
+release 0:9 > refused 5; len > 3; release 2 > done; release 2 > refused 5; len > 2
+
+a parent is kept as long as its children
+4; make - 0 stop gone > 0:0; make 0 0 stop gone > 1:1; make 0 0 stop gone > 2:2; make 2 0 stop gone > 3:3;
+state 0 > Gone undone 0 unspent 2; release 0 > refused 9; release 1 > done; state 0 > Gone undone 0 unspent 1;
+release 2 > refused 9; release 3 > done; state 0 > Gone undone 0 unspent 1; release 2 > done; state 0 > Gone undone 0 unspent 0;
+release 0 > done; len > 0
+
+a key is used again but no number
+1; make plain gone > 0:0; make plain gone > refused 2; release 0 > done; find 0 > none; make plain gone > 0:1; get 0 > none;
+make 0 0 stop open > refused 5";
+
+// What a climb gave in place of this end, which began so many completers below the one at which this was done.
+fn other_climb(
+    alloc: Global,
+    below: u32,
+    put: &str,
+    passed: u32,
+    how: &str,
+) -> Result<String, Fail> {
+    let four =
+        "make - 0 stop open > 0:0; make 0 0 stop open > 1:1; make 1 0 stop open > 2:2; make 2 0 stop open > 3:3";
+    let row = format!(in alloc;
+        "4; {four}; place {below} held > done; {put}; pass {below} > {passed} 0 {how}"
+    )?;
+    first_other(alloc, &row)
+}
+
+#[test]
+fn records_are_made_and_written(rt: HostRuntime) -> Result<(), Fail> {
+    let given = wrong(rt.alloc(), MAKES)?;
+    assert_eq!(rt; given.as_str(), "");
+    Ok(())
+}
+
+#[test]
+fn arrivals_and_additions(rt: HostRuntime) -> Result<(), Fail> {
+    let given = wrong(rt.alloc(), ARRIVALS)?;
+    assert_eq!(rt; given.as_str(), "");
+    Ok(())
+}
+
+#[test]
+fn climbs_change_what_they_pass(rt: HostRuntime) -> Result<(), Fail> {
+    let given = wrong(rt.alloc(), CLIMBS)?;
+    assert_eq!(rt; given.as_str(), "");
+    Ok(())
+}
+
+#[test]
+fn relays_go_as_far_as_they_may(rt: HostRuntime) -> Result<(), Fail> {
+    let given = wrong(rt.alloc(), RELAYS)?;
+    assert_eq!(rt; given.as_str(), "");
+    Ok(())
+}
+
+#[test]
+fn releases_keep_parents(rt: HostRuntime) -> Result<(), Fail> {
+    let given = wrong(rt.alloc(), RELEASES)?;
+    assert_eq!(rt; given.as_str(), "");
+    Ok(())
+}
+
+#[test]
+fn a_climb_ends_at_the_first_that_does_not_fire(rt: HostRuntime) -> Result<(), Fail> {
+    let ends = [
+        ("add 0 1 > 1", 0, "Counted"),
+        ("fire 0 > done", 0, "Spent"),
+        ("status 0 cancelled > done", 0, "Spent"),
+        ("len > 4", 1, "Root"),
+    ];
+    for below in 0..4 {
+        for (put, more, how) in ends {
+            let other = other_climb(rt.alloc(), below, put, below + more, how)?;
+            assert_eq!(rt; other.as_str(), "", "{below} below");
+        }
     }
+    Ok(())
 }
 
-/// Whether the handle names a completer.
-fn names_completer(tree: &Tree, h: Handle) -> bool
-    ensures { IsTrue result → IsCompleter tree.now h }
-{
-    match tree.get(h) {
-        Some(record) => matches!(record.kind, Kind::Completer { .. }),
-        None => false,
+#[test]
+fn a_climb_ends_early_at_a_parent_that_is_queued_or_held(rt: HostRuntime) -> Result<(), Fail> {
+    for below in 1..4 {
+        for put in ["place 0 submitted > done", "place 0 held > done"] {
+            let other = other_climb(rt.alloc(), below, put, below, "Early")?;
+            assert_eq!(rt; other.as_str(), "", "{below} below");
+        }
     }
-}
-
-/// Looks at an arrival, and then arrives: the two agree.
-fn arrive(tree: &mut Tree, h: Handle) -> Option<Arrived> {
-    if !names_completer(tree, h) {
-        return None;
-    }
-    let seen = tree.arrival(h);
-    let done = tree.arrive(h);
-    if seen == done { Some(done) } else { None }
-}
-
-fn moves(tree: &mut Tree, h: Handle, place: Place) -> bool {
-    if !names_completer(tree, h) {
-        return false;
-    }
-    tree.set_place(h, place);
-    true
-}
-
-fn fire(tree: &mut Tree, h: Handle) -> bool {
-    if !names_completer(tree, h) {
-        return false;
-    }
-    tree.fire(h);
-    true
-}
-
-#[test]
-fn each_make_has_the_next_number(rt: HostRuntime) -> Result<(), Fail> {
-    let mut tree = Tree::new(rt.alloc(), 3)?;
-    assert_eq!(rt; tree.len(), 0);
-    let Ok(root) = tree.make(completer(None, 1), Place::Open) else {
-        panic!(&rt; "there is room");
-    };
-    assert_eq!(rt; root.serial, Serial(0));
-    let Ok(child) = tree.make(
-        completer(Some(Serial(0)), 65_535),
-        Place::Queued(Owner::Sub(SubId(2))),
-    ) else {
-        panic!(&rt; "there is room");
-    };
-    assert_eq!(rt; child.serial, Serial(1));
-    assert_eq!(rt; tree.len(), 2);
-    assert_eq!(rt;
-        tree.get(child).copied(),
-        Some(Record {
-            serial: Serial(1),
-            kind: completer(Some(Serial(0)), 65_535),
-            place: Place::Queued(Owner::Sub(SubId(2))),
-            status: Status::Undone,
-            pending: 65_535,
-            spent: false,
-            children: 0,
-        })
-    );
-    let Some(parent) = tree.get(root).copied() else {
-        panic!(&rt; "the root is kept");
-    };
-    assert_eq!(rt;
-        (parent.children, parent.pending, parent.spent),
-        (1, 1, false)
-    );
-    Ok(())
-}
-
-#[test]
-fn a_make_is_refused_by_the_first_cause(rt: HostRuntime) -> Result<(), Fail> {
-    let mut tree = Tree::new(rt.alloc(), 1)?;
-    assert_eq!(rt;
-        tree.make(completer(None, 65_536), Place::Open),
-        Err(Refusal::CountTooLarge)
-    );
-    let Ok(plain) = tree.make(Kind::Plain, Place::Gone) else {
-        panic!(&rt; "there is room");
-    };
-    assert_eq!(rt; plain.serial, Serial(0));
-    assert_eq!(rt;
-        tree.make(Kind::Plain, Place::Gone),
-        Err(Refusal::TooManyTasks)
-    );
-    assert_eq!(rt;
-        tree.make(completer(None, 65_536), Place::Open),
-        Err(Refusal::CountTooLarge)
-    );
-    assert_eq!(rt;
-        tree.make(completer(Some(Serial(0)), 65_536), Place::Open),
-        Err(Refusal::NotCompleter)
-    );
-    assert_eq!(rt;
-        tree.make(completer(Some(Serial(1)), 65_536), Place::Open),
-        Err(Refusal::Unknown)
-    );
-    assert_eq!(rt; tree.len(), 1);
-    Ok(())
-}
-
-#[test]
-fn a_handle_is_found_by_its_number(rt: HostRuntime) -> Result<(), Fail> {
-    let mut tree = Tree::new(rt.alloc(), 2)?;
-    let first = tree.make(Kind::Plain, Place::Open);
-    let second = tree.make(Kind::Plain, Place::Open);
-    assert_eq!(rt; tree.find(Serial(0)), first.ok());
-    assert_eq!(rt; tree.find(Serial(1)), second.ok());
-    assert_eq!(rt; tree.find(Serial(2)), None);
-    let strange = Handle {
-        key: 0,
-        serial: Serial(1),
-    };
-    assert_eq!(rt; tree.get(strange).copied(), None);
-    let far = Handle {
-        key: 9,
-        serial: Serial(0),
-    };
-    assert_eq!(rt; tree.get(far).copied(), None);
-    Ok(())
-}
-
-#[test]
-fn status_and_place_are_written(rt: HostRuntime) -> Result<(), Fail> {
-    let mut tree = Tree::new(rt.alloc(), 1)?;
-    let Ok(h) = tree.make(Kind::Plain, Place::Open) else {
-        panic!(&rt; "there is room");
-    };
-    tree.set_status(h, Status::Exceptional(7));
-    tree.set_place(h, Place::Held(WorkerId(3)));
-    let Some(record) = tree.get(h).copied() else {
-        panic!(&rt; "it is kept");
-    };
-    assert_eq!(rt;
-        (record.status, record.place),
-        (Status::Exceptional(7), Place::Held(WorkerId(3)))
-    );
-    assert!(rt; record.is_spent());
-    Ok(())
-}
-
-#[test]
-fn a_completer_fires_at_the_arrival_after_its_last(rt: HostRuntime) -> Result<(), Fail> {
-    let mut tree = Tree::new(rt.alloc(), 1)?;
-    let Ok(h) = tree.make(completer(None, 1), Place::Queued(Owner::Work(WorkerId(0)))) else {
-        panic!(&rt; "there is room");
-    };
-    assert_eq!(rt; arrive(&mut tree, h), Some(Arrived::Counted));
-    assert_eq!(rt; arrive(&mut tree, h), Some(Arrived::Early));
-    assert!(rt; moves(&mut tree, h, Place::Held(WorkerId(0))));
-    assert_eq!(rt; arrive(&mut tree, h), Some(Arrived::Early));
-    assert!(rt; moves(&mut tree, h, Place::Open));
-    assert_eq!(rt; arrive(&mut tree, h), Some(Arrived::Fire));
-    assert_eq!(rt; arrive(&mut tree, h), Some(Arrived::Spent));
-    Ok(())
-}
-
-#[test]
-fn a_spent_or_done_completer_is_not_counted(rt: HostRuntime) -> Result<(), Fail> {
-    let mut tree = Tree::new(rt.alloc(), 2)?;
-    let Ok(fired) = tree.make(completer(None, 4), Place::Open) else {
-        panic!(&rt; "there is room");
-    };
-    let Ok(done) = tree.make(completer(None, 4), Place::Open) else {
-        panic!(&rt; "there is room");
-    };
-    tree.set_status(done, Status::Cancelled);
-    assert!(rt; fire(&mut tree, fired));
-    assert_eq!(rt; arrive(&mut tree, fired), Some(Arrived::Spent));
-    assert_eq!(rt; arrive(&mut tree, done), Some(Arrived::Spent));
-    assert_eq!(rt; tree.add(done, 1), Ok(5));
-    assert_eq!(rt; tree.add(fired, 0), Ok(4));
-    Ok(())
-}
-
-#[test]
-fn an_addition_is_refused_by_the_first_cause(rt: HostRuntime) -> Result<(), Fail> {
-    let mut tree = Tree::new(rt.alloc(), 2)?;
-    let Ok(h) = tree.make(completer(None, 65_530), Place::Open) else {
-        panic!(&rt; "there is room");
-    };
-    let Ok(plain) = tree.make(Kind::Plain, Place::Open) else {
-        panic!(&rt; "there is room");
-    };
-    assert_eq!(rt; tree.add(h, 5), Ok(65_535));
-    assert_eq!(rt; tree.add(h, 1), Err(Refusal::CountTooLarge));
-    assert_eq!(rt; tree.add(h, u32::MAX), Err(Refusal::CountTooLarge));
-    assert_eq!(rt; tree.add(plain, u32::MAX), Err(Refusal::NotCompleter));
-    let strange = Handle {
-        key: h.key,
-        serial: Serial(9),
-    };
-    assert_eq!(rt; tree.add(strange, u32::MAX), Err(Refusal::Unknown));
-    assert_eq!(rt; tree.add(h, 0), Ok(65_535));
-    Ok(())
-}
-
-#[test]
-fn the_root_is_the_last_parent(rt: HostRuntime) -> Result<(), Fail> {
-    let mut tree = Tree::new(rt.alloc(), 3)?;
-    let Ok(root) = tree.make(completer(None, 1), Place::Open) else {
-        panic!(&rt; "there is room");
-    };
-    let Ok(child) = tree.make(completer(Some(root.serial), 1), Place::Open) else {
-        panic!(&rt; "there is room");
-    };
-    let Ok(leaf) = tree.make(completer(Some(child.serial), 0), Place::Open) else {
-        panic!(&rt; "there is room");
-    };
-    assert!(rt;
-        names_completer(&tree, leaf)
-            && names_completer(&tree, child)
-            && names_completer(&tree, root)
-    );
-    assert_eq!(rt; tree.root(leaf), root);
-    assert_eq!(rt; tree.root(child), root);
-    assert_eq!(rt; tree.root(root), root);
-    Ok(())
-}
-
-#[test]
-fn all_undone_tasks_are_cancelled(rt: HostRuntime) -> Result<(), Fail> {
-    let mut tree = Tree::new(rt.alloc(), 4)?;
-    let Ok(open) = tree.make(completer(None, 1), Place::Open) else {
-        panic!(&rt; "there is room");
-    };
-    let Ok(normal) = tree.make(Kind::Plain, Place::Gone) else {
-        panic!(&rt; "there is room");
-    };
-    tree.set_status(normal, Status::Normal);
-    let Ok(failed) = tree.make(Kind::Plain, Place::Gone) else {
-        panic!(&rt; "there is room");
-    };
-    tree.set_status(failed, Status::Exceptional(7));
-    let Ok(held) = tree.make(Kind::Plain, Place::Held(WorkerId(3))) else {
-        panic!(&rt; "there is room");
-    };
-    tree.cancel_undone();
-    let Some(first) = tree.get(open).copied() else {
-        panic!(&rt; "it is kept");
-    };
-    assert_eq!(rt;
-        (first.status, first.place, first.pending),
-        (Status::Cancelled, Place::Open, 1)
-    );
-    let Some(second) = tree.get(normal).copied() else {
-        panic!(&rt; "it is kept");
-    };
-    assert_eq!(rt; second.status, Status::Normal);
-    let Some(third) = tree.get(failed).copied() else {
-        panic!(&rt; "it is kept");
-    };
-    assert_eq!(rt; third.status, Status::Exceptional(7));
-    let Some(last) = tree.get(held).copied() else {
-        panic!(&rt; "it is kept");
-    };
-    assert_eq!(rt;
-        (last.status, last.place),
-        (Status::Cancelled, Place::Held(WorkerId(3)))
-    );
     Ok(())
 }
