@@ -4,13 +4,14 @@ use std::alloc::Global;
 use std::fmt::Write;
 use std::test::Fail;
 
-// Tables of tests. Between the rows of a table is an empty line. A row has a name, a line end, the heading of a script, and then its steps, each behind `;`. Behind a step
-// and ` > ` stands the reply to it.
+// Tables of tests. Between the rows of a table is an empty line. A row has a name, a line end, the heading of a script, and then its
+// steps, each behind `;`. Behind a step and ` > ` stands the reply to it.
 //
 // Where a step could stand, these ask what the machine shows: `submitter S`, `worker W`, `stack W`, `open` and `gone` for task numbers,
 // the oldest first, and `events N` for the events of the history but for the first N.
 
-// What the rows of a table gave in place of what stands there: the name, the step and what it gave, a line a row. It is empty where each row gave what it must.
+// What the rows of a table gave in place of what stands there: the name, the step and what it gave, a line a row. It is empty where each
+// row gave what it must.
 pub fn wrong(alloc: Global, table: &str) -> Result<String, Fail> {
     let mut all = String::new(alloc);
     for row in table.split("\n\n") {

@@ -4,10 +4,11 @@ use fj_model::{Kind, Owner, Place, Refusal, Serial, Status, SubId, WorkerId};
 use std::alloc::Global;
 use std::test::Fail;
 
-// Tables of tests. Between the rows of a table is an empty line. A row has a name and a line end; then the room of a tree; and then calls, each behind
-// `;`. Behind a call and ` > ` stands its answer, `none` where it may not be made.
+// Tables of tests. Between the rows of a table is an empty line. A row has a name and a line end; then the room of a tree; and then
+// calls, each behind `;`. Behind a call and ` > ` stands its answer, `none` where it may not be made.
 //
-// A handle is written as the key and the number: `0:1`, or `1` for `1:1`. A completer is written `P C R`: its parent or `-`, its count, `relay` or `stop`.
+// A handle is written as the key and the number: `0:1`, or `1` for `1:1`. A completer is written `P C R`: its parent or `-`, its count,
+// `relay` or `stop`.
 //
 // - `make plain PLACE`, `make P C R PLACE`, `find T`, `root H`: a handle
 // - `get H`: the record; `state H`: its place, status, count, whether it is spent, and the number of its children
@@ -15,7 +16,8 @@ use std::test::Fail;
 //
 // A PLACE is `open`, `gone`, `submitted`, `forked` or `held`; a STATUS `normal`, `cancelled` or a code.
 
-// What the rows gave in place of what stands there: the name, the call and what it gave, a line a row. It is empty where each row gave what it must.
+// What the rows gave in place of what stands there: the name, the call and what it gave, a line a row. It is empty where each row gave
+// what it must.
 pub fn wrong(alloc: Global, table: &str) -> Result<String, Fail> {
     let mut all = String::new(alloc);
     for row in table.split("\n\n") {
