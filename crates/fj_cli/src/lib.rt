@@ -8,6 +8,8 @@
 #[cfg(test)]
 mod completer_tests;
 mod fault;
+#[cfg(test)]
+mod last_tests;
 mod line;
 mod play;
 mod playback;
@@ -15,7 +17,11 @@ mod replays;
 mod replier;
 mod run;
 #[cfg(test)]
+mod script_tests;
+#[cfg(test)]
 mod stream_tests;
+#[cfg(test)]
+mod test_rows;
 #[cfg(test)]
 mod tests;
 #[cfg(test)]

@@ -1,8 +1,9 @@
 use crate::fault::ReplayFault;
 use crate::replays::{replay, replayed};
 use crate::run::fj;
-use crate::tests::{REPLAY, REPLIES, SCRIPT, bytes, ended, first_lines};
-use std::alloc::Global;
+use crate::test_rows::{REPLAY, Ran, bytes, command};
+use crate::tests::{REPLIES, SCRIPT, ended, first_lines};
+use std::alloc::{AllocError, Global};
 use std::io::{self, ErrorKind, Read, Write};
 use std::test::Fail;
 
@@ -107,56 +108,80 @@ fn interruptions_change_nothing(rt: HostRuntime) -> Result<(), Fail> {
     Ok(())
 }
 
+// Whether a reader that fails behind a script is told, with the replies to the whole lines of it.
+fn is_read_failed(alloc: Global, script: &str) -> Result<bool, Fail> {
+    let mut input = Halting {
+        bytes: bytes(alloc, script)?,
+        at: 0,
+        rests: false,
+        fails: true,
+    };
+    let ran = command(alloc, REPLAY.as_slice(), &mut input);
+    let whole = usize::saturating_sub(ended(script), 1);
+    let replies = first_lines(alloc, REPLIES, whole)?;
+    let is_replied = ran.out.as_slice() == bytes(alloc, &replies)?.as_slice();
+    Ok(is_replied && ran.err.as_slice() == b"read failed\n".as_slice() && ran.status == 5)
+}
+
 #[test]
 fn a_reader_that_fails(rt: HostRuntime) -> Result<(), Fail> {
-    let alloc = rt.alloc();
-    let script = bytes(alloc, SCRIPT)?;
-    let replies = bytes(alloc, REPLIES)?;
-    let mut given = Vec::new(alloc);
-    for byte in script.iter() {
-        let whole = ended(given.as_slice());
-        let mut input = Halting {
-            bytes: given.clone()?,
-            at: 0,
-            rests: false,
-            fails: true,
-        };
-        let mut out = Vec::new(alloc);
-        let mut err = Vec::new(alloc);
-        let status = fj(alloc, REPLAY.as_slice(), &mut input, &mut out, &mut err);
-        let replied = first_lines(alloc, replies.as_slice(), usize::saturating_sub(whole, 1))?;
-        assert_eq!(rt; out, replied, "after {given:?}");
-        assert_eq!(rt; err.as_slice(), b"read failed\n".as_slice());
-        assert_eq!(rt; status, 5);
-        given.push(*byte)?;
+    for length in 0..SCRIPT.len() {
+        let script = SCRIPT.get(..length).unwrap_or("");
+        assert!(rt; is_read_failed(rt.alloc(), script)?, "after {script}");
     }
     Ok(())
 }
 
+// What a command gave that wrote into this sink.
+fn poured(alloc: Global, words: &[&str], script: &str, to: Narrow) -> Result<Ran, AllocError> {
+    let given = bytes(alloc, script)?;
+    let mut out = to;
+    let mut err = Vec::new(alloc);
+    let status = fj(alloc, words, &mut given.as_slice(), &mut out, &mut err);
+    let out = out.taken;
+    Ok(Ran { status, out, err })
+}
+
+// Whether these bytes were written and the failed write was told.
+fn is_write_failed(ran: &Ran, written: &[u8]) -> bool {
+    let is_told = ran.err.as_slice() == b"write failed\n".as_slice() && ran.status == 5;
+    is_told && ran.out.as_slice() == written
+}
+
+// Whether a writer that ends after so many bytes is told, with the replies up to there.
+fn is_full_at(alloc: Global, room: usize, end: End) -> Result<bool, AllocError> {
+    let ran = poured(alloc, REPLAY.as_slice(), SCRIPT, sink(alloc, room, end))?;
+    let replies = bytes(alloc, REPLIES)?;
+    Ok(match replies.as_slice().get(..room) {
+        Some(written) => is_write_failed(&ran, written),
+        None => false,
+    })
+}
+
 #[test]
 fn a_writer_that_fails(rt: HostRuntime) -> Result<(), Fail> {
-    let alloc = rt.alloc();
-    let script = bytes(alloc, SCRIPT)?;
-    let replies = bytes(alloc, REPLIES)?;
     for end in [End::Fails, End::TakesNothing] {
-        let mut begun = Vec::new(alloc);
-        for byte in replies.iter() {
-            let mut out = sink(alloc, begun.len(), end);
-            let mut err = Vec::new(alloc);
-            let mut input = script.as_slice();
-            let status = fj(alloc, REPLAY.as_slice(), &mut input, &mut out, &mut err);
-            assert_eq!(rt; out.taken, begun);
-            assert_eq!(rt; err.as_slice(), b"write failed\n".as_slice());
-            assert_eq!(rt; status, 5);
-            begun.push(*byte)?;
+        for room in 0..REPLIES.len() {
+            assert!(rt; is_full_at(rt.alloc(), room, end)?, "{end:?} after {room}");
         }
     }
     Ok(())
 }
 
+// Whether a flush that fails is told, with all the text written.
+fn is_unflushed(
+    alloc: Global,
+    words: &[&str],
+    script: &str,
+    text: &str,
+) -> Result<bool, AllocError> {
+    let ran = poured(alloc, words, script, sink(alloc, 1000, End::DoesNotFlush))?;
+    let written = bytes(alloc, text)?;
+    Ok(is_write_failed(&ran, written.as_slice()))
+}
+
 #[test]
 fn a_flush_that_fails(rt: HostRuntime) -> Result<(), Fail> {
-    let alloc = rt.alloc();
     let runs = [
         (["fj", "replay"], "async 1 1 1 4;submit 0;", "task 0;"),
         (
@@ -166,38 +191,41 @@ fn a_flush_that_fails(rt: HostRuntime) -> Result<(), Fail> {
         ),
         (["fj", "--version"], "", "fj 0.1.0;"),
     ];
-    for (words, script, written) in runs {
-        let given = bytes(alloc, script)?;
-        let mut out = sink(alloc, 1000, End::DoesNotFlush);
-        let mut err = Vec::new(alloc);
-        let status = fj(
-            alloc,
-            words.as_slice(),
-            &mut given.as_slice(),
-            &mut out,
-            &mut err,
+    for (words, script, text) in runs {
+        assert!(rt;
+            is_unflushed(rt.alloc(), words.as_slice(), script, text)?,
+            "{script}"
         );
-        assert_eq!(rt; out.taken, bytes(alloc, written)?);
-        assert_eq!(rt; err.as_slice(), b"write failed\n".as_slice());
-        assert_eq!(rt; status, 5);
     }
     Ok(())
+}
+
+// Whether so many letters behind these lines are a fault of this line, with these replies.
+fn is_too_long(
+    alloc: Global,
+    lines: &str,
+    length: u64,
+    replies: &str,
+    line: u64,
+) -> Result<bool, AllocError> {
+    let begin = bytes(alloc, lines)?;
+    let mut input = begin.as_slice().chain(io::repeat(b'a').take(length));
+    let mut out = Vec::new(alloc);
+    let fault = replay(alloc, &mut input, &mut out);
+    let is_replied = out.as_slice() == bytes(alloc, replies)?.as_slice();
+    Ok(is_replied && fault == Err(ReplayFault::Line(line)))
 }
 
 #[test]
 fn long_lines(rt: HostRuntime) -> Result<(), Fail> {
     let alloc = rt.alloc();
     for length in [65, 10_000_000] {
-        let mut out = Vec::new(alloc);
-        let mut letters = io::repeat(b'a').take(length);
-        let fault = replay(alloc, &mut letters, &mut out);
-        assert_eq!(rt; fault, Err(ReplayFault::Line(1)), "{length} letters");
-
-        let begin = bytes(alloc, "async 1 1 1 4;submit 0;")?;
-        let mut input = begin.as_slice().chain(io::repeat(b'a').take(length));
-        let fault = replay(alloc, &mut input, &mut out);
-        assert_eq!(rt; fault, Err(ReplayFault::Line(3)), "{length} letters");
-        assert_eq!(rt; out.as_slice(), b"task 0\n".as_slice());
+        assert!(rt; is_too_long(alloc, "", length, "", 1)?, "{length} letters");
+        let lines = "async 1 1 1 4;submit 0;";
+        assert!(rt;
+            is_too_long(alloc, lines, length, "task 0;", 3)?,
+            "{length} letters"
+        );
     }
     Ok(())
 }

@@ -1,12 +1,25 @@
 use crate::run::unread;
-use crate::tests::command;
+use crate::test_rows::command;
+use std::alloc::Global;
 use std::io::{self, ErrorKind};
 use std::str;
 use std::test::Fail;
 
+// Whether words without input end with this status, and show how `fj` is used: on standard output at 0, else on standard error. Nothing
+// else is written.
+fn shows_usage(alloc: Global, words: &[&str], status: u8) -> Result<bool, Fail> {
+    let ran = command(alloc, words, &mut b"".as_slice());
+    let (told, silent) = if status == 0 {
+        (ran.out.as_slice(), ran.err.as_slice())
+    } else {
+        (ran.err.as_slice(), ran.out.as_slice())
+    };
+    let text = str::from_utf8(told)?;
+    Ok(ran.status == status && silent.is_empty() && text.contains("Usage: fj"))
+}
+
 #[test]
 fn faults_of_the_words(rt: HostRuntime) -> Result<(), Fail> {
-    let alloc = rt.alloc();
     let lines: [&[&str]; 4] = [
         ["fj"].as_slice(),
         ["fj", "sum"].as_slice(),
@@ -14,31 +27,28 @@ fn faults_of_the_words(rt: HostRuntime) -> Result<(), Fail> {
         ["fj", "replay", "--fast"].as_slice(),
     ];
     for words in lines {
-        let ran = command(alloc, words, &mut b"".as_slice());
-        assert_eq!(rt; ran.status, 2, "{words:?}");
-        assert_eq!(rt; ran.out.len(), 0, "{words:?}");
-        let text = str::from_utf8(ran.err.as_slice())?;
-        assert!(rt; text.contains("Usage: fj"), "{words:?}: {text}");
+        assert!(rt; shows_usage(rt.alloc(), words, 2)?, "{words:?}");
     }
     Ok(())
 }
 
 #[test]
 fn help_that_is_asked_for(rt: HostRuntime) -> Result<(), Fail> {
-    let alloc = rt.alloc();
     let lines: [&[&str]; 3] = [
         ["fj", "--help"].as_slice(),
         ["fj", "replay", "--help"].as_slice(),
         ["fj", "help", "replay"].as_slice(),
     ];
     for words in lines {
-        let ran = command(alloc, words, &mut b"".as_slice());
-        assert_eq!(rt; ran.status, 0, "{words:?}");
-        assert_eq!(rt; ran.err.len(), 0, "{words:?}");
-        let text = str::from_utf8(ran.out.as_slice())?;
-        assert!(rt; text.contains("Usage: fj"), "{words:?}: {text}");
+        assert!(rt; shows_usage(rt.alloc(), words, 0)?, "{words:?}");
     }
-    let ran = command(alloc, ["fj", "--version"].as_slice(), &mut b"".as_slice());
+    Ok(())
+}
+
+#[test]
+fn the_version(rt: HostRuntime) -> Result<(), Fail> {
+    let words = ["fj", "--version"];
+    let ran = command(rt.alloc(), words.as_slice(), &mut b"".as_slice());
     assert_eq!(rt; ran.status, 0);
     assert_eq!(rt; ran.out.as_slice(), b"fj 0.1.0\n".as_slice());
     Ok(())
