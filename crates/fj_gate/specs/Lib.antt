@@ -1,0 +1,4 @@
+pub mod Numbers
+pub mod Rule
+pub mod Steps
+pub mod Ends

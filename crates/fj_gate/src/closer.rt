@@ -1,0 +1,75 @@
+ghost use Rattle.std.specs.Prelude.{◌≡◌};
+ghost use Rattle.fj_gate.specs.Ends.{Watched, ClosedBy};
+
+use crate::look::Look;
+use crate::word::{Close, CloserLook, Token, Word};
+use std::marker::Model;
+use std::sync::Arc;
+
+/// How many were admitted before the close: the closing number.
+#[derive(Clone, Copy, Debug, PartialEq, Eq)]
+pub enum Closing {
+    /// This call has closed the gate.
+    First(u64),
+    /// An earlier call had closed it, at the same number.
+    Already(u64),
+}
+
+/// The end that closes a gate. There is one.
+#[derive(Drop)]
+pub struct Closer {
+    pub(crate) table: Arc<Word>,
+    pub(crate) token: Token,
+    pub(crate) closed: Option<u64>,
+}
+
+impl Model for Closer {
+    ghost use Rattle.std.specs.Prelude.{◌≡◌, ◌-◌, ◌≤◌, []};
+    ghost use Rattle.std.specs.Arc.{arc_value};
+    ghost use Rattle.fj_gate.specs.Ends.{CloserState};
+
+    ghost Value = { CloserState };
+
+    // Each part of the 32 that it does not have is an entrant's.
+    ghost view = { λ c. record { gate = c.token.table_id; closed = c.closed; seen = c.token.me.0.seen; submitters = 32 - c.token.me.0.parts } };
+
+    ghost invariant = { λ c. ((arc_value c.table).shared.table_id ≡ c.token.table_id) × (c.token.table_id.words ≡ 1) × (c.token.id ≡ 0) × (c.token.me.1 ≡ []) × (c.token.me.0.parts ≤ 32) × (c.token.me.0.drawn ≡ []) × (c.token.me.0.closed ≡ c.closed) };
+}
+
+impl Closer {
+    /// Closes the gate, by one exchange: from then on no ticket is drawn.
+    ///
+    /// The first call answers `First` with the number of admissions so far, every later one `Already` with that number. It is not
+    /// below what this end has seen.
+    pub fn close(&mut self) -> Closing
+        ensures stays { (self.new.gate ≡ self.old.gate) × (self.new.submitters ≡ self.old.submitters) }
+        ensures answer { ClosedBy self.old result self.new }
+    {
+        // Before: 2n, and n is the closing number; after: odd for good. Or odd already: the word stays.
+        let found = self.table.shared.fetch_or::<Close>(&mut self.token, 0, 1);
+        match self.closed {
+            None => {
+                let count = found / 2;
+                self.closed = Some(count);
+                Closing::First(count)
+            }
+            Some(count) => Closing::Already(count),
+        }
+    }
+
+    /// Looks at the gate, by one load.
+    ///
+    /// `Open` has the number of admissions, which is not below what this end has seen. `Closed` comes exactly after a close.
+    pub fn look(&mut self) -> Look
+        ensures stays { (self.new.gate ≡ self.old.gate) × (self.new.submitters ≡ self.old.submitters) × (self.new.closed ≡ self.old.closed) }
+        ensures answer { Watched self.old result self.new }
+    {
+        // 2n: n were admitted. Or odd: closed. The word stays.
+        let found = self.table.shared.load::<CloserLook>(&mut self.token, 0);
+        if found % 2 == 0 {
+            Look::Open(found / 2)
+        } else {
+            Look::Closed
+        }
+    }
+}

@@ -1,0 +1,73 @@
+ghost use Rattle.std.specs.Prelude.{◌≡◌, ◌+◌, ◌<◌, ◌≤◌, true, false, [], ◌∷◌, ◌++◌, length, IfOk, IfErr};
+ghost use Rattle.fj_gate.specs.Ends.{Looked};
+
+use crate::look::Look;
+use crate::ticket::{Closed, Ticket};
+use crate::word::{Admit, EntrantLook, Token, Word};
+use std::marker::Model;
+use std::sync::Arc;
+
+/// A submitter's end of a gate. It draws tickets until the gate is closed.
+#[derive(Drop)]
+pub struct Entrant {
+    pub(crate) table: Arc<Word>,
+    pub(crate) token: Token,
+    pub(crate) each: u32,
+    pub(crate) told: bool,
+}
+
+impl Model for Entrant {
+    ghost use Rattle.std.specs.Prelude.{◌≡◌, ◌+◌, ◌<◌, ◌≤◌, true, false, []};
+    ghost use Rattle.std.specs.Arc.{arc_value};
+    ghost use Rattle.fj_gate.specs.Ends.{EntrantState};
+
+    ghost Value = { EntrantState };
+
+    ghost view = { λ e. record { gate = e.token.table_id; drawn = e.token.me.0.drawn; told = e.told; seen = e.token.me.0.seen; each = e.each } };
+
+    ghost invariant = { λ e. ((arc_value e.table).shared.table_id ≡ e.token.table_id) × (e.token.table_id.words ≡ 1) × (e.token.me.1 ≡ []) × (e.token.me.0.parts ≡ 1) × (e.each ≤ 65536) × (e.told ≡ false → (e.token.me.0.told ≡ 0) × (e.token.me.0.heard ≡ 0)) × (e.told ≡ true → 0 < e.token.me.0.told + e.token.me.0.heard) };
+}
+
+impl Entrant {
+    /// Draws the next ticket, by one exchange. No other entrant draws the same one.
+    ///
+    /// `Closed` if the gate was closed, or if this entrant was told so before; then no exchange is made.
+    ///
+    /// The caller answers for fewer than `each` tickets so far. Only tickets count, not refusals.
+    pub fn admit(&mut self) -> Result<Ticket, Closed>
+        requires { length self.old.drawn < self.old.each }
+        ensures stays { (self.new.gate ≡ self.old.gate) × (self.new.each ≡ self.old.each) }
+        ensures ticket { IfOk result (λ t. (self.old.told ≡ false) × (self.old.seen ≤ t) × (self.new ≡ record self.old { drawn = self.old.drawn ++ t ∷ []; seen = t + 1 })) }
+        ensures closed { IfErr result (λ _. self.new ≡ record self.old { told = true }) }
+    {
+        if self.told {
+            return Err(Closed);
+        }
+        // Before: 2n, and this admission is number n. Or odd: closed, and the 2 only counts this refusal.
+        let found = self.table.shared.fetch_add::<Admit>(&mut self.token, 0, 2);
+        if found % 2 == 0 {
+            Ok(Ticket(found / 2))
+        } else {
+            self.told = true;
+            Err(Closed)
+        }
+    }
+
+    /// Looks at the gate, by one load.
+    ///
+    /// `Open` has the number of admissions, which is not below what this entrant has seen, its own tickets included. It never
+    /// comes after a `Closed`, and after a `Closed` this entrant draws no ticket.
+    pub fn look(&mut self) -> Look
+        ensures stays { (self.new.gate ≡ self.old.gate) × (self.new.each ≡ self.old.each) × (self.new.drawn ≡ self.old.drawn) }
+        ensures answer { Looked self.old result self.new }
+    {
+        // 2n: n were admitted. Or odd: closed. The word stays.
+        let found = self.table.shared.load::<EntrantLook>(&mut self.token, 0);
+        if found % 2 == 0 {
+            Look::Open(found / 2)
+        } else {
+            self.told = true;
+            Look::Closed
+        }
+    }
+}

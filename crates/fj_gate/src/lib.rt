@@ -1,0 +1,28 @@
+//! A gate: it admits submissions, each with a ticket of its own, until it is closed. No end of it ever waits for another.
+//!
+//! A contract sees an [`Entrant`] as the tickets that it drew and what it was told, a [`Closer`] as the number at which it closed
+//! the gate. Where all ends [`meet()`], the tickets are the numbers below the count of admissions, each drawn once. All memory is
+//! taken in [`gate()`].
+//!
+//! ```
+//! match entrant.admit() {
+//!     Ok(ticket) => push(ticket, body),
+//!     Err(Closed) => give_back(body),
+//! }
+//! ```
+#![tactic(auto)]
+
+mod closer;
+mod entrant;
+mod look;
+mod making;
+mod meeting;
+mod ticket;
+mod word;
+
+pub use closer::{Closer, Closing};
+pub use entrant::Entrant;
+pub use look::Look;
+pub use making::gate;
+pub use meeting::{Tickets, meet};
+pub use ticket::{Closed, Ticket};
