@@ -26,3 +26,8 @@ pub use look::Look;
 pub use making::gate;
 pub use meeting::{Tickets, meet};
 pub use ticket::{Closed, Ticket};
+
+#[cfg(test)]
+mod tests;
+#[cfg(test)]
+mod thread_tests;
