@@ -7,4 +7,4 @@ pub fetch_add-found-requires : goal.fetch_add-found-requires
 fetch_add-found-requires c =
     let room = subst (λ (e : EntrantState). length e.drawn < e.each) (sym c.self.view_is) c.requires in
     let most = c.self.invariant.4 in
-    (search rules, search rules, admits _ _ _ (omega arith) c.self.invariant.3 (c.self.invariant.5 c.if-self.false).0)
+    (search rules, search rules, admits _ _ _ (omega arith) c.self.invariant.3 (c.self.invariant.5 (search rules)).0)
