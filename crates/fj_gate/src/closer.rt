@@ -33,7 +33,15 @@ impl Model for Closer {
     // Each part of the 32 that it does not have is an entrant's.
     ghost view = { λ c. record { gate = c.token.table_id; closed = c.closed; seen = c.token.me.0.seen; submitters = 32 - c.token.me.0.parts } };
 
-    ghost invariant = { λ c. ((arc_value c.table).shared.table_id ≡ c.token.table_id) × (c.token.table_id.words ≡ 1) × (c.token.id ≡ 0) × (c.token.me.1 ≡ []) × (c.token.me.0.parts ≤ 32) × (c.token.me.0.drawn ≡ []) × (c.token.me.0.closed ≡ c.closed) };
+    ghost invariant = { λ c. record {
+      place : (arc_value c.table).shared.table_id ≡ c.token.table_id;
+      one_word : c.token.table_id.words ≡ 1;
+      first_seat : c.token.id ≡ 0;
+      no_slot : c.token.me.1 ≡ [];
+      parts : c.token.me.0.parts ≤ 32;
+      draws_nothing : c.token.me.0.drawn ≡ [];
+      closed : c.token.me.0.closed ≡ c.closed;
+    } };
 }
 
 impl Closer {

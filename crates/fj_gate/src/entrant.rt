@@ -25,7 +25,15 @@ impl Model for Entrant {
 
     ghost view = { λ e. record { gate = e.token.table_id; drawn = e.token.me.0.drawn; told = e.told; seen = e.token.me.0.seen; each = e.each } };
 
-    ghost invariant = { λ e. ((arc_value e.table).shared.table_id ≡ e.token.table_id) × (e.token.table_id.words ≡ 1) × (e.token.me.1 ≡ []) × (e.token.me.0.parts ≡ 1) × (e.each ≤ 65536) × (e.told ≡ false → (e.token.me.0.told ≡ 0) × (e.token.me.0.heard ≡ 0)) × (e.told ≡ true → 0 < e.token.me.0.told + e.token.me.0.heard) };
+    ghost invariant = { λ e. record {
+      place : (arc_value e.table).shared.table_id ≡ e.token.table_id;
+      one_word : e.token.table_id.words ≡ 1;
+      no_slot : e.token.me.1 ≡ [];
+      own_part : e.token.me.0.parts ≡ 1;
+      most : e.each ≤ 65536;
+      untold : e.told ≡ false → (e.token.me.0.told ≡ 0) × (e.token.me.0.heard ≡ 0);
+      told : e.told ≡ true → 0 < e.token.me.0.told + e.token.me.0.heard;
+    } };
 }
 
 impl Entrant {

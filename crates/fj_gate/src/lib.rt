@@ -4,6 +4,9 @@
 //! the gate. Where all ends [`meet()`], the tickets are the numbers below the count of admissions, each drawn once. All memory is
 //! taken in [`gate()`].
 //!
+//! The gate is this project's own. Java says of `shutdown` of a `ForkJoinPool` that what was submitted before it is executed and
+//! that nothing new is accepted; the closing number says how many submissions those are.
+//!
 //! ```
 //! match entrant.admit() {
 //!     Ok(ticket) => push(ticket, body),
