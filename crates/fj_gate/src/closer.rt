@@ -20,6 +20,7 @@ pub enum Closing {
 pub struct Closer {
     pub(crate) table: Arc<Word>,
     pub(crate) token: Token,
+    /// The closing number: the word alone does not tell it again.
     pub(crate) closed: Option<u64>,
 }
 
