@@ -1,53 +1,76 @@
 #!/usr/bin/env bash
-# Times `fj replay` on a generated script: seconds, lines a second, peak memory.
-# Usage: bench/run.sh [KIND [ROUNDS]]     KIND is submissions (default), forks, chain or tree; a round is three lines (default: 200000 rounds)
+# Times `fj replay` on a generated script: seconds, lines a second, peak memory. Beside it the plain C program, if there is a compiler.
+# Usage: bench/run.sh [KIND [ROUNDS [SIZE]]]     KIND is plain (default), tree, chain, churn, queues or refusals
+# RUNS=N bench/run.sh ..     the least seconds of N runs are printed (default: 5)
 set -euo pipefail
+export LC_ALL=C
 cd "$(dirname "${BASH_SOURCE[0]}")/.."
 
-kind=${1:-submissions}
-rounds=${2:-200000}
-program=crates/fj/out/fj
+kind=${1:-plain}
+runs=${RUNS:-5}
+fj=crates/fj/out/fj
 
-if [[ ! -x $program ]]; then
-    echo "$program is not built: run 'cd crates/fj && rt run -- replay < stdin' first" >&2
+if [[ ! -x $fj ]]; then
+    echo "$fj is not built: run 'cd crates/fj && rt run -- replay < stdin' first" >&2
     exit 1
 fi
 
 folder=$(mktemp -d)
 trap 'rm -rf "$folder"' EXIT
-python3 bench/generate.py "$kind" "$rounds" > "$folder/script"
+plain=
+if command -v cc > /dev/null; then
+    plain=$folder/plain
+    cc -std=c11 -O2 -Wall -Wextra -o "$plain" bench/plain.c
+fi
+python3 bench/generate.py "$kind" "${@:2}" > "$folder/script"
 steps=$(($(wc -l < "$folder/script") - 1))
 
-# Each way writes the seconds and the peak memory in kilobytes to the file `measured`.
-if /usr/bin/time -f '%e %M' true 2> /dev/null; then
-    /usr/bin/time -f '%e %M' -o "$folder/measured" "$program" replay < "$folder/script" > "$folder/replies"
-else
-    python3 - "$program" "$folder/script" "$folder/replies" > "$folder/measured" << 'PYTHON'
-import resource
-import subprocess
-import sys
-import time
+# once NAME COMMAND..: one run. The replies go to NAME.replies, and a line with the seconds to the end of NAME.seconds.
+once() {
+    local name=$folder/$1 TIMEFORMAT=%3R
+    { time "${@:2}" < "$folder/script" > "$name.replies" 2> "$name.errors"; } 2>> "$name.seconds" || { cat "$name.errors" >&2; return 1; }
+}
 
-program, script, replies = sys.argv[1:]
-with open(script, "rb") as lines, open(replies, "wb") as written:
-    start = time.monotonic()
-    subprocess.run([program, "replay"], stdin=lines, stdout=written, check=True)
-    seconds = time.monotonic() - start
-peak = resource.getrusage(resource.RUSAGE_CHILDREN).ru_maxrss
-print(f"{seconds:.2f}", peak // 1024 if sys.platform == "darwin" else peak)
-PYTHON
-fi
+# peak COMMAND..: the peak memory in kilobytes, of one run more. GNU's time tells it.
+peak() {
+    if /usr/bin/time -f %M true 2> /dev/null; then
+        /usr/bin/time -f %M -o "$folder/peak" "$@" < "$folder/script" > /dev/null
+        cat "$folder/peak"
+    else
+        echo unknown
+    fi
+}
 
-replied=$(wc -l < "$folder/replies")
+# show NAME PEAK: the figures.
+show() {
+    sort -g "$folder/$1.seconds" | head -n 1 | awk -v name="$1" -v steps="$steps" -v peak="$2" '{
+        rate = $1 > 0 ? sprintf("%.0f", steps / $1) : "?"
+        memory = peak == "unknown" ? peak : sprintf("%.1f MiB", peak / 1024)
+        printf "%-6s seconds: %.3f   lines/second: %s   peak memory: %s\n", name, $1, rate, memory
+    }'
+}
+
+# The two programs take turns, so that what else runs on the machine slows both.
+for ((run = 0; run < runs; run++)); do
+    once fj "$fj" replay
+    if [[ $plain ]]; then once plain "$plain"; fi
+done
+
+replied=$(wc -l < "$folder/fj.replies")
+refused=$(grep -c '^refused ' "$folder/fj.replies" || true)
 if [[ $replied -ne $steps ]]; then
     echo "$steps step lines, but $replied replies" >&2
     exit 1
 fi
-
-read -r seconds peak < "$folder/measured"
-awk -v steps="$steps" -v seconds="$seconds" -v peak="$peak" 'BEGIN {
-    printf "step lines:    %d\n", steps
-    printf "seconds:       %.2f\n", seconds
-    if (seconds > 0) printf "lines/second:  %.0f\n", steps / seconds
-    printf "peak memory:   %.1f MB\n", peak / 1024
-}'
+if [[ $kind != refusals && $refused -ne 0 ]]; then
+    echo "$refused steps were refused" >&2
+    exit 1
+fi
+echo "step lines: $steps   refused: $refused"
+show fj "$(peak "$fj" replay)"
+if [[ $plain ]]; then
+    cmp "$folder/fj.replies" "$folder/plain.replies"
+    show plain "$(peak "$plain")"
+else
+    echo "no C compiler: the plain program is left out"
+fi
