@@ -1,0 +1,29 @@
+-- The two ends of a lane as their callers see them.
+use Rattle.std.specs.Prelude.{ℕ, List, []}
+use Rattle.std.specs.declared.alloc.Global.{Global}
+use Rattle.fj_lane.specs.declared.parcel.Parcel.{Parcel}
+
+-- which lane it is: the identity of its deque, and where its memory is from
+abbrev pub LaneId : Type 0
+LaneId = (ℕ × ℕ) × Global
+
+-- the lane, the parcels that the feed pushed, in order, and how many it may push in all
+pub record FeedState (B : Type 0) : Type 0 where
+  pub lane : LaneId
+  pub fed : List (Parcel B)
+  pub capacity : ℕ
+
+-- the lane, the parcels that the drain took, in order, and how many takes gave none
+pub record DrainState (B : Type 0) : Type 0 where
+  pub lane : LaneId
+  pub drained : List (Parcel B)
+  pub missed : ℕ
+
+module _ {B : Type 0} where
+  -- a feed that has done nothing
+  abbrev pub new_feed : LaneId → ℕ → FeedState B
+  new_feed lane capacity = record { lane = lane; fed = []; capacity = capacity }
+
+  -- a drain that has done nothing
+  abbrev pub new_drain : LaneId → DrainState B
+  new_drain lane = record { lane = lane; drained = []; missed = 0 }

@@ -1,0 +1,51 @@
+ghost use Rattle.std.specs.Prelude.{◌≡◌, ◌+◌, [], ◌∷◌, ◌++◌, MatchOption};
+
+use crate::misses::Misses;
+use crate::parcel::Parcel;
+use crate::rule::{LaneRule, Take, View};
+use crossbeam_deque::{Pass, Steal, Stealer};
+use std::alloc::Global;
+use std::marker::Model;
+
+/// The end of a lane that takes. There is one.
+#[derive(Drop)]
+pub struct Drain<B> {
+    pub(crate) stealer: Stealer<Parcel<B>, Global, View<B>, LaneRule>,
+    /// The right to take, with what was taken. It has no bytes.
+    pub(crate) pass: Pass<Parcel<B>, View<B>>,
+    pub(crate) misses: Misses,
+}
+
+impl<B> Model for Drain<B> {
+    ghost use Rattle.std.specs.Prelude.{◌≡◌, true};
+    ghost use Rattle.crossbeam_deque.specs.Handles.{stealer_deque, stealer_flavor, view as pass_view, IsPassOf};
+    ghost use Rattle.fj_lane.specs.Ends.{DrainState};
+
+    ghost Value = { DrainState B };
+
+    ghost view = { λ d. record { lane = stealer_deque d.stealer; drained = (pass_view d.pass).drained; missed = d.misses.number } };
+
+    ghost invariant = { λ d. record {
+      paired : IsPassOf (stealer_deque d.stealer) d.pass;
+      may_drain : (pass_view d.pass).drains ≡ true;
+      oldest_first : stealer_flavor d.stealer ≡ 0;
+    } };
+}
+
+impl<B> Drain<B> {
+    /// Takes the oldest parcel out of the lane, by one steal. It takes no memory and waits for nobody.
+    ///
+    /// `None` only where the lane was empty at one moment of the call, or the steal answered `Retry`. Then the count of misses has
+    /// grown by one, and nothing else has changed.
+    pub fn take(&mut self) -> Option<Parcel<B>>
+        ensures { MatchOption result (self.new ≡ record self.old { missed = self.old.missed + 1 }) (λ p. self.new ≡ record self.old { drained = self.old.drained ++ p ∷ [] }) }
+    {
+        match self.stealer.steal_as::<Take>(&mut self.pass) {
+            Steal::Success(parcel) => Some(parcel),
+            Steal::Empty | Steal::Retry => {
+                self.misses = self.misses.next();
+                None
+            }
+        }
+    }
+}

@@ -1,0 +1,29 @@
+//! A lane: one end pushes parcels, the other takes them in the order pushed. Neither end ever waits for the other.
+//!
+//! A contract sees a [`Feed`] as the parcels that it pushed and its capacity, a [`Drain`] as the parcels that it took and how many
+//! takes gave none. Where both [`meet()`], what was taken, followed by what is left, is what was pushed, as values. All memory is
+//! taken in [`lane()`].
+//!
+//! The lane is this project's own. It stands where `ForkJoinPool` of Java has its submission queues: what one submitter hands in
+//! is taken in first in, first out.
+//!
+//! ```
+//! if feed.has_room() {
+//!     feed.push(Parcel { ticket, body })
+//! }
+//! ```
+#![tactic(auto)]
+
+mod drain;
+mod feed;
+mod making;
+mod meeting;
+mod misses;
+mod parcel;
+mod rule;
+
+pub use drain::Drain;
+pub use feed::Feed;
+pub use making::lane;
+pub use meeting::{Rest, meet};
+pub use parcel::{LaneSpent, Parcel};

@@ -1,0 +1,37 @@
+ghost use Rattle.std.specs.Prelude.{◌≡◌, ◌≤◌, IfOk};
+ghost use Rattle.fj_lane.specs.Ends.{new_feed, new_drain};
+
+use crate::drain::Drain;
+use crate::feed::Feed;
+use crate::misses::Misses;
+use crate::parcel::Parcel;
+use crate::rule::{Ends, LaneRule, View};
+use crossbeam_deque::Worker;
+use fj_model::OutOfMemory;
+use std::alloc::Global;
+
+/// An empty lane, as its two ends: nothing was pushed and nothing taken. Refused only for want of memory; no other call of this
+/// crate takes any.
+///
+/// The caller answers for `capacity`, the number of parcels that may be pushed in all, from 1 to 65,536.
+pub fn lane<B: Drop>(alloc: Global, capacity: u32) -> Result<(Feed<B>, Drain<B>), OutOfMemory>
+    requires capacity { (1 ≤ capacity) × (capacity ≤ 65536) }
+    ensures feed { IfOk result (λ r. r.0 ≡ new_feed r.1.lane capacity) }
+    ensures drain { IfOk result (λ r. r.1 ≡ new_drain r.1.lane) }
+{
+    let mut worker =
+        Worker::<Parcel<B>, Global, View<B>, LaneRule>::fifo_as(alloc, capacity as usize)?;
+    let stealer = worker.stealer()?;
+    let pass = worker.another::<Ends>();
+    let feed = Feed {
+        worker,
+        capacity,
+        pushed: 0,
+    };
+    let drain = Drain {
+        stealer,
+        pass,
+        misses: Misses::zero(),
+    };
+    Ok((feed, drain))
+}

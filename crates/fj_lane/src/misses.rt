@@ -1,0 +1,33 @@
+//! A count that proofs alone see. It has no bytes, and its calls do nothing at run time: a counter could overflow.
+ghost use Rattle.std.specs.Prelude.{◌≡◌, ℕ, ◌+◌};
+ghost use Rattle.std.specs.Borrow.{ftrue};
+
+use std::marker::{Model, PhantomData};
+
+/// How many takes gave none.
+#[derive(Drop)]
+pub(crate) struct Misses {
+    of: PhantomData<()>,
+    pub(crate) ghost number: { ℕ },
+}
+
+impl Model for Misses {
+    ghost also_owns = { λ _. ftrue };
+}
+
+// It owns nothing.
+unsafe impl Send for Misses {}
+
+impl Misses {
+    pub(crate) fn zero() -> Misses
+        ensures { result.number ≡ 0 }
+    {
+        Misses { of: PhantomData }
+    }
+
+    pub(crate) fn next(&self) -> Misses
+        ensures { result.number ≡ self.now.number + 1 }
+    {
+        Misses { of: PhantomData }
+    }
+}

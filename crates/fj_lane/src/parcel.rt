@@ -1,0 +1,14 @@
+use fj_gate::Ticket;
+
+/// A body, with the ticket under which it was admitted.
+#[derive(Debug, Drop)]
+pub struct Parcel<B> {
+    /// The number of its admission, drawn at the gate.
+    pub ticket: Ticket,
+    /// What was submitted. The lane never looks into it.
+    pub body: B,
+}
+
+/// The lane has taken as many parcels as its capacity. It stays so: a take makes no room.
+#[derive(Clone, Copy, Debug, PartialEq, Eq)]
+pub struct LaneSpent;
