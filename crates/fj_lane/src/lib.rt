@@ -27,3 +27,8 @@ pub use feed::Feed;
 pub use making::lane;
 pub use meeting::{Rest, meet};
 pub use parcel::{LaneSpent, Parcel};
+
+#[cfg(test)]
+mod tests;
+#[cfg(test)]
+mod thread_tests;

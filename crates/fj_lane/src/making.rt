@@ -19,8 +19,10 @@ pub fn lane<B: Drop>(alloc: Global, capacity: u32) -> Result<(Feed<B>, Drain<B>)
     ensures feed { IfOk result (λ r. r.0 ≡ new_feed r.1.lane capacity) }
     ensures drain { IfOk result (λ r. r.1 ≡ new_drain r.1.lane) }
 {
-    let mut worker =
-        Worker::<Parcel<B>, Global, View<B>, LaneRule>::fifo_as(alloc, capacity as usize)?;
+    let mut worker = Worker::<Parcel<B>, Global, View<B>, LaneRule>::fifo_as(
+        alloc,
+        capacity as usize,
+    )?;
     let stealer = worker.stealer()?;
     let pass = worker.another::<Ends>();
     let feed = Feed {
