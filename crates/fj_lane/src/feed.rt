@@ -44,10 +44,10 @@ impl<B> Feed<B> {
         self.pushed < self.capacity
     }
 
-    /// Pushes a parcel behind those that were pushed before. It takes no memory and waits for nobody.
+    /// Pushes a parcel behind those that were pushed before. It waits for nobody, and is never refused for want of memory.
     ///
-    /// The first `capacity` pushes succeed. Every later one is refused, and hands its parcel back; nothing has changed then. The
-    /// capacity counts pushes over the lane's life, so a take makes no room.
+    /// The first `capacity` pushes succeed. Every later one is refused by `LaneSpent`, which hands its parcel back; nothing has
+    /// changed then. The capacity counts pushes over the lane's life, so a take makes no room.
     pub fn push(&mut self, parcel: Parcel<B>) -> Result<(), (LaneSpent, Parcel<B>)>
         ensures pushed { IfOk result (λ _. (length self.old.fed < self.old.capacity) × (self.new ≡ record self.old { fed = self.old.fed ++ parcel ∷ [] })) }
         ensures spent { IfErr result (λ e. (length self.old.fed ≡ self.old.capacity) × (e.1 ≡ parcel) × (self.new ≡ self.old)) }

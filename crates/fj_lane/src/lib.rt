@@ -1,8 +1,8 @@
 //! A lane: one end pushes parcels, the other takes them in the order pushed. Neither end ever waits for the other.
 //!
 //! A contract sees a [`Feed`] as the parcels that it pushed and its capacity, a [`Drain`] as the parcels that it took and how many
-//! takes gave none. Where both [`meet()`], what was taken, followed by what is left, is what was pushed, as values. All memory is
-//! taken in [`lane()`].
+//! takes gave none. Where both [`meet()`], what was taken, followed by what is left, is what was pushed, as values. Only [`lane()`]
+//! can be refused for want of memory.
 //!
 //! The lane is this project's own. It stands where `ForkJoinPool` of Java has its submission queues: what one submitter hands in
 //! is taken in first in, first out.

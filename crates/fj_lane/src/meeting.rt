@@ -31,7 +31,7 @@ impl<B> Model for Rest<B> {
     } };
 }
 
-/// Takes both ends of a lane back. It takes no memory and waits for nobody.
+/// Takes both ends of a lane back. It waits for nobody, and is never refused.
 ///
 /// What the drain took, followed by what is left, is what the feed pushed, which is at most its capacity.
 ///
@@ -52,13 +52,13 @@ pub fn meet<B: Drop>(feed: Feed<B>, drain: Drain<B>) -> Rest<B>
         misses: _,
     } = drain;
     worker.absorb::<Ends>(pass);
-    // What the load answers is of no use; that it is made lets the rule be read off the deque.
+    // Of this load only what it proves is used: that the deque holds just what was pushed and not taken.
     worker.len_as::<Tally>();
     Rest { worker }
 }
 
 impl<B> Rest<B> {
-    /// Takes the oldest parcel that is left. `None` exactly where none is left, and then nothing has changed. It takes no memory.
+    /// Takes the oldest parcel that is left. `None` exactly where none is left, and then nothing has changed.
     pub fn next(&mut self) -> Option<Parcel<B>>
         ensures { MatchOption result ((self.old ≡ []) × (self.new ≡ [])) (λ p. self.old ≡ p ∷ self.new) }
     {
