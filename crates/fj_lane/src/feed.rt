@@ -31,6 +31,7 @@ impl<B> Model for Feed<B> {
       counted : f.pushed ≡ length (worker_view f.worker).fed;
       placed : worker_index f.worker ≡ f.pushed;
       within : f.pushed ≤ f.capacity;
+      most : f.capacity ≤ 65536;
       room : f.capacity ≤ worker_capacity f.worker;
     } };
 }
