@@ -100,6 +100,27 @@ fn a_push_succeeds_where_there_is_room(rt: HostRuntime) -> Result<(), Fail> {
     Ok(())
 }
 
+/// A text that is lent to a body comes back.
+fn lent<'a>(alloc: Global, text: &'a str) -> Result<Option<&'a str>, OutOfMemory> {
+    let (mut feed, drain) = lane::<(&'a str, u8)>(alloc, 1)?;
+    let _ = feed.push(Parcel {
+        ticket: Ticket(0),
+        body: (text, 1),
+    });
+    let Some(parcel) = meet(feed, drain).next() else {
+        return Ok(None);
+    };
+    let Parcel { ticket: _, body } = parcel;
+    Ok(Some(body.0))
+}
+
+#[test]
+fn a_body_may_borrow(rt: HostRuntime) -> Result<(), Fail> {
+    let text = format!(in rt.alloc(); "a text")?;
+    assert_eq!(rt; lent(rt.alloc(), text.as_str())?, Some("a text"));
+    Ok(())
+}
+
 #[test]
 fn a_body_comes_out_as_it_went_in(rt: HostRuntime) -> Result<(), Fail> {
     let same = through(rt.alloc(), parcel(rt.alloc(), 7)?)?;
