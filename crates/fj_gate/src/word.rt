@@ -1,7 +1,7 @@
 //! The gate's word, the exchanges on it, and what each end knows of it.
 //!
 //! The word is twice the number of admissions, plus 1 once the gate is closed. Below, N is the closing number and a is the number
-//! of entrants that were told Closed by an admission. Each line is one atomic exchange, and nothing else touches the word.
+//! of entrants that were told Closed by an admission. Each line is one atomic exchange, and nothing else changes the word.
 //!
 //! | Exchange | Word before | Word after | What the caller learns |
 //! |---|---|---|---|
