@@ -75,7 +75,23 @@ root 0 0 > refused 8
 
 a plain task ends by ok alone
 async 2 1 8 64; submit 0 > task 0; poll 0 0 > run 0; end 0 quiet > refused 8; end 0 try > refused 8; end 0 pass > refused 8;
-end 0 complete > refused 8; end 0 ok > done";
+end 0 complete > refused 8; end 0 ok > done
+
+each of these comes before a full history
+async 2 2 8 3; submit 0 > task 0; poll 0 0 > run 0; fork 0 > task 1; submit 9 > refused 4; submit 0 65536 relay > refused 10;
+fork 1 > refused 6; fork 0 9 0 relay > refused 5; fork 0 0 0 relay > refused 8; trigger 0 65536 > refused 10; poll 0 0 > refused 14;
+join 0 9 0 > refused 5; join 0 0 0 > refused 7; end 0 quiet > refused 8; add 0 9 1 > refused 5; root 0 0 > refused 8; hook 0 > refused 6;
+cancel 9 > refused 5; fault 9 1 > refused 5; release 0 > refused 9; fork 0 > refused 3; cancel 0 > refused 3; end 0 ok > refused 3
+
+a hook in hand comes before a full history, and so does a task that is named as a parent
+async 2 1 8 5; submit 0 1 relay > task 0; poll 0 0 > run 0; fork 0 0 0 relay > task 1; end 0 complete > hook 0; fork 0 > refused 14;
+end 0 ok > refused 14; add 0 0 65535 > refused 14; release 0 > refused 9; hook 0 > refused 3
+
+a shut pool comes before a full history
+async 2 1 1 2; submit 0 > task 0; shutdown > done; submit 0 > refused 1; poll 0 0 > refused 3; stop > refused 3
+
+too many tasks come before a full history
+async 2 1 1 1; submit 0 > task 0; submit 0 > refused 2; poll 0 0 > refused 3; shutdown > refused 3";
 
 // A step whose events do not all fit appends none of them.
 const LAST: &str = "the firing does not fit
