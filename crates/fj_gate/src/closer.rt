@@ -6,7 +6,8 @@ use crate::word::{Close, CloserLook, Token, Word};
 use std::marker::Model;
 use std::sync::Arc;
 
-/// How many were admitted before the close: the closing number.
+/// The answer of a close: how many were admitted before it, the closing number, at most 2,097,152. Java's `shutdown` answers
+/// nothing.
 #[derive(Clone, Copy, Debug, PartialEq, Eq)]
 pub enum Closing {
     /// This call has closed the gate.
@@ -15,7 +16,7 @@ pub enum Closing {
     Already(u64),
 }
 
-/// The end that closes a gate. There is one.
+/// The end that closes a gate. There is one. It is this project's own: Java lets any thread shut a pool down.
 #[derive(Drop)]
 pub struct Closer {
     pub(crate) table: Arc<Word>,
@@ -46,7 +47,7 @@ impl Model for Closer {
 }
 
 impl Closer {
-    /// Closes the gate, by one exchange: from then on no ticket is drawn.
+    /// Closes the gate, by one exchange: from then on no ticket is drawn. It follows `ForkJoinPool.shutdown`.
     ///
     /// The first call answers `First` with the number of admissions so far, every later one `Already` with that number. It is not
     /// below what this end has seen.
@@ -66,7 +67,7 @@ impl Closer {
         }
     }
 
-    /// Looks at the gate, by one load.
+    /// Looks at the gate, by one load. Its `Closed` is what `ForkJoinPool.isShutdown` tells.
     ///
     /// `Open` has the number of admissions, which is not below what this end has seen. `Closed` comes exactly after a close.
     pub fn look(&mut self) -> Look

@@ -7,7 +7,7 @@ use crate::word::{Admit, EntrantLook, Token, Word};
 use std::marker::Model;
 use std::sync::Arc;
 
-/// A submitter's end of a gate. It draws tickets until the gate is closed.
+/// A submitter's end of a gate. It draws tickets until the gate is closed. It is this project's own.
 #[derive(Drop)]
 pub struct Entrant {
     pub(crate) table: Arc<Word>,
@@ -41,7 +41,8 @@ impl Model for Entrant {
 impl Entrant {
     /// Draws the next ticket, by one exchange. No other entrant draws the same one.
     ///
-    /// `Closed` if the gate was closed, or if this entrant was told so before; then no exchange is made.
+    /// `Closed` if the gate was closed, or if this entrant was told so before; then no exchange is made. Java's counterpart is
+    /// `RejectedExecutionException` of `ForkJoinPool.submit` after a shutdown; tickets are this project's own.
     ///
     /// The caller answers for fewer than `each` tickets so far. Only tickets count, not refusals.
     pub fn admit(&mut self) -> Result<Ticket, Closed>
@@ -63,7 +64,7 @@ impl Entrant {
         }
     }
 
-    /// Looks at the gate, by one load.
+    /// Looks at the gate, by one load. Its `Closed` is what `ForkJoinPool.isShutdown` tells.
     ///
     /// `Open` has the number of admissions, which is not below what this entrant has seen, its own tickets included. It never
     /// comes after a `Closed`, and after a `Closed` this entrant draws no ticket.

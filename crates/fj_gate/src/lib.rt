@@ -9,8 +9,10 @@
 //!
 //! ```
 //! match entrant.admit() {
-//!     Ok(ticket) => push(ticket, body),
-//!     Err(Closed) => give_back(body),
+//!     // No other entrant of this gate has or gets this number.
+//!     Ok(Ticket(number)) => Some(number),
+//!     // The gate is closed, and stays so.
+//!     Err(Closed) => None,
 //! }
 //! ```
 #![tactic(auto)]

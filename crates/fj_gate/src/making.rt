@@ -10,8 +10,9 @@ use fj_model::OutOfMemory;
 use std::alloc::{AllocError, Global};
 use std::sync::Arc;
 
-/// An open gate: an entrant for each submitter, and its closer. Nobody has drawn a ticket. Refused only for want of memory; no
-/// other call of this crate takes any.
+/// An open gate: an entrant for each submitter, and its closer. Nobody has drawn a ticket. It is this project's own.
+///
+/// `OutOfMemory` where memory is refused, and no other error. No other call of this crate takes memory.
 ///
 /// The caller answers for 1 to 32 submitters, and for `each`, the number of tickets that each of them may draw, from 1 to 65,536.
 pub fn gate(

@@ -8,16 +8,16 @@ use crate::entrant::Entrant;
 use crate::word::{LastLook, Part, Token, Word};
 use std::sync::Arc;
 
-/// What all ends of a gate know together.
+/// What all ends of a gate know together. It is this project's own.
 #[derive(Clone, Copy, Debug, PartialEq, Eq)]
 pub struct Tickets {
-    /// How many tickets were drawn.
+    /// How many tickets were drawn, from 0 to submitters times `each`, which is at most 2,097,152.
     pub drawn: u64,
     /// The number at which the gate was closed, if it was.
     pub closed: Option<u64>,
 }
 
-/// Takes all ends of a gate back. It allocates nothing and waits for nobody.
+/// Takes all ends of a gate back. It allocates nothing and waits for nobody. It is this project's own.
 ///
 /// The tickets that the entrants drew are the numbers below `drawn`, each once, and `drawn` is the closing number if the gate was
 /// closed. If it was not, nobody was told Closed. Nobody had seen more admissions than `drawn`.

@@ -8,8 +8,10 @@
 //! is taken in first in, first out.
 //!
 //! ```
-//! if feed.has_room() {
-//!     feed.push(Parcel { ticket, body })
+//! match feed.push(Parcel { ticket, body }) {
+//!     Ok(()) => None,
+//!     // As many were pushed as the capacity. The body is the caller's again.
+//!     Err((LaneSpent, parcel)) => Some(parcel.body),
 //! }
 //! ```
 #![tactic(auto)]

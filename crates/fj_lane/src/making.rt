@@ -10,8 +10,9 @@ use crossbeam_deque::Worker;
 use fj_model::OutOfMemory;
 use std::alloc::Global;
 
-/// An empty lane, as its two ends: nothing was pushed and nothing taken. Refused only for want of memory; no other call of this
-/// crate is refused for that.
+/// An empty lane, as its two ends: nothing was pushed and nothing taken. It is this project's own.
+///
+/// `OutOfMemory` where memory is refused, and no other error. No other call of this crate is refused for that.
 ///
 /// The caller answers for `capacity`, the number of parcels that may be pushed in all, from 1 to 65,536.
 pub fn lane<B: Drop>(alloc: Global, capacity: u32) -> Result<(Feed<B>, Drain<B>), OutOfMemory>

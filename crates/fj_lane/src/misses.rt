@@ -19,12 +19,14 @@ impl Model for Misses {
 unsafe impl Send for Misses {}
 
 impl Misses {
+    /// 0: no take yet.
     pub(crate) fn zero() -> Misses
         ensures { result.number ≡ 0 }
     {
         Misses { of: PhantomData }
     }
 
+    /// One more: a take has given none.
     pub(crate) fn next(&self) -> Misses
         ensures { result.number ≡ self.now.number + 1 }
     {

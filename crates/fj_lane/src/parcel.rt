@@ -1,6 +1,6 @@
 use fj_gate::Ticket;
 
-/// A body, with the ticket under which it was admitted.
+/// A body, with the ticket under which it was admitted. It is this project's own.
 #[derive(Debug, Drop)]
 pub struct Parcel<B> {
     /// The number of its admission, drawn at the gate.
@@ -10,5 +10,7 @@ pub struct Parcel<B> {
 }
 
 /// The lane has taken as many parcels as its capacity. It stays so: a take makes no room.
+///
+/// To a submitter this is refusal 11, `LaneSpent` of `fj_model::Refusal`. The limit is this project's own.
 #[derive(Clone, Copy, Debug, PartialEq, Eq)]
 pub struct LaneSpent;
