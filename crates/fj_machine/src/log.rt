@@ -28,6 +28,7 @@ impl Model for Log {
 }
 
 impl Log {
+    /// A log without events, with room for so many.
     pub fn new(alloc: Global, room: usize) -> Result<Log, AllocError>
         ensures { IfOk result (λ l. l ≡ record { events = []; room = room }) }
     {
@@ -39,12 +40,14 @@ impl Log {
         })
     }
 
+    /// How many events there were.
     pub fn len(&self) -> usize
         ensures { result ≡ length self.now.events }
     {
         self.events.len()
     }
 
+    /// The events, the first one first.
     pub fn events(&self) -> &[Event]
         ensures { result.now ≡ self.now.events }
     {

@@ -8,7 +8,9 @@ use fj_queues::Queues;
 /// From which queue a task is taken, and from which end of it.
 #[derive(Clone, Copy)]
 pub enum Source {
+    /// The oldest of the queue with this number.
     Oldest(usize),
+    /// The newest of the queue with this number.
     Newest(usize),
 }
 

@@ -4,7 +4,7 @@ use crate::owner::Owner;
 use crate::refusal::Refusal;
 use std::marker::Model;
 
-/// How large a pool may grow.
+/// How large a pool may grow: 1 to 32 workers, 1 to 32 submitters, 1 to 4,096 tasks kept at a time, 1 to 1,048,576 events in all.
 #[derive(Clone, Copy, Debug, PartialEq, Eq)]
 pub struct Limits {
     workers: u32,
@@ -38,7 +38,7 @@ impl Model for Limits {
 impl Limits {
     ghost use Rattle.fj_model.specs.Bounds.{IsWithin, IsOwner, queue_number};
 
-    /// The limits, if each lies in its range.
+    /// The limits, if each lies in its range; `BadLimits` if one does not.
     pub fn new(workers: u32, submitters: u32, tasks: u32, events: u32) -> Result<Limits, Refusal>
         ensures valid { IsOk result ↔ IsWithin workers submitters tasks events }
         ensures value { IfOk result (λ l. l ≡ record {
@@ -104,7 +104,7 @@ impl Limits {
         }
     }
 
-    /// The number of an owner's queue, if the owner is one of the pool's.
+    /// The number of an owner's queue. None if the owner is not one of the pool's.
     pub fn find_queue(&self, owner: Owner) -> Option<usize>
         ensures { MatchOption result (¬ IsOwner self.now owner) (λ n. IsOwner self.now owner × (n ≡ queue_number self.now owner)) }
     {

@@ -9,6 +9,8 @@ use std::collections::VecDeque;
 use std::marker::Model;
 
 /// A queue of task numbers for each owner, with room that is taken when they are made.
+///
+/// The caller answers for an owner that there is: a number below the number of owners.
 #[derive(Drop)]
 pub struct Queues {
     queues: Vec<VecDeque<Serial>>,

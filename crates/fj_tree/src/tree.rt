@@ -144,6 +144,8 @@ impl Tree {
     ///
     /// A spent or done one stays as it is, a pending count above 0 falls by one, a queued or held one stays as it is, and otherwise
     /// the completer becomes spent: it fires. The first of these that holds is answered. Place and status stay.
+    ///
+    /// It is what `CountedCompleter.tryComplete` does at one completer. That an arrival can be early is this project's own.
     pub fn arrive(&mut self, h: Handle) -> Arrived
         requires { IsCompleter self.old h }
         ensures answer { Some result ≡ option_map arrival_at (record_of self.old h) }
@@ -154,7 +156,8 @@ impl Tree {
     }
 
     /// Raises a completer's pending count, and gives the new one. Refused, with nothing changed, by `Unknown` if the handle is not
-    /// good, `NotCompleter` if it names a plain task, and `CountTooLarge` if the count would pass 65,535, in this order.
+    /// good, `NotCompleter` if it names a plain task, and `CountTooLarge` if the count would pass 65,535, in this order. It is
+    /// `CountedCompleter.addToPendingCount`, with a bound.
     pub fn add(&mut self, h: Handle, n: u32) -> Result<u32, Refusal>
         ensures refused { MatchResult result (λ _. add_refusal self.old h n ≡ None) (λ e. add_refusal self.old h n ≡ Some e) }
         ensures added { OnOk result (self.new ≡ changed self.old h.key (with_added n)) }

@@ -7,7 +7,7 @@ use crate::tree::Tree;
 use fj_model::Status;
 
 impl Tree {
-    /// Makes every undone record cancelled. All else stays.
+    /// Makes every undone record cancelled, as `ForkJoinPool.shutdownNow` does. All else stays.
     pub fn cancel_undone(&mut self)
         ensures records { (key : ℕ) → record_at self.new key ≡ option_map if_undone_cancelled (record_at self.old key) }
         ensures kept { count self.new ≡ count self.old }

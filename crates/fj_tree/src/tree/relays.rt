@@ -34,7 +34,8 @@ impl Tree {
 
     /// Relays a status from a task, and answers how many get it, itself counted. The caller answers for a good handle.
     ///
-    /// They are those that [`Tree::relay_look`] counts. All else stays.
+    /// They are those that [`Tree::relay_look`] counts. All else stays. Which parents a status reaches is what
+    /// `CountedCompleter.onExceptionalCompletion` answers in Java.
     pub fn relay_up(&mut self, h: Handle, status: Status) -> u64
         requires { IsGood self.old h }
         ensures relayed { result ≡ length (relayed self.old h) }

@@ -13,7 +13,8 @@ impl Tree {
     /// Forgets a task. Refused, with nothing changed, by `Unknown` if the handle is not good, and `NotDone` if the task is not gone
     /// or has children that are kept.
     ///
-    /// The number of the task is not used again, and its handle is never good again. Its parent has one child fewer.
+    /// The number of the task is not used again, and its handle is never good again. Its parent has one child fewer. Java has no such
+    /// call: it collects what nobody names.
     pub fn release(&mut self, h: Handle) -> Result<(), Refusal>
         ensures refused { MatchResult result (λ _. release_refusal (record_of self.old h) ≡ None) (λ e. release_refusal (record_of self.old h) ≡ Some e) }
         ensures stays { OnErr result (self.new ≡ self.old) }
