@@ -1,4 +1,4 @@
--- The walk for the record of a number.
+-- The record of a number.
 use Rattle.slab.specs.Slab.{Slab, entries_from}
 use Rattle.slab.proofs.SlabLemmas.{Contains-cons, Contains-cons_cases, Contains-entries}
 use Rattle.fj_tree.specs.declared.record.Record.{Record}
@@ -13,18 +13,7 @@ use Rattle.std.proofs.lemmas.Option.{same_Some}
 use Rattle.std.specs.List.{find}
 use Rattle.std.proofs.Common.{arith, cond, nat_eq, Bool, true, false, Option, Some, None, ◌==◌, ℕ, ◌≡◌, ◌<◌, ◌⊎◌, List, [], ◌∷◌, Contains, eq-eqb, true≢false, ap, sym, ◌∙◌, refl, inl, inr}
 
--- the first entry that is left has the number
-pub found_first : (es rest : List (ℕ × Record)) (n key : ℕ) (r : Record) (all : Option (ℕ × Record)) → es ≡ (key, r) ∷ rest → nat_eq r.serial n ≡ true
-    → find (λ e. e.1.serial == n) es ≡ all → all ≡ Some (key, r)
-found_first es rest n key r all is hit same = sym same ∙ ap (find (λ (e : ℕ × Record). e.1.serial == n)) is ∙ ap (λ (b : Bool). cond b (Some (key, r)) (find (λ (e : ℕ × Record). e.1.serial == n) rest)) hit
-
--- it has not
-pub passed_first : (es rest : List (ℕ × Record)) (n key : ℕ) (r : Record) (all : Option (ℕ × Record)) → es ≡ (key, r) ∷ rest → nat_eq r.serial n ≡ false
-    → find (λ e. e.1.serial == n) es ≡ all → find (λ e. e.1.serial == n) rest ≡ all
-passed_first es rest n key r all is miss same =
-    sym (ap (find (λ (e : ℕ × Record). e.1.serial == n)) is ∙ ap (λ (b : Bool). cond b (Some (key, r)) (find (λ (e : ℕ × Record). e.1.serial == n) rest)) miss) ∙ same
-
--- where miss entry is found, none has the number
+-- where no entry is found, none has the number
 pub none_numbered : (es : List (ℕ × Record)) (n : ℕ) → find (λ e. e.1.serial == n) es ≡ None → (x : ℕ × Record) → Contains es x → nat_eq x.1.serial n ≡ false
 none_numbered [] n none x listed = absurd (omega (arith, listed.1))
 none_numbered (e ∷ es) n none x listed = go (λ later. none_numbered es n later x) (nat_eq e.1.serial n) refl none (Contains-cons_cases e x es listed)

@@ -3,6 +3,8 @@ pub mod Climbing
 pub mod Counts
 pub mod Finds
 pub mod Growing
+pub mod Indexing
+pub mod Listing
 pub mod Names
 pub mod Numbers
 pub mod Parents

@@ -113,10 +113,17 @@ sound_marked t key r p s spent sound is =
     let good : IsSoundRecord t.made (record r { place = p; status = s; spent = spent }) = record { number = old.number; parent = old.parent; pending = old.pending; children = old.children } in
     sound_written t key r (record r { place = p; status = s; spent = spent }) sound is good refl refl refl
 
+-- an arrival keeps the number
+pub arrived_number : (a : Arrived) (r : Record) → (arrived a r).serial ≡ r.serial
+arrived_number Counted r = refl
+arrived_number Fire r = refl
+arrived_number Spent r = refl
+arrived_number Early r = refl
+
 -- and where a completer is arrived at
 pub sound_arrived : (t : Records) (key : ℕ) (r : Record) (a : Arrived) → IsSound t → record_at t key ≡ Some r
     → IsSound (record t { slots = set t.slots key (Some (arrived a r)) })
-sound_arrived t key r a sound is = sound_written t key r (arrived a r) sound is (good a) (same a) (same_kind a) (same_children a)
+sound_arrived t key r a sound is = sound_written t key r (arrived a r) sound is (good a) (arrived_number a r) (same_kind a) (same_children a)
   where
     old : IsSoundRecord t.made r
     old = sound.each key r is
@@ -126,12 +133,6 @@ sound_arrived t key r a sound is = sound_written t key r (arrived a r) sound is 
     good Fire = record { number = old.number; parent = old.parent; pending = old.pending; children = old.children }
     good Spent = old
     good Early = old
-
-    same : (a : Arrived) → (arrived a r).serial ≡ r.serial
-    same Counted = refl
-    same Fire = refl
-    same Spent = refl
-    same Early = refl
 
     same_kind : (a : Arrived) → (arrived a r).kind ≡ r.kind
     same_kind Counted = refl

@@ -2,6 +2,7 @@ pub mod Arrivals
 pub mod Cancels
 pub mod Closes
 pub mod Handles
+pub mod Kept
 pub mod Makes
 pub mod Passes
 pub mod Paths

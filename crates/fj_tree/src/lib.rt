@@ -14,6 +14,7 @@
 mod arrive;
 mod climb;
 mod handle;
+mod kept;
 mod pass;
 mod record;
 #[cfg(test)]

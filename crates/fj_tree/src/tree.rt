@@ -14,6 +14,7 @@ mod releases;
 
 use crate::arrive::Arrived;
 use crate::handle::Handle;
+use crate::kept::Kept;
 use crate::record::Record;
 use fj_model::{Kind, OutOfMemory, Place, Refusal, Serial, Status};
 use slab::Slab;
@@ -27,6 +28,8 @@ const MAX_PENDING: u64 = 65_535;
 #[derive(Drop)]
 pub struct Tree {
     records: Slab<Record>,
+    /// The numbers of the records, by which they are found.
+    kept: Kept,
     /// How many records were made so far, which is the number of the next one.
     made: u64,
     room: usize,
@@ -34,13 +37,14 @@ pub struct Tree {
 
 impl Model for Tree {
     ghost use Rattle.std.specs.Prelude.{◌≤◌};
+    ghost use Rattle.fj_tree.specs.Kept.{IsIndex};
     ghost use Rattle.fj_tree.specs.Records.{Records, IsSound};
 
     ghost Value = { Records };
 
     ghost view = { λ t. record { slots = t.records.slots; made = t.made; room = t.room } };
 
-    ghost invariant = { λ t. IsSound (record { slots = t.records.slots; made = t.made; room = t.room }) × (t.room ≤ t.records.capacity) };
+    ghost invariant = { λ t. IsSound (record { slots = t.records.slots; made = t.made; room = t.room }) × (t.room ≤ t.records.capacity) × (t.room ≤ t.kept.room) × IsIndex t.records.slots t.kept.pairs };
 }
 
 impl Tree {
@@ -49,8 +53,10 @@ impl Tree {
         ensures { IfOk result (λ t. t ≡ record { slots = []; made = 0; room = room }) }
     {
         let records = Slab::with_capacity(alloc, room)?;
+        let kept = Kept::new(alloc, room)?;
         Ok(Tree {
             records,
+            kept,
             made: 0,
             room,
         })
@@ -92,35 +98,15 @@ impl Tree {
         self.records[h.key].place = place;
     }
 
-    /// The kept record of a number, by a walk over the records unless its key is its number. None if the number was never given out, or its record is not kept.
+    /// The kept record of a number. None if the number was never given out, or its record is not kept.
     pub fn find(&self, serial: Serial) -> Option<Handle>
         ensures found { result ≡ handle_of self.now serial }
         ensures good { IfSome result (IsGood self.now) }
         ensures absent { IfNone result ((key : ℕ) (r : Record) → record_at self.now key ≡ Some r → r.serial ≢ serial) }
         ensures sound { IsSound self.now }
     {
-        // Before the first release a record's key is its number.
-        let guess = serial.0 as usize;
-        if self.has_number(guess, serial) {
-            return Some(Handle { key: guess, serial });
-        }
-        for (key, record) in self.records.iter() {
-            if record.serial == serial {
-                return Some(Handle { key, serial });
-            }
-        }
-        None
-    }
-
-    /// Whether the record at a key has this number.
-    fn has_number(&self, key: usize, serial: Serial) -> bool
-        ensures has { IsTrue result ↔ IsSomeAnd (record_at self.now key) (λ r. r.serial ≡ serial) }
-        ensures sound { IsSound self.now }
-    {
-        match self.records.get(key) {
-            Some(record) => record.serial == serial,
-            None => false,
-        }
+        let key = self.kept.key(serial)?;
+        Some(Handle { key, serial })
     }
 
     /// Makes a completer spent. The caller answers for a good handle of a completer.
@@ -260,6 +246,7 @@ impl Tree {
             spent: false,
             children: 0,
         });
+        self.kept.push(serial, key);
         self.made += 1;
         if let Some(p) = parent {
             self.records[p.key].children += 1;

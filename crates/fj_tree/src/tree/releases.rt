@@ -46,6 +46,7 @@ impl Tree {
         ensures room { self.new.room ≡ self.old.room }
     {
         let _removed = self.records.remove(h.key);
+        self.kept.remove(h.serial);
         if let Some(p) = parent {
             self.records[p.key].children -= 1;
         }

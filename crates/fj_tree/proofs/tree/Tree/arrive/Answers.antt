@@ -1,8 +1,11 @@
-use Rattle.fj_tree.proofs.Writes.{sound_arrived}
+use Rattle.fj_tree.proofs.Indexing.{index_written}
+use Rattle.fj_tree.proofs.Writes.{arrived_number, sound_arrived}
 use Rattle.fj_tree.proofs.tree.Tree.arrive.Goals as goal
 
 pub invariant_of-self : goal.invariant_of-self
 invariant_of-self c = (
   rw c.arrive.ensures.arrived (sound_arrived _ c.h.inside.key c.index_mut.result.now c.arrive.result c.self.invariant.0 c.index_mut.ensures.value),
   c.self.invariant.1,
+  c.self.invariant.2,
+  rw c.arrive.ensures.arrived (index_written _ _ c.h.inside.key c.index_mut.result.now _ c.self.invariant.3 c.index_mut.ensures.value (arrived_number c.arrive.result c.index_mut.result.now)),
 )

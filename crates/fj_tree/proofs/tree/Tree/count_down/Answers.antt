@@ -1,4 +1,5 @@
 use Rattle.std.proofs.Common.{arith, refl}
+use Rattle.fj_tree.proofs.Indexing.{index_written}
 use Rattle.fj_tree.proofs.Writes.{sound_written}
 use Rattle.fj_tree.proofs.tree.Tree.count_down.Goals as goal
 
@@ -8,4 +9,6 @@ invariant_of-self c =
       sound_written _ c.h.inside.key c.index_mut.result.now _ c.self.invariant.0 c.index_mut.ensures.value
           (record { number = old.number; parent = old.parent; pending = omega (arith, old.pending); children = old.children }) refl refl refl,
       c.self.invariant.1,
+      c.self.invariant.2,
+      index_written _ _ c.h.inside.key c.index_mut.result.now _ c.self.invariant.3 c.index_mut.ensures.value refl,
     )

@@ -1,4 +1,4 @@
-use Rattle.std.proofs.Common.{arith, sym, subst, ◌≡◌, ◌+◌, ◌<◌, Option, Some, None}
+use Rattle.std.proofs.Common.{arith, sym, subst, ◌≡◌, ◌+◌, ◌<◌, Option, Some, None, refl}
 use Rattle.std.specs.Prelude.{option_map, slice_set}
 use Rattle.fj_model.specs.Tasks.{parent_in}
 use Rattle.fj_tree.specs.declared.record.Record.{Record}
@@ -6,8 +6,14 @@ use Rattle.fj_tree.specs.Handles.{Handle}
 use Rattle.fj_tree.specs.Makes.{with_child, with_child_of}
 use Rattle.fj_tree.specs.Records.{Records, IsCompleter, IsSound, changed, count, record_at}
 use Rattle.fj_tree.proofs.Growing.{put_in, grown_alone, grown_below, sound_grown}
+use Rattle.fj_tree.proofs.Indexing.{index_above, index_grown, index_written}
 use Rattle.fj_tree.proofs.tree.Tree.insert.Goals as goal
 use Rattle.fj_tree.proofs.tree.Tree.insert.Goals.{in-Some, in_default}
+
+pub push-requires-clause-above : goal.push-requires-clause-above
+push-requires-clause-above c =
+    let t : Records = record { slots = c.self.inside.records.slots; made = c.self.inside.made; room = c.self.inside.room } in
+    index_above t _ c.self.invariant.0 c.self.invariant.3
 
 pub invariant_of-self-in_default : goal.invariant_of-self-in_default
 invariant_of-self-in_default c =
@@ -16,8 +22,12 @@ invariant_of-self-in_default c =
     let u : Records = record { slots = i.new.self.slots; made = c.self.inside.made + 1; room = c.self.inside.room } in
     let few : count t < t.room = rw (← c.self.view_is) at c.requires.room in
     let put = put_in c.self.inside.records i.new.self c.self.inside.made c.self.inside.room i.result c.count-pending.result c.args.kind c.args.place i.ensures.was_vacant i.ensures.updates i.ensures.len few c.count-pending.ensures c.requires.pending in
-    let none : None ≡ parent_in (Some c.args.kind) = rw c.in_default.is at c.requires.named in
-    (sound_grown t u i.result c.args.kind c.args.place c.self.invariant.0 (grown_alone t u i.result c.args.kind c.args.place put (sym none)), omega (arith, c.self.invariant.1, i.ensures.capacity))
+    let none : None ≡ parent_in (Some c.args.kind) = rw c.in_default.is at c.requires.named in (
+      sound_grown t u i.result c.args.kind c.args.place c.self.invariant.0 (grown_alone t u i.result c.args.kind c.args.place put (sym none)),
+      omega (arith, c.self.invariant.1, i.ensures.capacity),
+      omega (arith, c.self.invariant.2, c.push.ensures.room),
+      rw c.push.ensures.pairs (index_grown t u c.self.inside.kept.pairs i.result c.args.kind c.args.place c.self.invariant.3 put i.ensures.len),
+    )
 
 pub invariant_of-self : goal.invariant_of-self
 invariant_of-self c =
@@ -34,6 +44,10 @@ invariant_of-self c =
       subst (λ (o : Option Record). IsSound (record u { slots = slice_set u.slots p.key (option_map with_child o) })) written
           (sound_grown t (changed u p.key with_child) i.result c.args.kind c.args.place c.self.invariant.0 grown),
       omega (arith, c.self.invariant.1, i.ensures.capacity),
+      omega (arith, c.self.invariant.2, c.push.ensures.room),
+      rw c.push.ensures.pairs (
+          index_written u.slots _ p.key c.index_mut.result.now _ (index_grown t u c.self.inside.kept.pairs i.result c.args.kind c.args.place c.self.invariant.3 put i.ensures.len) written refl
+          ),
     )
 
 pub returns-clause-others : goal.returns-clause-others

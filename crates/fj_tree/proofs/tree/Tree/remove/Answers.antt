@@ -1,4 +1,4 @@
-use Rattle.std.proofs.Common.{arith, ap, sym, subst, ◌∙◌, ◌≡◌, ◌≢◌, Option, Some, None}
+use Rattle.std.proofs.Common.{arith, ap, sym, subst, ◌∙◌, ◌≡◌, ◌≢◌, Option, Some, None, refl}
 use Rattle.std.specs.Prelude.{option_map, slice_set, IsSomeAnd}
 use Rattle.fj_model.specs.Tasks.{parent_in}
 use Rattle.fj_tree.specs.declared.record.Record.{Record}
@@ -7,6 +7,7 @@ use Rattle.fj_tree.specs.Paths.{above}
 use Rattle.fj_tree.specs.Releases.{without_child, without_child_of}
 use Rattle.fj_tree.specs.Records.{Records, IsSound, changed, record_at, record_of}
 use Rattle.fj_tree.proofs.Shrinking.{removal, removal_parent_kept, removal_parent_counts, removal_shrinks, removal_shrinks_below, removal_others, sound_shrunk}
+use Rattle.fj_tree.proofs.Indexing.{index_shrunk, index_written}
 use Rattle.fj_tree.proofs.tree.Tree.remove.Goals as goal
 
 pub index_mut-requires : goal.index_mut-requires
@@ -46,6 +47,10 @@ invariant_of-self c =
     let sound = sound_shrunk t (changed u p.key without_child) h.key i.result c.self.invariant.0 (removal_shrinks_below t u h p i.result c.self.invariant.0 removed up) in (
       subst (λ (o : Option Record). IsSound (record u { slots = slice_set u.slots p.key (option_map without_child o) })) c.index_mut.ensures.value sound,
       omega (arith, c.self.invariant.1, i.ensures.capacity),
+      omega (arith, c.self.invariant.2, c.remove.ensures.room),
+      index_written u.slots _ p.key c.index_mut.result.now _ (
+          index_shrunk t u c.self.inside.kept.pairs _ h.key i.result c.self.invariant.0 c.self.invariant.3 removed.out i.ensures.len (rw (removed.number) c.remove.ensures.others) (rw (removed.number) c.remove.ensures.fewer)
+          ) c.index_mut.ensures.value refl,
     )
 
 pub invariant_of-self-in_default : goal.invariant_of-self-in_default
@@ -56,8 +61,12 @@ invariant_of-self-in_default c =
     let h : Handle = record { key = c.h.inside.key; serial = c.h.inside.serial } in
     let good : IsSomeAnd (record_of t h) (λ (r : Record). r.children ≡ 0) = rw (← c.self.view_is, ← c.h.view_is) at c.requires.good in
     let removed = removal c.self.inside.records i.new.self c.self.inside.made c.self.inside.room h i.result c.self.invariant.0 good i.ensures.value i.ensures.updates i.ensures.len in
-    let none : above t h ≡ None = rw (c.in_default.is, ← c.self.view_is, ← c.h.view_is) at (sym c.requires.parent) in
-    (sound_shrunk t u h.key i.result c.self.invariant.0 (removal_shrinks t u h i.result c.self.invariant.0 removed none), omega (arith, c.self.invariant.1, i.ensures.capacity))
+    let none : above t h ≡ None = rw (c.in_default.is, ← c.self.view_is, ← c.h.view_is) at (sym c.requires.parent) in (
+      sound_shrunk t u h.key i.result c.self.invariant.0 (removal_shrinks t u h i.result c.self.invariant.0 removed none),
+      omega (arith, c.self.invariant.1, i.ensures.capacity),
+      omega (arith, c.self.invariant.2, c.remove.ensures.room),
+      index_shrunk t u c.self.inside.kept.pairs _ h.key i.result c.self.invariant.0 c.self.invariant.3 removed.out i.ensures.len (rw (removed.number) c.remove.ensures.others) (rw (removed.number) c.remove.ensures.fewer),
+    )
 
 pub returns-in-Some-clause-others : goal.returns-in-Some-clause-others
 returns-in-Some-clause-others c = λ key differs.
