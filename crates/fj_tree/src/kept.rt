@@ -3,26 +3,29 @@ ghost use Rattle.fj_tree.specs.Kept.{IsAbove, IsAbsent, IsAt, IsListed};
 
 use fj_model::Serial;
 use std::alloc::{AllocError, Global};
+use std::collections::VecDeque;
 use std::marker::Model;
 
 /// The numbers of the records that are kept, in rising order, each with the key of its record.
 ///
-/// Numbers are given out in rising order. So a new one goes to the end, and one is found by halves.
+/// Numbers are given out in rising order. So a new one goes to the end, and one is found by halves. Where one is taken out, the side
+/// with fewer numbers closes up: what was made first is most often released first.
 #[derive(Drop)]
 pub struct Kept {
-    pairs: Vec<(u64, usize)>,
+    pairs: VecDeque<(u64, usize)>,
     room: usize,
 }
 
 impl Model for Kept {
-    ghost use Rattle.std.specs.Prelude.{◌≤◌, vec_capacity};
+    ghost use Rattle.std.specs.Prelude.{◌≤◌};
+    ghost use Rattle.std.specs.VecDeque.{deque_capacity};
     ghost use Rattle.fj_tree.specs.Kept.{IsRising, Numbers};
 
     ghost Value = { Numbers };
 
     ghost view = { λ k. record { pairs = k.pairs.items; room = k.room } };
 
-    ghost invariant = { λ k. IsRising k.pairs.items × (k.room ≤ vec_capacity k.pairs) };
+    ghost invariant = { λ k. IsRising k.pairs.items × (k.room ≤ deque_capacity k.pairs) };
 }
 
 impl Kept {
@@ -31,7 +34,7 @@ impl Kept {
         ensures { IfOk result (λ k. k ≡ record { pairs = []; room = room }) }
     {
         Ok(Kept {
-            pairs: Vec::with_capacity(alloc, room)?,
+            pairs: VecDeque::with_capacity(alloc, room)?,
             room,
         })
     }
@@ -54,7 +57,7 @@ impl Kept {
         ensures pairs { self.new.pairs ≡ self.old.pairs ++ (serial, key) ∷ [] }
         ensures room { self.new.room ≡ self.old.room }
     {
-        self.pairs.push_reserved((serial.0, key));
+        self.pairs.push_back_reserved((serial.0, key));
     }
 
     /// Takes a number out. One that is not kept leaves all as it is.
