@@ -3,7 +3,6 @@ use Rattle.std.proofs.lemmas.List.{append-nil}
 use Rattle.std.proofs.lemmas.Grind.{common_steps}
 use Rattle.std.proofs.Math.Seq.{take-add}
 use Rattle.std.specs.Io.KnownBytes.{Appends, Consumes, IsAtEnd, Keeps}
-use Rattle.fj_cli.specs.Cuts.{AppendsSome}
 
 -- two writes, one after the other
 pub appends_twice : (a b c : Option (List ℕ)) (s t : List ℕ) → Appends a b s → Appends b c t → Appends a c (s ++ t)
@@ -11,16 +10,6 @@ appends_twice None b c s t p q = tt
 appends_twice (Some x) None c s t p q = absurd p
 appends_twice (Some x) (Some y) None s t p q = absurd q
 appends_twice (Some x) (Some y) (Some z) s t p q = rw (q, p, append_assoc) refl
-
--- nothing was written
-pub appends_none : (a b : Option (List ℕ)) → Keeps a b → Appends a b []
-appends_none None b p = tt
-appends_none (Some x) None p = absurd p
-appends_none (Some x) (Some y) p = rw append-nil p
-
-pub keeps_self : (a : Option (List ℕ)) → Appends a a []
-keeps_self None = tt
-keeps_self (Some x) = rw append-nil refl
 
 pub take_part : (bytes : List ℕ) (at n : ℕ) → take at bytes ++ take n (drop at bytes) ≡ take (at + n) bytes
 take_part bytes at n = sym (take-add at n bytes)
@@ -42,13 +31,6 @@ write_step a b c bytes at n next small p few q e =
     let q' = rw (whole_tail bytes at) at q in
     let few' = rw (whole_tail bytes at) at few in
     rw e ((let l = length-drop at bytes in omega arith), appends_more a b c bytes at n p q')
-
-pub take_all : (xs : List ℕ) (n : ℕ) → length xs ≤ n → take n xs ≡ xs
-take_all xs n h = grind (arith, common_steps)
-
-pub some_of_none : (a : Option (List ℕ)) (t : List ℕ) → AppendsSome a a t
-some_of_none None t = (0, tt)
-some_of_none (Some x) t = (0, rw append-nil refl)
 
 -- two reads, one after the other
 pub consumes_twice : (a b c : Option (List ℕ)) (s t : List ℕ) → Consumes a b s → Consumes b c t → Consumes a c (s ++ t)
@@ -74,9 +56,9 @@ read_end a b c s buf n p q zero room =
     let none : take n buf ≡ [] = rw zero refl in
     (consumes_none a b c s p (rw none at q.0), q.1 zero room)
 
-pub keeps_self_too : (a : Option (List ℕ)) → Keeps a a
-keeps_self_too None = tt
-keeps_self_too (Some x) = refl
+pub keeps_self : (a : Option (List ℕ)) → Keeps a a
+keeps_self None = tt
+keeps_self (Some x) = refl
 
 -- nothing was written, twice
 pub keeps_twice : (a b c : Option (List ℕ)) → Keeps a b → Keeps b c → Keeps a c

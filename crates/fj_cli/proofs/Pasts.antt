@@ -12,7 +12,7 @@ use Rattle.fj_model.specs.Runs.{Past, Runs, RunsFrom}
 use Rattle.fj_model.specs.Lines.{head_in, step_in, reply_line}
 use Rattle.fj_cli.specs.Scripts.{pool_in, is_step, is_good, pool, before_those, steps_of, steps, replies, history, joined, said, IsRun}
 use Rattle.fj_cli.specs.Cuts.{lines}
-use Rattle.fj_cli.specs.Faults.{IsOutOfLimits, IsFaultyAfter}
+use Rattle.fj_cli.specs.Faults.{IsFaultyAfter}
 use Rattle.fj_cli.specs.Playbacks.{opened, past_of, stepped, past_after, replied, line_text, IsFaulty}
 use Rattle.fj_model.proofs.LineLaws.{head_short, step_short}
 use Rattle.fj_cli.proofs.Lines.{and_left, and_right}
@@ -157,9 +157,6 @@ text-begins (Some past) l ms = replies_begin past (step_in l) (steps_of ms)
 pub faulty_after : (v : Option Past) (l : List ℕ) → IsFaulty v l → past_after v l ≡ None
 faulty_after None l e = rw e refl
 faulty_after (Some past) l e = rw e refl
-
-pub limits_after : (l : List ℕ) → IsOutOfLimits l → past_after None l ≡ None
-limits_after l (head, is, out) = rw (is, out) refl
 
 pub text-none : (v : Option Past) → text_from v [] ≡ []
 unfolding text_from

@@ -29,7 +29,7 @@ pub fn write_whole<W: Write>(w: &mut W, bytes: &[u8]) -> io::Result<()>
 }
 
 /// Flushes, and tries again where it was interrupted.
-#[tactic(auto, using(crate::proofs::Bytes::keeps_self_too, crate::proofs::Bytes::keeps_twice))]
+#[tactic(auto, using(crate::proofs::Bytes::keeps_self, crate::proofs::Bytes::keeps_twice))]
 pub fn flush_whole<W: Write>(w: &mut W) -> io::Result<()>
     ensures { Keeps (W.contents w.old) (W.contents w.new) }
 {

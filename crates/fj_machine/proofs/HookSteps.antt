@@ -28,7 +28,6 @@ use Rattle.fj_model.proofs.Statuses.{status_same}
 use Rattle.fj_model.proofs.KindsKept.{completer_same}
 use Rattle.fj_model.proofs.Parents.{parent_smaller, parent_completer}
 use Rattle.fj_model.proofs.Arrivals.{arrival_untouched}
-use Rattle.fj_model.proofs.Climbed.{hand_climbed}
 use Rattle.fj_machine.specs.Holds.{IsLawful, hook_completers}
 use Rattle.fj_machine.proofs.HandParts.{hand_same}
 use Rattle.fj_machine.proofs.HookLists.{completers, hand_emptied, worker_found, but_unlisted}
@@ -81,10 +80,6 @@ may_hook pool h w c events n law within is after count fits =
     (may_step pool h (HookDone w) law (hook_stands pool h w c within is) (rw (hook_done_events pool h w c events is after) (omega (arith, count, fits))))).1
 
 -- ---- its completer
-
--- whose action is in a hand is a completer, and kept
-hand_is_completer : (pool : Pool) (h : List Event) (w c : ℕ) → IsLawful pool h → hand h w ≡ Some c → is_completer h c ≡ true
-hand_is_completer pool h w c law is = law.climbs c (hand_climbed pool h w c law.allowed is)
 
 -- once the action has ended it is in no hand any more
 pub hooked_unlisted : (h : List Event) (c : ℕ) → is_in c (hook_completers (h ++ Hooked c ∷ [])) ≡ false

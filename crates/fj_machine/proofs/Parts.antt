@@ -1,12 +1,10 @@
 -- Each part of what a machine keeps, after an event that says nothing to it.
-use Rattle.std.proofs.Common.{ℕ, ◌≡◌, ◌<◌, List, [], ◌∷◌, ◌++◌, length, get_or, sym, ◌∙◌, append_assoc}
+use Rattle.std.proofs.Common.{ℕ, ◌≡◌, ◌<◌, List, [], length, get_or, sym, ◌∙◌}
 use Rattle.std.proofs.Math.ListN.{set}
 use Rattle.std.proofs.lemmas.List.{get_or-set_same}
 use Rattle.fj_model.specs.declared.event.Event.{Event}
 use Rattle.fj_model.specs.declared.owner.Owner.{Owner}
-use Rattle.std.proofs.lemmas.List.{append-nil}
-use Rattle.fj_model.specs.Bounds.{Bounds, Pool, owner_at}
-use Rattle.fj_model.specs.Allowed.{Allowed, AllowedFrom}
+use Rattle.fj_model.specs.Bounds.{Bounds, owner_at}
 use Rattle.fj_queues.specs.Queues.{Lists as Waiting}
 use Rattle.fj_model.specs.Queues.{queue}
 use Rattle.fj_model.specs.Stacks.{stack}
@@ -22,8 +20,3 @@ stacks_same l h h2 stacks same keeps = record { count = keeps.count; room = keep
 -- the list that was written
 pub new_row : (rows : List (List ℕ)) (i s : ℕ) (new : List ℕ) → s < length rows → i ≡ s → get_or (set rows s new) i [] ≡ new
 new_row rows i s new within here = rw here (get_or-set_same rows s new [] within)
-
--- the last of allowed events was allowed
-pub last_allowed : (pool : Pool) (before h : List Event) (e : Event) → AllowedFrom pool before (h ++ e ∷ []) → Allowed pool (before ++ h) e
-last_allowed pool before [] e so = rw append-nil (so.0)
-last_allowed pool before (f ∷ h) e so = rw append_assoc at (last_allowed pool (before ++ f ∷ []) h e so.1)

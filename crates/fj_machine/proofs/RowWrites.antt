@@ -1,6 +1,6 @@
 -- One of several lists is changed.
 use Rattle.fj_model.specs.Lists.{is_empty}
-use Rattle.std.proofs.Common.{arith, Some, slice_get, true, false, ◌∷◌, ℕ, ◌≡◌, ◌<◌, List, [], length, get_or, map, refl, ap, sym, ◌∙◌}
+use Rattle.std.proofs.Common.{arith, true, false, ◌∷◌, ℕ, ◌≡◌, ◌<◌, List, [], length, get_or, map, refl, ap, sym, ◌∙◌}
 use Rattle.std.proofs.Math.ListN.{set}
 use Rattle.std.proofs.lemmas.List.{map-set, get_or-map}
 
@@ -12,10 +12,6 @@ row_written items change vs i old new within is now =
     map-set items vs i new
     ∙ ap (set (map items vs) i) (now ∙ ap change (ap items is ∙ sym (get_or-map items vs i old [] within)))
 
--- what is seen of a list that is read
-pub row_read : {V : Type 0} (items : V → List ℕ) (vs : List V) (i : ℕ) (v : V) → i < length vs → v ≡ get_or vs i v → items v ≡ get_or (map items vs) i []
-row_read items vs i v within is = ap items is ∙ sym (get_or-map items vs i v [] within)
-
 pub is_empty_no : (xs : List ℕ) → 0 < length xs → is_empty xs ≡ false
 is_empty_no [] some = absurd (omega arith)
 is_empty_no (x ∷ xs) some = refl
@@ -23,7 +19,3 @@ is_empty_no (x ∷ xs) some = refl
 pub is_empty_yes : (xs : List ℕ) → length xs ≡ 0 → is_empty xs ≡ true
 is_empty_yes [] none = refl
 is_empty_yes (x ∷ xs) none = absurd (omega arith)
-
-pub first_some : (xs : List ℕ) → 0 < length xs → (t : ℕ) × (slice_get xs 0 ≡ Some t)
-first_some [] some = absurd (omega arith)
-first_some (x ∷ xs) some = (x, refl)

@@ -10,12 +10,11 @@ use Rattle.fj_model.specs.Allowed.{AllowedFrom}
 use Rattle.fj_model.specs.Answers.{answer, answer_of, refusal_of}
 use Rattle.fj_model.specs.Runs.{Answers, RunsFrom, IsHistory}
 use Rattle.fj_model.specs.Lists.{is_in}
-use Rattle.fj_model.specs.Hooks.{hand}
 use Rattle.fj_model.proofs.Standing.{allowed_append, stands}
 use Rattle.fj_model.proofs.StepsAllowed.{step_allowed}
 use Rattle.fj_model.proofs.StepsClimb.{step_climbs}
 use Rattle.fj_model.specs.Climbs.{climbed, ClimbsCompleters}
-use Rattle.fj_model.proofs.Climbed.{climbs_more, climbs_none, hand_climbed}
+use Rattle.fj_model.proofs.Climbed.{climbs_more, climbs_none}
 pub use Rattle.fj_model.proofs.StacksTaken.{stack_taken}
 
 -- what holds of the history of every run: its events were allowed, and each event of a climb was at a completer
@@ -69,10 +68,6 @@ answer_allowed pool h asked run = sound_allowed pool h asked (history_sound pool
 -- each event of a climb in a run's history is at a completer
 pub climbed_completer : (pool : Pool) (h : List Event) (c : ℕ) → IsHistory pool h → is_in c (climbed h) ≡ true → is_completer h c ≡ true
 climbed_completer pool h c run there = (history_sound pool h run).climbs c there
-
--- a hook in a hand is a completer's
-pub hand_completer : (pool : Pool) (h : List Event) (w c : ℕ) → IsHistory pool h → hand h w ≡ Some c → is_completer h c ≡ true
-hand_completer pool h w c run is = let sound = history_sound pool h run in sound.climbs c (hand_climbed pool h w c sound.allowed is)
 
 -- ---- one more step
 

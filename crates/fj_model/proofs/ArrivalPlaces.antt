@@ -6,8 +6,7 @@ use Rattle.std.proofs.lemmas.Bool.{eq-eqb, or_right, true≢false, cases_eq}
 use Rattle.fj_model.specs.declared.event.Event.{Event}
 use Rattle.fj_model.specs.declared.event.Event.TheVariants.{Acc, Make, Out, Skip, End}
 use Rattle.fj_model.specs.declared.owner.Owner.{Owner}
-use Rattle.fj_model.specs.declared.place.Place.{Place}
-use Rattle.fj_model.specs.declared.place.Place.TheVariants.{Queued, Held, Open, Gone}
+use Rattle.fj_model.specs.declared.place.Place.TheVariants.{Gone}
 use Rattle.fj_model.specs.Bounds.{Pool}
 use Rattle.fj_model.specs.Lists.{is_in}
 use Rattle.fj_model.specs.Tasks.{tasks, accepted_by, is_completer}
@@ -137,15 +136,3 @@ arrival_at pool h c so is =
       where
         gone : is_gone (place h c) ≡ true
         gone = rw (qs, vs, is, os) refl
-
--- a completer at which an arrival fires is open, with nothing pending and not spent
-pub fires_open : (pool : Pool) (h : List Event) (c : ℕ) → AllowedFrom pool [] h → is_completer h c ≡ true → arrival h c ≡ Fires → place h c ≡ Open
-fires_open pool h c so is fires = go (is_spent h c) (nat_lt 0 (pending h c)) (place h c) (sym (arrival_at pool h c so is) ∙ fires)
-  where
-    go : (s p : Bool) (l : Place) → (if s then Spent else if p then Counted else if is_open l then Fires else Early) ≡ Fires → l ≡ Open
-    go true p l at = absurd cc
-    go false true l at = absurd cc
-    go false false Open at = refl
-    go false false (Queued o) at = absurd cc
-    go false false (Held w) at = absurd cc
-    go false false Gone at = absurd cc

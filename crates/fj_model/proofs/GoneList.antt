@@ -8,16 +8,15 @@ use Rattle.fj_model.specs.declared.event.Event.{Event}
 use Rattle.fj_model.specs.declared.owner.Owner.{Owner}
 use Rattle.fj_model.specs.Bounds.{Pool}
 use Rattle.fj_model.specs.Lists.{is_in, without, times_in}
-use Rattle.fj_model.specs.Tasks.{tasks, is_completer}
+use Rattle.fj_model.specs.Tasks.{tasks}
 use Rattle.fj_model.specs.Queues.{pushed, pushed_by, taken, taken_by, queue}
 use Rattle.fj_model.specs.Stacks.{stack, out_by, ended_by}
-use Rattle.fj_model.specs.Completers.{is_spent}
-use Rattle.fj_model.specs.Places.{opened, place, is_gone, gone, newly_gone}
+use Rattle.fj_model.specs.Places.{place, is_gone, gone, newly_gone}
 use Rattle.fj_model.specs.Allowed.{Allowed, AllowedFrom}
 use Rattle.fj_model.proofs.Members.{is_in_append, is_in_filter, times_in_cons, times_in_none, times_in_some, filter_none, Once}
 use Rattle.fj_model.proofs.Growth.{pushed_more, taken_more, stack_more, gone_more}
 use Rattle.fj_model.proofs.Lawful.{allowed_more, tasks_once, queued_pushed, queued_fresh}
-use Rattle.fj_model.proofs.GoneTasks.{in_queue, gone_nowhere, nowhere_gone, gone_once}
+use Rattle.fj_model.proofs.GoneTasks.{in_queue, gone_nowhere, gone_once}
 use Rattle.fj_model.proofs.OnePlace.{never}
 
 -- an accepted task is in the list of gone tasks exactly if it is gone
@@ -54,32 +53,12 @@ stack_keeps h e w t unended there =
     is_in_filter (λ u. not (is_in u (cons_option (ended_by w e) []))) t (stack h w) ∙ rw (there, not_said t (ended_by w e) unended) refl in
     rw stack_more (is_in_left t (without (stack h w) (cons_option (ended_by w e) [])) (cons_option (out_by w e) []) stays)
 
--- an event that takes a task from no queue, no stack and not from the open ones
-pub record IsCalm (h : List Event) (e : Event) (t : ℕ) : Type 0 where
-  pub untaken : taken_by e ≡ Some t → ⊥
-  pub unended : (w : ℕ) → ended_by w e ≡ Some t → ⊥
-  pub shut : (is_completer h t && is_in t (opened h) && not (is_spent h t)) ≡ false
-
--- what is gone after such an event was gone before it
-pub gone_before : (h : List Event) (e : Event) (t : ℕ) → IsCalm h e t → is_gone (place (h ++ e ∷ []) t) ≡ true → is_gone (place h t) ≡ true
-gone_before h e t calm gone =
-    let now = gone_nowhere (h ++ e ∷ []) t gone in
-    nowhere_gone h t (record {
-      queues = λ o. never (is_in t (queue h o)) (λ there. true≢false (sym (queue_keeps h e o t calm.untaken there) ∙ now.queues o));
-      stacks = λ w. never (is_in t (stack h w)) (λ there. true≢false (sym (stack_keeps h e w t (calm.unended w) there) ∙ now.stacks w));
-      shut = calm.shut;
-    })
-
 -- a task in a queue, or on a stack, is not gone
 pub queued_here : (h : List Event) (o : Owner) (t : ℕ) → is_in t (queue h o) ≡ true → is_gone (place h t) ≡ false
 queued_here h o t there = never (is_gone (place h t)) (λ gone. true≢false (sym there ∙ (gone_nowhere h t gone).queues o))
 
 pub held_here : (h : List Event) (w t : ℕ) → is_in t (stack h w) ≡ true → is_gone (place h t) ≡ false
 held_here h w t there = never (is_gone (place h t)) (λ gone. true≢false (sym there ∙ (gone_nowhere h t gone).stacks w))
-
--- whether the task is gone after an event, and is not in the list from before it
-is_newly : List Event → Event → ℕ → Bool
-is_newly h e t = is_gone (place (h ++ e ∷ []) t) && not (is_in t (gone h))
 
 -- the task was accepted and gone before the event, if it is gone after it
 abbrev pub WasGone : List Event → Event → ℕ → Type 0

@@ -22,10 +22,9 @@ use Rattle.fj_model.proofs.Members.{is_in_filter, times_in_append, times_in_cons
 use Rattle.fj_model.proofs.Growth.{released_more}
 use Rattle.fj_model.proofs.Lawful.{by_events, is_in_with, is_numbered, pushed_known, queued_pushed, taken_known}
 use Rattle.fj_model.proofs.StacksTaken.{stack_taken}
-use Rattle.fj_model.proofs.Ends.{stack_once}
 use Rattle.fj_model.proofs.GoneTasks.{gone_stays, gone_once}
 use Rattle.fj_model.proofs.GoneList.{queued_here, held_here}
-use Rattle.fj_model.proofs.OnePlace.{one_place, queue_once, never}
+use Rattle.fj_model.proofs.OnePlace.{one_place, never}
 use Rattle.fj_model.proofs.OpenList.{in_open, open_accepted, open_once}
 use Rattle.fj_model.proofs.ArrivalPlaces.{gone_spent}
 use Rattle.fj_model.proofs.Releasing.{kept_known, released_known}
@@ -126,12 +125,6 @@ pub few_kept : (pool : Pool) (h : List Event) (ts : List ℕ) → AllowedFrom po
 unfolding live
 few_kept pool h ts so once kept =
     few_within ts (filter (is_kept h) (tasks h)) once (λ t there. is_in_filter (is_kept h) t (tasks h) ∙ rw (kept_known h t (kept t there), kept t there) refl)
-
-pub few_queued : (pool : Pool) (h : List Event) (o : Owner) → AllowedFrom pool [] h → length (queue h o) ≤ live h
-few_queued pool h o so = few_kept pool h (queue h o) so (queue_once pool h o so) (λ t there. queued_kept pool h o t so there)
-
-pub few_held : (pool : Pool) (h : List Event) (w : ℕ) → AllowedFrom pool [] h → length (stack h w) ≤ live h
-few_held pool h w so = few_kept pool h (stack h w) so (stack_once pool h w so) (λ t there. held_kept pool h w t so there)
 
 pub few_open : (pool : Pool) (h : List Event) → AllowedFrom pool [] h → length (open_tasks h) ≤ live h
 few_open pool h so = few_kept pool h (open_tasks h) so (open_once pool h so) (λ t there. open_kept pool h t so (sym (in_open h t) ∙ there))

@@ -25,7 +25,7 @@ use Rattle.fj_model.proofs.PlacesKept.{place_queued}
 use Rattle.fj_model.proofs.OnePlace.{opened_out, out_new}
 use Rattle.fj_model.proofs.PlaceLaws.{moves, place_out, place_kept, open_same, open_gains, gone_kept}
 use Rattle.fj_model.proofs.Spending.{moved_spent, moved_status}
-use Rattle.fj_model.proofs.Unknown.{IsUnfired, unknown_kind, unknown_undone, unknown_unspent, new_pending}
+use Rattle.fj_model.proofs.Unknown.{unknown_kind, unknown_undone, new_pending}
 
 -- the kind that this event accepts a task with
 abbrev pub kind_given : Event → Option Kind
@@ -61,9 +61,6 @@ accepting_status h e t u is = moved_status h e u (new_moves e t is)
 
 pub new_undone : (pool : Pool) (h : List Event) (e : Event) (t : ℕ) → AllowedFrom pool [] h → Allowed pool h e → accepted_by e ≡ Some t → status (h ++ e ∷ []) t ≡ Undone
 new_undone pool h e t so may is = accepting_status h e t t is ∙ unknown_undone pool h t so (is_new pool h e t so may is)
-
-pub new_unspent : (pool : Pool) (h : List Event) (e : Event) (t : ℕ) → AllowedFrom pool [] h → IsUnfired h → Allowed pool h e → accepted_by e ≡ Some t → is_spent (h ++ e ∷ []) t ≡ false
-new_unspent pool h e t so unfired may is = accepting_spent h e t t is ∙ unknown_unspent pool h t so unfired (is_new pool h e t so may is)
 
 new_takes : (e : Event) (t u : ℕ) → accepted_by e ≡ Some t → taken_by e ≡ Some u → ⊥
 new_takes (Acc v o k) t u is also = absurd cc

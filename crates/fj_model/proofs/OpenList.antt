@@ -9,12 +9,11 @@ use Rattle.fj_model.specs.Tasks.{tasks, accepted, is_completer}
 use Rattle.fj_model.specs.Queues.{queue}
 use Rattle.fj_model.specs.Stacks.{stack}
 use Rattle.fj_model.specs.Completers.{is_spent}
-use Rattle.fj_model.specs.Places.{queued_in, held_by, opened, place, place_of, is_open, is_gone, open_tasks, gone}
+use Rattle.fj_model.specs.Places.{queued_in, held_by, opened, place, place_of, is_open, open_tasks, gone}
 use Rattle.fj_model.specs.Allowed.{AllowedFrom}
 use Rattle.fj_model.specs.Headline.{all_places}
 use Rattle.fj_model.proofs.Members.{times_in_filter, is_in_filter, Once}
 use Rattle.fj_model.proofs.Counting.{few_placed}
-use Rattle.fj_model.proofs.GoneTasks.{gone_once}
 use Rattle.fj_model.proofs.OnePlace.{opened_once, opened_out}
 
 -- what an open task is
@@ -63,13 +62,6 @@ open_once pool h so t = rw times_in_filter (go (is_open (place h t)))
     go true = opened_once pool h so t
     go false = omega arith
 
-pub gone_list_once : (pool : Pool) (h : List Event) → AllowedFrom pool [] h → Once (gone h)
-gone_list_once pool h so t = rw (gone_once pool h so t) (go (is_in t (tasks h) && is_gone (place h t)))
-  where
-    go : (b : Bool) → cond b 1 0 ≤ 1
-    go true = omega arith
-    go false = omega arith
-
 -- together they have no more members than were accepted
 pub lists_short : (pool : Pool) (h : List Event) → AllowedFrom pool [] h → length (open_tasks h) + length (gone h) ≤ accepted h
 unfolding all_places
@@ -83,9 +75,6 @@ lists_short pool h so =
       length-append (qs ++ ss ++ open_tasks h) (gone h),
       length-append (qs ++ ss) (open_tasks h),
     )
-
-pub open_short : (pool : Pool) (h : List Event) → AllowedFrom pool [] h → length (open_tasks h) ≤ accepted h
-open_short pool h so = omega (arith, lists_short pool h so)
 
 pub gone_short : (pool : Pool) (h : List Event) → AllowedFrom pool [] h → length (gone h) ≤ accepted h
 gone_short pool h so = omega (arith, lists_short pool h so)

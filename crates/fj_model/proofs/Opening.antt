@@ -16,7 +16,7 @@ use Rattle.fj_model.proofs.Members.{is_in_append, get_is_in}
 use Rattle.fj_model.proofs.Growth.{opened_more}
 use Rattle.fj_model.proofs.Lawful.{number_if_is}
 use Rattle.fj_model.proofs.GoneList.{held_here}
-use Rattle.fj_model.proofs.OnePlace.{opened_out, out_new, never}
+use Rattle.fj_model.proofs.OnePlace.{opened_out, out_new}
 use Rattle.fj_model.proofs.PlaceLaws.{tasks_same, completer_same, place_out, place_kept, open_gains, gone_one}
 use Rattle.fj_model.proofs.Spending.{moved_spent}
 
@@ -30,10 +30,6 @@ ended_held pool h t w may = get_is_in t (stack h w) (length (stack h w) - 1) may
 
 pub ended_accepted : (pool : Pool) (h : List Event) (t w : ℕ) → AllowedFrom pool [] h → Allowed pool h (End t w) → is_in t (tasks h) ≡ true
 ended_accepted pool h t w so may = rw (tasks_same h (End t w) refl) at ((out_new pool h (End t w) t so may refl).known)
-
--- a task that is held was not opened
-pub held_unopened : (pool : Pool) (h : List Event) (t w : ℕ) → AllowedFrom pool [] h → is_in t (stack h w) ≡ true → is_in t (opened h) ≡ false
-held_unopened pool h t w so held = never (is_in t (opened h)) (λ there. true≢false (sym held ∙ (opened_out pool h so t there).stacks w))
 
 pub ended_place : (pool : Pool) (h : List Event) (t w : ℕ) → AllowedFrom pool [] h → Allowed pool h (End t w) → place (h ++ End t w ∷ []) t ≡ (if opens h t then Open else Gone)
 ended_place pool h t w so may =

@@ -1,7 +1,7 @@
 -- Parents are completers with smaller numbers, so the way up from a task ends at a root.
 use Rattle.std.proofs.Common.{ℕ, ◌≡◌, ◌+◌, ◌-◌, ◌≤◌, ◌<◌, Bool, true, false, cond, not, List, [], ◌∷◌, ◌++◌, length, Option, Some, None, refl, ap, sym, ◌∙◌, arith, zero, suc, subst, ⊎_elim}
 use Rattle.std.specs.Prelude.{◌==◌, IfSome, if◌then◌else◌, slice_get}
-use Rattle.std.proofs.lemmas.Bool.{eqb-true, eq-eqb, and_parts, or_cases, ltb-true}
+use Rattle.std.proofs.lemmas.Bool.{eqb-true, and_parts, or_cases, ltb-true}
 use Rattle.fj_model.specs.declared.event.Event.{Event}
 use Rattle.fj_model.specs.declared.event.Event.TheVariants.{Acc, Make}
 use Rattle.fj_model.specs.declared.kind.Kind.{Kind}
@@ -157,7 +157,3 @@ way_root pool (suc n) h c r so room is = go n (parent h c) refl (omega (arith, r
 pub root_free : (pool : Pool) (h : List Event) (c r : ℕ) → AllowedFrom pool [] h → root_of (path h c) ≡ Some r → parent h r ≡ None
 unfolding path
 root_free pool h c r so is = way_root pool (suc c) h c r so (omega arith) is
-
-pub path_first : (h : List Event) (c : ℕ) → is_in c (path h c) ≡ true
-unfolding path path_up
-path_first h c = rw (eq-eqb c c refl) refl

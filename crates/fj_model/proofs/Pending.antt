@@ -1,11 +1,11 @@
 -- Pending counts after one more event.
-use Rattle.std.proofs.Common.{ℕ, ◌≡◌, ◌+◌, ◌-◌, ◌≤◌, true, List, [], ◌∷◌, ◌++◌, length, Option, Some, None, refl, ap, sym, ◌∙◌, arith, subst, ⊎_elim, length-append}
+use Rattle.std.proofs.Common.{ℕ, ◌≡◌, ◌+◌, ◌-◌, ◌≤◌, true, List, [], ◌∷◌, ◌++◌, length, Option, Some, None, refl, ap, ◌∙◌, arith, subst, ⊎_elim, length-append}
 use Rattle.std.specs.Prelude.{◌==◌, nat_lt}
 use Rattle.std.specs.List.{filter_map, cons_option, sum}
 use Rattle.std.proofs.lemmas.List.Sums.{sum_by-append}
 use Rattle.std.proofs.lemmas.Bool.{eq-eqb, ne_eqb, ltb-true, cases_eq}
 use Rattle.fj_model.specs.declared.event.Event.{Event}
-use Rattle.fj_model.specs.declared.event.Event.TheVariants.{Acc, Make, Add, Dec}
+use Rattle.fj_model.specs.declared.event.Event.TheVariants.{Add, Dec}
 use Rattle.fj_model.specs.Bounds.{Pool}
 use Rattle.fj_model.specs.Lists.{number_if}
 use Rattle.fj_model.specs.Tasks.{accepted_by, kind, count_in}
@@ -15,7 +15,6 @@ use Rattle.fj_model.proofs.Growth.{filter_map_more}
 use Rattle.fj_model.proofs.Lawful.{by_events, is_new}
 use Rattle.fj_model.proofs.PlaceLaws.{kind_same}
 use Rattle.fj_model.proofs.Unknown.{unknown_kind, counted_pending}
-use Rattle.fj_model.proofs.NewTasks.{new_count}
 
 -- the completer whose pending count this event changes
 abbrev pub counts : Event → Option ℕ
@@ -44,21 +43,6 @@ added_more h e c = rw filter_map_more (sum_by-append (λ n. n) (filter_map (adde
 given_more : (h : List Event) (e : Event) (c : ℕ) → (accepted_by e ≡ Some c → ⊥) → given_to (h ++ e ∷ []) c ≡ given_to h c + sum (cons_option (added_by c e) [])
 unfolding given_to
 given_more h e c other = omega (arith, ap count_in (kind_same h e c other), added_more h e c)
-
-adds_to_no_other : (e : Event) (c : ℕ) → (counts e ≡ Some c → ⊥) → added_by c e ≡ None
-adds_to_no_other (Add d n) c other = rw (ne_eqb d c (λ same. other (ap Some same))) refl
-adds_to_no_other _ c other = refl
-
-counts_at_no_other : (e : Event) (c : ℕ) → (counts e ≡ Some c → ⊥) → counted_by c e ≡ None
-counts_at_no_other (Dec d) c other = rw (ne_eqb d c (λ same. other (ap Some same))) refl
-counts_at_no_other _ c other = refl
-
--- the pending count stays, but that of a task that is accepted or counted now
-pub pending_kept : (h : List Event) (e : Event) (c : ℕ) → (accepted_by e ≡ Some c → ⊥) → (counts e ≡ Some c → ⊥) → pending (h ++ e ∷ []) c ≡ pending h c
-pending_kept h e c new other =
-    let given : given_to (h ++ e ∷ []) c ≡ given_to h c = given_more h e c new ∙ rw (adds_to_no_other e c other) (omega arith) in
-    let counted : counted_at (h ++ e ∷ []) c ≡ counted_at h c = counted_more h e c ∙ rw (counts_at_no_other e c other) (omega arith) in
-    pending_is (h ++ e ∷ []) c ∙ rw (given, counted) (sym (pending_is h c))
 
 -- a counted arrival lowers it by one
 pub pending_counted : (h : List Event) (c : ℕ) → pending (h ++ Dec c ∷ []) c ≡ pending h c - 1
@@ -112,29 +96,3 @@ pending_added pool h c n so =
     let given : given_to (h ++ Add c n ∷ []) c ≡ given_to h c + n = given_more h (Add c n) c (λ new. absurd cc) ∙ rw (eq-eqb c c refl) (omega arith) in
     let counted : counted_at (h ++ Add c n ∷ []) c ≡ counted_at h c = counted_more h (Add c n) c ∙ omega arith in
     omega (arith, pending_is h c, pending_is (h ++ Add c n ∷ []) c, given, counted, covered pool h so c)
-
--- ---- it fits in sixteen bits
-
-few_more : (pool : Pool) (h : List Event) (e : Event) (c : ℕ) → AllowedFrom pool [] h → Allowed pool h e → pending h c ≤ 65535 → pending (h ++ e ∷ []) c ≤ 65535
-few_more pool h (Acc u o k) c so may few =
-    ⊎_elim (λ same. omega (arith, new_count pool h (Acc u o k) c k so may (ap Some same) refl, may.0.count)) (λ other. omega (arith, few, pending_kept h (Acc u o k) c (λ new. other cc) (λ is. absurd cc))) (cases_eq u c)
-few_more pool h (Make u k) c so may few =
-    ⊎_elim (λ same. omega (arith, new_count pool h (Make u k) c k so may (ap Some same) refl, may.0.count)) (λ other. omega (arith, few, pending_kept h (Make u k) c (λ new. other cc) (λ is. absurd cc))) (cases_eq u c)
-few_more pool h (Add d n) c so may few =
-    ⊎_elim
-    (λ same. omega (arith, ap (λ u. pending (h ++ Add d n ∷ []) u) same, pending_added pool h d n so, may.2))
-    (λ other. omega (arith, few, pending_kept h (Add d n) c (λ new. absurd cc) (λ is. other cc)))
-    (cases_eq d c)
-few_more pool h (Dec d) c so may few =
-    ⊎_elim
-    (λ same. omega (arith, few, ap (λ u. pending (h ++ Dec u ∷ []) c) same, pending_counted h c))
-    (λ other. omega (arith, few, pending_kept h (Dec d) c (λ new. absurd cc) (λ is. other cc)))
-    (cases_eq d c)
-few_more pool h e c so may few = omega (arith, few, pending_kept h e c (λ new. absurd cc) (λ is. absurd cc))
-
-few_none : (c : ℕ) → pending [] c ≤ 65535
-unfolding pending kind
-few_none c = omega arith
-
-pub pending_small : (pool : Pool) (h : List Event) (c : ℕ) → AllowedFrom pool [] h → pending h c ≤ 65535
-pending_small pool h c so = by_events pool (λ h. pending h c ≤ 65535) (few_none c) (λ h e so few may. few_more pool h e c so may few) h so

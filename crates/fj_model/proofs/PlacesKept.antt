@@ -1,22 +1,20 @@
 -- The place of a task, from the list that it stands in, and what one more event leaves of it.
-use Rattle.std.proofs.Common.{ℕ, ◌≡◌, Bool, true, false, not, ◌&&◌, List, [], ◌∷◌, ◌++◌, Option, Some, None, refl, ap, sym, ◌∙◌}
+use Rattle.std.proofs.Common.{ℕ, ◌≡◌, Bool, true, false, not, ◌&&◌, List, [], Option, Some, None, refl, ap, sym, ◌∙◌}
 use Rattle.std.proofs.lemmas.Bool.{true≢false}
 use Rattle.fj_model.specs.declared.event.Event.{Event}
 use Rattle.fj_model.specs.declared.owner.Owner.{Owner}
-use Rattle.fj_model.specs.declared.place.Place.{Place}
-use Rattle.fj_model.specs.declared.place.Place.TheVariants.{Queued, Held, Open, Gone}
+use Rattle.fj_model.specs.declared.place.Place.TheVariants.{Queued, Held}
 use Rattle.fj_model.specs.Bounds.{Pool}
 use Rattle.fj_model.specs.Lists.{is_in}
-use Rattle.fj_model.specs.Tasks.{tasks, is_completer}
+use Rattle.fj_model.specs.Tasks.{is_completer}
 use Rattle.fj_model.specs.Queues.{queue}
 use Rattle.fj_model.specs.Stacks.{stack}
 use Rattle.fj_model.specs.Completers.{is_spent}
-use Rattle.fj_model.specs.Places.{queued_in, held_by, opened, place, place_of, is_gone}
-use Rattle.fj_model.specs.Allowed.{Allowed, AllowedFrom}
+use Rattle.fj_model.specs.Places.{queued_in, held_by, opened, place, place_of}
+use Rattle.fj_model.specs.Allowed.{AllowedFrom}
 use Rattle.fj_model.proofs.Lawful.{pushed_apart, queued_pushed, queued_fresh}
 use Rattle.fj_model.proofs.StacksTaken.{stack_taken}
-use Rattle.fj_model.proofs.GoneTasks.{not_queued, not_held, no_owner, gone_stays}
-use Rattle.fj_model.proofs.GoneList.{IsCalm, queue_keeps, stack_keeps}
+use Rattle.fj_model.proofs.GoneTasks.{not_queued, not_held, no_owner}
 use Rattle.fj_model.proofs.OnePlace.{queued_there, held_there, stack_apart, never}
 
 -- the owner in whose queue it is
@@ -44,27 +42,6 @@ place_held pool h w t so there =
     let unqueued : queued_in h t ≡ None =
     no_owner h t (λ o. never (is_in t (queue h o)) (λ queued. true≢false (sym (stack_taken h w t there) ∙ queued_fresh h o t queued))) in
     rw (unqueued, held_at pool h w t so there) refl
-
-pub place_gone : (h : List Event) (t : ℕ) → is_gone (place h t) ≡ true → place h t ≡ Gone
-place_gone h t gone = go (place h t) gone
-  where
-    go : (p : Place) → is_gone p ≡ true → p ≡ Gone
-    go (Queued o) gone = absurd cc
-    go (Held w) gone = absurd cc
-    go Open gone = absurd cc
-    go Gone gone = refl
-
--- an event that takes a task from no list leaves it where it is
-pub place_same : (pool : Pool) (h : List Event) (e : Event) (t : ℕ) → AllowedFrom pool [] (h ++ e ∷ []) → AllowedFrom pool [] h → Allowed pool h e → IsCalm h e t → is_in t (tasks h) ≡ true → place (h ++ e ∷ []) t ≡ place h t
-unfolding place
-place_same pool h e t so' so may calm known = go (queued_in h t) (held_by h t) refl refl
-  where
-    go : (q : Option Owner) (v : Option ℕ) → queued_in h t ≡ q → held_by h t ≡ v → place (h ++ e ∷ []) t ≡ place_of q v (is_completer h t && is_in t (opened h) && not (is_spent h t))
-    go (Some o) v qs vs = place_queued pool (h ++ e ∷ []) o t so' (queue_keeps h e o t calm.untaken (queued_there h t o qs))
-    go None (Some w) qs vs = place_held pool (h ++ e ∷ []) w t so' (stack_keeps h e w t (calm.unended w) (held_there h t w vs))
-    go None None qs vs =
-        let now : place h t ≡ Gone = rw (qs, vs, calm.shut) refl in
-        rw calm.shut (place_gone (h ++ e ∷ []) t (gone_stays pool h e t so may known (ap is_gone now)))
 
 -- who is held stands on the stack
 pub held_of_place : (h : List Event) (t w : ℕ) → place h t ≡ Held w → is_in t (stack h w) ≡ true

@@ -1,23 +1,18 @@
 -- The queues after one more event.
-use Rattle.std.proofs.Common.{ℕ, ◌≡◌, ◌≤◌, Bool, true, false, cond, not, ◌||◌, List, [], ◌∷◌, ◌++◌, length, drop, Option, Some, None, refl, ap, sym, ◌∙◌, arith, ⊎_elim, append_assoc}
+use Rattle.std.proofs.Common.{ℕ, ◌≡◌, Bool, true, false, cond, not, ◌||◌, List, [], ◌∷◌, ◌++◌, Some, None, refl, ap, sym, ◌∙◌, ⊎_elim}
 use Rattle.std.specs.Prelude.{◌==◌}
-use Rattle.std.specs.List.{filter_map, cons_option}
 use Rattle.std.proofs.lemmas.List.{append-nil}
 use Rattle.std.proofs.lemmas.List.Elements.{filter-append}
 use Rattle.std.proofs.lemmas.Bool.{true≢false, eqb-true, or_cases}
-use Rattle.std.proofs.lemmas.List.Sums.{length-filter, count_by-le-length}
-use mathlib.Core.List.{IsPrefix}
 use Rattle.fj_model.specs.declared.event.Event.{Event}
 use Rattle.fj_model.specs.declared.owner.Owner.{Owner}
 use Rattle.fj_model.specs.Bounds.{Pool}
-use Rattle.fj_model.specs.Lists.{is_in, without, first_of}
+use Rattle.fj_model.specs.Lists.{is_in, without}
 use Rattle.fj_model.specs.Queues.{pushed, pushed_by, taken, taken_by, left, queue}
-use Rattle.fj_model.specs.Tasks.{tasks, accepted_by, accepted}
 use Rattle.fj_model.specs.Allowed.{Allowed, AllowedFrom}
-use Rattle.fj_model.specs.Headline.{keeps_order}
-use Rattle.fj_model.proofs.Members.{is_in_append, is_in_filter, filter_all, first_then, first_is_in}
+use Rattle.fj_model.proofs.Members.{is_in_append, is_in_filter, filter_all}
 use Rattle.fj_model.proofs.Growth.{without_none, pushed_more}
-use Rattle.fj_model.proofs.Lawful.{taken_known, pushed_accepts, is_new, left_push, left_take, left_same, left_in_order, queue_rest, queued_pushed, pushed_apart, among, allowed_more}
+use Rattle.fj_model.proofs.Lawful.{taken_known, pushed_accepts, is_new, left_push, left_take, left_same, pushed_apart, among}
 
 -- an event that neither puts a task there nor takes any leaves a queue as it was
 pub queue_same : (h : List Event) (e : Event) (o : Owner) → pushed_by o e ≡ None → taken_by e ≡ None → queue (h ++ e ∷ []) o ≡ queue h o
@@ -48,20 +43,6 @@ queue_push pool h e o u so may is none =
     alone : (b : Bool) → is_in u (left h o) ≡ b → is_in u (left h o) ≡ false → without (u ∷ []) (left h o) ≡ u ∷ []
     alone b is absent = rw absent refl
 
--- a queue that keeps its order loses its first
-pub queue_take : (pool : Pool) (h : List Event) (e : Event) (o : Owner) (t : ℕ) → AllowedFrom pool [] h → Allowed pool h e
-    → keeps_order pool.mode o ≡ true → pushed_by o e ≡ None → taken_by e ≡ Some t → first_of (queue h o) ≡ Some t → queue (h ++ e ∷ []) o ≡ drop 1 (queue h o)
-queue_take pool h e o t so may keeps none is first =
-    let so' = allowed_more pool [] h e so may in
-    let before = left_in_order pool h so o keeps in
-    let rest = first_then t before.0 (ap first_of (sym (queue_rest pool h o so before)) ∙ first) in
-    let here : is_in t (pushed h o) ≡ true = queued_pushed h o t (first_is_in t (queue h o) first) in
-    let now : left (h ++ e ∷ []) o ≡ left h o ++ t ∷ [] = left_take h e o t none is ∙ rw here refl in
-    let same : pushed (h ++ e ∷ []) o ≡ pushed h o = rw (pushed_more, none, append-nil) refl in
-    let after : IsPrefix (left (h ++ e ∷ []) o) (pushed (h ++ e ∷ []) o) =
-    (rest.0, rw (now, same) (append_assoc (left h o) (t ∷ []) rest.0 ∙ ap (λ xs. left h o ++ xs) (sym rest.1) ∙ before.1)) in
-    queue_rest pool (h ++ e ∷ []) o so' after ∙ ap (drop 1) (sym (queue_rest pool h o so before ∙ rest.1))
-
 -- the other queues stay as they were
 pub queue_other : (pool : Pool) (h : List Event) (e : Event) (o p : Owner) (t : ℕ) → AllowedFrom pool [] h
     → pushed_by o e ≡ None → taken_by e ≡ Some t → is_in t (pushed h p) ≡ true → (o ≡ p → ⊥) → queue (h ++ e ∷ []) o ≡ queue h o
@@ -72,27 +53,6 @@ queue_other pool h e o p t so none is there apart =
     absent : (b : Bool) → is_in t (pushed h o) ≡ b → b ≡ false
     absent true here = absurd (apart (pushed_apart pool h so t o p here there))
     absent false here = refl
-
-fewer_said : (a b : Option ℕ) (xs ys : List ℕ) → ((t : ℕ) → a ≡ Some t → b ≡ Some t) → length xs ≤ length ys → length (cons_option a xs) ≤ length (cons_option b ys)
-fewer_said None None xs ys wider le = le
-fewer_said None (Some u) xs ys wider le = omega arith
-fewer_said (Some t) b xs ys wider le = rw (wider t refl) (omega arith)
-
--- a wider selection of the events is no shorter
-pub selected_fewer : (f g : Event → Option ℕ) → ((e : Event) (t : ℕ) → f e ≡ Some t → g e ≡ Some t) → (h : List Event) → length (filter_map f h) ≤ length (filter_map g h)
-selected_fewer f g wider [] = omega arith
-selected_fewer f g wider (e ∷ h) = fewer_said (f e) (g e) (filter_map f h) (filter_map g h) (wider e) (selected_fewer f g wider h)
-
--- a queue is no longer than all that was accepted
-pub queue_short : (h : List Event) (o : Owner) → length (queue h o) ≤ accepted h
-unfolding queue accepted pushed tasks
-queue_short h o =
-    omega (
-      arith,
-      length-filter (λ t. not (is_in t (left h o))) (filter_map (pushed_by o) h),
-      count_by-le-length (λ t. not (is_in t (left h o))) (filter_map (pushed_by o) h),
-      selected_fewer (pushed_by o) accepted_by (pushed_accepts o) h,
-    )
 
 -- what is not in the list is not missed
 pub without_absent : (ts : List ℕ) (t : ℕ) → is_in t ts ≡ false → without ts (t ∷ []) ≡ ts

@@ -9,22 +9,21 @@ use Rattle.fj_model.specs.declared.event.Event.TheVariants.{Acc, Make, Rel}
 use Rattle.fj_model.specs.declared.owner.Owner.{Owner}
 use Rattle.fj_model.specs.Bounds.{Pool}
 use Rattle.fj_model.specs.Lists.{is_in, times_in}
-use Rattle.fj_model.specs.Tasks.{tasks, accepted, accepted_by, released, released_by, is_kept, live, kind, is_completer, parent}
+use Rattle.fj_model.specs.Tasks.{tasks, accepted, accepted_by, released, released_by, is_kept, live, kind, parent}
 use Rattle.fj_model.specs.Queues.{queue}
 use Rattle.fj_model.specs.Stacks.{stack}
-use Rattle.fj_model.specs.Hooks.{hand}
 use Rattle.fj_model.specs.Statuses.{status}
-use Rattle.fj_model.specs.Completers.{pending, is_spent}
+use Rattle.fj_model.specs.Completers.{pending}
 use Rattle.fj_model.specs.Places.{place, open_tasks, gone}
 use Rattle.fj_model.specs.Allowed.{Allowed, AllowedFrom}
 use Rattle.fj_model.proofs.Members.{is_in_append, times_in_cons, times_in_some, filter_agree_in, Once}
-use Rattle.fj_model.proofs.Growth.{tasks_more, released_more, hooks_more, or_false}
+use Rattle.fj_model.proofs.Growth.{tasks_more, released_more, or_false}
 use Rattle.fj_model.proofs.Lawful.{by_events, is_in_with, known_more, is_new, tasks_once}
-use Rattle.fj_model.proofs.KindsKept.{kind_same, completer_same, parent_same}
+use Rattle.fj_model.proofs.KindsKept.{kind_same, parent_same}
 use Rattle.fj_model.proofs.OnePlace.{never, accepted_now}
 use Rattle.fj_model.proofs.PlaceLaws.{tasks_same, unmoved_tasks, unmoved_accepted, unmoved_queue, unmoved_stack}
 use Rattle.fj_model.proofs.Arrivals.{pending_untouched}
-use Rattle.fj_model.proofs.Calm.{calm_status, calm_spent, calm_place, calm_open, calm_gone}
+use Rattle.fj_model.proofs.Calm.{calm_status, calm_place, calm_open, calm_gone}
 
 -- ---- which tasks are kept
 
@@ -105,17 +104,11 @@ release_accepted h t = unmoved_accepted h (Rel t) refl
 pub release_kind : (h : List Event) (t u : ℕ) → kind (h ++ Rel t ∷ []) u ≡ kind h u
 release_kind h t u = kind_same h (Rel t) u refl
 
-pub release_completer : (h : List Event) (t u : ℕ) → is_completer (h ++ Rel t ∷ []) u ≡ is_completer h u
-release_completer h t u = completer_same h (Rel t) u refl
-
 pub release_parent : (h : List Event) (t u : ℕ) → parent (h ++ Rel t ∷ []) u ≡ parent h u
 release_parent h t u = parent_same h (Rel t) u refl
 
 pub release_status : (h : List Event) (t u : ℕ) → status (h ++ Rel t ∷ []) u ≡ status h u
 release_status h t u = calm_status h (Rel t) u refl
-
-pub release_spent : (h : List Event) (t u : ℕ) → is_spent (h ++ Rel t ∷ []) u ≡ is_spent h u
-release_spent h t u = calm_spent h (Rel t) u refl
 
 pub release_pending : (h : List Event) (t u : ℕ) → pending (h ++ Rel t ∷ []) u ≡ pending h u
 release_pending h t u = pending_untouched h (Rel t) u refl refl
@@ -125,10 +118,6 @@ release_queue h t o = unmoved_queue h (Rel t) o refl
 
 pub release_stack : (h : List Event) (t w : ℕ) → stack (h ++ Rel t ∷ []) w ≡ stack h w
 release_stack h t w = unmoved_stack h (Rel t) w refl
-
-pub release_hand : (h : List Event) (t w : ℕ) → hand (h ++ Rel t ∷ []) w ≡ hand h w
-unfolding hand
-release_hand h t w = rw hooks_more refl
 
 pub release_place : (pool : Pool) (h : List Event) (t u : ℕ) → AllowedFrom pool [] h → Allowed pool h (Rel t) → is_in u (tasks h) ≡ true → place (h ++ Rel t ∷ []) u ≡ place h u
 release_place pool h t u so may known = calm_place pool h (Rel t) u so may refl known

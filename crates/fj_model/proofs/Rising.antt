@@ -1,10 +1,10 @@
 -- Lists whose numbers rise: two that have the same numbers equally often are the same. The accepted tasks are one.
-use Rattle.std.proofs.Common.{suc, ℕ, ◌≡◌, ◌≤◌, ◌<◌, Bool, true, false, cond, List, [], ◌∷◌, ◌++◌, length, Option, Some, None, refl, ap, sym, ◌∙◌, arith, subst, ⊎_elim}
+use Rattle.std.proofs.Common.{suc, ℕ, ◌≡◌, ◌≤◌, ◌<◌, Bool, true, false, cond, List, [], ◌∷◌, ◌++◌, length, Option, Some, None, refl, ap, sym, ◌∙◌, arith, ⊎_elim}
 use Rattle.std.specs.Prelude.{IsPermutation, ◌==◌, slice_index_or}
 use Rattle.std.specs.List.Sorted.{IsNonDecreasing}
 use Rattle.std.specs.List.{filter}
 use Rattle.std.proofs.lemmas.List.{append-nil}
-use Rattle.std.proofs.lemmas.List.Sorted.{sum_by-IsPermutation, IsPermutation-refl, IsPermutation-sym, IsPermutation-trans, IsPermutation-cons, IsPermutation-middle}
+use Rattle.std.proofs.lemmas.List.Sorted.{sum_by-IsPermutation}
 use Rattle.std.proofs.lemmas.Bool.{eqb-true, eq-eqb, and_parts, or_cases, or_right, ltb-true}
 use Rattle.fj_model.specs.declared.event.Event.{Event}
 use Rattle.fj_model.specs.declared.event.Event.TheVariants.{Acc, Make}
@@ -12,7 +12,7 @@ use Rattle.fj_model.specs.Bounds.{Pool}
 use Rattle.fj_model.specs.Lists.{is_in, times_in}
 use Rattle.fj_model.specs.Tasks.{tasks, accepted, accepted_by}
 use Rattle.fj_model.specs.Allowed.{Allowed, AllowedFrom}
-use Rattle.fj_model.proofs.Members.{times_in_append, times_in_cons, times_in_none, times_in_some, is_in_filter, is_in_append}
+use Rattle.fj_model.proofs.Members.{times_in_cons, times_in_none, times_in_some, is_in_filter, is_in_append}
 use Rattle.fj_model.proofs.Growth.{tasks_more}
 use Rattle.fj_model.proofs.Lawful.{by_events, is_numbered}
 
@@ -69,31 +69,6 @@ rising_sorted (x ∷ xs) up = (below xs (λ k d le. up 0 (suc k) d (omega arith)
 pub sorted_is : (xs ys zs : List ℕ) → IsPermutation xs ys → IsNonDecreasing ys → IsRising zs → ((t : ℕ) → times_in t zs ≡ times_in t xs) → ys ≡ zs
 sorted_is xs ys zs moved up rises same =
     rising_same ys zs (rising_sorted ys up) rises (λ t. sum_by-IsPermutation (λ u. cond (u == t) 1 0) xs ys moved ∙ sym (same t))
-
--- a member of a list stands somewhere in it
-split_there : (x : ℕ) (ys : List ℕ) → is_in x ys ≡ true → (front : List ℕ) × (back : List ℕ) × (ys ≡ front ++ x ∷ back)
-split_there x [] there = absurd cc
-split_there x (y ∷ ys) there = ⊎_elim here (λ later. rest (split_there x ys later)) (or_cases (y == x) (is_in x ys) there)
-  where
-    here : (y == x) ≡ true → (front : List ℕ) × (back : List ℕ) × (y ∷ ys ≡ front ++ x ∷ back)
-    here same = ([], ys, ap (λ v. v ∷ ys) (eqb-true y x same))
-
-    rest : (front : List ℕ) × (back : List ℕ) × (ys ≡ front ++ x ∷ back) → (front : List ℕ) × (back : List ℕ) × (y ∷ ys ≡ front ++ x ∷ back)
-    rest at = (y ∷ at.0, at.1, ap (λ vs. y ∷ vs) at.2)
-
--- two lists that have the same numbers equally often are permutations of each other
-pub times_permuted : (xs ys : List ℕ) → ((t : ℕ) → times_in t xs ≡ times_in t ys) → IsPermutation xs ys
-times_permuted [] [] same = IsPermutation-refl []
-times_permuted [] (y ∷ ys) same = absurd (omega (arith, same y, times_in_some y (y ∷ ys) (head_there y ys)))
-times_permuted (x ∷ xs) ys same = go (split_there x ys (there_too x (x ∷ xs) ys (same x) (head_there x xs))) (times_permuted xs)
-  where
-    go : (front : List ℕ) × (back : List ℕ) × (ys ≡ front ++ x ∷ back) → ((zs : List ℕ) → ((t : ℕ) → times_in t xs ≡ times_in t zs) → IsPermutation xs zs) → IsPermutation (x ∷ xs) ys
-    go at rest =
-        let apart : (t : ℕ) → times_in t xs ≡ times_in t (at.0 ++ at.1) =
-        λ t. omega (arith, same t, ap (times_in t) at.2, times_in_append t at.0 (x ∷ at.1), times_in_cons t x at.1, times_in_cons t x xs, times_in_append t at.0 at.1) in
-        let whole : IsPermutation (x ∷ (at.0 ++ at.1)) (at.0 ++ x ∷ at.1) = IsPermutation-sym (at.0 ++ x ∷ at.1) (x ∷ (at.0 ++ at.1)) (IsPermutation-middle at.0 x at.1) in
-        subst (IsPermutation (x ∷ xs)) (sym at.2)
-        (IsPermutation-trans (x ∷ xs) (x ∷ (at.0 ++ at.1)) (at.0 ++ x ∷ at.1) (IsPermutation-cons x xs (at.0 ++ at.1) (rest (at.0 ++ at.1) apart)) whole)
 
 pub rising_filter : (p : ℕ → Bool) (xs : List ℕ) → IsRising xs → IsRising (filter p xs)
 rising_filter p [] up = tt

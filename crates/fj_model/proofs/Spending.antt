@@ -132,9 +132,6 @@ other_spent e c t is other also = let both : Some t ≡ Some c = sym also ∙ is
 pub spending_spent : (h : List Event) (e : Event) (c t : ℕ) → spends e ≡ Some c → t ≢ c → is_spent (h ++ e ∷ []) t ≡ is_spent h t
 spending_spent h e c t is other = spent_kept h e t (spends_unstopped e c is) (other_spent e c t is other)
 
-pub spending_status : (h : List Event) (e : Event) (c t : ℕ) → spends e ≡ Some c → t ≢ c → status (h ++ e ∷ []) t ≡ status h t
-spending_status h e c t is other = status_kept h e t (spends_unstopped e c is) (λ settled. other_spent e c t is other (settled_spends e t settled))
-
 -- ---- places and lists
 
 -- the others stay where they were

@@ -1,20 +1,19 @@
 -- The status of tasks that were not accepted, and after one more event.
-use Rattle.std.proofs.Common.{ℕ, ◌≡◌, ◌≤◌, Bool, true, false, ◌||◌, List, [], ◌∷◌, ◌++◌, Option, Some, None, refl, ap, sym, ◌∙◌}
+use Rattle.std.proofs.Common.{ℕ, ◌≡◌, Bool, true, false, ◌||◌, List, [], ◌∷◌, ◌++◌, Option, Some, None, refl, ap, sym, ◌∙◌}
 use Rattle.std.specs.Prelude.{◌==◌, if◌then◌else◌}
 use Rattle.std.specs.List.{list_any, filter_map, cons_option}
-use Rattle.std.proofs.lemmas.Bool.{eqb-true, or_parts, true≢false, le-ltb}
+use Rattle.std.proofs.lemmas.Bool.{eqb-true, or_parts, true≢false}
 use Rattle.fj_model.specs.declared.event.Event.{Event}
 use Rattle.fj_model.specs.declared.event.Event.TheVariants.{Acc, Make, Settle}
 use Rattle.fj_model.specs.declared.status.Status.{Status}
-use Rattle.fj_model.specs.declared.status.Status.TheVariants.{Undone}
 use Rattle.fj_model.specs.Bounds.{Pool}
 use Rattle.fj_model.specs.Lists.{is_in, or_else}
-use Rattle.fj_model.specs.Tasks.{tasks, accepted, accepted_by}
+use Rattle.fj_model.specs.Tasks.{tasks, accepted_by}
 use Rattle.fj_model.specs.Statuses.{or_undone, status, status_from, status_by, accepts}
 use Rattle.fj_model.specs.Allowed.{Allowed, AllowedFrom}
 use Rattle.fj_model.proofs.Members.{is_in_append}
 use Rattle.fj_model.proofs.Growth.{tasks_more, status_from_more}
-use Rattle.fj_model.proofs.Lawful.{by_events, is_numbered}
+use Rattle.fj_model.proofs.Lawful.{by_events}
 
 accepts_is : (t : ℕ) (e : Event) (ts : List ℕ) → (accepts t e || is_in t ts) ≡ is_in t (cons_option (accepted_by e) ts)
 accepts_is t (Acc u o k) ts = refl
@@ -58,8 +57,3 @@ status_same h e t none = rw (status_from_more t false h e, none (list_any (accep
     last : (s : Option Status) → or_else s None ≡ s
     last (Some x) = refl
     last None = refl
-
--- a number that was not accepted is undone
-pub unknown_status : (pool : Pool) (h : List Event) (t : ℕ) → AllowedFrom pool [] h → accepted h ≤ t → status h t ≡ Undone
-unfolding status
-unknown_status pool h t so over = ap or_undone (is_silent pool h so t (is_numbered pool h so t ∙ le-ltb t (accepted h) over))

@@ -15,24 +15,22 @@ use Rattle.fj_model.specs.Lists.{is_in, or_else, times_in}
 use Rattle.fj_model.specs.Tasks.{tasks, accepted, is_kept, live, kind, is_completer, parent}
 use Rattle.fj_model.specs.Queues.{queue}
 use Rattle.fj_model.specs.Stacks.{stack}
-use Rattle.fj_model.specs.Hooks.{hand}
 use Rattle.fj_model.specs.Statuses.{or_undone, status, status_from, is_undone}
 use Rattle.fj_model.specs.Completers.{pending, is_spent}
-use Rattle.fj_model.specs.Climbs.{Spent, arrival}
 use Rattle.fj_model.specs.Places.{queued_in, held_by, opened, place, place_of, is_open, is_gone, open_tasks, gone, newly_gone}
 use Rattle.fj_model.specs.Allowed.{Allowed, AllowedFrom}
 use Rattle.fj_model.proofs.Members.{filter_agree_in, filter_none, times_in_filter}
-use Rattle.fj_model.proofs.Growth.{status_more, hooks_more, gone_more}
+use Rattle.fj_model.proofs.Growth.{status_more, gone_more}
 use Rattle.fj_model.proofs.Statuses.{accepted_is}
 use Rattle.fj_model.proofs.Ends.{is_settled}
 use Rattle.fj_model.proofs.Lawful.{tasks_once}
 use Rattle.fj_model.proofs.GoneTasks.{once_times}
 use Rattle.fj_model.proofs.OnePlace.{opened_out, opened_once}
 use Rattle.fj_model.proofs.OpenList.{open_waits}
-use Rattle.fj_model.proofs.Rising.{rising_filter, sorted_is, times_permuted, tasks_rise}
+use Rattle.fj_model.proofs.Rising.{rising_filter, sorted_is, tasks_rise}
 use Rattle.fj_model.proofs.GoneList.{in_gone}
 use Rattle.fj_model.proofs.PlaceLaws.{unmoved_tasks, unmoved_accepted, unmoved_queue, unmoved_stack, unmoved_opened, unmoved_place}
-use Rattle.fj_model.proofs.KindsKept.{kind_same, completer_same, parent_same}
+use Rattle.fj_model.proofs.KindsKept.{kind_same, parent_same}
 use Rattle.fj_model.proofs.Arrivals.{pending_same}
 use Rattle.fj_model.proofs.Releasing.{kept_same, live_same}
 use Rattle.fj_model.proofs.Spending.{closed, done_now}
@@ -73,11 +71,6 @@ stop_done pool h t so known = ap is_undone (stop_cancels pool h t so known) ∙ 
 pub stop_spent : (pool : Pool) (h : List Event) (t : ℕ) → AllowedFrom pool [] h → is_in t (tasks h) ≡ true → is_spent (h ++ Stop ∷ []) t ≡ true
 stop_spent pool h t so known = done_now (h ++ Stop ∷ []) t (stop_done pool h t so known)
 
--- and an arrival there changes nothing
-pub stop_arrival : (pool : Pool) (h : List Event) (t : ℕ) → AllowedFrom pool [] h → is_in t (tasks h) ≡ true → arrival (h ++ Stop ∷ []) t ≡ Spent
-unfolding arrival
-stop_arrival pool h t so known = rw (stop_spent pool h t so known) refl
-
 -- ---- queues, stacks and hands
 
 pub stop_tasks : (h : List Event) → tasks (h ++ Stop ∷ []) ≡ tasks h
@@ -88,10 +81,6 @@ stop_queue h o = unmoved_queue h Stop o refl
 
 pub stop_stack : (h : List Event) (w : ℕ) → stack (h ++ Stop ∷ []) w ≡ stack h w
 stop_stack h w = unmoved_stack h Stop w refl
-
-pub stop_hand : (h : List Event) (w : ℕ) → hand (h ++ Stop ∷ []) w ≡ hand h w
-unfolding hand
-stop_hand h w = rw hooks_more refl
 
 -- ---- what stays
 
@@ -106,9 +95,6 @@ stop_live h = live_same h Stop refl refl
 
 pub stop_kind : (h : List Event) (t : ℕ) → kind (h ++ Stop ∷ []) t ≡ kind h t
 stop_kind h t = kind_same h Stop t refl
-
-pub stop_completer : (h : List Event) (t : ℕ) → is_completer (h ++ Stop ∷ []) t ≡ is_completer h t
-stop_completer h t = completer_same h Stop t refl
 
 pub stop_parent : (h : List Event) (t : ℕ) → parent (h ++ Stop ∷ []) t ≡ parent h t
 stop_parent h t = parent_same h Stop t refl
@@ -175,9 +161,6 @@ open_times pool h t so = times_in_filter (λ u. is_open (place h u)) t (tasks h)
         let known = (opened_out pool h so t before).known in
         once_times t (tasks h) (tasks_once pool h so) ∙ rw (known, before) refl ∙ sym (once_times t (opened h) (opened_once pool h so))
     go false is = refl
-
-pub open_permuted : (pool : Pool) (h : List Event) → AllowedFrom pool [] h → IsPermutation (open_tasks h) (filter (λ t. is_open (place h t)) (tasks h))
-open_permuted pool h so = times_permuted (open_tasks h) (filter (λ t. is_open (place h t)) (tasks h)) (λ t. sym (open_times pool h t so))
 
 -- so sorting the list of the open tasks gives them
 pub open_sorted : (pool : Pool) (h : List Event) (sorted : List ℕ) → AllowedFrom pool [] h → IsPermutation (open_tasks h) sorted → IsNonDecreasing sorted

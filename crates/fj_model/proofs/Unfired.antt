@@ -3,11 +3,8 @@ use Rattle.std.proofs.Common.{ℕ, ◌≡◌, true, List, Some, ap}
 use Rattle.std.proofs.lemmas.Bool.{eqb-true}
 use Rattle.fj_model.specs.declared.event.Event.{Event}
 use Rattle.fj_model.specs.declared.event.Event.TheVariants.{Fire, Pass}
-use Rattle.fj_model.specs.Bounds.{Pool}
 use Rattle.fj_model.specs.Completers.{fires_or_passes}
-use Rattle.fj_model.specs.Runs.{IsHistory}
 use Rattle.fj_model.specs.Climbs.{ClimbsCompleters, climbed, climbed_by}
-use Rattle.fj_model.proofs.AnswersAllowed.{history_sound}
 use Rattle.fj_model.proofs.Unknown.{IsUnfired, unfired_from}
 
 fires_climb : (e : Event) (c : ℕ) → fires_or_passes c e ≡ true → climbed_by e ≡ Some c
@@ -18,6 +15,3 @@ fires_climb _ c is = absurd cc
 pub climbs_unfired : (h : List Event) → ClimbsCompleters h → IsUnfired h
 unfolding climbed
 climbs_unfired h climbs = unfired_from climbed_by fires_climb h climbs
-
-pub history_unfired : (pool : Pool) (h : List Event) → IsHistory pool h → IsUnfired h
-history_unfired pool h run = climbs_unfired h (history_sound pool h run).climbs

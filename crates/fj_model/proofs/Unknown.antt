@@ -2,7 +2,6 @@
 use Rattle.std.proofs.Common.{ℕ, ◌≡◌, Bool, true, false, not, ◌||◌, List, [], ◌∷◌, ◌++◌, Option, Some, None, refl, ap, sym, ◌∙◌, arith, ⊎_elim}
 use Rattle.std.specs.Prelude.{nat_lt, if◌then◌else◌, is_some}
 use Rattle.std.specs.List.{filter_map, list_any, cons_option}
-use Rattle.std.proofs.lemmas.List.Folds.{list_any-append}
 use Rattle.std.proofs.lemmas.Bool.{or_cases, ne_eqb, or_parts, and_parts, true≢false}
 use Rattle.fj_model.specs.declared.event.Event.{Event}
 use Rattle.fj_model.specs.declared.event.Event.TheVariants.{Acc, Make, Add, Dec}
@@ -103,10 +102,6 @@ uncounted_more pool h e so uncounted may t absent =
 uncounted : (pool : Pool) (h : List Event) → AllowedFrom pool [] h → IsUncounted h
 uncounted pool = by_events pool IsUncounted (λ t absent. (refl, refl)) (uncounted_more pool)
 
--- where nothing was added and nothing counted, the count in the kind is pending
-pub unknown_pending : (pool : Pool) (h : List Event) (t : ℕ) → AllowedFrom pool [] h → is_in t (tasks h) ≡ false → pending h t ≡ 0
-unknown_pending pool h t so absent = let at = uncounted pool h so t absent in pending_of h t at.0 at.1 ∙ ap count_in (unknown_kind h t absent)
-
 -- a task that is accepted now begins with the count in its kind
 pub new_pending : (pool : Pool) (h : List Event) (e : Event) (t : ℕ) → AllowedFrom pool [] h → is_in t (tasks h) ≡ false → accepted_by e ≡ Some t
     → pending (h ++ e ∷ []) t ≡ count_in (kind (h ++ e ∷ []) t)
@@ -127,15 +122,6 @@ new_pending pool h e t so absent is =
 -- no such number was fired or passed. That an event is allowed doesn't say so: an arrival fires at a number that was not accepted
 abbrev pub IsUnfired : List Event → Type 0
 IsUnfired h = (t : ℕ) → is_in t (tasks h) ≡ false → list_any (fires_or_passes t) h ≡ false
-
-pub unfired_none : IsUnfired []
-unfired_none t absent = refl
-
--- it stays so after an event that fires and passes accepted ones only
-pub unfired_more : (h : List Event) (e : Event) → IsUnfired h → ((c : ℕ) → fires_or_passes c e ≡ true → is_in c (tasks h) ≡ true) → IsUnfired (h ++ e ∷ [])
-unfired_more h e unfired known t absent =
-    let old = unknown_before h e t absent in
-    list_any-append (fires_or_passes t) h (e ∷ []) ∙ rw (unfired t old, never (fires_or_passes t e) (λ is. true≢false (sym (known t is) ∙ old))) refl
 
 -- it is so where each that was fired or passed is a completer, by a wider selection of the events
 pub unfired_from : (says : Event → Option ℕ) → ((e : Event) (c : ℕ) → fires_or_passes c e ≡ true → says e ≡ Some c)
