@@ -153,10 +153,6 @@ ended Memory b v s n ahead p at ends = absurd p
 ended Read b v s n ahead p at ends = absurd p
 ended Write b v s n ahead p at ends = absurd p
 
--- the reader failed
-pub unread : (b : List ℕ) (v : Kept) (s n ahead : Option (List ℕ)) → IsAt b v s n → FaultOf Read b ahead s n
-unread b v s n ahead at = (record { good = at.good; short = rw (sym at.line) at.short }, at.written)
-
 -- the script is whole
 pub replayed_whole : (b : List ℕ) (v : Kept) (before ahead s n : Option (List ℕ)) → Consumes before ahead b → IsAtEnd ahead → IsAt b v s n → v.line ≡ [] → is_some v.past ≡ true → IsReplayed b before ahead s n
 replayed_whole b v before ahead s n read ends at none there = record {

@@ -5,16 +5,15 @@ use Rattle.std.specs.List.{list_any}
 use Rattle.std.proofs.Math.ListN.{length-set}
 use Rattle.std.proofs.lemmas.List.{get_or-set_other}
 use Rattle.std.proofs.lemmas.Option.{same_Some}
-use Rattle.std.proofs.lemmas.Bool.{eq-eqb, lt-leb, le-ltb, cases_eq}
+use Rattle.std.proofs.lemmas.Bool.{lt-leb, le-ltb, cases_eq}
 use Rattle.fj_model.specs.declared.event.Event.{Event}
 use Rattle.fj_model.specs.declared.event.Event.TheVariants.{Acc, Make}
 use Rattle.fj_model.specs.declared.kind.Kind.{Kind}
 use Rattle.fj_model.specs.declared.owner.Owner.{Owner}
-use Rattle.fj_model.specs.declared.owner.Owner.TheVariants.{Sub, Work}
 use Rattle.fj_model.specs.declared.place.Place.{Place}
 use Rattle.fj_model.specs.declared.refusal.Refusal.{Refusal}
 use Rattle.fj_model.specs.declared.place.Place.TheVariants.{Queued, Open}
-use Rattle.fj_model.specs.Bounds.{Bounds, Pool, IsOwner, queues_in, queue_number, owner_at}
+use Rattle.fj_model.specs.Bounds.{Bounds, Pool, IsOwner, queue_number, owner_at}
 use Rattle.fj_model.specs.Tasks.{accepted_by, is_kept, is_completer, is_completer_kind, kind, parent_in, count_in}
 use Rattle.fj_model.specs.Queues.{queue, is_same}
 use Rattle.fj_model.specs.Completers.{is_spent, fires_or_passes}
@@ -22,9 +21,9 @@ use Rattle.fj_model.specs.Places.{place}
 use Rattle.fj_model.specs.Allowed.{Allowed, AllowedFrom, MayAccept}
 use Rattle.fj_model.proofs.Growth.{stack_same}
 use Rattle.fj_model.proofs.Lawful.{is_new, same_owner}
-use Rattle.fj_model.proofs.NewTasks.{kind_given, new_kind, new_count, new_undone, submitted_place, submitted_open, submitted_gone, made_place, made_open, made_gone}
-use Rattle.fj_model.proofs.OnePlace.{never}
-use Rattle.fj_model.proofs.Owners.{sub_owner, work_owner, owners_apart}
+use Rattle.fj_model.proofs.NewTasks.{kind_given, new_kind, new_count, new_undone, submitted_place, submitted_open, submitted_gone, made_place, made_open, made_gone, same_as_itself}
+use Rattle.fj_model.proofs.OnePlace.{never, number_owner}
+use Rattle.fj_model.proofs.Owners.{owners_apart}
 use Rattle.fj_model.proofs.Queues.{queue_same, queue_push}
 use Rattle.fj_model.proofs.Releasing.{new_kept}
 use Rattle.fj_model.proofs.Unfired.{climbs_unfired}
@@ -113,19 +112,10 @@ fresh_tells pool h e t k p so may new given unfired before placed = record {
   spent = fired_same h e t unfired ∙ before;
 }
 
--- an owner's queue is the one with its number
-pub owner_found : (l : Bounds) (o : Owner) → IsOwner l o → (queue_number l o < queues_in l) × (owner_at l (queue_number l o) ≡ o)
-owner_found l (Sub s) within = (omega arith, sub_owner l s within)
-owner_found l (Work w) within = (omega arith, work_owner l w)
-
-same_self : (o : Owner) → is_same o o ≡ true
-same_self (Sub s) = eq-eqb s s refl
-same_self (Work w) = eq-eqb w w refl
-
 -- and no other one is
 other_owner : (l : Bounds) (i : ℕ) (o : Owner) → IsOwner l o → i ≢ queue_number l o → is_same (owner_at l i) o ≡ false
 other_owner l i o within other =
-    never (is_same (owner_at l i) o) (λ same. other (owners_apart l i (queue_number l o) (same_owner (owner_at l i) o same ∙ sym ((owner_found l o within).1))))
+    never (is_same (owner_at l i) o) (λ same. other (owners_apart l i (queue_number l o) (same_owner (owner_at l i) o same ∙ sym ((number_owner l o within).1))))
 
 queues_after_accept : (pool : Pool) (h : List Event) (queues : Waiting) (o : Owner) (t : ℕ) (k : Kind) → AllowedFrom pool [] h → Allowed pool h (Acc t o k) → IsOwner pool.limits o
     → KeepsQueues pool.limits h queues
@@ -133,7 +123,7 @@ queues_after_accept : (pool : Pool) (h : List Event) (queues : Waiting) (o : Own
 queues_after_accept pool h queues o t k so may within keeps =
     let e = Acc t o k in
     let q = queue_number pool.limits o in
-    let at = owner_found pool.limits o within in
+    let at = number_owner pool.limits o within in
     let new = queue_at queues q ++ t ∷ [] in
     let inside : q < length queues.lists = omega (arith, keeps.count, at.0) in
     record {
@@ -142,7 +132,7 @@ queues_after_accept pool h queues o t k so may within keeps =
       each = λ i below. ⊎_elim
           (λ here. new_row queues.lists i q new inside here
           ∙ ap (λ ts. ts ++ t ∷ []) (keeps.each q at.0 ∙ ap (queue h) at.1)
-          ∙ sym (queue_push pool h e o t so may (rw (same_self o) refl) refl)
+          ∙ sym (queue_push pool h e o t so may (rw (same_as_itself o) refl) refl)
           ∙ ap (queue (h ++ e ∷ [])) (sym at.1 ∙ ap (owner_at pool.limits) (sym here)))
           (λ other. get_or-set_other queues.lists q i new [] other ∙ keeps.each i below
           ∙ sym (queue_same h e (owner_at pool.limits i) (rw (other_owner pool.limits i o within other) refl) refl))

@@ -16,7 +16,6 @@ use Rattle.fj_model.specs.Places.{place}
 use Rattle.fj_model.specs.Allowed.{Allowed, AllowedFrom}
 use Rattle.fj_model.proofs.Ends.{stack_end, stack_end_other}
 use Rattle.fj_model.proofs.Opening.{opens, ended_accepted, ended_place, ended_open, ended_gone}
-use Rattle.fj_model.proofs.PlaceLaws.{kind_same}
 use Rattle.fj_model.proofs.Queues.{queue_same}
 use Rattle.fj_model.proofs.Spending.{moved_status}
 use Rattle.fj_queues.specs.Queues.{Lists as Waiting}
@@ -35,6 +34,7 @@ use Rattle.fj_machine.proofs.Located.{IsLocated}
 use Rattle.fj_machine.proofs.Parts.{new_row, queues_same}
 use Rattle.fj_machine.proofs.Records.{tree_written}
 use Rattle.fj_machine.proofs.Telling.{kept_more, pending_same, fired_same}
+use Rattle.fj_model.proofs.KindsKept.{kind_still}
 
 -- the last task of a stack leaves it, and the other stacks stay
 stacks_after_end : (pool : Pool) (h : List Event) (stacks : Lists) (w t : ℕ) → AllowedFrom pool [] h → w < pool.limits.workers → last_of (stack h w) ≡ Some t
@@ -70,10 +70,10 @@ ended_holds pool h t w b p queues stacks hands tree opened gones opened2 gones2 
     let known : is_in t (tasks h) ≡ true = ended_accepted pool h t w so may in
     let new : Tells (h ++ e ∷ []) (with_place p r) = record {
       kept = kept_more h e r.serial refl tells.kept;
-      kind = kind_same h e r.serial (λ said. absurd cc) ∙ tells.kind;
+      kind = kind_still h e r.serial (λ said. absurd cc) ∙ tells.kind;
       place = ap (place (h ++ e ∷ [])) number ∙ ended_place pool h t w so may ∙ rw is (sym placed);
       status = moved_status h e r.serial refl ∙ tells.status;
-      pending = pending_same h e r.serial (kind_same h e r.serial (λ said. absurd cc)) refl refl ∙ tells.pending;
+      pending = pending_same h e r.serial (kind_still h e r.serial (λ said. absurd cc)) refl refl ∙ tells.pending;
       spent = fired_same h e r.serial refl ∙ tells.spent;
     } in
     grown_holds pool h e queues queues stacks _ hands hands tree _ opened opened2 gones gones2 holds may fits (λ d none. absurd cc) (record {

@@ -1,6 +1,6 @@
 -- The end of the body of a running task, whatever the ending.
 use Rattle.std.proofs.Common.{ℕ, ◌≡◌, ◌+◌, ◌-◌, ◌≤◌, ◌<◌, Bool, true, false, List, [], ◌∷◌, ◌++◌, length, Option, Some, None, refl, ap, sym, ◌∙◌, subst, arith, not, ◌⊎◌, inl, inr}
-use Rattle.std.specs.Prelude.{if◌then◌else◌, nat_lt, is_some}
+use Rattle.std.specs.Prelude.{if◌then◌else◌, nat_lt}
 use Rattle.std.proofs.lemmas.Bool.{eq-eqb, not-false}
 use Rattle.fj_model.specs.declared.event.Event.{Event}
 use Rattle.fj_model.specs.declared.event.Event.TheVariants as event
@@ -38,9 +38,9 @@ use Rattle.fj_model.proofs.Standing.{all_fail, some_or_none}
 use Rattle.fj_model.proofs.Statuses.{status_same}
 use Rattle.fj_machine.specs.Holds.{IsLawful}
 use Rattle.fj_machine.proofs.HandParts.{hand_same}
-use Rattle.fj_machine.proofs.KeptTasks.{kept_still}
 use Rattle.fj_machine.proofs.RoomTests.{grown_twice}
 use Rattle.fj_machine.proofs.Stepping.{steps_full, steps_made, may_step}
+use Rattle.fj_model.proofs.Releasing.{kept_same}
 
 -- a running task is kept
 pub running_kept : (pool : Pool) (h : List Event) (w t : ℕ) → IsLawful pool h → running h w ≡ Some t → is_kept h t ≡ true
@@ -72,10 +72,6 @@ misfit_other h t ending b fits is (inl same) suits = rw (same, is, suits) refl
 misfit_other h t ending b fits is (inr (inl same)) suits = rw (same, is, suits) refl
 misfit_other h t ending b fits is (inr (inr (inl same))) suits = rw (same, is, suits) refl
 misfit_other h t ending b fits is (inr (inr (inr same))) suits = rw (same, is, suits) refl
-
-pub none_there : (o : Option Refusal) → is_some o ≡ false → o ≡ None
-none_there None none = refl
-none_there (Some r) none = absurd cc
 
 -- the ending suits the task, or not
 pub end_refused : (pool : Pool) (h : List Event) (w t : ℕ) (ending : Ending) (fits : Bool)
@@ -125,7 +121,7 @@ may_end pool h w t ending n law stands is count fits =
 -- ---- after it
 
 pub ended_kept : (pool : Pool) (h : List Event) (w t : ℕ) → IsLawful pool h → running h w ≡ Some t → is_kept (h ++ event.End t w ∷ []) t ≡ true
-ended_kept pool h w t law is = kept_still h (event.End t w) t refl refl ∙ running_kept pool h w t law is
+ended_kept pool h w t law is = kept_same h (event.End t w) t refl refl ∙ running_kept pool h w t law is
 
 -- the ending suits the running task
 pub end_suits : (pool : Pool) (h : List Event) (w t : ℕ) (ending : Ending) → first_that_stands (refusals_of pool h (End w ending)) ≡ None → running h w ≡ Some t

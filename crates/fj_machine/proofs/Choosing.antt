@@ -2,7 +2,7 @@
 use Rattle.std.proofs.Common.{zero, suc, ℕ, ◌≡◌, ◌+◌, ◌-◌, ◌%◌, ◌≤◌, ◌<◌, cond, List, [], ◌∷◌, length, map, get_or, Option, Some, None, refl, ap, sym, subst, ◌∙◌, arith, ⊎_elim}
 use Rattle.std.proofs.lemmas.List.{append-nil}
 use Rattle.std.proofs.lemmas.Bool.{cases_lt}
-use Rattle.std.specs.Prelude.{MatchOption, slice_get}
+use Rattle.std.specs.Prelude.{MatchOption}
 use Rattle.std.specs.List.{range_with_len}
 use Rattle.fj_model.specs.declared.event.Event.{Event}
 use Rattle.fj_model.specs.declared.mode.Mode.{Mode}
@@ -27,6 +27,7 @@ use Rattle.fj_machine.specs.declared.source.Source.TheVariants.{Oldest, Newest}
 use Rattle.fj_machine.specs.Sources.{IsChosenFrom, TakesChoice, end_of, tasks_there, task_at}
 use Rattle.fj_machine.specs.Holds.{IsLawful}
 use Rattle.fj_machine.proofs.Stepping.{steps_full, steps_made, may_step}
+use Rattle.fj_machine.proofs.Passing.{some_get}
 
 -- each of the places is below the count
 abbrev pub AllBelow : ℕ → List ℕ → Type 0
@@ -78,11 +79,6 @@ pub scan_choice : (pool : Pool) (h : List Event) (w r : ℕ) → length (queue h
 unfolding choice
 scan_choice pool h w r none = rw (nothing (queue h (Work w)) none, none_own pool.mode) refl
 
-some_at : (ts : List ℕ) (k : ℕ) → k < length ts → (t : ℕ) × (slice_get ts k ≡ Some t)
-some_at [] k inside = absurd (omega arith)
-some_at (t ∷ ts) zero inside = (t, refl)
-some_at (t ∷ ts) (suc k) inside = some_at ts k (omega arith)
-
 -- where the own task stands, by the mode
 abbrev pub own_source : Mode → ℕ → Source
 own_source Async q = Oldest q
@@ -102,14 +98,14 @@ own_is_chosen past w r within some = go past.pool.mode refl
 
     go : (m : Mode) → past.pool.mode ≡ m → IsChosenFrom past w r (own_source m (past.pool.limits.submitters + w))
     go Async is =
-        let t = some_at (queue past.events (Work w)) 0 some in
+        let t = some_get (queue past.events (Work w)) 0 some in
         record {
           within = omega arith;
           chosen = rw (is, work_owner past.pool.limits w, t.1) refl;
           filled = rw (work_owner past.pool.limits w) some;
         }
     go Joining is =
-        let t = some_at (queue past.events (Work w)) (length (queue past.events (Work w)) - 1) (omega arith) in
+        let t = some_get (queue past.events (Work w)) (length (queue past.events (Work w)) - 1) (omega arith) in
         record {
           within = omega arith;
           chosen = rw (is, work_owner past.pool.limits w, t.1) refl;
@@ -130,8 +126,8 @@ taking_one h w t u is = rw is refl
 
 -- of a filled queue there is a task at each end
 end_there : (source : Source) (ts : List ℕ) → 0 < length ts → (t : ℕ) × (end_of source ts ≡ Some t)
-end_there (Oldest q) ts some = some_at ts 0 some
-end_there (Newest q) ts some = some_at ts (length ts - 1) (omega arith)
+end_there (Oldest q) ts some = some_get ts 0 some
+end_there (Newest q) ts some = some_get ts (length ts - 1) (omega arith)
 
 pub takes_none : (past : Past) (w r : ℕ) → length past.events ≤ past.pool.limits.events → choice past.pool past.events w r ≡ None → TakesChoice past w r says.None past
 takes_none past w r fits is =

@@ -13,9 +13,8 @@ use Rattle.fj_model.specs.Allowed.{Allowed, AllowedFrom}
 use Rattle.fj_model.specs.Tasks.{accepted_by}
 use Rattle.fj_model.specs.Climbs.{arrival}
 use Rattle.fj_model.specs.Climbs as climb
-use Rattle.fj_model.proofs.PlaceLaws.{none_accepted, kind_same, not_new, unmoved_queue, unmoved_stack}
+use Rattle.fj_model.proofs.PlaceLaws.{none_accepted, unmoved_queue, unmoved_stack}
 use Rattle.fj_model.proofs.Calm.{is_calm, calm_unmoved, calm_status, calm_place, calm_open, calm_gone}
-use Rattle.fj_model.proofs.Releasing.{kept_known}
 use Rattle.fj_model.proofs.Spending.{settled_by}
 use Rattle.fj_model.proofs.Pending.{pending_added, pending_counted}
 use Rattle.fj_queues.specs.Queues.{Lists as Waiting}
@@ -39,6 +38,8 @@ use Rattle.fj_machine.proofs.Located.{IsLocated}
 use Rattle.fj_machine.proofs.Parts.{queues_same, stacks_same}
 use Rattle.fj_machine.proofs.Records.{tree_written}
 use Rattle.fj_machine.proofs.Telling.{touched, is_of_one, kept_more, fired_same}
+use Rattle.fj_model.proofs.KindsKept.{kind_still, kept_known}
+use Rattle.fj_model.proofs.Lawful.{not_new}
 
 -- an event that changes the pending count of one task alone
 record IsCount (e : Event) (t : ℕ) : Type 0 where
@@ -77,7 +78,7 @@ count_tells pool h e r n so may is unfired tells count =
     let known = kept_known h r.serial tells.kept in
     record {
       kept = kept_more h e r.serial is.one tells.kept;
-      kind = kind_same h e r.serial (not_new pool h e r.serial so may known) ∙ tells.kind;
+      kind = kind_still h e r.serial (not_new pool h e r.serial so may known) ∙ tells.kind;
       place = calm_place pool h e r.serial so may is.calm known ∙ tells.place;
       status = calm_status h e r.serial is.calm ∙ tells.status;
       pending = count;

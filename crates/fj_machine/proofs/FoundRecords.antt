@@ -4,7 +4,7 @@ use Rattle.std.specs.Prelude.{IsSome, MatchOption, option_copied}
 use Rattle.std.proofs.lemmas.Bool.{true≢false}
 use Rattle.std.proofs.lemmas.Option.{MatchOption-at_some}
 use Rattle.fj_model.specs.declared.event.Event.{Event}
-use Rattle.fj_model.specs.Tasks.{is_kept, is_completer, is_completer_kind}
+use Rattle.fj_model.specs.Tasks.{is_kept}
 use Rattle.fj_model.specs.Statuses.{status, is_undone}
 use Rattle.fj_model.specs.Completers.{is_spent}
 use Rattle.fj_tree.specs.declared.record.Record.{Record}
@@ -27,10 +27,6 @@ told_of h t found r told is = MatchOption-at_some (is_kept h t ≡ false) (Tells
 
 pub undone_of : (h : List Event) (t : ℕ) (r : Record) → TellsOf h t r → is_undone (status h t) ≡ is_undone r.status
 undone_of h t r told = ap (λ u. is_undone (status h u)) (sym told.number) ∙ ap is_undone told.tells.status
-
-pub completer_of : (h : List Event) (t : ℕ) (r : Record) → TellsOf h t r → is_completer h t ≡ is_completer_kind (Some r.kind)
-unfolding is_completer
-completer_of h t r told = ap (is_completer h) (sym told.number) ∙ ap is_completer_kind told.tells.kind
 
 pub spent_of : (h : List Event) (t : ℕ) (r : Record) → TellsOf h t r → is_spent h t ≡ record_is.is_spent r
 spent_of h t r told = ap (is_spent h) (sym told.number) ∙ spent_told h r told.tells

@@ -20,17 +20,16 @@ use Rattle.fj_model.specs.Hooks.{Hook, hooks, hooks_after, hand, receiver, compl
 use Rattle.fj_model.specs.Completers.{fires_or_passes}
 use Rattle.fj_model.specs.Allowed.{Allowed, AllowedFrom, is_fired_by_complete, fires_by_complete}
 use Rattle.fj_model.proofs.Growth.{hooks_more, or_false}
-use Rattle.fj_model.proofs.Lawful.{known_more}
+use Rattle.fj_model.proofs.Lawful.{known_more, not_new}
 use Rattle.fj_model.proofs.Members.{times_in_cons, times_in_append, times_in_none, is_in_append}
 use Rattle.fj_model.proofs.OnePlace.{never}
 use Rattle.fj_model.proofs.KeptParents.{kept_before}
-use Rattle.fj_model.proofs.PlaceLaws.{not_new, parent_same}
-use Rattle.fj_model.proofs.Releasing.{kept_known}
 use Rattle.fj_model.proofs.Spending.{settled_by, status_kept}
 use Rattle.fj_machine.specs.InHands.{InHand}
 use Rattle.fj_machine.specs.Holds.{KeepsHands, TellsHook, TellsLeft, hook_completers, is_complete}
 use Rattle.fj_machine.proofs.HookLists.{completers, workers_of, but, hand_after, hand_before, hand_listed, no_worker, hand_emptied, hand_stays, fewer_times, fewer_listed}
 use Rattle.fj_machine.proofs.Telling.{is_of_one, no_stop, kept_more}
+use Rattle.fj_model.proofs.KindsKept.{parent_still, kept_known}
 
 any_more : (test : Event → Bool) (h : List Event) (e : Event) → list_any test h ≡ true → list_any test (h ++ e ∷ []) ≡ true
 any_more test h e is = list_any-append test h (e ∷ []) ∙ rw is refl
@@ -79,7 +78,7 @@ tells_hook : (pool : Pool) (h : List Event) (e : Event) (hook : InHand) → Allo
 unfolding is_fired_by_complete
 tells_hook pool h e hook so may one other settles tells = record {
   known = known_more h e hook.completer tells.known;
-  parent = parent_same h e hook.completer (not_new pool h e hook.completer so may tells.known) ∙ tells.parent;
+  parent = parent_still h e hook.completer (not_new pool h e hook.completer so may tells.known) ∙ tells.parent;
   how = any_same (fires_by_complete hook.completer) h e other ∙ tells.how;
   left = left_more pool h e hook.completer hook.left so may one settles tells.known tells.left;
 }
@@ -223,7 +222,7 @@ hands_fired pool h c w how hands hook so may within free given unfired kept is_c
     own : TellsHook h2 hook
     own = record {
       known = known_more h e hook.completer (ap (λ d. is_in d (tasks h)) is_c ∙ known);
-      parent = parent_same h e hook.completer (not_new pool h e hook.completer so may (ap (λ d. is_in d (tasks h)) is_c ∙ known)) ∙ ap (parent h) is_c ∙ is_parent;
+      parent = parent_still h e hook.completer (not_new pool h e hook.completer so may (ap (λ d. is_in d (tasks h)) is_c ∙ known)) ∙ ap (parent h) is_c ∙ is_parent;
       how = ap (λ d. list_any (fires_by_complete d) h2) is_c ∙ any_last (fires_by_complete c) h e (never_complete c h unfired) ∙ own_fires c how ∙ ap is_complete (sym is_how);
       left = subst (TellsLeft h2 hook.completer) (sym is_left) (ap (is_kept h2) is_c ∙ kept_more h e c refl kept);
     }

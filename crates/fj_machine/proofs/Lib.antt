@@ -16,7 +16,6 @@ pub mod HookEnds
 pub mod HookLists
 pub mod HookSteps
 pub mod KeptChildren
-pub mod KeptTasks
 pub mod Lawfuls
 pub mod Located
 pub mod OneEvent

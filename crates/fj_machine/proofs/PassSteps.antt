@@ -19,7 +19,7 @@ use Rattle.fj_tree.specs.declared.pass.PassHow.TheVariants as how
 use Rattle.fj_machine.specs.declared.ledger.climb.Climb.{Climb}
 use Rattle.fj_machine.specs.Climbing.{IsEnd, EndsAt, Climbs, climb_end, climb_says}
 use Rattle.fj_model.proofs.KeptParents.{path_kept}
-use Rattle.fj_machine.proofs.KeptTasks.{kept_still}
+use Rattle.fj_model.proofs.Releasing.{kept_same}
 
 -- what ends the climb, as the history says it
 record IsClimbEnd (h : List Event) (way : List ℕ) (root : Option ℕ) (end : Climb) : Type 0 where
@@ -76,7 +76,7 @@ pub kept_past : (h : List Event) (ts : List ℕ) (t : ℕ) → is_kept h t ≡ t
 kept_past h [] t kept = ap (λ (es : List Event). is_kept es t) (append-nil h) ∙ kept
 kept_past h (u ∷ ts) t kept =
     ap (λ (es : List Event). is_kept es t) (sym (append_assoc h (event.Pass u ∷ []) (map event.Pass ts)))
-    ∙ kept_past (h ++ event.Pass u ∷ []) ts t (kept_still h (event.Pass u) t refl refl ∙ kept)
+    ∙ kept_past (h ++ event.Pass u ∷ []) ts t (kept_same h (event.Pass u) t refl refl ∙ kept)
 
 -- what comes after events that were allowed
 pub allowed_back : (pool : Pool) (before xs ys : List Event) → AllowedFrom pool before (xs ++ ys) → AllowedFrom pool (before ++ xs) ys

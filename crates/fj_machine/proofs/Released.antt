@@ -18,7 +18,7 @@ use Rattle.fj_model.specs.Statuses.{status}
 use Rattle.fj_model.specs.Places.{place, is_gone}
 use Rattle.fj_model.specs.Answers.{first_that_stands, refusals_of}
 use Rattle.fj_model.specs.Allowed.{Allowed, AllowedFrom, has_kept_child, is_fired_by_complete, fires_by_complete}
-use Rattle.fj_model.proofs.Releasing.{kept_known, release_forgets, release_keeps, release_live, release_tasks, release_accepted, release_kind, release_parent, release_status, release_pending, release_queue, release_stack, release_place, release_open, release_gone}
+use Rattle.fj_model.proofs.Releasing.{release_forgets, release_keeps, release_live, release_tasks, release_accepted, release_kind, release_parent, release_status, release_pending, release_queue, release_stack, release_place, release_open, release_gone}
 use Rattle.fj_queues.specs.Queues.{Lists as Waiting}
 use Rattle.fj_tree.specs.declared.record.Record.{Record}
 use Rattle.fj_tree.specs.Records.{Records, IsSound, is_named, record_at, record_of, handle_of, count}
@@ -36,6 +36,7 @@ use Rattle.fj_machine.proofs.Located.{IsLocated}
 use Rattle.fj_machine.proofs.Parts.{queues_same, stacks_same}
 use Rattle.fj_machine.proofs.Refused.{of_ok}
 use Rattle.fj_machine.proofs.Telling.{fired_same}
+use Rattle.fj_model.proofs.KindsKept.{kept_known}
 
 -- what a release leaves: one record fewer, and the other ones as they were but for the count of children
 pub record IsReleased (old new : Records) (key : ℕ) (r : Record) : Type 0 where

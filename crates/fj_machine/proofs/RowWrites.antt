@@ -1,6 +1,5 @@
 -- One of several lists is changed.
-use Rattle.fj_model.specs.Lists.{is_empty}
-use Rattle.std.proofs.Common.{arith, true, false, ◌∷◌, ℕ, ◌≡◌, ◌<◌, List, [], length, get_or, map, refl, ap, sym, ◌∙◌}
+use Rattle.std.proofs.Common.{ℕ, ◌≡◌, ◌<◌, List, [], length, get_or, map, ap, sym, ◌∙◌}
 use Rattle.std.proofs.Math.ListN.{set}
 use Rattle.std.proofs.lemmas.List.{map-set, get_or-map}
 
@@ -11,11 +10,3 @@ pub row_written : {V : Type 0} (items : V → List ℕ) (change : List ℕ → L
 row_written items change vs i old new within is now =
     map-set items vs i new
     ∙ ap (set (map items vs) i) (now ∙ ap change (ap items is ∙ sym (get_or-map items vs i old [] within)))
-
-pub is_empty_no : (xs : List ℕ) → 0 < length xs → is_empty xs ≡ false
-is_empty_no [] some = absurd (omega arith)
-is_empty_no (x ∷ xs) some = refl
-
-pub is_empty_yes : (xs : List ℕ) → length xs ≡ 0 → is_empty xs ≡ true
-is_empty_yes [] none = refl
-is_empty_yes (x ∷ xs) none = absurd (omega arith)

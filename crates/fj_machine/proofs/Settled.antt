@@ -21,7 +21,7 @@ use Rattle.fj_model.specs.Places.{place, is_open}
 use Rattle.fj_model.specs.Allowed.{Allowed, AllowedFrom}
 use Rattle.fj_model.proofs.Firings.{fires_unspent}
 use Rattle.fj_model.proofs.Ends.{status_settle}
-use Rattle.fj_model.proofs.PlaceLaws.{kind_same, unmoved_queue, unmoved_stack}
+use Rattle.fj_model.proofs.PlaceLaws.{unmoved_queue, unmoved_stack}
 use Rattle.fj_model.proofs.KeptPlaces.{open_kept}
 use Rattle.fj_model.proofs.OnePlace.{never}
 use Rattle.fj_model.proofs.Spending.{status_kept, spending_open, spending_gone}
@@ -41,6 +41,7 @@ use Rattle.fj_machine.proofs.Parts.{queues_same, stacks_same}
 use Rattle.fj_machine.proofs.Records.{tree_other}
 use Rattle.fj_machine.proofs.Spent.{Respent, spent_holds, open_after, gone_after}
 use Rattle.fj_machine.proofs.Telling.{pending_same, fired_same}
+use Rattle.fj_model.proofs.KindsKept.{kind_still}
 
 pub settled_says : (pool : Pool) (h : List Event) (s : Status) (r : Record) → AllowedFrom pool [] h → Allowed pool h (Settle r.serial s) → Tells h r
     → Respent (h ++ Settle r.serial s ∷ []) r (with_status s r)
@@ -49,7 +50,7 @@ settled_says pool h s r so may tells = let e = Settle r.serial s in record {
   kind = refl;
   place = refl;
   status = status_settle pool h r.serial s so may.1;
-  pending = pending_same h e r.serial (kind_same h e r.serial (λ is. absurd cc)) refl refl ∙ tells.pending;
+  pending = pending_same h e r.serial (kind_still h e r.serial (λ is. absurd cc)) refl refl ∙ tells.pending;
   spent = fired_same h e r.serial refl ∙ tells.spent;
 }
 
@@ -63,7 +64,7 @@ fired_says h how r tells = let e = Fire r.serial how in record {
   kind = refl;
   place = refl;
   status = status_kept h e r.serial refl (λ is. absurd cc) ∙ tells.status;
-  pending = pending_same h e r.serial (kind_same h e r.serial (λ is. absurd cc)) refl refl ∙ tells.pending;
+  pending = pending_same h e r.serial (kind_still h e r.serial (λ is. absurd cc)) refl refl ∙ tells.pending;
   spent = fired_now h e r.serial (eq-eqb r.serial r.serial refl);
 }
 
@@ -73,7 +74,7 @@ passed_says h r tells = let e = Pass r.serial in record {
   kind = refl;
   place = refl;
   status = status_kept h e r.serial refl (λ is. absurd cc) ∙ tells.status;
-  pending = pending_same h e r.serial (kind_same h e r.serial (λ is. absurd cc)) refl refl ∙ tells.pending;
+  pending = pending_same h e r.serial (kind_still h e r.serial (λ is. absurd cc)) refl refl ∙ tells.pending;
   spent = fired_now h e r.serial (eq-eqb r.serial r.serial refl);
 }
 

@@ -18,7 +18,6 @@ use Rattle.fj_model.specs.Completers.{pending, fires_or_passes}
 use Rattle.fj_model.specs.Places.{place, is_open}
 use Rattle.fj_model.specs.Allowed.{Allowed, AllowedFrom, is_fired_by_complete, fires_by_complete}
 use Rattle.fj_model.proofs.Closing.{close_queue, close_stack, close_open, close_gone}
-use Rattle.fj_model.proofs.Releasing.{kept_known}
 use Rattle.fj_model.proofs.Spending.{closed}
 use Rattle.fj_model.proofs.Stopping.{stop_tasks, stop_queue, stop_stack, stop_accepted, stop_kept, stop_live, stop_kind, stop_parent, stop_pending, stop_cancels, stop_place, stop_open, stop_gone_sorted}
 use Rattle.fj_queues.specs.Queues.{Lists as Waiting}
@@ -35,6 +34,7 @@ use Rattle.fj_machine.proofs.HandParts.{any_same, hands_same, hands_mapped}
 use Rattle.fj_machine.proofs.Parts.{queues_same, stacks_same}
 use Rattle.fj_machine.proofs.Records.{tree_same}
 use Rattle.fj_machine.proofs.Telling.{fired_same}
+use Rattle.fj_model.proofs.KindsKept.{kept_known}
 
 -- no submission is accepted from now on
 pub close_holds : (pool : Pool) (h : List Event) (queues : Waiting) (stacks : Lists) (hands : List (Option InHand)) (tree : Records) (opens gones : List ℕ)

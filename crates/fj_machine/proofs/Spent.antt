@@ -16,11 +16,10 @@ use Rattle.fj_model.specs.Completers.{pending, fires_or_passes}
 use Rattle.fj_model.specs.Climbs.{climbed_by}
 use Rattle.fj_model.specs.Places.{place, is_open, open_tasks, gone}
 use Rattle.fj_model.specs.Allowed.{Allowed, AllowedFrom}
-use Rattle.fj_model.proofs.PlaceLaws.{none_accepted, kind_same, unmoved_queue, unmoved_stack, not_new}
+use Rattle.fj_model.proofs.PlaceLaws.{none_accepted, unmoved_queue, unmoved_stack}
 use Rattle.fj_model.proofs.Spending.{spends, closed, spends_unmoved, spent_place, spending_open, spending_gone}
 use Rattle.fj_model.proofs.OpenList.{in_open, gone_short}
 use Rattle.fj_model.proofs.Queues.{without_absent}
-use Rattle.fj_model.proofs.Releasing.{kept_known}
 use Rattle.fj_queues.specs.Queues.{Lists as Waiting}
 use Rattle.fj_tree.specs.declared.record.Record.{Record}
 use Rattle.fj_tree.specs.Handles.{Handle}
@@ -34,7 +33,9 @@ use Rattle.fj_machine.specs.Holds.{Holds, Tells, KeepsHands}
 use Rattle.fj_machine.proofs.Growing.{grown_holds}
 use Rattle.fj_machine.proofs.Parts.{queues_same, stacks_same}
 use Rattle.fj_machine.proofs.Records.{tree_written}
-use Rattle.fj_machine.proofs.Telling.{touched, is_of_one, kept_more}
+use Rattle.fj_machine.proofs.Telling.{is_of_one, kept_more, spends_touched}
+use Rattle.fj_model.proofs.KindsKept.{kind_still, kept_known}
+use Rattle.fj_model.proofs.Lawful.{not_new}
 
 -- ---- room for one gone task more
 
@@ -98,7 +99,7 @@ spent_tells pool h e r s so may is kept tells re = go (is_open s.place) refl
     placed = spent_place pool h e r.serial so may is known ∙ ap closed tells.place ∙ sym (closed_place r.place s re.place)
 
     kinds : kind (h ++ e ∷ []) r.serial ≡ Some s.kind
-    kinds = kind_same h e r.serial (not_new pool h e r.serial so may known) ∙ tells.kind ∙ ap Some (sym re.kind)
+    kinds = kind_still h e r.serial (not_new pool h e r.serial so may known) ∙ tells.kind ∙ ap Some (sym re.kind)
 
     go : (b : Bool) → is_open s.place ≡ b → Tells (h ++ e ∷ []) (if is_open s.place then with_place Gone s else s)
     go true is_true = rw is_true (record {
@@ -131,12 +132,6 @@ gone_after h gones c true is open_now = rw open_now (ap (λ ts. ts ++ c ∷ []) 
 gone_after h gones c false is shut = rw shut (is ∙ sym (append-nil (gone h)))
 
 -- ---- all
-
-spends_touched : (e : Event) (c : ℕ) → spends e ≡ Some c → touched e ≡ Some c
-spends_touched (Fire d how) c is = is
-spends_touched (Pass d) c is = is
-spends_touched (Settle d s) c is = is
-spends_touched _ c is = absurd cc
 
 spends_one : (e : Event) (c : ℕ) → spends e ≡ Some c → is_of_one e ≡ true
 spends_one (Fire d how) c is = refl

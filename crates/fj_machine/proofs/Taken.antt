@@ -23,7 +23,7 @@ use Rattle.fj_model.proofs.Lawful.{queued_pushed}
 use Rattle.fj_model.proofs.Members.{Once, first_is_in, get_is_in}
 use Rattle.fj_model.proofs.OnePlace.{queue_once}
 use Rattle.fj_model.proofs.Owners.{owners_apart}
-use Rattle.fj_model.proofs.PlaceLaws.{moves, kind_same}
+use Rattle.fj_model.proofs.PlaceLaws.{moves}
 use Rattle.fj_model.proofs.Queues.{queue_without, queue_other}
 use Rattle.fj_model.proofs.Spending.{moved_status}
 use Rattle.fj_model.proofs.Taking.{taking_open, handed_place, handed_gone, skipped_place, skipped_gone}
@@ -44,6 +44,7 @@ use Rattle.fj_machine.proofs.Located.{IsLocated}
 use Rattle.fj_machine.proofs.Parts.{new_row, stacks_same}
 use Rattle.fj_machine.proofs.Records.{tree_written}
 use Rattle.fj_machine.proofs.Telling.{is_of_one, kept_more, pending_same, fired_same}
+use Rattle.fj_model.proofs.KindsKept.{kind_still}
 
 -- what is taken was there
 pub in_end : (source : Source) (ts : List ℕ) (t : ℕ) → end_of source ts ≡ Some t → is_in t ts ≡ true
@@ -100,10 +101,10 @@ place_tells : (h : List Event) (e : Event) (r : Record) (p : Place) → is_of_on
     → Tells h r → place (h ++ e ∷ []) r.serial ≡ p → Tells (h ++ e ∷ []) (with_place p r)
 place_tells h e r p is moved none unfired added counted tells placed = record {
   kept = kept_more h e r.serial is tells.kept;
-  kind = kind_same h e r.serial (λ said. some_none none said) ∙ tells.kind;
+  kind = kind_still h e r.serial (λ said. some_none none said) ∙ tells.kind;
   place = placed;
   status = moved_status h e r.serial moved ∙ tells.status;
-  pending = pending_same h e r.serial (kind_same h e r.serial (λ said. some_none none said)) added counted ∙ tells.pending;
+  pending = pending_same h e r.serial (kind_still h e r.serial (λ said. some_none none said)) added counted ∙ tells.pending;
   spent = fired_same h e r.serial unfired ∙ tells.spent;
 }
   where

@@ -15,13 +15,14 @@ use Rattle.fj_model.specs.Stacks.{ended_by}
 use Rattle.fj_model.specs.Completers.{pending, added_by, counted_by, fires_or_passes}
 use Rattle.fj_model.specs.Allowed.{Allowed, AllowedFrom, is_stop}
 use Rattle.fj_model.proofs.Growth.{filter_map_more, or_false}
-use Rattle.fj_model.proofs.Lawful.{known_more, number_if_is}
+use Rattle.fj_model.proofs.Lawful.{known_more, number_if_is, not_new}
 use Rattle.fj_model.proofs.OnePlace.{never}
-use Rattle.fj_model.proofs.PlaceLaws.{not_new, kind_same, place_kept}
-use Rattle.fj_model.proofs.Releasing.{kept_known, released_same}
+use Rattle.fj_model.proofs.PlaceLaws.{place_kept}
+use Rattle.fj_model.proofs.Releasing.{released_same}
 use Rattle.fj_model.proofs.Spending.{spends, settled_by, spent_kept, status_kept}
 use Rattle.fj_tree.specs.declared.record.Record.{Record}
 use Rattle.fj_machine.specs.Holds.{Tells}
+use Rattle.fj_model.proofs.KindsKept.{kind_still, kept_known}
 
 -- whether the event says something of one task at most, and releases none
 abbrev pub is_of_one : Event → Bool
@@ -60,7 +61,7 @@ ended_touched : (w : ℕ) (e : Event) (t : ℕ) → ended_by w e ≡ Some t → 
 ended_touched w (End u v) t is = ap Some (number_if_is (w == v) u t is).1
 ended_touched w _ t is = absurd cc
 
-spends_touched : (e : Event) (t : ℕ) → spends e ≡ Some t → touched e ≡ Some t
+pub spends_touched : (e : Event) (t : ℕ) → spends e ≡ Some t → touched e ≡ Some t
 spends_touched (Fire c how) t is = is
 spends_touched (Pass c) t is = is
 spends_touched (Settle c s) t is = is
@@ -108,7 +109,7 @@ tells_same pool h e r so may is other tells =
     let t = r.serial in
     let known = kept_known h t tells.kept in
     let unstopped = no_stop e is in
-    let kinds = kind_same h e t (not_new pool h e t so may known) in
+    let kinds = kind_still h e t (not_new pool h e t so may known) in
     let spent = spent_kept h e t unstopped (λ said. other (spends_touched e t said)) in
     record {
       kept = kept_more h e t is tells.kept;

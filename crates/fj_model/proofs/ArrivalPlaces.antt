@@ -22,9 +22,9 @@ use Rattle.fj_model.proofs.GoneTasks.{spent_stays, gone_nowhere}
 use Rattle.fj_model.proofs.OnePlace.{never}
 use Rattle.fj_model.proofs.PlaceLaws.{place_more, unmoved_place}
 use Rattle.fj_model.proofs.Spending.{done_now}
-use Rattle.fj_model.proofs.Unknown.{completer_known}
 use Rattle.fj_model.proofs.NewTasks.{submitted_place}
 use Rattle.fj_model.proofs.Taking.{handed_place}
+use Rattle.fj_model.proofs.KindsKept.{completer_known}
 
 -- ---- a task that was not opened and is not spent is not gone
 

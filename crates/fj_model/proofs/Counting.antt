@@ -1,32 +1,17 @@
 -- How many tasks stand in the lists of a history.
-use Rattle.std.proofs.Common.{zero, suc, ℕ, ◌≡◌, ◌≢◌, ◌+◌, ◌-◌, ◌≤◌, ◌<◌, Bool, true, false, cond, not, List, [], ◌∷◌, length, take, drop, Some, refl, ap, sym, ◌∙◌, arith, subst, ⊎_elim}
+use Rattle.std.proofs.Common.{zero, suc, ℕ, ◌≡◌, ◌≢◌, ◌+◌, ◌-◌, ◌≤◌, ◌<◌, Bool, true, false, cond, not, List, [], ◌∷◌, length, take, drop, Some, refl, ap, sym, ◌∙◌, arith, subst}
 use Rattle.std.specs.Prelude.{nat_lt}
-use Rattle.std.proofs.lemmas.Bool.{eq-eqb, ne_eqb, ltb-true, true≢false, not-true, and_parts, cases_eq}
+use Rattle.std.proofs.lemmas.Bool.{eq-eqb, ltb-true, true≢false, not-true, and_parts}
 use Rattle.fj_model.specs.declared.event.Event.{Event}
 use Rattle.fj_model.specs.Bounds.{Pool}
 use Rattle.fj_model.specs.Lists.{is_in, without, times_in, first_of, last_of}
 use Rattle.fj_model.specs.Tasks.{accepted}
 use Rattle.fj_model.specs.Allowed.{AllowedFrom}
 use Rattle.fj_model.specs.Headline.{all_places, IsInOnePlace}
-use Rattle.fj_model.proofs.Members.{times_in_cons, times_in_some, times_in_filter, is_in_filter, first_then, Once}
+use Rattle.fj_model.proofs.Members.{times_in_cons, times_in_some, times_in_filter, is_in_filter, first_then, Once, length_without}
 use Rattle.fj_model.proofs.Ends.{last_then, without_last}
 use Rattle.fj_model.proofs.OnePlace.{one_place, never}
 use Rattle.fj_model.proofs.Queues.{without_absent}
-
--- what is missing is what is counted
-length_without : (m : ℕ) (ts : List ℕ) → length ts ≡ length (without ts (m ∷ [])) + times_in m ts
-length_without m [] = refl
-length_without m (t ∷ ts) = ⊎_elim (here (length_without m ts)) (other (length_without m ts)) (cases_eq m t)
-  where
-    here : length ts ≡ length (without ts (m ∷ [])) + times_in m ts → m ≡ t → suc (length ts) ≡ length (without (t ∷ ts) (m ∷ [])) + times_in m (t ∷ ts)
-    here rest same =
-        let one : times_in m (t ∷ ts) ≡ 1 + times_in m ts = times_in_cons m t ts ∙ rw (eq-eqb t m (sym same)) refl in
-        rw (eq-eqb m t same) (omega (arith, one, rest))
-
-    other : length ts ≡ length (without ts (m ∷ [])) + times_in m ts → m ≢ t → suc (length ts) ≡ length (without (t ∷ ts) (m ∷ [])) + times_in m (t ∷ ts)
-    other rest apart =
-        let none : times_in m (t ∷ ts) ≡ times_in m ts = times_in_cons m t ts ∙ rw (ne_eqb t m (λ is. apart (sym is))) (omega arith) in
-        rw (ne_eqb m t apart) (omega (arith, none, rest))
 
 -- a list of different numbers below n has at most n members
 few_once : (n : ℕ) (ts : List ℕ) → Once ts → ((t : ℕ) → is_in t ts ≡ true → t < n) → length ts ≤ n

@@ -35,7 +35,7 @@ in_gone pool h t so known = go (is_in t (gone h)) (is_gone (place h t)) refl ref
 is_in_left : (t : ℕ) (xs ys : List ℕ) → is_in t xs ≡ true → is_in t (xs ++ ys) ≡ true
 is_in_left t xs ys there = is_in_append t xs ys ∙ rw there refl
 
-not_said : (t : ℕ) (said : Option ℕ) → (said ≡ Some t → ⊥) → is_in t (cons_option said []) ≡ false
+pub not_said : (t : ℕ) (said : Option ℕ) → (said ≡ Some t → ⊥) → is_in t (cons_option said []) ≡ false
 not_said t None other = refl
 not_said t (Some u) other = rw (ne_eqb u t (λ same. other (ap Some same))) refl
 

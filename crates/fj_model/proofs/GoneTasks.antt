@@ -1,27 +1,27 @@
 -- A task that is gone stays gone, so the list of gone tasks has each of them once.
 use Rattle.std.proofs.Common.{ℕ, ◌≡◌, ◌+◌, ◌-◌, ◌≤◌, Bool, true, false, cond, not, ◌&&◌, List, [], ◌∷◌, ◌++◌, length, Option, Some, None, refl, ap, sym, ◌∙◌, arith, ⊎_elim, ◌⊎◌, inl, inr}
-use Rattle.std.specs.Prelude.{◌==◌, if◌then◌else◌, is_some}
+use Rattle.std.specs.Prelude.{◌==◌, is_some}
 use Rattle.std.specs.List.{filter, filter_map, list_any, find, cons_option}
 use Rattle.std.proofs.lemmas.Bool.{eqb-true, eq-eqb, and_parts, or_cases, or_right, true≢false, not-true}
 use Rattle.fj_model.specs.declared.event.Event.{Event}
 use Rattle.fj_model.specs.declared.event.Event.TheVariants.{Acc, Make, Out, End}
 use Rattle.fj_model.specs.declared.owner.Owner.{Owner}
-use Rattle.fj_model.specs.declared.kind.Kind.{Kind}
 use Rattle.fj_model.specs.declared.status.Status.{Status}
 use Rattle.fj_model.specs.Bounds.{Pool}
 use Rattle.fj_model.specs.Lists.{is_in, without, or_else, times_in}
 use Rattle.fj_model.specs.Queues.{is_same, pushed, pushed_by, taken, taken_by, left, queue}
-use Rattle.fj_model.specs.Tasks.{tasks, accepted_by, kind, kind_by, is_completer, is_completer_kind}
+use Rattle.fj_model.specs.Tasks.{tasks, accepted_by, is_completer}
 use Rattle.fj_model.specs.Stacks.{stack, ended, out_by, ended_by}
 use Rattle.fj_model.specs.Statuses.{or_undone, status, status_from, status_by, is_undone, accepts}
 use Rattle.fj_model.specs.Completers.{is_spent, fires_or_passes}
 use Rattle.fj_model.specs.Places.{queued_in, held_by, opened, opened_by, place, place_of, is_gone, owner_by, worker_by, gone, gone_from, newly_gone}
 use Rattle.fj_model.specs.Allowed.{Allowed, AllowedFrom}
 use Rattle.fj_model.proofs.Members.{is_in_append, times_in_append, times_in_none, times_in_some, times_in_filter, is_in_filter, get_is_in, Once}
-use Rattle.fj_model.proofs.Growth.{pushed_more, taken_more, stack_more, opened_more, kind_more, status_more, gone_more}
-use Rattle.fj_model.proofs.Lawful.{by_events, number_if_is, is_in_with, front_cases, same_owner, allowed_more, known_more, pushed_accepts, is_new, queued_pushed, queued_fresh, tasks_once, take_chosen, chosen_queued}
+use Rattle.fj_model.proofs.Growth.{pushed_more, taken_more, stack_more, opened_more, status_more, gone_more}
+use Rattle.fj_model.proofs.Lawful.{by_events, number_if_is, is_in_with, front_cases, same_owner, allowed_more, known_more, pushed_accepts, is_new, queued_pushed, queued_fresh, tasks_once, take_chosen, chosen_queued, not_new}
 use Rattle.fj_model.proofs.Queues.{left_of_taken}
 use Rattle.fj_model.proofs.StacksTaken.{unless_cases, out_takes}
+use Rattle.fj_model.proofs.KindsKept.{completer_still}
 
 -- ---- where a task is not
 
@@ -164,31 +164,6 @@ spent_stays h e t spent =
     (λ done. or_right (list_any (fires_or_passes t) (h ++ e ∷ [])) (not (is_undone (status (h ++ e ∷ []) t))) (ap not (done_stays h e t (not-true (is_undone (status h t)) done))))
     (or_cases (list_any (fires_or_passes t) h) (not (is_undone (status h t))) spent)
 
-kind_new : (t : ℕ) (e : Event) (k : Kind) → kind_by t e ≡ Some k → accepted_by e ≡ Some t
-kind_new t (Acc u o j) k is = go (u == t) refl is
-  where
-    go : (b : Bool) → (u == t) ≡ b → (if b then Some j else None) ≡ Some k → Some u ≡ Some t
-    go true same is = ap Some (eqb-true u t same)
-    go false same is = absurd cc
-kind_new t (Make u j) k is = go (u == t) refl is
-  where
-    go : (b : Bool) → (u == t) ≡ b → (if b then Some j else None) ≡ Some k → Some u ≡ Some t
-    go true same is = ap Some (eqb-true u t same)
-    go false same is = absurd cc
-kind_new t _ k is = absurd cc
-
-same_kind : (pool : Pool) (h : List Event) (e : Event) (t : ℕ) → AllowedFrom pool [] h → Allowed pool h e → is_in t (tasks h) ≡ true → is_completer (h ++ e ∷ []) t ≡ is_completer h t
-unfolding is_completer
-same_kind pool h e t so may known = ap is_completer_kind (kind_more h t e ∙ go (kind_by t e) refl)
-  where
-    last : (k : Option Kind) → or_else k None ≡ k
-    last (Some k) = refl
-    last None = refl
-
-    go : (k : Option Kind) → kind_by t e ≡ k → or_else (kind h t) k ≡ kind h t
-    go None is = last (kind h t)
-    go (Some k) is = absurd (true≢false (sym known ∙ is_new pool h e t so may (kind_new t e k is)))
-
 opened_new : (pool : Pool) (h : List Event) (e : Event) (t : ℕ) → Allowed pool h e → opened_by e ≡ Some t → (accepted_by e ≡ Some t) ⊎ ((w : ℕ) × (is_in t (stack h w) ≡ true))
 opened_new pool h (Make u k) t may is = inl is
 opened_new pool h (End u w) t may is = inr (w, get_is_in t (stack h w) (length (stack h w) - 1) (may.0 ∙ is))
@@ -225,7 +200,7 @@ gone_stays pool h e t so may known gone =
       queues = λ o. not_gained (is_in t (queue h o)) (is_in t (queue (h ++ e ∷ []) o)) (queue_gains pool h e o t so may known) (was.queues o);
       stacks = λ w. not_gained (is_in t (stack h w)) (is_in t (stack (h ++ e ∷ []) w)) (stack_gains pool h e w t may was.queues) (was.stacks w);
       shut = shut_stays (is_completer h t) (is_in t (opened h)) (is_spent h t) (is_completer (h ++ e ∷ []) t) (is_in t (opened (h ++ e ∷ []))) (is_spent (h ++ e ∷ []) t)
-          (same_kind pool h e t so may known) (open_gains pool h e t so may known was.stacks) (spent_stays h e t) was.shut;
+          (completer_still h e t (not_new pool h e t so may known)) (open_gains pool h e t so may known was.stacks) (spent_stays h e t) was.shut;
     })
 
 -- ---- the list of gone tasks

@@ -1,6 +1,6 @@
 -- The parent of a kept task is kept, for a task with a kept child is not released.
-use Rattle.std.proofs.Common.{ℕ, ◌≡◌, ◌≢◌, Bool, true, false, ◌&&◌, List, [], ◌∷◌, ◌++◌, Option, Some, None, refl, ap, sym, ◌∙◌, zero, suc, subst, ⊎_elim, ◌⊎◌, inl, inr}
-use Rattle.std.specs.Prelude.{◌==◌, IfSome, if◌then◌else◌}
+use Rattle.std.proofs.Common.{ℕ, ◌≡◌, ◌≢◌, Bool, true, false, ◌&&◌, List, [], ◌∷◌, ◌++◌, Option, Some, None, refl, ap, sym, ◌∙◌, suc, subst, ⊎_elim, ◌⊎◌, inl, inr}
+use Rattle.std.specs.Prelude.{◌==◌, IfSome}
 use Rattle.std.specs.List.{list_any}
 use Rattle.std.proofs.lemmas.Bool.{eqb-true, eq-eqb, and_parts, or_cases, or_right, true≢false, cases_eq}
 use Rattle.fj_model.specs.declared.event.Event.{Event}
@@ -9,15 +9,14 @@ use Rattle.fj_model.specs.declared.kind.Kind.{Kind}
 use Rattle.fj_model.specs.Bounds.{Pool}
 use Rattle.fj_model.specs.Lists.{is_in, or_else}
 use Rattle.fj_model.specs.Tasks.{tasks, accepted_by, released_by, is_kept, kind, kind_by, is_completer, parent, parent_in}
-use Rattle.fj_model.specs.Climbs.{path, path_up, relayed}
-use Rattle.fj_model.specs.Allowed.{Allowed, AllowedFrom, MayAccept, is_child_of, has_kept_child}
+use Rattle.fj_model.specs.Climbs.{path, relayed}
+use Rattle.fj_model.specs.Allowed.{Allowed, AllowedFrom, is_child_of, has_kept_child}
 use Rattle.fj_model.proofs.Growth.{kind_more}
-use Rattle.fj_model.proofs.Lawful.{by_events}
-use Rattle.fj_model.proofs.KindsKept.{accepts_kind}
-use Rattle.fj_model.proofs.PlaceLaws.{not_new}
-use Rattle.fj_model.proofs.Unknown.{unknown_kind}
-use Rattle.fj_model.proofs.Releasing.{kept_known, kept_same, accepting_keeps, release_keeps, release_forgets}
+use Rattle.fj_model.proofs.Lawful.{by_events, not_new}
+use Rattle.fj_model.proofs.KindsKept.{accepts_kind, kept_known, kind_known}
+use Rattle.fj_model.proofs.Releasing.{kept_same, accepting_keeps, release_keeps, release_forgets}
 use Rattle.fj_model.proofs.SettlesAllowed.{relayed_on_way}
+use Rattle.fj_model.proofs.Parents.{accepts_may, way_has}
 
 -- ---- kept children
 
@@ -77,20 +76,6 @@ kept_before h e t kept = inl (sym (kept_same h e t refl refl) ∙ kept)
 abbrev AreParentsKept : List Event → Type 0
 AreParentsKept h = (t p : ℕ) → is_kept h t ≡ true → parent h t ≡ Some p → is_kept h p ≡ true
 
--- an event that gives a task its kind accepts it
-accepts_may : (pool : Pool) (h : List Event) (e : Event) (t : ℕ) (k : Kind) → Allowed pool h e → kind_by t e ≡ Some k → MayAccept pool h t k
-accepts_may pool h (Acc u o j) t k may is = go (u == t) refl is
-  where
-    go : (b : Bool) → (u == t) ≡ b → (if b then Some j else None) ≡ Some k → MayAccept pool h t k
-    go true same is = subst (λ (v : ℕ). MayAccept pool h v k) (eqb-true u t same) (let kinds : j ≡ k = cc in subst (MayAccept pool h u) kinds may.0)
-    go false same is = absurd cc
-accepts_may pool h (Make u j) t k may is = go (u == t) refl is
-  where
-    go : (b : Bool) → (u == t) ≡ b → (if b then Some j else None) ≡ Some k → MayAccept pool h t k
-    go true same is = subst (λ (v : ℕ). MayAccept pool h v k) (eqb-true u t same) (let kinds : j ≡ k = cc in subst (MayAccept pool h u) kinds may.0)
-    go false same is = absurd cc
-accepts_may pool h _ t k may is = absurd cc
-
 -- the parent that a new task names is kept
 new_under : (pool : Pool) (h : List Event) (e : Event) (t p : ℕ) (k : Kind) → Allowed pool h e → kind_by t e ≡ Some k → parent_in (Some k) ≡ Some p → is_kept h p ≡ true
 new_under pool h e t p k may said is =
@@ -104,16 +89,6 @@ parent_stays pool h e t p so may is under kept = kept_stays pool h e p so may (r
     released_no : (f : Event) → Allowed pool h f → released_by f ≡ Some p → ⊥
     released_no (Rel u) may at = let same : u ≡ p = cc in true≢false (sym (child_found h t p kept is) ∙ ap (has_kept_child h) (sym same) ∙ may.2)
     released_no _ may at = absurd cc
-
-kind_known : (h : List Event) (t : ℕ) (k : Kind) → kind h t ≡ Some k → is_in t (tasks h) ≡ true
-kind_known h t k is = go (is_in t (tasks h)) refl
-  where
-    go : (b : Bool) → is_in t (tasks h) ≡ b → b ≡ true
-    go true known = refl
-    go false absent = absurd (no_kind (kind h t) (unknown_kind h t absent) is)
-      where
-        no_kind : (o : Option Kind) → o ≡ None → o ≡ Some k → ⊥
-        no_kind o none some = absurd cc
 
 accepts_releases : (e : Event) (t : ℕ) → accepted_by e ≡ Some t → (p : ℕ) → released_by e ≡ Some p → ⊥
 accepts_releases (Rel u) t is p also = absurd cc
@@ -146,25 +121,9 @@ parent_kept pool h t p so = by_events pool AreParentsKept parents_none (parents_
 -- ---- the way up from a kept task
 
 -- the way of a kept task has kept tasks only
-way_kept : (pool : Pool) (n : ℕ) (h : List Event) (c u : ℕ) → AllowedFrom pool [] h → is_kept h c ≡ true → is_in u (path_up n h (Some c)) ≡ true → is_kept h u ≡ true
-unfolding path_up
-way_kept pool zero h c u so kept there = absurd cc
-way_kept pool (suc n) h c u so kept there =
-    ⊎_elim (λ here. ap (is_kept h) (sym (eqb-true c u here)) ∙ kept) (λ later. go (parent h c) refl later (λ p. way_kept pool n h p u so))
-    (or_cases (c == u) (is_in u (path_up n h (parent h c))) there)
-  where
-    none_from : (n : ℕ) → is_in u (path_up n h None) ≡ true → ⊥
-    none_from zero there = absurd cc
-    none_from (suc n) there = absurd cc
-
-    go : (from : Option ℕ) → parent h c ≡ from → is_in u (path_up n h from) ≡ true
-        → ((p : ℕ) → is_kept h p ≡ true → is_in u (path_up n h (Some p)) ≡ true → is_kept h u ≡ true) → is_kept h u ≡ true
-    go None is later rest = absurd (none_from n later)
-    go (Some p) is later rest = rest p (parent_kept pool h c p so kept is) later
-
 pub path_kept : (pool : Pool) (h : List Event) (c u : ℕ) → AllowedFrom pool [] h → is_kept h c ≡ true → is_in u (path h c) ≡ true → is_kept h u ≡ true
 unfolding path
-path_kept pool h c u so = way_kept pool (suc c) h c u so
+path_kept pool h c u so = way_has (is_kept h) (suc c) h c u (λ t p kept is. parent_kept pool h t p so kept is)
 
 -- so those to whom a kept task relays are kept
 pub relayed_kept : (pool : Pool) (h : List Event) (t u : ℕ) → AllowedFrom pool [] h → is_kept h t ≡ true → is_in u (relayed h t) ≡ true → is_kept h u ≡ true

@@ -1,8 +1,8 @@
 -- What is queued, held or open is kept, so there are no more of them than kept tasks.
-use Rattle.std.proofs.Common.{ℕ, ◌≡◌, ◌≢◌, ◌+◌, ◌≤◌, Bool, true, false, not, List, [], ◌∷◌, ◌++◌, length, Some, refl, ap, sym, ◌∙◌, arith, suc, ⊎_elim, length-append}
+use Rattle.std.proofs.Common.{ℕ, ◌≡◌, ◌≢◌, ◌+◌, ◌≤◌, Bool, true, false, not, List, [], ◌∷◌, ◌++◌, length, Some, refl, ap, sym, ◌∙◌, arith, ⊎_elim, length-append}
 use Rattle.std.specs.Prelude.{nat_lt, if◌then◌else◌}
 use Rattle.std.specs.List.{filter, flat_map}
-use Rattle.std.proofs.lemmas.Bool.{eq-eqb, ne_eqb, true≢false, cases_eq}
+use Rattle.std.proofs.lemmas.Bool.{eq-eqb, ne_eqb, true≢false}
 use Rattle.fj_model.specs.declared.event.Event.{Event}
 use Rattle.fj_model.specs.declared.event.Event.TheVariants.{Rel}
 use Rattle.fj_model.specs.declared.owner.Owner.{Owner}
@@ -18,7 +18,7 @@ use Rattle.fj_model.specs.Places.{place, is_open, is_gone, open_tasks, gone}
 use Rattle.fj_model.specs.Climbs.{Spent, arrival}
 use Rattle.fj_model.specs.Allowed.{Allowed, AllowedFrom}
 use Rattle.fj_model.specs.Headline.{all_places}
-use Rattle.fj_model.proofs.Members.{is_in_filter, times_in_append, times_in_cons, times_in_some, Once}
+use Rattle.fj_model.proofs.Members.{is_in_filter, times_in_append, times_in_cons, times_in_some, Once, length_without}
 use Rattle.fj_model.proofs.Growth.{released_more}
 use Rattle.fj_model.proofs.Lawful.{by_events, is_in_with, is_numbered, pushed_known, queued_pushed, taken_known}
 use Rattle.fj_model.proofs.StacksTaken.{stack_taken}
@@ -27,8 +27,9 @@ use Rattle.fj_model.proofs.GoneList.{queued_here, held_here}
 use Rattle.fj_model.proofs.OnePlace.{one_place, never}
 use Rattle.fj_model.proofs.OpenList.{in_open, open_accepted, open_once}
 use Rattle.fj_model.proofs.ArrivalPlaces.{gone_spent}
-use Rattle.fj_model.proofs.Releasing.{kept_known, released_known}
+use Rattle.fj_model.proofs.Releasing.{released_known}
 use Rattle.fj_model.proofs.ShutsAllowed.{gone_is}
+use Rattle.fj_model.proofs.KindsKept.{kept_known}
 
 -- ---- released tasks are gone
 
@@ -85,21 +86,6 @@ pub open_kept : (pool : Pool) (h : List Event) (t : ℕ) → AllowedFrom pool []
 open_kept pool h t so is = ungone_kept pool h t so (open_accepted pool h t so is) (open_ungone (place h t) is)
 
 -- ---- how many they are
-
--- what is missing is what is counted
-length_without : (m : ℕ) (ts : List ℕ) → length ts ≡ length (without ts (m ∷ [])) + times_in m ts
-length_without m [] = refl
-length_without m (t ∷ ts) = ⊎_elim (here (length_without m ts)) (other (length_without m ts)) (cases_eq m t)
-  where
-    here : length ts ≡ length (without ts (m ∷ [])) + times_in m ts → m ≡ t → suc (length ts) ≡ length (without (t ∷ ts) (m ∷ [])) + times_in m (t ∷ ts)
-    here rest same =
-        let one : times_in m (t ∷ ts) ≡ 1 + times_in m ts = times_in_cons m t ts ∙ rw (eq-eqb t m (sym same)) refl in
-        rw (eq-eqb m t same) (omega (arith, one, rest))
-
-    other : length ts ≡ length (without ts (m ∷ [])) + times_in m ts → m ≢ t → suc (length ts) ≡ length (without (t ∷ ts) (m ∷ [])) + times_in m (t ∷ ts)
-    other rest apart =
-        let none : times_in m (t ∷ ts) ≡ times_in m ts = times_in_cons m t ts ∙ rw (ne_eqb t m (λ is. apart (sym is))) (omega arith) in
-        rw (ne_eqb m t apart) (omega (arith, none, rest))
 
 -- different numbers of a list are no more than the list has
 pub few_within : (xs ys : List ℕ) → Once xs → ((t : ℕ) → is_in t xs ≡ true → is_in t ys ≡ true) → length xs ≤ length ys

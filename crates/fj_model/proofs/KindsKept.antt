@@ -1,40 +1,56 @@
--- An event that accepts no task leaves what tasks are: their kinds, their parents and the ways up from them.
-use Rattle.std.proofs.Common.{ℕ, ◌≡◌, Bool, true, false, List, [], ◌∷◌, ◌++◌, Option, Some, None, refl, ap, append_assoc, ◌∙◌, zero, suc}
+-- What tasks are: that they were accepted, and what one more event leaves of their kinds, their parents and the ways up from them.
+use Rattle.std.proofs.Common.{ℕ, ◌≡◌, Bool, true, false, List, [], ◌∷◌, ◌++◌, Option, Some, None, refl, ap, append_assoc, ◌∙◌, zero, suc, not}
 use Rattle.std.specs.Prelude.{◌==◌, if◌then◌else◌}
 use Rattle.std.specs.List.{filter_map, cons_option}
 use Rattle.std.proofs.lemmas.List.{append-nil}
-use Rattle.std.proofs.lemmas.Bool.{eqb-true}
+use Rattle.std.proofs.lemmas.Bool.{eqb-true, ne_eqb, and_parts}
 use Rattle.fj_model.specs.declared.event.Event.{Event}
 use Rattle.fj_model.specs.declared.event.Event.TheVariants.{Acc, Make}
 use Rattle.fj_model.specs.declared.kind.Kind.{Kind}
 use Rattle.fj_model.specs.Lists.{is_in, or_else, first_said}
-use Rattle.fj_model.specs.Tasks.{tasks, accepted_by, kind, kind_by, is_completer, is_completer_kind, parent, parent_in}
+use Rattle.fj_model.specs.Tasks.{tasks, accepted_by, kind, kind_by, is_completer, is_completer_kind, parent, parent_in, accepted, is_kept, released}
 use Rattle.fj_model.specs.Climbs.{path, path_up}
 use Rattle.fj_model.proofs.Growth.{tasks_more, kind_more}
 use Rattle.fj_model.proofs.Lawful.{front_here, front_rest}
 
-says_no_kind : (t : ℕ) (e : Event) → accepted_by e ≡ None → kind_by t e ≡ None
-says_no_kind t (Acc u o k) none = absurd cc
-says_no_kind t (Make u k) none = absurd cc
-says_no_kind t _ none = refl
-
+-- an event that accepts no task leaves the tasks
 pub tasks_same : (h : List Event) (e : Event) → accepted_by e ≡ None → tasks (h ++ e ∷ []) ≡ tasks h
 tasks_same h e none = rw (tasks_more, none) (append-nil (tasks h))
 
-pub kind_same : (h : List Event) (e : Event) (t : ℕ) → accepted_by e ≡ None → kind (h ++ e ∷ []) t ≡ kind h t
-kind_same h e t none = kind_more h t e ∙ rw (says_no_kind t e none) (last (kind h t))
+pub accepted_same : (h : List Event) (e : Event) → accepted_by e ≡ None → accepted (h ++ e ∷ []) ≡ accepted h
+unfolding accepted
+accepted_same h e none = rw (tasks_same h e none) refl
+
+kind_by_other : (t : ℕ) (e : Event) → (accepted_by e ≡ Some t → ⊥) → kind_by t e ≡ None
+kind_by_other t (Acc u o k) other = rw (ne_eqb u t (λ same. other (ap Some same))) refl
+kind_by_other t (Make u k) other = rw (ne_eqb u t (λ same. other (ap Some same))) refl
+kind_by_other t _ other = refl
+
+-- the kind stays, but that of a task that is accepted now
+pub kind_still : (h : List Event) (e : Event) (t : ℕ) → (accepted_by e ≡ Some t → ⊥) → kind (h ++ e ∷ []) t ≡ kind h t
+kind_still h e t other = kind_more h t e ∙ rw (kind_by_other t e other) (last (kind h t))
   where
     last : (k : Option Kind) → or_else k None ≡ k
     last (Some k) = refl
     last None = refl
 
-pub completer_same : (h : List Event) (e : Event) (t : ℕ) → accepted_by e ≡ None → is_completer (h ++ e ∷ []) t ≡ is_completer h t
+pub completer_still : (h : List Event) (e : Event) (t : ℕ) → (accepted_by e ≡ Some t → ⊥) → is_completer (h ++ e ∷ []) t ≡ is_completer h t
 unfolding is_completer
-completer_same h e t none = ap is_completer_kind (kind_same h e t none)
+completer_still h e t other = ap is_completer_kind (kind_still h e t other)
+
+pub parent_still : (h : List Event) (e : Event) (t : ℕ) → (accepted_by e ≡ Some t → ⊥) → parent (h ++ e ∷ []) t ≡ parent h t
+unfolding parent
+parent_still h e t other = ap parent_in (kind_still h e t other)
+
+-- so an event that accepts no task leaves the kinds of all
+pub kind_same : (h : List Event) (e : Event) (t : ℕ) → accepted_by e ≡ None → kind (h ++ e ∷ []) t ≡ kind h t
+kind_same h e t none = kind_still h e t (λ is. absurd cc)
+
+pub completer_same : (h : List Event) (e : Event) (t : ℕ) → accepted_by e ≡ None → is_completer (h ++ e ∷ []) t ≡ is_completer h t
+completer_same h e t none = completer_still h e t (λ is. absurd cc)
 
 pub parent_same : (h : List Event) (e : Event) (t : ℕ) → accepted_by e ≡ None → parent (h ++ e ∷ []) t ≡ parent h t
-unfolding parent
-parent_same h e t none = ap parent_in (kind_same h e t none)
+parent_same h e t none = parent_still h e t (λ is. absurd cc)
 
 -- events of which none accepts a task
 none_accepted : (e : Event) (later : List Event) → filter_map accepted_by (e ∷ later) ≡ [] → (accepted_by e ≡ None) × (filter_map accepted_by later ≡ [])
@@ -68,6 +84,7 @@ completer_stays h e t completer = ap is_completer_kind (kind_more h t e) ∙ go 
     go (Some k) completer = completer
     go None completer = absurd cc
 
+-- an event that gives a task its kind accepts it
 pub accepts_kind : (t : ℕ) (e : Event) (k : Kind) → kind_by t e ≡ Some k → accepted_by e ≡ Some t
 accepts_kind t (Acc u o j) k is = go (u == t) refl is
   where
@@ -81,23 +98,30 @@ accepts_kind t (Make u j) k is = go (u == t) refl is
     go false same is = absurd cc
 accepts_kind t _ k is = absurd cc
 
-kind_known : (t : ℕ) (k : Kind) (h : List Event) → first_said (kind_by t) h ≡ Some k → is_in t (filter_map accepted_by h) ≡ true
-kind_known t k [] is = absurd cc
-kind_known t k (e ∷ h) is = go (kind_by t e) refl is (kind_known t k h)
+-- a task with a kind was accepted
+pub kind_known : (h : List Event) (t : ℕ) (k : Kind) → kind h t ≡ Some k → is_in t (tasks h) ≡ true
+unfolding kind tasks
+kind_known [] t k is = absurd cc
+kind_known (e ∷ h) t k is = go (kind_by t e) refl is (kind_known h t k)
   where
     go : (said : Option Kind) → kind_by t e ≡ said → or_else said (first_said (kind_by t) h) ≡ Some k
         → (first_said (kind_by t) h ≡ Some k → is_in t (filter_map accepted_by h) ≡ true) → is_in t (filter_map accepted_by (e ∷ h)) ≡ true
     go (Some j) said is later = front_here t (accepted_by e) (filter_map accepted_by h) (accepts_kind t e j said)
     go None said is later = front_rest t (accepted_by e) (filter_map accepted_by h) (later is)
 
--- a completer was accepted
+-- so was a completer
 pub completer_known : (h : List Event) (t : ℕ) → is_completer h t ≡ true → is_in t (tasks h) ≡ true
-unfolding is_completer kind tasks
-completer_known h t completer = go (first_said (kind_by t) h) refl completer
+unfolding is_completer
+completer_known h t completer = go (kind h t) refl completer
   where
-    go : (k : Option Kind) → first_said (kind_by t) h ≡ k → is_completer_kind k ≡ true → is_in t (filter_map accepted_by h) ≡ true
-    go (Some k) is completer = kind_known t k h is
+    go : (k : Option Kind) → kind h t ≡ k → is_completer_kind k ≡ true → is_in t (tasks h) ≡ true
+    go (Some k) is completer = kind_known h t k is
     go None is completer = absurd cc
+
+-- and a kept task
+pub kept_known : (h : List Event) (t : ℕ) → is_kept h t ≡ true → is_in t (tasks h) ≡ true
+unfolding is_kept
+kept_known h t kept = (and_parts (is_in t (tasks h)) (not (is_in t (released h))) kept).0
 
 path_up_same : (n : ℕ) (h : List Event) (e : Event) (from : Option ℕ) → accepted_by e ≡ None → path_up n (h ++ e ∷ []) from ≡ path_up n h from
 unfolding path_up

@@ -45,7 +45,7 @@ by_events pool P none more h all = along pool P more [] h tt none all
 
 -- ---- the accepted tasks are the numbers from 0
 
-accept_number : (pool : Pool) (h : List Event) (e : Event) (t : ℕ) → Allowed pool h e → accepted_by e ≡ Some t → t ≡ accepted h
+pub accept_number : (pool : Pool) (h : List Event) (e : Event) (t : ℕ) → Allowed pool h e → accepted_by e ≡ Some t → t ≡ accepted h
 accept_number pool h (Acc u o k) t may is = let same : u ≡ t = cc in sym same ∙ may.0.number
 accept_number pool h (Make u k) t may is = let same : u ≡ t = cc in sym same ∙ may.0.number
 accept_number pool h _ t may is = absurd cc
@@ -128,6 +128,10 @@ pushed_known h o t = filter_map_within (pushed_by o) accepted_by (pushed_accepts
 
 pub is_new : (pool : Pool) (h : List Event) (e : Event) (t : ℕ) → AllowedFrom pool [] h → Allowed pool h e → accepted_by e ≡ Some t → is_in t (tasks h) ≡ false
 is_new pool h e t so may is = is_numbered pool h so t ∙ le-ltb t (accepted h) (omega (arith, accept_number pool h e t may is))
+
+-- no event accepts a task again
+pub not_new : (pool : Pool) (h : List Event) (e : Event) (t : ℕ) → AllowedFrom pool [] h → Allowed pool h e → is_in t (tasks h) ≡ true → accepted_by e ≡ Some t → ⊥
+not_new pool h e t so may known new = true≢false (sym known ∙ is_new pool h e t so may new)
 
 tasks_once_more : (pool : Pool) (h : List Event) (e : Event) (said : Option ℕ) → accepted_by e ≡ said → AllowedFrom pool [] h → Once (tasks h) → Allowed pool h e → Once (tasks (h ++ e ∷ []))
 tasks_once_more pool h e None is so once may = rw (tasks_more, is, append-nil) once

@@ -1,10 +1,10 @@
 -- Which numbers a list has, and how often.
-use Rattle.std.proofs.Common.{ℕ, ◌≡◌, ◌+◌, ◌≤◌, Bool, true, false, cond, not, ◌&&◌, ◌||◌, List, [], ◌∷◌, ◌++◌, Some, refl, ap, sym, ◌∙◌, arith, zero-add, zero, suc, ⊎_elim}
+use Rattle.std.proofs.Common.{ℕ, ◌≡◌, ◌+◌, ◌≤◌, Bool, true, false, cond, not, ◌&&◌, ◌||◌, List, [], ◌∷◌, ◌++◌, Some, refl, ap, sym, ◌∙◌, arith, zero-add, zero, suc, ⊎_elim, ◌≢◌, length}
 use Rattle.std.specs.Prelude.{◌==◌, slice_get}
 use Rattle.std.specs.List.{filter}
 use Rattle.std.proofs.lemmas.List.Elements.{filter-append}
 use Rattle.std.proofs.lemmas.List.Sums.{sum_by-append}
-use Rattle.std.proofs.lemmas.Bool.{eqb-true, eq-eqb, or_parts, or_cases, or_right}
+use Rattle.std.proofs.lemmas.Bool.{eqb-true, eq-eqb, or_parts, or_cases, or_right, ne_eqb, cases_eq}
 use Rattle.fj_model.specs.Lists.{is_in, without, times_in}
 
 pub is_in_append : (t : ℕ) (xs ys : List ℕ) → is_in t (xs ++ ys) ≡ (is_in t xs || is_in t ys)
@@ -17,7 +17,7 @@ times_in_append t xs ys = sum_by-append (λ u. cond (u == t) 1 0) xs ys
 pub times_in_cons : (t x : ℕ) (xs : List ℕ) → times_in t (x ∷ xs) ≡ cond (x == t) 1 0 + times_in t xs
 times_in_cons t x xs = times_in_append t (x ∷ []) xs ∙ ap (λ n. n + times_in t xs) (zero-add (cond (x == t) 1 0))
 
--- a number that is not there is there absent time
+-- a number that is not there stands there no time
 pub times_in_none : (t : ℕ) (xs : List ℕ) → is_in t xs ≡ false → times_in t xs ≡ 0
 times_in_none t [] absent = refl
 times_in_none t (x ∷ xs) absent =
@@ -76,6 +76,21 @@ times_in_some t (x ∷ xs) there =
     (λ here. omega (arith, times_in_cons t x xs ∙ ap (λ b. cond b 1 0 + times_in t xs) here))
     (λ later. omega (arith, times_in_cons t x xs, times_in_some t xs later))
     (or_cases (x == t) (is_in t xs) there)
+
+-- what a list has lost without a number is how often it was there
+pub length_without : (m : ℕ) (ts : List ℕ) → length ts ≡ length (without ts (m ∷ [])) + times_in m ts
+length_without m [] = refl
+length_without m (t ∷ ts) = ⊎_elim (here (length_without m ts)) (other (length_without m ts)) (cases_eq m t)
+  where
+    here : length ts ≡ length (without ts (m ∷ [])) + times_in m ts → m ≡ t → suc (length ts) ≡ length (without (t ∷ ts) (m ∷ [])) + times_in m (t ∷ ts)
+    here rest same =
+        let one : times_in m (t ∷ ts) ≡ 1 + times_in m ts = times_in_cons m t ts ∙ rw (eq-eqb t m (sym same)) refl in
+        rw (eq-eqb m t same) (omega (arith, one, rest))
+
+    other : length ts ≡ length (without ts (m ∷ [])) + times_in m ts → m ≢ t → suc (length ts) ≡ length (without (t ∷ ts) (m ∷ [])) + times_in m (t ∷ ts)
+    other rest apart =
+        let none : times_in m (t ∷ ts) ≡ times_in m ts = times_in_cons m t ts ∙ rw (ne_eqb t m (λ is. apart (sym is))) (omega arith) in
+        rw (ne_eqb m t apart) (omega (arith, none, rest))
 
 filter_true : (xs : List ℕ) → filter (λ _. true) xs ≡ xs
 filter_true [] = refl

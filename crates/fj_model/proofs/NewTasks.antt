@@ -80,7 +80,7 @@ accepting_place pool h e t u so may is known =
 
 -- ---- into a queue
 
-same_as_itself : (o : Owner) → is_same o o ≡ true
+pub same_as_itself : (o : Owner) → is_same o o ≡ true
 same_as_itself (Sub s) = eq-eqb s s refl
 same_as_itself (Work w) = eq-eqb w w refl
 

@@ -70,7 +70,7 @@ owned_none pool o t there = absurd cc
 pub is_owned : (pool : Pool) (h : List Event) → AllowedFrom pool [] h → IsOwned pool h
 is_owned pool = by_events pool (IsOwned pool) (owned_none pool) (owned_more pool)
 
-number_owner : (l : Bounds) (o : Owner) → IsOwner l o → (queue_number l o < queues_in l) × (owner_at l (queue_number l o) ≡ o)
+pub number_owner : (l : Bounds) (o : Owner) → IsOwner l o → (queue_number l o < queues_in l) × (owner_at l (queue_number l o) ≡ o)
 number_owner l (Sub s) within = (omega arith, sub_owner l s within)
 number_owner l (Work w) within = (omega arith, work_owner l w)
 

@@ -17,8 +17,9 @@ use Rattle.fj_model.proofs.Growth.{opened_more}
 use Rattle.fj_model.proofs.Lawful.{number_if_is}
 use Rattle.fj_model.proofs.GoneList.{held_here}
 use Rattle.fj_model.proofs.OnePlace.{opened_out, out_new}
-use Rattle.fj_model.proofs.PlaceLaws.{tasks_same, completer_same, place_out, place_kept, open_gains, gone_one}
+use Rattle.fj_model.proofs.PlaceLaws.{place_out, place_kept, open_gains, gone_one}
 use Rattle.fj_model.proofs.Spending.{moved_spent}
+use Rattle.fj_model.proofs.KindsKept.{tasks_same, completer_still}
 
 -- whether it is open after its body ended
 abbrev pub opens : List Event → ℕ → Bool
@@ -38,7 +39,7 @@ ended_place pool h t w so may =
     let there : is_in t (opened (h ++ e ∷ [])) ≡ true =
     rw (opened_more, is_in_append t (opened h) (t ∷ [])) (or_right (is_in t (opened h)) (is_in t (t ∷ [])) (rw (eq-eqb t t refl) refl)) in
     place_out (h ++ e ∷ []) t out.queues out.stacks
-    ∙ rw (completer_same h e t (λ new. absurd cc), there, moved_spent h e t refl) (go (is_completer h t) (not (is_spent h t)))
+    ∙ rw (completer_still h e t (λ new. absurd cc), there, moved_spent h e t refl) (go (is_completer h t) (not (is_spent h t)))
   where
     go : (a b : Bool) → (if a && true && b then Open else Gone) ≡ (if a && b then Open else Gone)
     go true b = refl

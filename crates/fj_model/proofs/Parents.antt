@@ -1,20 +1,20 @@
 -- Parents are completers with smaller numbers, so the way up from a task ends at a root.
-use Rattle.std.proofs.Common.{ℕ, ◌≡◌, ◌+◌, ◌-◌, ◌≤◌, ◌<◌, Bool, true, false, cond, not, List, [], ◌∷◌, ◌++◌, length, Option, Some, None, refl, ap, sym, ◌∙◌, arith, zero, suc, subst, ⊎_elim}
+use Rattle.std.proofs.Common.{ℕ, ◌≡◌, ◌+◌, ◌-◌, ◌≤◌, ◌<◌, Bool, true, false, cond, List, [], ◌∷◌, ◌++◌, length, Option, Some, None, refl, ap, sym, ◌∙◌, arith, zero, suc, subst, ⊎_elim}
 use Rattle.std.specs.Prelude.{◌==◌, IfSome, if◌then◌else◌, slice_get}
-use Rattle.std.proofs.lemmas.Bool.{eqb-true, and_parts, or_cases, ltb-true}
+use Rattle.std.proofs.lemmas.Bool.{eqb-true, or_cases, ltb-true}
 use Rattle.fj_model.specs.declared.event.Event.{Event}
 use Rattle.fj_model.specs.declared.event.Event.TheVariants.{Acc, Make}
 use Rattle.fj_model.specs.declared.kind.Kind.{Kind}
 use Rattle.fj_model.specs.Bounds.{Pool}
 use Rattle.fj_model.specs.Lists.{is_in, or_else, last_of, times_in}
-use Rattle.fj_model.specs.Tasks.{tasks, accepted, released, is_kept, kind, kind_by, is_completer, parent, parent_in}
+use Rattle.fj_model.specs.Tasks.{tasks, accepted, is_kept, kind, kind_by, is_completer, parent, parent_in}
 use Rattle.fj_model.specs.Allowed.{Allowed, AllowedFrom, MayAccept}
 use Rattle.fj_model.specs.Climbs.{path, path_up}
 use Rattle.fj_model.specs.Answers.{root_of}
 use Rattle.fj_model.proofs.Members.{Once, times_in_cons, times_in_none}
 use Rattle.fj_model.proofs.Growth.{kind_more}
 use Rattle.fj_model.proofs.Lawful.{by_events, is_numbered}
-use Rattle.fj_model.proofs.KindsKept.{completer_known, completer_stays}
+use Rattle.fj_model.proofs.KindsKept.{completer_known, completer_stays, kept_known}
 
 -- p may be the parent of t
 pub record IsAbove (h : List Event) (t p : ℕ) : Type 0 where
@@ -24,8 +24,8 @@ pub record IsAbove (h : List Event) (t p : ℕ) : Type 0 where
 abbrev AreAbove : List Event → Type 0
 AreAbove h = (t p : ℕ) → parent h t ≡ Some p → IsAbove h t p
 
--- an event that gives a task its kind accepts it
-accepts_may : (pool : Pool) (h : List Event) (e : Event) (t : ℕ) (k : Kind) → Allowed pool h e → kind_by t e ≡ Some k → MayAccept pool h t k
+-- an event that gives a task its kind may accept it
+pub accepts_may : (pool : Pool) (h : List Event) (e : Event) (t : ℕ) (k : Kind) → Allowed pool h e → kind_by t e ≡ Some k → MayAccept pool h t k
 accepts_may pool h (Acc u o j) t k may is = go (u == t) refl is
   where
     go : (b : Bool) → (u == t) ≡ b → (if b then Some j else None) ≡ Some k → MayAccept pool h t k
@@ -37,10 +37,6 @@ accepts_may pool h (Make u j) t k may is = go (u == t) refl is
     go true same is = subst (λ (v : ℕ). MayAccept pool h v k) (eqb-true u t same) (let kinds : j ≡ k = cc in subst (MayAccept pool h u) kinds may.0)
     go false same is = absurd cc
 accepts_may pool h _ t k may is = absurd cc
-
-kept_known : (h : List Event) (t : ℕ) → is_kept h t ≡ true → is_in t (tasks h) ≡ true
-unfolding is_kept
-kept_known h t kept = (and_parts (is_in t (tasks h)) (not (is_in t (released h))) kept).0
 
 above_new : (pool : Pool) (h : List Event) (t p : ℕ) (k : Kind) → AllowedFrom pool [] h → MayAccept pool h t k → parent_in (Some k) ≡ Some p → IsAbove h t p
 above_new pool h t p k so may is =
@@ -114,27 +110,27 @@ pub path_once : (pool : Pool) (h : List Event) (c : ℕ) → AllowedFrom pool []
 unfolding path
 path_once pool h c so = way_once pool (suc c) h (Some c) so
 
-way_completers : (pool : Pool) (n : ℕ) (h : List Event) (c u : ℕ) → AllowedFrom pool [] h → is_completer h c ≡ true → is_in u (path_up n h (Some c)) ≡ true → is_completer h u ≡ true
+-- what the first on a way has, and each hands on to its parent, all on the way have
+pub way_has : (P : ℕ → Bool) (n : ℕ) (h : List Event) (c u : ℕ) → ((t p : ℕ) → P t ≡ true → parent h t ≡ Some p → P p ≡ true)
+    → P c ≡ true → is_in u (path_up n h (Some c)) ≡ true → P u ≡ true
 unfolding path_up
-way_completers pool zero h c u so completer there = absurd cc
-way_completers pool (suc n) h c u so completer there =
-    ⊎_elim (λ here. ap (is_completer h) (sym (eqb-true c u here)) ∙ completer)
-    (λ later. go (parent h c) refl later (λ p. way_completers pool n h p u so))
-    (or_cases (c == u) (is_in u (path_up n h (parent h c))) there)
+way_has P zero h c u hands has there = absurd cc
+way_has P (suc n) h c u hands has there =
+    ⊎_elim (λ here. ap P (sym (eqb-true c u here)) ∙ has) (λ later. go (parent h c) refl later (λ p. way_has P n h p u hands)) (or_cases (c == u) (is_in u (path_up n h (parent h c))) there)
   where
     none_from : (n : ℕ) → is_in u (path_up n h None) ≡ true → ⊥
     none_from zero there = absurd cc
     none_from (suc n) there = absurd cc
 
     go : (from : Option ℕ) → parent h c ≡ from → is_in u (path_up n h from) ≡ true
-        → ((p : ℕ) → is_completer h p ≡ true → is_in u (path_up n h (Some p)) ≡ true → is_completer h u ≡ true) → is_completer h u ≡ true
+        → ((p : ℕ) → P p ≡ true → is_in u (path_up n h (Some p)) ≡ true → P u ≡ true) → P u ≡ true
     go None is later rest = absurd (none_from n later)
-    go (Some p) is later rest = rest p (parent_completer pool h c p so is) later
+    go (Some p) is later rest = rest p (hands c p has is) later
 
 -- the way of a completer has completers only
 pub path_completers : (pool : Pool) (h : List Event) (c u : ℕ) → AllowedFrom pool [] h → is_completer h c ≡ true → is_in u (path h c) ≡ true → is_completer h u ≡ true
 unfolding path
-path_completers pool h c u so = way_completers pool (suc c) h c u so
+path_completers pool h c u so = way_has (is_completer h) (suc c) h c u (λ t p _ is. parent_completer pool h t p so is)
 
 -- the last of a longer list is the last of its rest
 last_more : (c u : ℕ) (us : List ℕ) → last_of (c ∷ u ∷ us) ≡ last_of (u ∷ us)

@@ -13,14 +13,8 @@ use Rattle.fj_model.specs.Completers.{pending, added_by, counted_by}
 use Rattle.fj_model.specs.Allowed.{Allowed, AllowedFrom}
 use Rattle.fj_model.proofs.Growth.{filter_map_more}
 use Rattle.fj_model.proofs.Lawful.{by_events, is_new}
-use Rattle.fj_model.proofs.PlaceLaws.{kind_same}
 use Rattle.fj_model.proofs.Unknown.{unknown_kind, counted_pending}
-
--- the completer whose pending count this event changes
-abbrev pub counts : Event → Option ℕ
-counts (Add c n) = Some c
-counts (Dec c) = Some c
-counts _ = None
+use Rattle.fj_model.proofs.KindsKept.{kind_still}
 
 -- what the kind gives and what was added, and how often an arrival was counted
 given_to : List Event → ℕ → ℕ
@@ -42,7 +36,7 @@ added_more h e c = rw filter_map_more (sum_by-append (λ n. n) (filter_map (adde
 
 given_more : (h : List Event) (e : Event) (c : ℕ) → (accepted_by e ≡ Some c → ⊥) → given_to (h ++ e ∷ []) c ≡ given_to h c + sum (cons_option (added_by c e) [])
 unfolding given_to
-given_more h e c other = omega (arith, ap count_in (kind_same h e c other), added_more h e c)
+given_more h e c other = omega (arith, ap count_in (kind_still h e c other), added_more h e c)
 
 -- a counted arrival lowers it by one
 pub pending_counted : (h : List Event) (c : ℕ) → pending (h ++ Dec c ∷ []) c ≡ pending h c - 1

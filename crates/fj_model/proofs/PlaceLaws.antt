@@ -1,66 +1,34 @@
 -- What one more event leaves of places, and of the lists of open and of gone tasks.
 use Rattle.std.proofs.Common.{ℕ, ◌≡◌, ◌≢◌, Bool, true, false, not, ◌&&◌, List, [], ◌∷◌, ◌++◌, Option, Some, None, refl, ap, sym, ◌∙◌, ⊎_elim}
-use Rattle.std.specs.Prelude.{◌==◌, if◌then◌else◌}
+use Rattle.std.specs.Prelude.{if◌then◌else◌}
 use Rattle.std.specs.List.{filter, cons_option}
 use Rattle.std.proofs.lemmas.List.{append-nil}
 use Rattle.std.proofs.lemmas.List.Elements.{filter-append}
-use Rattle.std.proofs.lemmas.Bool.{eq-eqb, ne_eqb, true≢false, cases_eq}
+use Rattle.std.proofs.lemmas.Bool.{eq-eqb, true≢false, cases_eq}
 use Rattle.fj_model.specs.declared.event.Event.{Event}
 use Rattle.fj_model.specs.declared.event.Event.TheVariants.{Acc, Make, Out, Skip, End}
-use Rattle.fj_model.specs.declared.kind.Kind.{Kind}
 use Rattle.fj_model.specs.declared.owner.Owner.{Owner}
 use Rattle.fj_model.specs.declared.place.Place.TheVariants.{Open, Gone}
 use Rattle.fj_model.specs.Bounds.{Pool}
-use Rattle.fj_model.specs.Lists.{is_in, or_else}
-use Rattle.fj_model.specs.Tasks.{tasks, accepted, accepted_by, kind, kind_by, is_completer, is_completer_kind, parent, parent_in}
+use Rattle.fj_model.specs.Lists.{is_in}
+use Rattle.fj_model.specs.Tasks.{tasks, accepted, accepted_by, is_completer}
 use Rattle.fj_model.specs.Queues.{queue, taken_by, pushed_by}
 use Rattle.fj_model.specs.Stacks.{stack, ended_by, out_by}
 use Rattle.fj_model.specs.Completers.{is_spent}
 use Rattle.fj_model.specs.Places.{queued_in, held_by, opened, opened_by, place, place_of, is_open, is_gone, open_tasks, gone}
 use Rattle.fj_model.specs.Allowed.{Allowed, AllowedFrom}
 use Rattle.fj_model.proofs.Members.{is_in_append, filter_agree_in}
-use Rattle.fj_model.proofs.Growth.{tasks_more, kind_more, opened_more, or_false, stack_same}
-use Rattle.fj_model.proofs.Lawful.{allowed_more, number_if_is, is_new, is_in_with}
+use Rattle.fj_model.proofs.Growth.{tasks_more, opened_more, or_false, stack_same}
+use Rattle.fj_model.proofs.Lawful.{allowed_more, is_in_with, not_new}
 use Rattle.fj_model.proofs.Queues.{queue_same}
 use Rattle.fj_model.proofs.GoneTasks.{not_queued, not_held, no_owner, no_worker_has, queue_gains}
-use Rattle.fj_model.proofs.GoneList.{queue_keeps, stack_keeps, gone_same, gone_gains}
+use Rattle.fj_model.proofs.GoneList.{queue_keeps, stack_keeps, gone_same, gone_gains, not_said}
 use Rattle.fj_model.proofs.PlacesKept.{place_queued, place_held}
 use Rattle.fj_model.proofs.OnePlace.{queued_there, held_there, stack_before, never}
+use Rattle.fj_model.proofs.KindsKept.{tasks_same, accepted_same, completer_still}
+use Rattle.fj_model.proofs.StacksTaken.{out_takes}
 
 -- ---- tasks and kinds
-
--- an event that accepts no task leaves the tasks
-pub tasks_same : (h : List Event) (e : Event) → accepted_by e ≡ None → tasks (h ++ e ∷ []) ≡ tasks h
-tasks_same h e none = tasks_more h e ∙ rw none (append-nil (tasks h))
-
-pub accepted_same : (h : List Event) (e : Event) → accepted_by e ≡ None → accepted (h ++ e ∷ []) ≡ accepted h
-unfolding accepted
-accepted_same h e none = rw (tasks_same h e none) refl
-
--- no event accepts a task again
-pub not_new : (pool : Pool) (h : List Event) (e : Event) (t : ℕ) → AllowedFrom pool [] h → Allowed pool h e → is_in t (tasks h) ≡ true → accepted_by e ≡ Some t → ⊥
-not_new pool h e t so may known new = true≢false (sym known ∙ is_new pool h e t so may new)
-
-kind_by_other : (t : ℕ) (e : Event) → (accepted_by e ≡ Some t → ⊥) → kind_by t e ≡ None
-kind_by_other t (Acc u o k) other = rw (ne_eqb u t (λ same. other (ap Some same))) refl
-kind_by_other t (Make u k) other = rw (ne_eqb u t (λ same. other (ap Some same))) refl
-kind_by_other t _ other = refl
-
--- the kind stays, but that of a task that is accepted now
-pub kind_same : (h : List Event) (e : Event) (t : ℕ) → (accepted_by e ≡ Some t → ⊥) → kind (h ++ e ∷ []) t ≡ kind h t
-kind_same h e t other = kind_more h t e ∙ rw (kind_by_other t e other) (last (kind h t))
-  where
-    last : (k : Option Kind) → or_else k None ≡ k
-    last (Some k) = refl
-    last None = refl
-
-pub completer_same : (h : List Event) (e : Event) (t : ℕ) → (accepted_by e ≡ Some t → ⊥) → is_completer (h ++ e ∷ []) t ≡ is_completer h t
-unfolding is_completer
-completer_same h e t other = ap is_completer_kind (kind_same h e t other)
-
-pub parent_same : (h : List Event) (e : Event) (t : ℕ) → (accepted_by e ≡ Some t → ⊥) → parent (h ++ e ∷ []) t ≡ parent h t
-unfolding parent
-parent_same h e t other = ap parent_in (kind_same h e t other)
 
 -- ---- events that move nothing
 
@@ -120,10 +88,6 @@ unmoved_opened h e unmoved = opened_same h e (none_opened e unmoved)
 
 -- ---- what was opened
 
-not_said : (t : ℕ) (said : Option ℕ) → (said ≡ Some t → ⊥) → is_in t (cons_option said []) ≡ false
-not_said t None other = refl
-not_said t (Some u) other = rw (ne_eqb u t (λ same. other (ap Some same))) refl
-
 pub opened_kept : (h : List Event) (e : Event) (t : ℕ) → (opened_by e ≡ Some t → ⊥) → is_in t (opened (h ++ e ∷ [])) ≡ is_in t (opened h)
 opened_kept h e t other =
     rw (opened_more, is_in_append t (opened h) (cons_option (opened_by e) []), not_said t (opened_by e) other) (or_false (is_in t (opened h)))
@@ -135,10 +99,6 @@ opens_no_other (End u w) t new unended is = unended w (rw (eq-eqb w w refl) is)
 opens_no_other _ t new unended is = absurd cc
 
 -- ---- places
-
-hands_out : (w : ℕ) (e : Event) (t : ℕ) → out_by w e ≡ Some t → taken_by e ≡ Some t
-hands_out w (Out u v) t is = ap Some (number_if_is (w == v) u t is).1
-hands_out w _ t is = absurd cc
 
 -- the place of a task that is in no queue and on no stack
 pub place_out : (h : List Event) (t : ℕ) → ((o : Owner) → is_in t (queue h o) ≡ false) → ((w : ℕ) → is_in t (stack h w) ≡ false)
@@ -174,8 +134,8 @@ place_more pool h e t so may known untaken unended = go (queued_in h t) (held_by
         place_out (h ++ e ∷ []) t
         (λ o. never (is_in t (queue (h ++ e ∷ []) o)) (λ there. true≢false (sym (queue_gains pool h e o t so may known there) ∙ not_queued h o t qs)))
         (λ w. never (is_in t (stack (h ++ e ∷ []) w)) (λ there.
-        ⊎_elim (λ old. true≢false (sym old.0 ∙ not_held h w t vs)) (λ out. untaken (hands_out w e t out)) (stack_before h e w t there)))
-        ∙ rw (completer_same h e t new, opened_kept h e t (opens_no_other e t new unended)) (shut (is_completer h t && is_in t (opened h) && not (is_spent (h ++ e ∷ []) t)))
+        ⊎_elim (λ old. true≢false (sym old.0 ∙ not_held h w t vs)) (λ out. untaken (out_takes w e t out)) (stack_before h e w t there)))
+        ∙ rw (completer_still h e t new, opened_kept h e t (opens_no_other e t new unended)) (shut (is_completer h t && is_in t (opened h) && not (is_spent (h ++ e ∷ []) t)))
 
 -- a task that is neither taken, nor ends its body, nor is spent now stays where it was
 pub place_kept : (pool : Pool) (h : List Event) (e : Event) (t : ℕ) → AllowedFrom pool [] h → Allowed pool h e → is_in t (tasks h) ≡ true

@@ -1,9 +1,9 @@
 -- A release: one task less is kept, and everything else stays. An acceptance: one task more is kept.
-use Rattle.std.proofs.Common.{ℕ, ◌≡◌, ◌≢◌, ◌+◌, Bool, true, false, cond, not, ◌&&◌, List, [], ◌∷◌, ◌++◌, length, Some, None, refl, ap, sym, ◌∙◌, arith, ⊎_elim, length-append}
+use Rattle.std.proofs.Common.{ℕ, ◌≡◌, ◌≢◌, ◌+◌, Bool, true, false, cond, ◌&&◌, List, [], ◌∷◌, ◌++◌, length, Some, None, refl, ap, sym, ◌∙◌, arith, ⊎_elim, length-append}
 use Rattle.std.specs.List.{filter}
 use Rattle.std.proofs.lemmas.List.{append-nil}
 use Rattle.std.proofs.lemmas.List.Elements.{filter-append}
-use Rattle.std.proofs.lemmas.Bool.{eq-eqb, ne_eqb, and_parts, or_right, true≢false, cases_eq}
+use Rattle.std.proofs.lemmas.Bool.{eq-eqb, ne_eqb, or_right, true≢false, cases_eq}
 use Rattle.fj_model.specs.declared.event.Event.{Event}
 use Rattle.fj_model.specs.declared.event.Event.TheVariants.{Acc, Make, Rel}
 use Rattle.fj_model.specs.declared.owner.Owner.{Owner}
@@ -19,18 +19,13 @@ use Rattle.fj_model.specs.Allowed.{Allowed, AllowedFrom}
 use Rattle.fj_model.proofs.Members.{is_in_append, times_in_cons, times_in_some, filter_agree_in, Once}
 use Rattle.fj_model.proofs.Growth.{tasks_more, released_more, or_false}
 use Rattle.fj_model.proofs.Lawful.{by_events, is_in_with, known_more, is_new, tasks_once}
-use Rattle.fj_model.proofs.KindsKept.{kind_same, parent_same}
+use Rattle.fj_model.proofs.KindsKept.{kind_same, parent_same, tasks_same, kept_known}
 use Rattle.fj_model.proofs.OnePlace.{never, accepted_now}
-use Rattle.fj_model.proofs.PlaceLaws.{tasks_same, unmoved_tasks, unmoved_accepted, unmoved_queue, unmoved_stack}
+use Rattle.fj_model.proofs.PlaceLaws.{unmoved_tasks, unmoved_accepted, unmoved_queue, unmoved_stack}
 use Rattle.fj_model.proofs.Arrivals.{pending_untouched}
 use Rattle.fj_model.proofs.Calm.{calm_status, calm_place, calm_open, calm_gone}
 
 -- ---- which tasks are kept
-
--- a kept task was accepted
-pub kept_known : (h : List Event) (t : ℕ) → is_kept h t ≡ true → is_in t (tasks h) ≡ true
-unfolding is_kept
-kept_known h t kept = (and_parts (is_in t (tasks h)) (not (is_in t (released h))) kept).0
 
 -- an event that releases nothing leaves the released ones
 pub released_same : (h : List Event) (e : Event) → released_by e ≡ None → released (h ++ e ∷ []) ≡ released h

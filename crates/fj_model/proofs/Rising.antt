@@ -7,14 +7,13 @@ use Rattle.std.proofs.lemmas.List.{append-nil}
 use Rattle.std.proofs.lemmas.List.Sorted.{sum_by-IsPermutation}
 use Rattle.std.proofs.lemmas.Bool.{eqb-true, eq-eqb, and_parts, or_cases, or_right, ltb-true}
 use Rattle.fj_model.specs.declared.event.Event.{Event}
-use Rattle.fj_model.specs.declared.event.Event.TheVariants.{Acc, Make}
 use Rattle.fj_model.specs.Bounds.{Pool}
 use Rattle.fj_model.specs.Lists.{is_in, times_in}
 use Rattle.fj_model.specs.Tasks.{tasks, accepted, accepted_by}
 use Rattle.fj_model.specs.Allowed.{Allowed, AllowedFrom}
 use Rattle.fj_model.proofs.Members.{times_in_cons, times_in_none, times_in_some, is_in_filter, is_in_append}
 use Rattle.fj_model.proofs.Growth.{tasks_more}
-use Rattle.fj_model.proofs.Lawful.{by_events, is_numbered}
+use Rattle.fj_model.proofs.Lawful.{by_events, is_numbered, accept_number}
 
 -- no number is above a later one
 abbrev pub IsRising : List ℕ → Type 0
@@ -88,16 +87,11 @@ rising_push (x ∷ xs) y up low = (
 
 -- ---- the accepted tasks
 
-new_number : (pool : Pool) (h : List Event) (e : Event) (t : ℕ) → Allowed pool h e → accepted_by e ≡ Some t → t ≡ accepted h
-new_number pool h (Acc u o k) t may is = let same : u ≡ t = cc in sym same ∙ may.0.number
-new_number pool h (Make u k) t may is = let same : u ≡ t = cc in sym same ∙ may.0.number
-new_number pool h _ t may is = absurd cc
-
 rising_more : (pool : Pool) (h : List Event) (e : Event) (said : Option ℕ) → accepted_by e ≡ said → AllowedFrom pool [] h → IsRising (tasks h) → Allowed pool h e → IsRising (tasks (h ++ e ∷ []))
 rising_more pool h e None is so up may = rw (tasks_more, is, append-nil) up
 rising_more pool h e (Some u) is so up may =
     rw (tasks_more, is)
-    (rising_push (tasks h) u up (λ t there. omega (arith, ltb-true t (accepted h) (sym (is_numbered pool h so t) ∙ there), new_number pool h e u may is)))
+    (rising_push (tasks h) u up (λ t there. omega (arith, ltb-true t (accepted h) (sym (is_numbered pool h so t) ∙ there), accept_number pool h e u may is)))
 
 rising_none : IsRising (tasks [])
 unfolding tasks

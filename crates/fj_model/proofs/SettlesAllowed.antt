@@ -17,8 +17,8 @@ use Rattle.fj_model.proofs.Members.{times_in_cons, times_in_some, Once}
 use Rattle.fj_model.proofs.Lawful.{known_more}
 use Rattle.fj_model.proofs.Statuses.{status_same}
 use Rattle.fj_model.proofs.Parents.{parent_known, path_once}
-use Rattle.fj_model.proofs.Releasing.{kept_known}
 use Rattle.fj_model.proofs.Standing.{Stands}
+use Rattle.fj_model.proofs.KindsKept.{kept_known}
 
 -- ---- those to whom a code is relayed
 

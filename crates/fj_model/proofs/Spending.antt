@@ -155,7 +155,7 @@ spent_place pool h e c so may is known =
     go None None true false = refl
     go None None false b = refl
 
-closed_open : (p : Place) → is_open (closed p) ≡ false
+pub closed_open : (p : Place) → is_open (closed p) ≡ false
 closed_open (Queued o) = refl
 closed_open (Held w) = refl
 closed_open Open = refl

@@ -33,7 +33,7 @@ use Rattle.fj_model.proofs.PlaceLaws.{unmoved_tasks, unmoved_accepted, unmoved_q
 use Rattle.fj_model.proofs.KindsKept.{kind_same, parent_same}
 use Rattle.fj_model.proofs.Arrivals.{pending_same}
 use Rattle.fj_model.proofs.Releasing.{kept_same, live_same}
-use Rattle.fj_model.proofs.Spending.{closed, done_now}
+use Rattle.fj_model.proofs.Spending.{closed, done_now, closed_open}
 
 -- ---- statuses
 
@@ -117,12 +117,6 @@ stop_place pool h t so may known =
     go None None true true = refl
     go None None true false = refl
     go None None false b = refl
-
-closed_open : (p : Place) → is_open (closed p) ≡ false
-closed_open (Queued o) = refl
-closed_open (Held w) = refl
-closed_open Open = refl
-closed_open Gone = refl
 
 pub stop_open : (pool : Pool) (h : List Event) → AllowedFrom pool [] h → Allowed pool h Stop → open_tasks (h ++ Stop ∷ []) ≡ []
 unfolding open_tasks

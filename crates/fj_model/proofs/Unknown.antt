@@ -1,14 +1,14 @@
 -- What a history says of numbers that it has not accepted: nothing.
-use Rattle.std.proofs.Common.{ℕ, ◌≡◌, Bool, true, false, not, ◌||◌, List, [], ◌∷◌, ◌++◌, Option, Some, None, refl, ap, sym, ◌∙◌, arith, ⊎_elim}
+use Rattle.std.proofs.Common.{ℕ, ◌≡◌, Bool, true, false, ◌||◌, List, [], ◌∷◌, ◌++◌, Option, Some, None, refl, ap, sym, ◌∙◌, arith, ⊎_elim}
 use Rattle.std.specs.Prelude.{nat_lt, if◌then◌else◌, is_some}
 use Rattle.std.specs.List.{filter_map, list_any, cons_option}
-use Rattle.std.proofs.lemmas.Bool.{or_cases, ne_eqb, or_parts, and_parts, true≢false}
+use Rattle.std.proofs.lemmas.Bool.{or_cases, ne_eqb, or_parts, true≢false}
 use Rattle.fj_model.specs.declared.event.Event.{Event}
 use Rattle.fj_model.specs.declared.event.Event.TheVariants.{Acc, Make, Add, Dec}
 use Rattle.fj_model.specs.declared.status.Status.TheVariants.{Undone}
 use Rattle.fj_model.specs.Bounds.{Pool}
 use Rattle.fj_model.specs.Lists.{is_in, first_said}
-use Rattle.fj_model.specs.Tasks.{tasks, accepted_by, kind, kind_by, is_completer, is_completer_kind, is_kept, released, count_in}
+use Rattle.fj_model.specs.Tasks.{tasks, accepted_by, kind, kind_by, is_completer, count_in}
 use Rattle.fj_model.specs.Statuses.{or_undone, status, accepts}
 use Rattle.fj_model.specs.Completers.{pending, added_by, counted_by, is_spent, fires_or_passes}
 use Rattle.fj_model.specs.Places.{queued_in, held_by}
@@ -19,6 +19,7 @@ use Rattle.fj_model.proofs.Growth.{tasks_more, filter_map_more}
 use Rattle.fj_model.proofs.Lawful.{by_events, front_here, front_rest}
 use Rattle.fj_model.proofs.Statuses.{accepted_is, is_silent}
 use Rattle.fj_model.proofs.OnePlace.{never}
+use Rattle.fj_model.proofs.KindsKept.{kept_known, completer_known}
 
 -- who is not accepted after one more event was not before it
 pub unknown_before : (h : List Event) (e : Event) (t : ℕ) → is_in t (tasks (h ++ e ∷ [])) ≡ false → is_in t (tasks h) ≡ false
@@ -42,15 +43,6 @@ pub unknown_kind : (h : List Event) (t : ℕ) → is_in t (tasks h) ≡ false �
 unfolding kind
 unknown_kind h t absent = none_says_kind t h (accepted_is t h ∙ absent)
 
--- a completer was accepted
-pub completer_known : (h : List Event) (t : ℕ) → is_completer h t ≡ true → is_in t (tasks h) ≡ true
-unfolding is_completer
-completer_known h t is = go (is_in t (tasks h)) refl
-  where
-    go : (b : Bool) → is_in t (tasks h) ≡ b → b ≡ true
-    go true known = refl
-    go false absent = absurd (true≢false (sym is ∙ ap is_completer_kind (unknown_kind h t absent)))
-
 pub unknown_undone : (pool : Pool) (h : List Event) (t : ℕ) → AllowedFrom pool [] h → is_in t (tasks h) ≡ false → status h t ≡ Undone
 unfolding status
 unknown_undone pool h t so absent = ap or_undone (is_silent pool h so t absent)
@@ -60,10 +52,6 @@ unknown_undone pool h t so absent = ap or_undone (is_silent pool h so t absent)
 -- nothing is added to such a number, and no arrival is counted at it
 abbrev IsUncounted : List Event → Type 0
 IsUncounted h = (t : ℕ) → is_in t (tasks h) ≡ false → (filter_map (added_by t) h ≡ []) × (filter_map (counted_by t) h ≡ [])
-
-kept_known : (h : List Event) (t : ℕ) → is_kept h t ≡ true → is_in t (tasks h) ≡ true
-unfolding is_kept
-kept_known h t kept = (and_parts (is_in t (tasks h)) (not (is_in t (released h))) kept).0
 
 -- an arrival is counted only where something is pending
 pub counted_pending : (h : List Event) (c : ℕ) → arrival h c ≡ Counted → nat_lt 0 (pending h c) ≡ true
