@@ -35,7 +35,7 @@ use Rattle.fj_tree.specs.Records.{Records, count, record_at, record_of, if_numbe
 use Rattle.fj_tree.specs.Makes.{fresh, with_child_of, make_refusal, parent_refusal}
 use Rattle.fj_tree.proofs.Finds.{parent_found}
 use Rattle.fj_tree.proofs.Numbers.{good_found}
-use Rattle.fj_machine.specs.Rows.{Lists}
+use Rattle.fj_machine.specs.Stacks.{Lists}
 use Rattle.fj_machine.specs.InHands.{InHand}
 use Rattle.fj_machine.specs.Holds.{Holds, KeepsQueues, KeepsTree, Tells}
 use Rattle.fj_machine.proofs.Growing.{grown_holds}

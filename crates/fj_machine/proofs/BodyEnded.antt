@@ -24,7 +24,7 @@ use Rattle.fj_tree.specs.Arrivals as record_is
 use Rattle.fj_tree.specs.Handles.{Handle}
 use Rattle.fj_tree.specs.Records.{Records, IsSound, changed, with_place}
 use Rattle.fj_tree.proofs.Numbers.{written}
-use Rattle.fj_machine.specs.Rows.{Lists, row_at, with_row}
+use Rattle.fj_machine.specs.Stacks.{Lists, stack_at, with_stack}
 use Rattle.fj_machine.specs.InHands.{InHand}
 use Rattle.fj_machine.specs.Holds.{Holds, KeepsStacks, Tells}
 use Rattle.fj_machine.proofs.ArrivalsTold.{spent_told}
@@ -38,17 +38,17 @@ use Rattle.fj_model.proofs.KindsKept.{kind_still}
 
 -- the last task of a stack leaves it, and the other stacks stay
 stacks_after_end : (pool : Pool) (h : List Event) (stacks : Lists) (w t : ℕ) → AllowedFrom pool [] h → w < pool.limits.workers → last_of (stack h w) ≡ Some t
-    → KeepsStacks pool.limits h stacks → KeepsStacks pool.limits (h ++ End t w ∷ []) (with_row stacks w (take (length (row_at stacks w) - 1) (row_at stacks w)))
+    → KeepsStacks pool.limits h stacks → KeepsStacks pool.limits (h ++ End t w ∷ []) (with_stack stacks w (take (length (stack_at stacks w) - 1) (stack_at stacks w)))
 stacks_after_end pool h stacks w t so within last keeps =
-    let row = take (length (row_at stacks w) - 1) (row_at stacks w) in
+    let row = take (length (stack_at stacks w) - 1) (stack_at stacks w) in
     record {
-      count = length-set stacks.rows w row ∙ keeps.count;
+      count = length-set stacks.lists w row ∙ keeps.count;
       room = keeps.room;
       each = λ v inside. ⊎_elim
-          (λ here. new_row stacks.rows v w row (omega (arith, keeps.count)) here
+          (λ here. new_row stacks.lists v w row (omega (arith, keeps.count)) here
           ∙ ap (λ (ts : List ℕ). take (length ts - 1) ts) (keeps.each w within)
           ∙ sym (ap (stack (h ++ End t w ∷ [])) here ∙ stack_end pool h w t so last))
-          (λ other. get_or-set_other stacks.rows w v row [] other ∙ keeps.each v inside ∙ sym (stack_end_other h v w t other))
+          (λ other. get_or-set_other stacks.lists w v row [] other ∙ keeps.each v inside ∙ sym (stack_end_other h v w t other))
           (cases_eq v w);
     }
 
@@ -60,7 +60,7 @@ stays_told h r tells = rw (tells.kind, spent_told h r tells) refl
 pub ended_holds : (pool : Pool) (h : List Event) (t w : ℕ) (b : Bool) (p : Place) (queues : Waiting) (stacks : Lists) (hands : List (Option InHand)) (tree : Records) (opened gones opened2 gones2 : List ℕ) (at : Handle)
     → Holds pool h queues stacks hands tree opened gones → IsSound tree → IsLocated tree t at → Allowed pool h (End t w) → w < pool.limits.workers → length h < pool.limits.events
     → opens h t ≡ b → p ≡ (if b then Open else Gone) → opened2 ≡ opened ++ (if b then t ∷ [] else []) → gones2 ≡ gones ++ (if b then [] else t ∷ [])
-    → Holds pool (h ++ End t w ∷ []) queues (with_row stacks w (take (length (row_at stacks w) - 1) (row_at stacks w))) hands (changed tree at.key (with_place p)) opened2 gones2
+    → Holds pool (h ++ End t w ∷ []) queues (with_stack stacks w (take (length (stack_at stacks w) - 1) (stack_at stacks w))) hands (changed tree at.key (with_place p)) opened2 gones2
 ended_holds pool h t w b p queues stacks hands tree opened gones opened2 gones2 at holds sound l may within fits is placed open_is gone_is =
     let e = End t w in
     let r = l.found in

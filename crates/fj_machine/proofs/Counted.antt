@@ -28,7 +28,7 @@ use Rattle.fj_tree.specs.Handles.{Handle}
 use Rattle.fj_tree.specs.Records.{Records, IsSound, record_at, record_of, changed, with_added}
 use Rattle.fj_tree.proofs.Numbers.{written}
 use Rattle.fj_machine.specs.Arriving.{as_arrival}
-use Rattle.fj_machine.specs.Rows.{Lists}
+use Rattle.fj_machine.specs.Stacks.{Lists}
 use Rattle.fj_machine.specs.InHands.{InHand}
 use Rattle.fj_machine.specs.Holds.{Holds, Tells}
 use Rattle.fj_machine.proofs.ArrivalsTold.{arrival_told}

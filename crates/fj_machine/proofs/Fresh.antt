@@ -52,7 +52,7 @@ no_hook : (n i : ℕ) (k : InHand) → get_or (replicate {A = Option InHand} n N
 no_hook n i k is = let bad : None ≡ Some k = sym (empty_row n i None) ∙ is in absurd cc
 
 pub fresh_holds : (pool : Pool) → IsWithin pool.limits.workers pool.limits.submitters pool.limits.tasks pool.limits.events
-    → Holds pool [] (record { lists = replicate (queues_in pool.limits) []; room = pool.limits.tasks }) (record { rows = replicate pool.limits.workers []; room = pool.limits.tasks })
+    → Holds pool [] (record { lists = replicate (queues_in pool.limits) []; room = pool.limits.tasks }) (record { lists = replicate pool.limits.workers []; room = pool.limits.tasks })
     (replicate pool.limits.workers None) (record { slots = []; made = 0; room = pool.limits.tasks }) [] []
 unfolding is_kept tasks hooks
 fresh_holds pool within = record {

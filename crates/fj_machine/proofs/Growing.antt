@@ -10,7 +10,7 @@ use Rattle.fj_model.proofs.Climbed.{climbs_more}
 use Rattle.fj_model.proofs.Lawful.{allowed_more, front_cases}
 use Rattle.fj_queues.specs.Queues.{Lists as Waiting}
 use Rattle.fj_tree.specs.Records.{Records}
-use Rattle.fj_machine.specs.Rows.{Lists}
+use Rattle.fj_machine.specs.Stacks.{Lists}
 use Rattle.fj_machine.specs.InHands.{InHand}
 use Rattle.fj_machine.specs.Holds.{Holds, KeepsQueues, KeepsStacks, KeepsHands, KeepsTree}
 

@@ -10,7 +10,7 @@ use Rattle.fj_model.proofs.PlaceLaws.{unmoved_queue, unmoved_stack}
 use Rattle.fj_model.proofs.Calm.{calm_open, calm_gone}
 use Rattle.fj_queues.specs.Queues.{Lists as Waiting}
 use Rattle.fj_tree.specs.Records.{Records}
-use Rattle.fj_machine.specs.Rows.{Lists}
+use Rattle.fj_machine.specs.Stacks.{Lists}
 use Rattle.fj_machine.specs.InHands.{InHand}
 use Rattle.fj_machine.specs.Holds.{Holds}
 use Rattle.fj_machine.proofs.Growing.{grown_holds}

@@ -33,7 +33,6 @@ pub mod Relaying
 pub mod Released
 pub mod RoomTests
 pub mod Rooms
-pub mod RowWrites
 pub mod Running
 pub mod SettleSteps
 pub mod Settled

@@ -8,7 +8,7 @@ use Rattle.fj_model.specs.Bounds.{Bounds, owner_at}
 use Rattle.fj_queues.specs.Queues.{Lists as Waiting}
 use Rattle.fj_model.specs.Queues.{queue}
 use Rattle.fj_model.specs.Stacks.{stack}
-use Rattle.fj_machine.specs.Rows.{Lists}
+use Rattle.fj_machine.specs.Stacks.{Lists}
 use Rattle.fj_machine.specs.Holds.{KeepsQueues, KeepsStacks}
 
 pub queues_same : (l : Bounds) (h h2 : List Event) (queues : Waiting) → ((o : Owner) → queue h2 o ≡ queue h o) → KeepsQueues l h queues → KeepsQueues l h2 queues

@@ -13,7 +13,7 @@ use Rattle.fj_model.specs.Stacks.{stack}
 use Rattle.fj_model.specs.Hooks.{hand}
 use Rattle.fj_model.specs.Answers.{is_quiet}
 use Rattle.fj_queues.specs.Queues.{Lists as Waiting, all_in}
-use Rattle.fj_machine.specs.Rows.{Lists}
+use Rattle.fj_machine.specs.Stacks.{Lists}
 use Rattle.fj_machine.specs.InHands.{InHand}
 use Rattle.fj_machine.specs.Holds.{KeepsQueues, KeepsStacks, KeepsHands}
 
@@ -48,16 +48,16 @@ none_at_all ([] ∷ lists) = ap (λ n. n == 0) (sum_by-cons length [] lists ∙ 
 none_at_all ((t ∷ ts) ∷ lists) = ne_eqb (all_in ((t ∷ ts) ∷ lists)) 0 (λ none. absurd (omega (arith, sum_by-cons length (t ∷ ts) lists)))
 
 pub quiet_is : (l : Bounds) (h : List Event) (queues : Waiting) (stacks : Lists) (hands : List (Option InHand)) → KeepsQueues l h queues → KeepsStacks l h stacks → KeepsHands l h hands
-    → is_quiet l h ≡ ((all_in queues.lists == 0) && (list_all is_empty stacks.rows && list_all is_none hands))
+    → is_quiet l h ≡ ((all_in queues.lists == 0) && (list_all is_empty stacks.lists && list_all is_none hands))
 unfolding is_quiet owners workers
 quiet_is l h queues stacks hands in_queues in_stacks in_hands =
     let all_queues : list_all (λ o. is_empty (queue h o)) (map (owner_at l) (range_with_len 0 (queues_in l))) ≡ list_all is_empty queues.lists =
     list_all-map (λ o. is_empty (queue h o)) (owner_at l) (range_with_len 0 (queues_in l))
     ∙ ap (λ n. list_all (λ i. is_empty (queue h (owner_at l i))) (range_with_len 0 n)) (sym in_queues.count)
     ∙ all_rows is_empty [] queues.lists (λ i. is_empty (queue h (owner_at l i))) 0 (λ i inside. ap is_empty (in_queues.each i (omega (arith, in_queues.count))) ∙ ap (λ n. is_empty (queue h (owner_at l n))) (omega arith)) in
-    let all_stacks : list_all (λ w. is_empty (stack h w)) (range_with_len 0 l.workers) ≡ list_all is_empty stacks.rows =
+    let all_stacks : list_all (λ w. is_empty (stack h w)) (range_with_len 0 l.workers) ≡ list_all is_empty stacks.lists =
     ap (λ n. list_all (λ w. is_empty (stack h w)) (range_with_len 0 n)) (sym in_stacks.count)
-    ∙ all_rows is_empty [] stacks.rows (λ w. is_empty (stack h w)) 0 (λ i inside. ap is_empty (in_stacks.each i (omega (arith, in_stacks.count))) ∙ ap (λ n. is_empty (stack h n)) (omega arith)) in
+    ∙ all_rows is_empty [] stacks.lists (λ w. is_empty (stack h w)) 0 (λ i inside. ap is_empty (in_stacks.each i (omega (arith, in_stacks.count))) ∙ ap (λ n. is_empty (stack h n)) (omega arith)) in
     let all_hands : list_all (λ w. is_none (hand h w)) (range_with_len 0 l.workers) ≡ list_all is_none hands =
     ap (λ n. list_all (λ w. is_none (hand h w)) (range_with_len 0 n)) (sym in_hands.count)
     ∙ all_rows is_none None hands (λ w. is_none (hand h w)) 0

@@ -26,7 +26,7 @@ use Rattle.fj_tree.specs.Handles.{Handle}
 use Rattle.fj_tree.specs.Releases.{without_child, without_child_of}
 use Rattle.fj_tree.specs.Releases as record_is
 use Rattle.fj_tree.proofs.Numbers.{there, at_found}
-use Rattle.fj_machine.specs.Rows.{Lists}
+use Rattle.fj_machine.specs.Stacks.{Lists}
 use Rattle.fj_machine.specs.InHands.{InHand, left_by}
 use Rattle.fj_machine.specs.Holds.{Holds, Tells, TellsHook, TellsLeft, KeepsTree, KeepsHands}
 use Rattle.fj_machine.proofs.Growing.{grown_holds}

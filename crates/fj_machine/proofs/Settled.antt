@@ -30,7 +30,7 @@ use Rattle.fj_tree.specs.declared.record.Record.{Record}
 use Rattle.fj_tree.specs.Handles.{Handle}
 use Rattle.fj_tree.specs.Records.{Records, IsSound, changed, with_status, made_spent}
 use Rattle.fj_tree.proofs.Numbers.{written}
-use Rattle.fj_machine.specs.Rows.{Lists}
+use Rattle.fj_machine.specs.Stacks.{Lists}
 use Rattle.fj_machine.specs.InHands.{InHand}
 use Rattle.fj_machine.specs.Closing.{is_open_at, closed}
 use Rattle.fj_machine.specs.Holds.{Holds, Tells, hook_completers}

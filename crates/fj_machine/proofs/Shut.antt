@@ -26,7 +26,7 @@ use Rattle.fj_tree.specs.Records.{Records, record_at, count, with_status, with_p
 use Rattle.fj_tree.specs.Cancels.{if_undone_cancelled}
 use Rattle.fj_tree.specs.Closes.{if_open_gone}
 use Rattle.fj_tree.proofs.Numbers.{there, at_found}
-use Rattle.fj_machine.specs.Rows.{Lists}
+use Rattle.fj_machine.specs.Stacks.{Lists}
 use Rattle.fj_machine.specs.InHands.{InHand, if_cancelled, cancelled}
 use Rattle.fj_machine.specs.Holds.{Holds, Tells, TellsHook, TellsLeft, KeepsTree}
 use Rattle.fj_machine.proofs.Growing.{grown_holds}

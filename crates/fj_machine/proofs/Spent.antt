@@ -25,7 +25,7 @@ use Rattle.fj_tree.specs.declared.record.Record.{Record}
 use Rattle.fj_tree.specs.Handles.{Handle}
 use Rattle.fj_tree.specs.Records.{Records, IsSound, record_of, changed, with_place}
 use Rattle.fj_tree.proofs.Numbers.{IsWritten, written, written_again}
-use Rattle.fj_machine.specs.Rows.{Lists}
+use Rattle.fj_machine.specs.Stacks.{Lists}
 use Rattle.fj_machine.specs.InHands.{InHand}
 use Rattle.fj_machine.specs.Closing.{is_open_at, is_open_in}
 use Rattle.fj_machine.specs.Closing as closing

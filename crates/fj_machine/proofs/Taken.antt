@@ -34,7 +34,7 @@ use Rattle.fj_tree.specs.Records.{Records, IsSound, changed, with_place}
 use Rattle.fj_tree.proofs.Numbers.{written}
 use Rattle.fj_machine.specs.declared.source.Source.{Source}
 use Rattle.fj_machine.specs.declared.source.Source.TheVariants.{Oldest, Newest}
-use Rattle.fj_machine.specs.Rows.{Lists, row_at, with_row}
+use Rattle.fj_machine.specs.Stacks.{Lists, stack_at, with_stack}
 use Rattle.fj_machine.specs.InHands.{InHand}
 use Rattle.fj_machine.specs.Sources.{queue_of, end_of, rest_of}
 use Rattle.fj_machine.specs.Holds.{Holds, KeepsQueues, KeepsStacks, Tells}
@@ -83,15 +83,15 @@ stack_out : (h : List Event) (w t : ℕ) → stack (h ++ event.Out t w ∷ []) w
 stack_out h w t = stack_more h w (event.Out t w) ∙ rw (eq-eqb w w refl, without_none) refl
 
 -- and the other stacks stay
-stacks_after_out : (l : Bounds) (h : List Event) (stacks : Lists) (w t : ℕ) → w < l.workers → KeepsStacks l h stacks → KeepsStacks l (h ++ event.Out t w ∷ []) (with_row stacks w (row_at stacks w ++ t ∷ []))
+stacks_after_out : (l : Bounds) (h : List Event) (stacks : Lists) (w t : ℕ) → w < l.workers → KeepsStacks l h stacks → KeepsStacks l (h ++ event.Out t w ∷ []) (with_stack stacks w (stack_at stacks w ++ t ∷ []))
 stacks_after_out l h stacks w t within keeps = record {
-  count = length-set stacks.rows w (row_at stacks w ++ t ∷ []) ∙ keeps.count;
+  count = length-set stacks.lists w (stack_at stacks w ++ t ∷ []) ∙ keeps.count;
   room = keeps.room;
   each = λ v inside. ⊎_elim
-      (λ here. new_row stacks.rows v w (row_at stacks w ++ t ∷ []) (omega (arith, keeps.count)) here
+      (λ here. new_row stacks.lists v w (stack_at stacks w ++ t ∷ []) (omega (arith, keeps.count)) here
       ∙ ap (λ ts. ts ++ t ∷ []) (keeps.each w within)
       ∙ sym (ap (stack (h ++ event.Out t w ∷ [])) here ∙ stack_out h w t))
-      (λ other. get_or-set_other stacks.rows w v (row_at stacks w ++ t ∷ []) [] other ∙ keeps.each v inside
+      (λ other. get_or-set_other stacks.lists w v (stack_at stacks w ++ t ∷ []) [] other ∙ keeps.each v inside
       ∙ sym (stack_same h v (event.Out t w) refl (rw (ne_eqb v w other) refl)))
       (cases_eq v w);
 }
@@ -136,7 +136,7 @@ skipped_holds pool h t w source queues stacks hands tree opens gones at holds so
 pub handed_holds : (pool : Pool) (h : List Event) (t w : ℕ) (source : Source) (queues : Waiting) (stacks : Lists) (hands : List (Option InHand)) (tree : Records) (opens gones : List ℕ) (at : Handle)
     → Holds pool h queues stacks hands tree opens gones → IsSound tree → IsLocated tree t at → Allowed pool h (Out t w) → length h < pool.limits.events → w < pool.limits.workers
     → queue_of source < queues_in pool.limits → end_of source (queue h (owner_at pool.limits (queue_of source))) ≡ Some t
-    → Holds pool (h ++ Out t w ∷ []) (with_queue queues (queue_of source) (rest_of source (queue_at queues (queue_of source)))) (with_row stacks w (row_at stacks w ++ t ∷ [])) hands (changed tree at.key (with_place (Held w))) opens gones
+    → Holds pool (h ++ Out t w ∷ []) (with_queue queues (queue_of source) (rest_of source (queue_at queues (queue_of source)))) (with_stack stacks w (stack_at stacks w ++ t ∷ [])) hands (changed tree at.key (with_place (Held w))) opens gones
 handed_holds pool h t w source queues stacks hands tree opens gones at holds sound l may fits worker within first =
     let e = Out t w in
     let r = l.found in

@@ -19,7 +19,7 @@ use Rattle.fj_model.specs.Allowed.{AllowedFrom, is_fired_by_complete}
 use Rattle.fj_queues.specs.Queues.{Lists as Waiting, queue_at}
 use Rattle.fj_tree.specs.declared.record.Record.{Record}
 use Rattle.fj_tree.specs.Records.{Records, record_at, handle_of, count}
-use Rattle.fj_machine.specs.Rows.{Lists, row_at}
+use Rattle.fj_machine.specs.Stacks.{Lists, stack_at}
 use Rattle.fj_machine.specs.InHands.{InHand}
 
 -- one list for each owner, by the queue's number
@@ -30,9 +30,9 @@ pub record KeepsQueues (l : Bounds) (h : List Event) (queues : Waiting) : Type 0
 
 -- one list for each worker
 pub record KeepsStacks (l : Bounds) (h : List Event) (stacks : Lists) : Type 0 where
-  pub count : length stacks.rows ≡ l.workers
+  pub count : length stacks.lists ≡ l.workers
   pub room : stacks.room ≡ l.tasks
-  pub each : (w : ℕ) → w < l.workers → row_at stacks w ≡ stack h w
+  pub each : (w : ℕ) → w < l.workers → stack_at stacks w ≡ stack h w
 
 -- what a record says of its task is what the history says
 pub record Tells (h : List Event) (r : Record) : Type 0 where

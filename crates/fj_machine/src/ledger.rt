@@ -26,7 +26,7 @@ mod take;
 
 pub(crate) use crate::ledger::hook::Hook;
 use crate::log::Log;
-use crate::rows::Rows;
+use crate::stacks::Stacks;
 use fj_model::{Event, Limits, Mode, OutOfMemory, Owner, Serial, SubId, WorkerId};
 use fj_queues::{Numbers, Queues};
 use fj_tree::{Record, Tree};
@@ -40,10 +40,10 @@ pub(crate) struct Ledger {
     limits: Limits,
     log: Log,
     queues: Queues,
-    stacks: Rows,
+    stacks: Stacks,
     hands: Vec<Option<Hook>>,
     tree: Tree,
-    open: Vec<Serial>,
+    open_tasks: Vec<Serial>,
     gone: Vec<Serial>,
 }
 
@@ -60,9 +60,9 @@ impl Model for Ledger {
     } };
 
     ghost invariant = { λ m.
-        Holds (record { mode = m.mode; limits = m.limits }) m.log.events m.queues m.stacks m.hands.items m.tree m.open.items m.gone.items
+        Holds (record { mode = m.mode; limits = m.limits }) m.log.events m.queues m.stacks m.hands.items m.tree m.open_tasks.items m.gone.items
         × (m.log.room ≡ m.limits.events)
-        × (m.limits.tasks ≤ vec_capacity m.open)
+        × (m.limits.tasks ≤ vec_capacity m.open_tasks)
         × (m.limits.events ≤ vec_capacity m.gone) };
 }
 
@@ -80,10 +80,10 @@ impl Ledger {
             limits,
             log: Log::new(alloc, events)?,
             queues: Queues::new(alloc, queues, tasks)?,
-            stacks: Rows::new(alloc, workers, tasks)?,
+            stacks: Stacks::new(alloc, workers, tasks)?,
             hands: Vec::from_elem(alloc, None, workers)?,
             tree: Tree::new(alloc, tasks)?,
-            open: Vec::with_capacity(alloc, tasks)?,
+            open_tasks: Vec::with_capacity(alloc, tasks)?,
             gone: Vec::with_capacity(alloc, events)?,
         })
     }
@@ -111,16 +111,16 @@ impl Ledger {
         ensures { result.now ≡ stack self.now.events w }
     {
         if self.limits.workers() <= w.0 {
-            return Rows::none();
+            return Stacks::none();
         }
-        self.stacks.row(w.0 as usize)
+        self.stacks.stack(w.0 as usize)
     }
 
     /// The open tasks, in the order in which they came to be open.
     pub(crate) fn open(&self) -> &[Serial]
         ensures { result.now ≡ open_tasks self.now.events }
     {
-        self.open.as_slice()
+        self.open_tasks.as_slice()
     }
 
     /// The gone tasks, in the order in which they came to be gone.

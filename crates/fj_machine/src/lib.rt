@@ -9,9 +9,9 @@
 mod ledger;
 mod log;
 mod machine;
-mod rows;
 mod runs;
 mod source;
+mod stacks;
 mod steps;
 
 pub use machine::Machine;

@@ -32,7 +32,7 @@ impl Ledger {
     {
         let t = self.tree.make(trigger(count), Place::Open).unwrap().serial;
         self.log.push(Event::Make(t, trigger(count)));
-        self.open.push_reserved(t);
+        self.open_tasks.push_reserved(t);
         t
     }
 }

@@ -8,18 +8,23 @@ use fj_model::{Place, Serial};
 use fj_tree::{Handle, Tree};
 
 /// A task that is open goes; any other one stays where it is.
-pub(super) fn close(tree: &mut Tree, open: &mut Vec<Serial>, gone: &mut Vec<Serial>, h: Handle)
+pub(super) fn close(
+    tree: &mut Tree,
+    open_tasks: &mut Vec<Serial>,
+    gone: &mut Vec<Serial>,
+    h: Handle,
+)
     requires good { IsGood tree.old h }
     requires room { length gone.old.items < vec_capacity gone.old }
     ensures tree { tree.new ≡ closed tree.old h }
-    ensures open { open.new.items ≡ (if is_open_at tree.old h then without open.old.items (h.serial ∷ []) else open.old.items) }
+    ensures open { open_tasks.new.items ≡ (if is_open_at tree.old h then without open_tasks.old.items (h.serial ∷ []) else open_tasks.old.items) }
     ensures gone { gone.new.items ≡ (if is_open_at tree.old h then gone.old.items ++ h.serial ∷ [] else gone.old.items) }
-    ensures open_room { vec_capacity open.new ≡ vec_capacity open.old }
+    ensures open_room { vec_capacity open_tasks.new ≡ vec_capacity open_tasks.old }
     ensures gone_room { vec_capacity gone.new ≡ vec_capacity gone.old }
 {
     if matches!(tree.get(h).unwrap().place, Place::Open) {
         tree.set_place(h, Place::Gone);
-        take_out(open, h.serial);
+        take_out(open_tasks, h.serial);
         gone.push_reserved(h.serial);
     }
 }

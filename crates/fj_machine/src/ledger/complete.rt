@@ -51,7 +51,7 @@ impl Ledger {
         let parent = self.tree.get(h).unwrap().kind.parent();
         self.log.push(Event::Fire(c, how));
         self.tree.fire(h);
-        close(&mut self.tree, &mut self.open, &mut self.gone, h);
+        close(&mut self.tree, &mut self.open_tasks, &mut self.gone, h);
         self.hands[w.0 as usize] = Some(Hook {
             completer: c,
             parent,
@@ -71,6 +71,6 @@ impl Ledger {
         let h = self.tree.find(c).unwrap();
         self.log.push(Event::Pass(c));
         self.tree.fire(h);
-        close(&mut self.tree, &mut self.open, &mut self.gone, h);
+        close(&mut self.tree, &mut self.open_tasks, &mut self.gone, h);
     }
 }

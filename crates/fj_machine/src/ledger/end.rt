@@ -25,7 +25,7 @@ impl Ledger {
         self.stacks.take_last(w.0 as usize);
         if stays {
             self.tree.set_place(h, Place::Open);
-            self.open.push_reserved(t);
+            self.open_tasks.push_reserved(t);
         } else {
             self.tree.set_place(h, Place::Gone);
             self.gone.push_reserved(t);
@@ -45,8 +45,8 @@ impl Ledger {
 }
 
 /// Whether a task whose body ends is open then: a completer that is not spent.
-fn stays_open(record: &Record) -> bool
-    ensures { result ≡ (is_completer_kind (Some record.now.kind) && not (is_spent record.now)) }
+fn stays_open(kept: &Record) -> bool
+    ensures { result ≡ (is_completer_kind (Some kept.now.kind) && not (is_spent kept.now)) }
 {
-    record.kind.is_completer() && !record.is_spent()
+    kept.kind.is_completer() && !kept.is_spent()
 }

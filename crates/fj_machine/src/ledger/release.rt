@@ -44,8 +44,8 @@ impl Ledger {
 }
 
 /// Whether the task of a record is gone, and no kept task names it as its parent.
-fn is_free(record: &Record) -> bool
-    ensures { result ≡ (is_gone record.now.place && (record.now.children == 0)) }
+fn is_free(kept: &Record) -> bool
+    ensures { result ≡ (is_gone kept.now.place && (kept.now.children == 0)) }
 {
-    matches!(record.place, Place::Gone) && record.children == 0
+    matches!(kept.place, Place::Gone) && kept.children == 0
 }

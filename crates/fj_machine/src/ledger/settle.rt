@@ -22,7 +22,7 @@ impl Ledger {
         self.log.push(Event::Settle(t, status));
         if let Some(h) = self.tree.find(t) {
             self.tree.set_status(h, status);
-            close(&mut self.tree, &mut self.open, &mut self.gone, h);
+            close(&mut self.tree, &mut self.open_tasks, &mut self.gone, h);
         }
     }
 }

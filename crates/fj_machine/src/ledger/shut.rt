@@ -29,7 +29,7 @@ impl Ledger {
         self.tree.cancel_undone();
         self.tree.close_open();
         cancel_left(self.hands.as_mut_slice());
-        move_sorted(&mut self.open, &mut self.gone);
+        move_sorted(&mut self.open_tasks, &mut self.gone);
     }
 }
 

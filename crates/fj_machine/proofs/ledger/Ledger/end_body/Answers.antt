@@ -62,7 +62,7 @@ push_reserved-requires c =
     let h = c.self.inside.log.events in
     let holds = c.self.invariant.0 in
     let short = open_is_short pool h c.args.w holds.lawful (within at) (some_last (stack h c.args.w) c.args.t (may at).0) in
-    omega (arith, short, few_live pool h holds.lawful, ap (λ (ts : List ℕ). length ts) holds.open_kept, c.self.inside.open.ok.0, c.self.invariant.2)
+    omega (arith, short, few_live pool h holds.lawful, ap (λ (ts : List ℕ). length ts) holds.open_kept, c.self.inside.open_tasks.ok.0, c.self.invariant.2)
 
 pub invariant_of-self : goal.invariant_of-self
 invariant_of-self c =
@@ -91,7 +91,7 @@ invariant_of-self-else-stays c =
     let l = found at.After-unwrap-h in
     let is = sym (read at.After-stays_open-stays l) ∙ c.if-stays.false in (
       rw (c.push.ensures, c.take_last.ensures, c.set_place-else-stays.ensures, c.push_reserved-else-stays.ensures.items, c.w.view_is)
-          (ended_holds pool h c.args.t c.args.w false _ _ _ _ _ _ _ _ _ c.unwrap-h.result c.self.invariant.0 c.find.ensures.sound l (may at.After-self) (within at.After-self) (fits at.After-self) is refl (sym (append-nil c.self.inside.open.items)) refl),
+          (ended_holds pool h c.args.t c.args.w false _ _ _ _ _ _ _ _ _ c.unwrap-h.result c.self.invariant.0 c.find.ensures.sound l (may at.After-self) (within at.After-self) (fits at.After-self) is refl (sym (append-nil c.self.inside.open_tasks.items)) refl),
       rw c.push.ensures (c.self.invariant.1),
       c.self.invariant.2,
       omega (arith, c.push_reserved-else-stays.ensures.capacity, c.self.invariant.3),

@@ -37,7 +37,7 @@ push_reserved-requires c =
     let h = c.self.inside.log.events in
     let holds = c.self.invariant.0 in
     let may : Allowed pool h (Make (accepted h) (Completer None c.args.count true)) = subst (λ (p : Past). Allowed p.pool p.events (Make (accepted p.events) (Completer None c.args.count true))) (sym c.self.view_is) c.requires.may in
-    omega (arith, few_open pool h holds.lawful, may.0.room, ap (λ (ts : List ℕ). length ts) holds.open_kept, c.self.inside.open.ok.0, c.self.invariant.2)
+    omega (arith, few_open pool h holds.lawful, may.0.room, ap (λ (ts : List ℕ). length ts) holds.open_kept, c.self.inside.open_tasks.ok.0, c.self.invariant.2)
 
 -- what the make left
 made : (c : After-unwrap) → IsMade c.self.inside.tree c.make.new.self c.unwrap.result.key c.unwrap.result.serial c.trigger.result Open
