@@ -1,6 +1,6 @@
-ghost use Rattle.std.specs.Prelude.{◌≡◌, ◌≢◌, ℕ, ◌+◌, ◌^◌, ◌<◌, ◌≤◌, ◌∷◌, ◌++◌, [], length, IsTrue, OnOk, IfOk, IfErr, List, Option, true, is_some, ◌↔◌};
+ghost use Rattle.std.specs.Prelude.{◌≡◌, ℕ, ◌+◌, ◌^◌, ◌<◌, ◌≤◌, ◌++◌, [], length, OnOk, IfOk, IfErr, List, Option, true, is_some};
 ghost use Rattle.std.specs.Io.KnownBytes.{Appends};
-ghost use Rattle.fj_cli.specs.Cuts.{lines, rest};
+ghost use Rattle.fj_cli.specs.Cuts.{lines};
 ghost use Rattle.fj_cli.specs.Faults.{FaultOf};
 ghost use Rattle.fj_cli.specs.Playbacks.{Kept, nothing_kept, next_kept, fed, Goes, FaultAt, EndsEarly, IsAt};
 

@@ -1,4 +1,4 @@
-ghost use Rattle.std.specs.Prelude.{◌≡◌, ◌⊎◌, [], Some, None, OnOk, OnErr, IfOk, IfErr, IsSome, Option};
+ghost use Rattle.std.specs.Prelude.{◌≡◌, [], Some, None, OnOk, OnErr, IfOk, IfErr, Option};
 ghost use Rattle.std.specs.Io.KnownBytes.{Appends};
 ghost use Rattle.fj_model.specs.Answers.{answer};
 ghost use Rattle.fj_model.specs.Runs.{Past, fresh, grown};

@@ -1,4 +1,4 @@
-ghost use Rattle.std.specs.Prelude.{◌≡◌, ◌≢◌, ◌⊎◌, ℕ, List, Option, Some, codes, map};
+ghost use Rattle.std.specs.Prelude.{◌≡◌, ◌≢◌, ◌⊎◌, ℕ, List, Some, codes, map};
 ghost use Rattle.clap.specs.Words.{kind_of};
 ghost use Rattle.fj_cli.specs.Commands.{command_in, replay_words};
 ghost use Rattle.fj_cli.specs.Faults.{IsReplayed};

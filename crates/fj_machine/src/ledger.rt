@@ -1,14 +1,14 @@
 //! The history, and what stands where after it. Each change here is one event.
-ghost use Rattle.std.specs.Prelude.{◌≡◌, ◌≤◌, ◌<◌, ◌+◌, ◌↔◌, [], IfOk, IfSome, IsTrue, nat_lt, option_map, MatchOption, length, true, false, Some, ◌∷◌, ◌++◌, option_copied, is_none, ◌||◌};
+ghost use Rattle.std.specs.Prelude.{◌≡◌, ◌≤◌, ◌<◌, ◌+◌, ◌↔◌, [], IfOk, IfSome, IsTrue, nat_lt, option_map, MatchOption, length, true, false, Some, option_copied, is_none, ◌||◌};
 ghost use Rattle.std.specs.List.{list_all};
 ghost use Rattle.fj_model.specs.Queues.{queue};
 ghost use Rattle.fj_model.specs.Stacks.{stack};
 ghost use Rattle.fj_model.specs.Places.{open_tasks, gone};
-ghost use Rattle.fj_model.specs.Tasks.{is_kept, is_completer, live};
+ghost use Rattle.fj_model.specs.Tasks.{is_kept, live};
 ghost use Rattle.fj_model.specs.Climbs.{path};
 ghost use Rattle.fj_model.specs.Hooks.{hand};
 ghost use Rattle.fj_model.specs.Answers.{running, is_quiet, root_of};
-ghost use Rattle.fj_model.specs.Allowed.{Allowed, AllowedFrom, is_closed, is_stopped};
+ghost use Rattle.fj_model.specs.Allowed.{AllowedFrom, is_closed, is_stopped};
 ghost use Rattle.fj_model.specs.Runs.{fresh};
 ghost use Rattle.fj_machine.specs.Holds.{IsLawful, TellsOf, TellsHook};
 

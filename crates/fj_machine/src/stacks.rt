@@ -15,7 +15,7 @@ pub struct Stacks {
 }
 
 impl Model for Stacks {
-    ghost use Rattle.std.specs.Prelude.{ℕ, ◌≤◌, ◌<◌, ◌^◌, vec_capacity, vec_len, All, List, map};
+    ghost use Rattle.std.specs.Prelude.{◌≤◌, ◌<◌, vec_capacity, All, map};
     ghost use Rattle.fj_machine.specs.Stacks.{Lists};
 
     ghost Value = { Lists };

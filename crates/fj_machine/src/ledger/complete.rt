@@ -9,7 +9,7 @@ ghost use Rattle.fj_model.specs.Runs.{grown};
 use crate::ledger::Ledger;
 use crate::ledger::close::close;
 use crate::ledger::hook::Hook;
-use fj_model::{Event, How, Place, Serial, WorkerId};
+use fj_model::{Event, How, Serial, WorkerId};
 
 impl Ledger {
     /// Raises the pending count of a completer.

@@ -9,7 +9,7 @@ ghost use Rattle.fj_machine.specs.Holds.{hook_completers};
 
 use crate::ledger::Ledger;
 use crate::ledger::close::close;
-use fj_model::{Event, Place, Serial, Status};
+use fj_model::{Event, Serial, Status};
 
 impl Ledger {
     /// An undone task gets its status, which its record tells if it is kept. A released one has no completion action in a hand any more.

@@ -1,8 +1,8 @@
 //! The pool is shut.
-ghost use Rattle.std.specs.Prelude.{◌≡◌, ◌≤◌, ◌<◌, ◌+◌, ◌∷◌, [], ◌++◌, List, ℕ, length, map, option_map, vec_capacity, IsPermutation};
+ghost use Rattle.std.specs.Prelude.{◌≡◌, ◌≤◌, ◌<◌, ◌+◌, ◌∷◌, [], ◌++◌, List, ℕ, length, vec_capacity, IsPermutation};
 ghost use Rattle.std.specs.List.Sorted.{IsNonDecreasing};
 ghost use Rattle.fj_model.specs.declared.event.Event.TheVariants.{Close, Stop};
-ghost use Rattle.fj_model.specs.Allowed.{Allowed, is_closed, is_stopped};
+ghost use Rattle.fj_model.specs.Allowed.{Allowed};
 ghost use Rattle.fj_model.specs.Runs.{grown};
 
 use crate::ledger::Ledger;

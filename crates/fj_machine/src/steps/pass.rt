@@ -1,5 +1,5 @@
 //! The end of a body that climbs to the root without completion actions.
-ghost use Rattle.std.specs.Prelude.{◌≡◌, ◌≤◌, ◌+◌, ◌∷◌, [], ◌++◌, None, Some, true, length, map};
+ghost use Rattle.std.specs.Prelude.{◌≡◌, ◌≤◌, ◌+◌, None, Some, true, length, map};
 ghost use Rattle.fj_model.specs.declared.event.Event.TheVariants as event;
 ghost use Rattle.fj_model.specs.declared.step.Step.TheVariants.{End};
 ghost use Rattle.fj_model.specs.Tasks.{is_kept, is_completer};

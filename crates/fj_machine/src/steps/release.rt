@@ -1,5 +1,4 @@
 //! Tasks are released.
-ghost use Rattle.std.specs.Prelude.{◌≡◌};
 ghost use Rattle.fj_model.specs.declared.step.Step.TheVariants.{Release};
 ghost use Rattle.fj_model.specs.Runs.{Steps};
 

@@ -1,5 +1,4 @@
 //! The pool is shut.
-ghost use Rattle.std.specs.Prelude.{◌≡◌};
 ghost use Rattle.fj_model.specs.declared.step.Step.TheVariants.{Shutdown, Stop};
 ghost use Rattle.fj_model.specs.Runs.{Steps};
 

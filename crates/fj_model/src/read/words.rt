@@ -1,4 +1,4 @@
-ghost use Rattle.std.specs.Prelude.{◌≡◌, ◌==◌, ◌≤◌, length, ◌∷◌, true, false, Some, None, MatchResult};
+ghost use Rattle.std.specs.Prelude.{◌≡◌, ◌==◌, ◌∷◌, true, false, Some, None, MatchResult};
 ghost use Rattle.std.specs.List.{position_or_len};
 ghost use Rattle.fj_model.specs.Words.{words, words_behind, word_first, number_first, is_last};
 
