@@ -1,9 +1,17 @@
 use super::*;
+use std::alloc::Global;
 use std::test::*;
+
+// The line of a reply, with queue numbers of a pool of two submitters.
+fn line_of(alloc: Global, said: Said) -> Result<String, Fail> {
+    let limits = Limits::new(32, 2, 8, 16)?;
+    let mut text = String::new(alloc);
+    said.push_line(&limits, &mut text)?;
+    Ok(text)
+}
 
 #[test]
 fn replies_are_printed(rt: HostRuntime) -> Result<(), Fail> {
-    let limits = Limits::new(32, 2, 8, 16)?;
     let rows = [
         (Said::Task(Serial(0)), "task 0\n"),
         (
@@ -25,6 +33,16 @@ fn replies_are_printed(rt: HostRuntime) -> Result<(), Fail> {
         (Said::Normal, "normal\n"),
         (Said::Exceptional(4_294_967_295), "exceptional 4294967295\n"),
         (Said::Cancelled, "cancelled\n"),
+    ];
+    for (said, line) in rows {
+        assert_eq!(rt; line_of(rt.alloc(), said)?.as_str(), line);
+    }
+    Ok(())
+}
+
+#[test]
+fn states_are_printed(rt: HostRuntime) -> Result<(), Fail> {
+    let rows = [
         (
             Said::State(Place::Queued(Owner::Sub(SubId(1))), Status::Undone),
             "state queued 1 undone\n",
@@ -47,9 +65,7 @@ fn replies_are_printed(rt: HostRuntime) -> Result<(), Fail> {
         ),
     ];
     for (said, line) in rows {
-        let mut text = String::new(rt.alloc());
-        said.push_line(&limits, &mut text)?;
-        assert_eq!(rt; text.as_str(), line);
+        assert_eq!(rt; line_of(rt.alloc(), said)?.as_str(), line);
     }
     Ok(())
 }

@@ -30,9 +30,29 @@ fn headings_are_read(rt: HostRuntime) {
 }
 
 #[test]
-fn other_headings_are_faults(rt: HostRuntime) {
+fn other_first_words_are_faults(rt: HostRuntime) {
     let rows = [
         "",
+        "ASYNC 1 1 1 1",
+        "asynch 1 1 1 1",
+        "asyn 1 1 1 1",
+        "Joining 2 1 8 64",
+        "JOINING 2 1 8 64",
+        "join 2 1 8 64",
+        "async joining 1 1 1 1",
+        "submit 0",
+        "fj 2",
+        "aaaaaaaaaaaaaaaaaaaaaaaaaaaaaaaaaaaaaaaaaaaaaaaaaaaaaaaaaaaaaaaaa",
+    ];
+    for line in rows {
+        assert_eq!(rt; read_head(line.as_bytes()), Err(LineFault), "{line}");
+    }
+    assert_eq!(rt; read_head(b"\xff"), Err(LineFault));
+}
+
+#[test]
+fn other_numbers_behind_async_are_faults(rt: HostRuntime) {
+    let rows = [
         "async",
         "async 1",
         "async 1 1",
@@ -49,9 +69,16 @@ fn other_headings_are_faults(rt: HostRuntime) {
         "async 1 1 1 -",
         "async 1 1 1 1\r",
         "async 1 1 1 1\n",
-        "ASYNC 1 1 1 1",
-        "asynch 1 1 1 1",
-        "asyn 1 1 1 1",
+    ];
+    for line in rows {
+        assert_eq!(rt; read_head(line.as_bytes()), Err(LineFault), "{line}");
+    }
+    assert_eq!(rt; read_head(b"async 1 1 1 \xff"), Err(LineFault));
+}
+
+#[test]
+fn other_numbers_behind_joining_are_faults(rt: HostRuntime) {
+    let rows = [
         "joining",
         "joining 2 1 8",
         "joining 2 1 8 64 0",
@@ -62,17 +89,8 @@ fn other_headings_are_faults(rt: HostRuntime) {
         "joining - 1 8 64",
         "joining  2 1 8 64",
         " joining 2 1 8 64",
-        "Joining 2 1 8 64",
-        "JOINING 2 1 8 64",
-        "join 2 1 8 64",
-        "async joining 1 1 1 1",
-        "submit 0",
-        "fj 2",
-        "aaaaaaaaaaaaaaaaaaaaaaaaaaaaaaaaaaaaaaaaaaaaaaaaaaaaaaaaaaaaaaaaa",
     ];
     for line in rows {
         assert_eq!(rt; read_head(line.as_bytes()), Err(LineFault), "{line}");
     }
-    assert_eq!(rt; read_head(b"\xff"), Err(LineFault));
-    assert_eq!(rt; read_head(b"async 1 1 1 \xff"), Err(LineFault));
 }

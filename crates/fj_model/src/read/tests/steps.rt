@@ -64,7 +64,7 @@ fn end(w: u32, ending: Ending) -> Step {
 }
 
 #[test]
-fn tasks_handed_in_are_read(rt: HostRuntime) {
+fn submissions_are_read(rt: HostRuntime) {
     let rows = [
         ("submit 0", submit(0)),
         ("submit 31", submit(31)),
@@ -76,6 +76,15 @@ fn tasks_handed_in_are_read(rt: HostRuntime) {
             "submit 4294967295 4294967295 stop",
             submit_completer(4_294_967_295, 4_294_967_295, false),
         ),
+    ];
+    for (line, step) in rows {
+        assert_eq!(rt; read_step(line.as_bytes()), Ok(step), "{line}");
+    }
+}
+
+#[test]
+fn forks_and_triggers_are_read(rt: HostRuntime) {
+    let rows = [
         ("fork 0", fork(0)),
         ("fork 4294967295", fork(4_294_967_295)),
         ("fork 0 - 0 relay", fork_completer(0, None, 0, true)),
@@ -109,7 +118,7 @@ fn tasks_handed_in_are_read(rt: HostRuntime) {
 }
 
 #[test]
-fn tasks_taken_and_ended_are_read(rt: HostRuntime) {
+fn tasks_taken_are_read(rt: HostRuntime) {
     let rows = [
         ("poll 0 0", poll(0, 0)),
         ("poll 40 7", poll(40, 7)),
@@ -128,6 +137,15 @@ fn tasks_taken_and_ended_are_read(rt: HostRuntime) {
             "join 4294967295 4294967294 4294967293",
             join(4_294_967_295, 4_294_967_294, 4_294_967_293),
         ),
+    ];
+    for (line, step) in rows {
+        assert_eq!(rt; read_step(line.as_bytes()), Ok(step), "{line}");
+    }
+}
+
+#[test]
+fn ends_are_read(rt: HostRuntime) {
+    let rows = [
         ("end 0 ok", end(0, Ending::Ok)),
         ("end 4000000000 ok", end(4_000_000_000, Ending::Ok)),
         ("end 1 quiet", end(1, Ending::Quiet)),
