@@ -7,12 +7,12 @@ use Rattle.std.proofs.lemmas.List.Folds.{list_any-append}
 use Rattle.std.proofs.lemmas.Bool.{eqb-false, ne_eqb, not-false, or_parts}
 use Rattle.fj_model.specs.declared.event.Event.{Event}
 use Rattle.fj_model.specs.declared.event.Event.TheVariants as event
-use Rattle.fj_model.specs.declared.event.Event.TheVariants.{Acc, Make, Out, Skip, End}
+use Rattle.fj_model.specs.declared.event.Event.TheVariants.{Acc, Out}
 use Rattle.fj_model.specs.declared.owner.Owner.{Owner}
 use Rattle.fj_model.specs.Lists.{is_in, number_if}
 use Rattle.fj_model.specs.Tasks.{accepted_by}
 use Rattle.fj_model.specs.Queues.{queue, pushed_by, taken_by}
-use Rattle.fj_model.specs.Stacks.{stack, out_by, ended_by}
+use Rattle.fj_model.specs.Stacks.{stack}
 use Rattle.fj_model.specs.Statuses.{status, status_by, is_undone}
 use Rattle.fj_model.specs.Completers.{pending, is_spent, added_by, counted_by, fires_or_passes}
 use Rattle.fj_model.specs.Places.{queued_in, held_by, owner_by, worker_by}
@@ -22,45 +22,15 @@ use Rattle.fj_model.proofs.Members.{is_in_filter}
 use Rattle.fj_model.proofs.Queues.{queue_same}
 use Rattle.fj_model.proofs.Statuses.{status_same}
 use Rattle.fj_model.proofs.KindsKept.{kind_same}
+use Rattle.fj_model.proofs.PlaceLaws.{moves, none_accepted, none_pushed, none_taken, none_ended, none_out}
 
--- an event that accepts no task, takes none and ends no body
-abbrev pub is_still : Event → Bool
-is_still (Acc t o k) = false
-is_still (Make t k) = false
-is_still (Out t w) = false
-is_still (Skip t w) = false
-is_still (End t w) = false
-is_still _ = true
+none_owner : (t : ℕ) (e : Event) → moves e ≡ false → owner_by t e ≡ None
+none_owner t (Acc u o k) unmoved = absurd cc
+none_owner t _ unmoved = refl
 
-still_accepts : (e : Event) → is_still e ≡ true → accepted_by e ≡ None
-still_accepts (Acc t o k) still = absurd cc
-still_accepts (Make t k) still = absurd cc
-still_accepts _ still = refl
-
-still_pushes : (o : Owner) (e : Event) → is_still e ≡ true → pushed_by o e ≡ None
-still_pushes o (Acc t p k) still = absurd cc
-still_pushes o _ still = refl
-
-still_takes : (e : Event) → is_still e ≡ true → taken_by e ≡ None
-still_takes (Out t w) still = absurd cc
-still_takes (Skip t w) still = absurd cc
-still_takes _ still = refl
-
-still_ends : (w : ℕ) (e : Event) → is_still e ≡ true → ended_by w e ≡ None
-still_ends w (End t v) still = absurd cc
-still_ends w _ still = refl
-
-still_hands : (w : ℕ) (e : Event) → is_still e ≡ true → out_by w e ≡ None
-still_hands w (Out t v) still = absurd cc
-still_hands w _ still = refl
-
-still_owner : (t : ℕ) (e : Event) → is_still e ≡ true → owner_by t e ≡ None
-still_owner t (Acc u o k) still = absurd cc
-still_owner t _ still = refl
-
-still_worker : (t : ℕ) (e : Event) → is_still e ≡ true → worker_by t e ≡ None
-still_worker t (Out u w) still = absurd cc
-still_worker t _ still = refl
+none_worker : (t : ℕ) (e : Event) → moves e ≡ false → worker_by t e ≡ None
+none_worker t (Out u w) unmoved = absurd cc
+none_worker t _ unmoved = refl
 
 find_agree : {A : Type 0} (p q : A → Bool) (xs : List A) → ((x : A) → p x ≡ q x) → find p xs ≡ find q xs
 find_agree p q [] agree = refl
@@ -72,15 +42,15 @@ queued_same h e t pushes takes owner =
     find_agree (λ o. is_in t (queue (h ++ e ∷ []) o)) (λ o. is_in t (queue h o)) (filter_map (owner_by t) (h ++ e ∷ [])) (λ o. ap (is_in t) (queue_same h e o (pushes o) takes))
     ∙ ap (find (λ o. is_in t (queue h o))) (filter_map_more (owner_by t) h e ∙ rw owner (append-nil (filter_map (owner_by t) h)))
 
-pub queued_still : (h : List Event) (e : Event) (t : ℕ) → is_still e ≡ true → queued_in (h ++ e ∷ []) t ≡ queued_in h t
-queued_still h e t still = queued_same h e t (λ o. still_pushes o e still) (still_takes e still) (still_owner t e still)
+pub unmoved_queued : (h : List Event) (e : Event) (t : ℕ) → moves e ≡ false → queued_in (h ++ e ∷ []) t ≡ queued_in h t
+unmoved_queued h e t unmoved = queued_same h e t (λ o. none_pushed o e unmoved) (none_taken e unmoved) (none_owner t e unmoved)
 
-pub held_still : (h : List Event) (e : Event) (t : ℕ) → is_still e ≡ true → held_by (h ++ e ∷ []) t ≡ held_by h t
+pub unmoved_held : (h : List Event) (e : Event) (t : ℕ) → moves e ≡ false → held_by (h ++ e ∷ []) t ≡ held_by h t
 unfolding held_by
-held_still h e t still =
+unmoved_held h e t unmoved =
     find_agree (λ w. is_in t (stack (h ++ e ∷ []) w)) (λ w. is_in t (stack h w)) (filter_map (worker_by t) (h ++ e ∷ []))
-    (λ w. ap (is_in t) (stack_same h w e (still_ends w e still) (still_hands w e still)))
-    ∙ ap (find (λ w. is_in t (stack h w))) (filter_map_more (worker_by t) h e ∙ rw (still_worker t e still) (append-nil (filter_map (worker_by t) h)))
+    (λ w. ap (is_in t) (stack_same h w e (none_ended w e unmoved) (none_out w e unmoved)))
+    ∙ ap (find (λ w. is_in t (stack h w))) (filter_map_more (worker_by t) h e ∙ rw (none_worker t e unmoved) (append-nil (filter_map (worker_by t) h)))
 
 -- ---- pending counts and spent completers
 
@@ -101,12 +71,12 @@ pub undone_unspent : (h : List Event) (c : ℕ) → is_spent h c ≡ false → i
 unfolding is_spent
 undone_unspent h c unspent = not-false (is_undone (status h c)) (or_parts (list_any (fires_or_passes c) h) (not (is_undone (status h c))) unspent).1
 
--- an event that is still, and is not about the completer, leaves what an arrival there does
-pub arrival_same : (h : List Event) (e : Event) (c : ℕ) → is_still e ≡ true → fires_or_passes c e ≡ false → ((b : Bool) → status_by c b e ≡ None) → added_by c e ≡ None → counted_by c e ≡ None
+-- an event that moves nothing, and is not about the completer, leaves what an arrival there does
+pub arrival_same : (h : List Event) (e : Event) (c : ℕ) → moves e ≡ false → fires_or_passes c e ≡ false → ((b : Bool) → status_by c b e ≡ None) → added_by c e ≡ None → counted_by c e ≡ None
     → arrival (h ++ e ∷ []) c ≡ arrival h c
 unfolding arrival
-arrival_same h e c still fires settles adds counts =
-    rw (spent_same h e c fires settles, pending_same h e c (still_accepts e still) adds counts, queued_still h e c still, held_still h e c still) refl
+arrival_same h e c unmoved fires settles adds counts =
+    rw (spent_same h e c fires settles, pending_same h e c (none_accepted e unmoved) adds counts, unmoved_queued h e c unmoved, unmoved_held h e c unmoved) refl
 
 -- ---- events about others
 
@@ -144,9 +114,9 @@ pending_untouched h e c none other = pending_same h e c none (untouched_adds c e
 pub spent_untouched : (h : List Event) (e : Event) (c : ℕ) → touches c e ≡ false → is_spent (h ++ e ∷ []) c ≡ is_spent h c
 spent_untouched h e c other = spent_same h e c (untouched_fires c e other) (λ b. untouched_settles c e b other)
 
-pub arrival_untouched : (h : List Event) (e : Event) (c : ℕ) → is_still e ≡ true → touches c e ≡ false → arrival (h ++ e ∷ []) c ≡ arrival h c
-arrival_untouched h e c still other =
-    arrival_same h e c still (untouched_fires c e other) (λ b. untouched_settles c e b other) (untouched_adds c e other) (untouched_counts c e other)
+pub arrival_untouched : (h : List Event) (e : Event) (c : ℕ) → moves e ≡ false → touches c e ≡ false → arrival (h ++ e ∷ []) c ≡ arrival h c
+arrival_untouched h e c unmoved other =
+    arrival_same h e c unmoved (untouched_fires c e other) (λ b. untouched_settles c e b other) (untouched_adds c e other) (untouched_counts c e other)
 
 -- ---- the end of another body
 

@@ -28,8 +28,6 @@ use Rattle.fj_model.proofs.OnePlace.{queued_there, held_there, stack_before, nev
 use Rattle.fj_model.proofs.KindsKept.{tasks_same, accepted_same, completer_still}
 use Rattle.fj_model.proofs.StacksTaken.{out_takes}
 
--- ---- tasks and kinds
-
 -- ---- events that move nothing
 
 -- whether the event puts a task into a list, or takes it from one
@@ -46,7 +44,7 @@ none_accepted (Acc t o k) unmoved = absurd cc
 none_accepted (Make t k) unmoved = absurd cc
 none_accepted _ unmoved = refl
 
-none_pushed : (o : Owner) (e : Event) → moves e ≡ false → pushed_by o e ≡ None
+pub none_pushed : (o : Owner) (e : Event) → moves e ≡ false → pushed_by o e ≡ None
 none_pushed o (Acc t p k) unmoved = absurd cc
 none_pushed o _ unmoved = refl
 
@@ -55,7 +53,7 @@ none_taken (Out t w) unmoved = absurd cc
 none_taken (Skip t w) unmoved = absurd cc
 none_taken _ unmoved = refl
 
-none_out : (w : ℕ) (e : Event) → moves e ≡ false → out_by w e ≡ None
+pub none_out : (w : ℕ) (e : Event) → moves e ≡ false → out_by w e ≡ None
 none_out w (Out t v) unmoved = absurd cc
 none_out w _ unmoved = refl
 

@@ -140,20 +140,21 @@ pub spending_place : (pool : Pool) (h : List Event) (e : Event) (c t : ℕ) → 
 unfolding place
 spending_place pool h e c t so may is other known = unmoved_place pool h e t so may (spends_unmoved e c is) known ∙ rw (spending_spent h e c t is other) refl
 
+-- where a task stands that is open no more
+pub closed_place : (q : Option Owner) (v : Option ℕ) (a b : Bool) → place_of q v (a && false) ≡ closed (place_of q v (a && b))
+closed_place (Some o) v a b = refl
+closed_place None (Some w) a b = refl
+closed_place None None true true = refl
+closed_place None None true false = refl
+closed_place None None false b = refl
+
 -- a task that is spent in a queue or on a stack stays there, and an open one is gone
 pub spent_place : (pool : Pool) (h : List Event) (e : Event) (c : ℕ) → AllowedFrom pool [] h → Allowed pool h e → spends e ≡ Some c → is_in c (tasks h) ≡ true
     → place (h ++ e ∷ []) c ≡ closed (place h c)
 unfolding place
 spent_place pool h e c so may is known =
     unmoved_place pool h e c so may (spends_unmoved e c is) known
-    ∙ rw (spent_now pool h e c so may is) (go (queued_in h c) (held_by h c) (is_completer h c && is_in c (opened h)) (not (is_spent h c)))
-  where
-    go : (q : Option Owner) (v : Option ℕ) (a b : Bool) → place_of q v (a && false) ≡ closed (place_of q v (a && b))
-    go (Some o) v a b = refl
-    go None (Some w) a b = refl
-    go None None true true = refl
-    go None None true false = refl
-    go None None false b = refl
+    ∙ rw (spent_now pool h e c so may is) (closed_place (queued_in h c) (held_by h c) (is_completer h c && is_in c (opened h)) (not (is_spent h c)))
 
 pub closed_open : (p : Place) → is_open (closed p) ≡ false
 closed_open (Queued o) = refl

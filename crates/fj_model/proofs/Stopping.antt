@@ -17,7 +17,7 @@ use Rattle.fj_model.specs.Queues.{queue}
 use Rattle.fj_model.specs.Stacks.{stack}
 use Rattle.fj_model.specs.Statuses.{or_undone, status, status_from, is_undone}
 use Rattle.fj_model.specs.Completers.{pending, is_spent}
-use Rattle.fj_model.specs.Places.{queued_in, held_by, opened, place, place_of, is_open, is_gone, open_tasks, gone, newly_gone}
+use Rattle.fj_model.specs.Places.{queued_in, held_by, opened, place, is_open, is_gone, open_tasks, gone, newly_gone}
 use Rattle.fj_model.specs.Allowed.{Allowed, AllowedFrom}
 use Rattle.fj_model.proofs.Members.{filter_agree_in, filter_none, times_in_filter}
 use Rattle.fj_model.proofs.Growth.{status_more, gone_more}
@@ -33,7 +33,7 @@ use Rattle.fj_model.proofs.PlaceLaws.{unmoved_tasks, unmoved_accepted, unmoved_q
 use Rattle.fj_model.proofs.KindsKept.{kind_same, parent_same}
 use Rattle.fj_model.proofs.Arrivals.{pending_same}
 use Rattle.fj_model.proofs.Releasing.{kept_same, live_same}
-use Rattle.fj_model.proofs.Spending.{closed, done_now, closed_open}
+use Rattle.fj_model.proofs.Spending.{closed, done_now, closed_open, closed_place}
 
 -- ---- statuses
 
@@ -109,14 +109,7 @@ pub stop_place : (pool : Pool) (h : List Event) (t : ℕ) → AllowedFrom pool [
 unfolding place
 stop_place pool h t so may known =
     unmoved_place pool h Stop t so may refl known
-    ∙ rw (stop_spent pool h t so known) (go (queued_in h t) (held_by h t) (is_completer h t && is_in t (opened h)) (not (is_spent h t)))
-  where
-    go : (q : Option Owner) (v : Option ℕ) (a b : Bool) → place_of q v (a && false) ≡ closed (place_of q v (a && b))
-    go (Some o) v a b = refl
-    go None (Some w) a b = refl
-    go None None true true = refl
-    go None None true false = refl
-    go None None false b = refl
+    ∙ rw (stop_spent pool h t so known) (closed_place (queued_in h t) (held_by h t) (is_completer h t && is_in t (opened h)) (not (is_spent h t)))
 
 pub stop_open : (pool : Pool) (h : List Event) → AllowedFrom pool [] h → Allowed pool h Stop → open_tasks (h ++ Stop ∷ []) ≡ []
 unfolding open_tasks
