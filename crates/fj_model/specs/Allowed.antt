@@ -40,7 +40,7 @@ abbrev pub is_shut : List Event → Owner → Bool
 is_shut h (Sub s) = is_closed h || is_stopped h
 is_shut h (Work w) = is_stopped h
 
--- whether the task is its parent
+-- whether this parent is the task t
 abbrev pub is_child_of : ℕ → Option ℕ → Bool
 is_child_of t None = false
 is_child_of t (Some p) = p == t

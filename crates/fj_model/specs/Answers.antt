@@ -69,12 +69,12 @@ failing h t code =
 abbrev pub root_of : List ℕ → Option ℕ
 root_of way = last_of way
 
--- past the root, which is undone as it was passed
+-- a climb that went past the root makes the root normal. It is undone, since it was passed
 abbrev pub settle_root : Option ℕ → List Event
 settle_root (Some c) = event.Settle c status_is.Normal ∷ []
 settle_root None = []
 
--- where a climb ends: at a member of the way, or past the root
+-- the end of a climb: the arrival at the first member of the way that is not passed, or past the root
 abbrev pub pass_end : List Event → List ℕ → Option ℕ → List Event
 pass_end h (c ∷ above) root = arriving c (arrival h c)
 pass_end h [] root = settle_root root

@@ -24,5 +24,6 @@ unfoldable pub first_queued : List Event → List Owner → Option ℕ
 first_queued h [] = None
 first_queued h (o ∷ others) = or_else (first_of (queue h o)) (first_queued h others)
 
+-- the task that the worker takes next: from its own queue, else the first that the scan from place r finds
 unfoldable pub choice : Pool → List Event → ℕ → ℕ → Option ℕ
 choice pool h w r = or_else (own_choice pool.mode (queue h (Work w))) (first_queued h (scan_order pool.limits r))

@@ -49,7 +49,7 @@ hooks_after s _ = record { in_hands = s.in_hands; just_ended = None; last_worker
 abbrev pub no_hooks : Hooks
 no_hooks = record { in_hands = []; just_ended = None; last_worker = None }
 
--- after each event in turn
+-- what a history says of hooks, read event by event
 unfoldable pub hooks : List Event → Hooks
 hooks h = fold hooks_after no_hooks h
 

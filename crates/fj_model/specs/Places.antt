@@ -39,6 +39,7 @@ opened_by _ = None
 unfoldable pub opened : List Event → List ℕ
 opened h = filter_map opened_by h
 
+-- in a queue, else with a worker, else open or gone
 abbrev pub place_of : Option Owner → Option ℕ → Bool → Place
 place_of (Some o) held is_opened = Queued o
 place_of None (Some w) is_opened = Held w

@@ -16,7 +16,7 @@ pub mod Asked
 
 -- ---- steps, by the first word and those behind it
 
--- what the pool is asked and told
+-- the words by which the pool is asked and told something
 unfoldable pub pool_said : List ℕ → List (List ℕ) → Option Step
 pool_said verb ws =
     if bytes_eq verb (codes "state") then state_in ws
@@ -25,7 +25,7 @@ pool_said verb ws =
     else if bytes_eq verb (codes "stop") then stop_in ws
     else None
 
--- what changes a task, and the former
+-- those that change a task, and where it is none of them, those above
 unfoldable pub task_said : List ℕ → List (List ℕ) → Option Step
 task_said verb ws =
     if bytes_eq verb (codes "add") then add_in ws
@@ -35,7 +35,7 @@ task_said verb ws =
     else if bytes_eq verb (codes "release") then release_in ws
     else pool_said verb ws
 
--- what else a worker does, and the former
+-- those of what else a worker does, and where it is none of them, those above
 unfoldable pub worker_said : List ℕ → List (List ℕ) → Option Step
 worker_said verb ws =
     if bytes_eq verb (codes "fork") then fork_in ws

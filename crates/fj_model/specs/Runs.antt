@@ -40,6 +40,6 @@ fresh mode limits = record { pool = record { mode = mode; limits = limits }; eve
 abbrev pub grown : Past → List Event → Past
 grown past events = record { pool = past.pool; events = past.events ++ events }
 
--- the reply and the past after a step are the ones that the step has
+-- at the old past the step has this reply, and it leads to the new past
 abbrev pub Steps : Past → Step → Said → Past → Type 0
 Steps old asked reply new = (reply ≡ (answer old.pool old.events asked).0) × (new ≡ grown old (answer old.pool old.events asked).1)

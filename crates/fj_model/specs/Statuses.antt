@@ -11,13 +11,13 @@ accepts t (Acc u o k) = u == t
 accepts t (Make u k) = u == t
 accepts t _ = false
 
--- the status that this event gives the task, which was accepted before it or not
+-- the status that this event gives the task; `before` tells whether it was accepted before the event
 abbrev pub status_by : ℕ → Bool → Event → Option Status
 status_by t before (Settle u s) = if u == t then Some s else None
 status_by t before Stop = if before then Some Cancelled else None
 status_by t before _ = None
 
--- what the first of these events says, where the task was accepted before them or not
+-- the first status that these events give the task; `before` tells whether it was accepted before them
 unfoldable pub status_from : ℕ → Bool → List Event → Option Status
 status_from t before [] = None
 status_from t before (e ∷ later) = or_else (status_by t before e) (status_from t (before || accepts t e) later)
