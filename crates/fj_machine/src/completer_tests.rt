@@ -7,6 +7,13 @@ async 2 1 8 64; submit 0 > task 0; poll 0 0 > run 0; trigger 0 1 > task 1; fork 
 end 0 ok > done; poll 0 0 > run 2; end 0 try > hook 2; hook 0 > counted 1; poll 0 0 > run 3; end 0 try > hook 3; hook 0 > hook 1;
 hook 0 > root 1; state 1 > state gone normal; state 2 > state gone undone
 
+the example with completers of docs/MODEL.md
+async 1 1 8 64; submit 0 1 relay > task 0; poll 0 0 > run 0; fork 0 0 0 relay > task 1; end 0 try > counted 0; open > 0; gone > none;
+events 3 > End(Serial(0), WorkerId(0)) Dec(Serial(0)); poll 0 0 > run 1; end 0 try > hook 1; open > 0; gone > 1;
+events 6 > End(Serial(1), WorkerId(0)) Fire(Serial(1), Zero); hook 0 > hook 0; open > none; gone > 1 0;
+events 8 > Hooked(Serial(1)) Fire(Serial(0), Zero); hook 0 > root 0; open > none; gone > 1 0;
+events 10 > Hooked(Serial(0)) Settle(Serial(0), Normal); state 0 > state gone normal; state 1 > state gone undone
+
 an arrival after the last finds the completer spent
 async 2 1 8 64; submit 0 > task 0; poll 0 0 > run 0; trigger 0 0 > task 1; fork 0 1 0 relay > task 2; fork 0 1 0 relay > task 3;
 end 0 ok > done; poll 0 0 > run 2; end 0 try > hook 2; hook 0 > hook 1; hook 0 > root 1; poll 0 0 > run 3; end 0 try > hook 3;
