@@ -1,5 +1,5 @@
 -- Hooks and shutdown, over every lawful history.
-use Rattle.std.proofs.Common.{ℕ, ◌≡◌, Bool, true, false, not, ◌||◌, List, [], ◌∷◌, ◌++◌, Option, Some, None, refl, arith, subst, append_assoc}
+use Rattle.std.proofs.Common.{ℕ, ◌≡◌, Bool, true, false, not, ◌||◌, List, [], ◌∷◌, ◌++◌, Some, refl, arith, subst, append_assoc}
 use Rattle.std.specs.Prelude.{nat_lt, if◌then◌else◌, is_some}
 use Rattle.std.specs.List.{filter_map, list_any, cons_option}
 use Rattle.std.proofs.lemmas.List.{append-nil}
@@ -16,9 +16,7 @@ use Rattle.fj_model.specs.Places.{queued_in, held_by}
 use Rattle.fj_model.specs.Climbs.{Spent, Counted, Early, Fires, arrival}
 use Rattle.fj_model.specs.Allowed.{Allowed, AllowedFrom}
 use Rattle.fj_model.specs.Headline.{NoneAfterShutdown, IsFiredOnce, FiredAtZero, fired, fired_by}
-use Rattle.fj_model.proofs.Members.{Once, once_more}
-use Rattle.fj_model.proofs.Growth.{with, filter_map_more}
-use Rattle.fj_model.proofs.Lawful.{by_events}
+use Rattle.fj_model.proofs.Lawful.{named_once}
 
 -- each event was allowed where it stands
 allowed_at : (pool : Pool) (start before : List Event) (e : Event) (later : List Event) → AllowedFrom pool start (before ++ e ∷ later) → Allowed pool (start ++ before) e
@@ -65,18 +63,7 @@ fire_new pool h (Fire d Zero) c may is = let same : d ≡ c = cc in unspent_unfi
 fire_new pool h (Fire d Complete) c may is = let same : d ≡ c = cc in unspent_unfired h c (subst (λ x. is_spent h x ≡ false) same may.0)
 fire_new pool h _ c may is = absurd cc
 
-fired_more : (h : List Event) (e : Event) → fired (h ++ e ∷ []) ≡ with (fired h) (fired_by e)
-unfolding fired
-fired_more h e = filter_map_more fired_by h e
-
-fired_once_more : (pool : Pool) (h : List Event) (e : Event) (said : Option ℕ) → fired_by e ≡ said → Once (fired h) → Allowed pool h e → Once (fired (h ++ e ∷ []))
-fired_once_more pool h e None is once may = rw (fired_more, is, append-nil) once
-fired_once_more pool h e (Some c) is once may = rw (fired_more, is) (once_more (fired h) c (fire_new pool h e c may is) once)
-
-fired_none : Once (fired [])
-unfolding fired
-fired_none t = omega arith
-
 -- each completer's hook is handed out at most once
 pub fired_once : (pool : Pool) (h : List Event) → AllowedFrom pool [] h → IsFiredOnce h
-fired_once pool = by_events pool (λ h. Once (fired h)) fired_none (λ h e so. fired_once_more pool h e (fired_by e) refl)
+unfolding fired
+fired_once pool = named_once pool fired_by (λ h e c so. fire_new pool h e c)

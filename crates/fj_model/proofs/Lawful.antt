@@ -21,7 +21,7 @@ use mathlib.Core.List.{IsPrefix}
 use Rattle.std.proofs.lemmas.List.Elements.{filter-append}
 use Rattle.fj_model.specs.declared.mode.Mode.{Mode}
 use Rattle.fj_model.proofs.Members.{is_in_append, times_in_cons, is_in_filter, filter_agree_in, first_is_in, get_is_in, Once, once_more, without_front, first_then}
-use Rattle.fj_model.proofs.Growth.{with, or_false, tasks_more, pushed_more, taken_more}
+use Rattle.fj_model.proofs.Growth.{with, or_false, tasks_more, pushed_more, taken_more, filter_map_more}
 
 -- one more event that is allowed
 pub allowed_more : (pool : Pool) (before h : List Event) (e : Event) → AllowedFrom pool before h → Allowed pool (before ++ h) e → AllowedFrom pool before (h ++ e ∷ [])
@@ -42,6 +42,16 @@ pub by_events : (pool : Pool) (P : List Event → Type 0) → P []
     → ((h : List Event) (e : Event) → AllowedFrom pool [] h → P h → Allowed pool h e → P (h ++ e ∷ []))
     → (h : List Event) → AllowedFrom pool [] h → P h
 by_events pool P none more h all = along pool P more [] h tt none all
+
+-- where each event names a number afresh, each is named at most once
+pub named_once : (pool : Pool) (says : Event → Option ℕ)
+    → ((h : List Event) (e : Event) (t : ℕ) → AllowedFrom pool [] h → Allowed pool h e → says e ≡ Some t → is_in t (filter_map says h) ≡ false)
+    → (h : List Event) → AllowedFrom pool [] h → Once (filter_map says h)
+named_once pool says fresh = by_events pool (λ h. Once (filter_map says h)) (λ t. omega arith) (λ h e. more h e (says e) refl)
+  where
+    more : (h : List Event) (e : Event) (said : Option ℕ) → says e ≡ said → AllowedFrom pool [] h → Once (filter_map says h) → Allowed pool h e → Once (filter_map says (h ++ e ∷ []))
+    more h e None is so once may = rw (filter_map_more says h e, is, append-nil) once
+    more h e (Some u) is so once may = rw (filter_map_more says h e, is) (once_more (filter_map says h) u (fresh h e u so may is) once)
 
 -- ---- the accepted tasks are the numbers from 0
 
@@ -133,16 +143,9 @@ is_new pool h e t so may is = is_numbered pool h so t ∙ le-ltb t (accepted h) 
 pub not_new : (pool : Pool) (h : List Event) (e : Event) (t : ℕ) → AllowedFrom pool [] h → Allowed pool h e → is_in t (tasks h) ≡ true → accepted_by e ≡ Some t → ⊥
 not_new pool h e t so may known new = true≢false (sym known ∙ is_new pool h e t so may new)
 
-tasks_once_more : (pool : Pool) (h : List Event) (e : Event) (said : Option ℕ) → accepted_by e ≡ said → AllowedFrom pool [] h → Once (tasks h) → Allowed pool h e → Once (tasks (h ++ e ∷ []))
-tasks_once_more pool h e None is so once may = rw (tasks_more, is, append-nil) once
-tasks_once_more pool h e (Some u) is so once may = rw (tasks_more, is) (once_more (tasks h) u (is_new pool h e u so may is) once)
-
-tasks_none : Once (tasks [])
-unfolding tasks
-tasks_none t = omega arith
-
 pub tasks_once : (pool : Pool) (h : List Event) → AllowedFrom pool [] h → Once (tasks h)
-tasks_once pool = by_events pool (λ h. Once (tasks h)) tasks_none (λ h e. tasks_once_more pool h e (accepted_by e) refl)
+unfolding tasks
+tasks_once pool = named_once pool accepted_by (is_new pool)
 
 pub pushed_once : (pool : Pool) (h : List Event) (o : Owner) → AllowedFrom pool [] h → Once (pushed h o)
 unfolding pushed tasks
@@ -230,16 +233,9 @@ queued_fresh h o t there =
 taken_fresh : (pool : Pool) (h : List Event) (e : Event) (t : ℕ) → Allowed pool h e → taken_by e ≡ Some t → is_in t (taken h) ≡ false
 taken_fresh pool h e t may is = let c = take_chosen pool h e t may is in queued_fresh h c.0 t (chosen_queued pool.mode h t c)
 
-taken_once_more : (pool : Pool) (h : List Event) (e : Event) (said : Option ℕ) → taken_by e ≡ said → Once (taken h) → Allowed pool h e → Once (taken (h ++ e ∷ []))
-taken_once_more pool h e None is once may = rw (taken_more, is, append-nil) once
-taken_once_more pool h e (Some u) is once may = rw (taken_more, is) (once_more (taken h) u (taken_fresh pool h e u may is) once)
-
-taken_none : Once (taken [])
-unfolding taken
-taken_none t = omega arith
-
 pub taken_once : (pool : Pool) (h : List Event) → AllowedFrom pool [] h → Once (taken h)
-taken_once pool = by_events pool (λ h. Once (taken h)) taken_none (λ h e so. taken_once_more pool h e (taken_by e) refl)
+unfolding taken
+taken_once pool = named_once pool taken_by (λ h e t so. taken_fresh pool h e t)
 
 abbrev IsTakenKnown : List Event → Type 0
 IsTakenKnown h = (t : ℕ) → is_in t (taken h) ≡ true → is_in t (tasks h) ≡ true

@@ -2,7 +2,6 @@
 use Rattle.std.proofs.Common.{zero, suc, ℕ, ◌≡◌, ◌≢◌, ◌+◌, ◌-◌, ◌≤◌, ◌<◌, Bool, true, false, cond, not, ◌&&◌, List, [], ◌∷◌, ◌++◌, length, map, Option, Some, None, refl, ap, sym, ◌∙◌, arith, subst, ⊎_elim, ◌⊎◌, inl, inr}
 use Rattle.std.specs.Prelude.{◌==◌, nat_lt, if◌then◌else◌}
 use Rattle.std.specs.List.{filter_map, flat_map, find, cons_option, range_with_len}
-use Rattle.std.proofs.lemmas.List.{append-nil}
 use Rattle.std.proofs.lemmas.Bool.{eqb-true, eq-eqb, and_parts, true≢false, or_right, not-true, cases_eq}
 use Rattle.fj_model.specs.declared.event.Event.{Event}
 use Rattle.fj_model.specs.declared.event.Event.TheVariants.{Acc, Make, Out, End}
@@ -17,9 +16,9 @@ use Rattle.fj_model.specs.Completers.{is_spent}
 use Rattle.fj_model.specs.Places.{queued_in, held_by, opened, opened_by, open_tasks, place, place_of, is_open, owner_by, worker_by, gone}
 use Rattle.fj_model.specs.Allowed.{Allowed, AllowedFrom}
 use Rattle.fj_model.specs.Headline.{all_places, IsInOnePlace}
-use Rattle.fj_model.proofs.Members.{is_in_append, is_in_filter, times_in_append, times_in_none, times_in_filter, get_is_in, Once, once_more}
+use Rattle.fj_model.proofs.Members.{is_in_append, is_in_filter, times_in_append, times_in_none, times_in_filter, get_is_in, Once}
 use Rattle.fj_model.proofs.Growth.{pushed_more, stack_more, opened_more, tasks_more}
-use Rattle.fj_model.proofs.Lawful.{by_events, is_in_with, number_if_is, same_owner, is_numbered, is_new, known_more, pushed_known, pushed_once, pushed_apart, queued_pushed, queued_fresh, taken_known, take_chosen, chosen_queued}
+use Rattle.fj_model.proofs.Lawful.{by_events, is_in_with, number_if_is, same_owner, is_numbered, is_new, known_more, pushed_known, pushed_once, pushed_apart, queued_pushed, queued_fresh, taken_known, take_chosen, chosen_queued, named_once}
 use Rattle.fj_model.proofs.StacksTaken.{stack_taken, out_takes}
 use Rattle.fj_model.proofs.Owners.{sub_owner, work_owner, owners_apart}
 use Rattle.fj_model.proofs.Ends.{stack_once}
@@ -228,16 +227,9 @@ opened_fresh pool h (End u w) t so may is =
     never (is_in t (opened h)) (λ there. true≢false (sym (get_is_in t (stack h w) (length (stack h w) - 1) (may.0 ∙ is)) ∙ (opened_out pool h so t there).stacks w))
 opened_fresh pool h _ t so may is = absurd cc
 
-opened_once_more : (pool : Pool) (h : List Event) (e : Event) (said : Option ℕ) → opened_by e ≡ said → AllowedFrom pool [] h → Once (opened h) → Allowed pool h e → Once (opened (h ++ e ∷ []))
-opened_once_more pool h e None is so once may = rw (opened_more, is, append-nil) once
-opened_once_more pool h e (Some u) is so once may = rw (opened_more, is) (once_more (opened h) u (opened_fresh pool h e u so may is) once)
-
-opened_none : Once (opened [])
-unfolding opened
-opened_none t = omega arith
-
 pub opened_once : (pool : Pool) (h : List Event) → AllowedFrom pool [] h → Once (opened h)
-opened_once pool = by_events pool (λ h. Once (opened h)) opened_none (λ h e. opened_once_more pool h e (opened_by e) refl)
+unfolding opened
+opened_once pool = named_once pool opened_by (opened_fresh pool)
 
 -- ---- the one place
 
