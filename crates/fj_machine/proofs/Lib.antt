@@ -8,7 +8,6 @@ pub mod ClimbsTold
 pub mod CompleterSteps
 pub mod Counted
 pub mod Found
-pub mod FoundRecords
 pub mod Fresh
 pub mod Growing
 pub mod HandParts

@@ -4,8 +4,8 @@ use Rattle.std.proofs.lemmas.Option.{MatchOption-at_some}
 use Rattle.fj_model.specs.Climbs.{arrival}
 use Rattle.fj_machine.specs.Arriving.{as_arrival}
 use Rattle.fj_machine.proofs.ArrivalsTold.{arrival_told, released_told}
-use Rattle.fj_machine.proofs.FoundRecords.{unkept}
 use Rattle.fj_machine.proofs.ledger.Ledger.arrival.Goals as goal
+use Rattle.fj_machine.proofs.Found.{unkept}
 
 pub returns-in-None-clause-arrival : goal.returns-in-None-clause-arrival
 returns-in-None-clause-arrival c =

@@ -3,19 +3,19 @@ use Rattle.std.specs.Prelude.{slice_get}
 use Rattle.std.proofs.lemmas.List.{append-nil}
 use Rattle.fj_model.specs.declared.event.Event.{Event}
 use Rattle.fj_model.specs.declared.event.Event.TheVariants.{Pass}
-use Rattle.fj_model.specs.Tasks.{is_completer, is_kept, kind, parent, parent_in}
+use Rattle.fj_model.specs.Tasks.{is_completer, is_kept, parent}
 use Rattle.fj_model.specs.Climbs.{passed, path}
 use Rattle.fj_model.specs.Allowed.{Allowed}
 use Rattle.fj_model.specs.Runs.{Past, grown}
 use Rattle.fj_model.proofs.Members.{get_is_in}
 use Rattle.fj_model.proofs.Parents.{path_completers}
 use Rattle.fj_machine.specs.Holds.{IsLawful}
-use Rattle.fj_machine.proofs.FoundRecords.{kept_found, told_of}
 use Rattle.fj_machine.proofs.Passing.{passed_at, some_get, next_up, path_begins, may_next, still_completer, still_parent, allowed_front, next_more}
 use Rattle.fj_model.proofs.KeptParents.{path_kept}
 use Rattle.fj_machine.proofs.PassSteps.{kept_past}
 use Rattle.fj_machine.proofs.ledger.Ledger.climb.Goals as goal
 use Rattle.fj_machine.proofs.ledger.Ledger.climb.Goals.{In-loop, After-unwrap-c, After-find, After-parent-at}
+use Rattle.fj_machine.proofs.Found.{kept_found, told_of, found_parent}
 
 pub loop-init : goal.loop-init
 loop-init c = record {
@@ -83,10 +83,9 @@ pass-requires-clause-may c =
 
 -- what was read is the parent
 parent_read : (c : After-parent-at) → c.parent-at.result ≡ parent c.loop.self.events c.unwrap-c.result
-unfolding parent
 parent_read c =
     let told = told_of c.loop.self.events c.unwrap-c.result c.find.result c.unwrap.result c.find.ensures.record c.unwrap.ensures in
-    c.parent-at.ensures ∙ ap parent_in (sym (ap (kind c.loop.self.events) (sym told.number) ∙ told.tells.kind))
+    c.parent-at.ensures ∙ sym (found_parent c.loop.self.events c.unwrap-c.result c.unwrap.result.now told)
 
 pub loop-preserved : goal.loop-preserved
 loop-preserved c =

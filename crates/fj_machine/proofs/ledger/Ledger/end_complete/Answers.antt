@@ -9,16 +9,16 @@ use Rattle.fj_model.specs.Allowed.{Allowed}
 use Rattle.fj_model.specs.Answers.{after_end}
 use Rattle.fj_model.specs.Runs.{Past}
 use Rattle.fj_machine.proofs.BodyEnds.{running_kept, end_full, end_made, may_end, end_suits, ended_kept, ended_completer, ended_free, ended_given, complete_events, complete_says, complete_count}
-use Rattle.fj_machine.proofs.FoundRecords.{kept_found, told_of, spent_of}
 use Rattle.fj_machine.proofs.RoomTests.{is_room, no_room, either_way, grown_none}
 use Rattle.fj_machine.proofs.ledger.Ledger.end_complete.Goals as goal
 use Rattle.fj_machine.proofs.ledger.Ledger.end_complete.Goals.{After-has_room, then-spent, else-spent}
+use Rattle.fj_machine.proofs.Found.{kept_found, told_of, found_spent}
 
 -- whether the task is spent, as its record tells
 told : (c : After-has_room) → is_spent c.args.self.now.events c.args.t ≡ c.is_spent-spent.result
 told c =
     let h = c.args.self.now.events in
-    spent_of h c.args.t c.unwrap.result.now (told_of h c.args.t c.find.result c.unwrap.result c.find.ensures.record c.unwrap.ensures) ∙ sym c.is_spent-spent.ensures
+    found_spent h c.args.t c.unwrap.result.now (told_of h c.args.t c.find.result c.unwrap.result c.find.ensures.record c.unwrap.ensures) ∙ sym c.is_spent-spent.ensures
 
 -- how many events there are
 count : (c : After-has_room) → 1 + length (after_end (c.args.self.now.events ++ event.End c.args.t c.args.w ∷ []) c.args.t Complete) ≡ c.if-spent.has_room

@@ -8,16 +8,16 @@ use Rattle.fj_model.specs.Allowed.{Allowed}
 use Rattle.fj_model.specs.Answers.{after_end}
 use Rattle.fj_model.specs.Runs.{Past}
 use Rattle.fj_machine.proofs.BodyEnds.{running_kept, end_full, end_made, may_end, ended_kept, ok_events, ok_count}
-use Rattle.fj_machine.proofs.FoundRecords.{kept_found, told_of, undone_of}
 use Rattle.fj_machine.proofs.RoomTests.{is_room, no_room, either_way, grown_none}
 use Rattle.fj_machine.proofs.ledger.Ledger.end_ok.Goals as goal
 use Rattle.fj_machine.proofs.ledger.Ledger.end_ok.Goals.{After-has_room, then-undone, else-undone, then-undone-2, else-undone-2}
+use Rattle.fj_machine.proofs.Found.{kept_found, told_of, found_undone}
 
 -- whether the task is undone, as its record tells
 told : (c : After-has_room) → is_undone (status c.args.self.now.events c.args.t) ≡ c.is_undone-undone.result
 told c =
     let h = c.args.self.now.events in
-    undone_of h c.args.t c.unwrap.result.now (told_of h c.args.t c.find.result c.unwrap.result c.find.ensures.record c.unwrap.ensures) ∙ sym c.is_undone-undone.ensures
+    found_undone h c.args.t c.unwrap.result.now (told_of h c.args.t c.find.result c.unwrap.result c.find.ensures.record c.unwrap.ensures) ∙ sym c.is_undone-undone.ensures
 
 -- how many events there are
 count : (c : After-has_room) → 1 + length (after_end (c.args.self.now.events ++ End c.args.t c.args.w ∷ []) c.args.t Ok) ≡ c.if-undone.has_room

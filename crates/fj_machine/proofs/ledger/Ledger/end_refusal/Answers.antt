@@ -4,11 +4,10 @@ use Rattle.fj_model.specs.declared.refusal.Refusal.TheVariants.{NotCompleter}
 use Rattle.fj_model.specs.declared.step.Step.TheVariants.{End}
 use Rattle.fj_model.specs.Answers.{is_misfit, running, first_that_stands, refusals_of}
 use Rattle.fj_machine.proofs.BodyEnds.{running_kept, misfit_ok, misfit_fail, misfit_other, end_refused}
-use Rattle.fj_machine.proofs.FoundRecords.{kept_found, told_of}
 use Rattle.fj_machine.proofs.ledger.Ledger.end_refusal.Goals as goal
 use Rattle.fj_machine.proofs.ledger.Ledger.end_refusal.Goals.{Joined-ending, in-Ok, in-Quiet, in-Fail}
 use Rattle.fj_machine.proofs.Refusing.{no_refusal}
-use Rattle.fj_machine.proofs.Found.{found_completer}
+use Rattle.fj_machine.proofs.Found.{found_completer, kept_found, told_of}
 
 -- whether the ending suits the task decides
 decided : (c : Joined-ending) → (if c.match-ending.fits then None else Some NotCompleter) ≡ first_that_stands (refusals_of c.args.self.now.pool c.args.self.now.events (End c.args.w c.args.ending))

@@ -9,17 +9,17 @@ use Rattle.fj_model.specs.Climbs.{arrival}
 use Rattle.fj_model.specs.Answers.{arriving, arriving_says}
 use Rattle.fj_model.specs.Runs.{Past, grown}
 use Rattle.fj_machine.proofs.BodyEnds.{running_kept, end_full, end_made, end_suits, ended_completer, ended_free, ended_given, try_count}
-use Rattle.fj_machine.proofs.FoundRecords.{kept_found, told_of, spent_of}
 use Rattle.fj_machine.proofs.RoomTests.{is_room, no_room, either_way}
 use Rattle.fj_machine.proofs.ledger.Ledger.end_try.Goals as goal
 use Rattle.fj_machine.proofs.ledger.Ledger.end_try.Goals.{After-has_room, then-spent, else-spent}
+use Rattle.fj_machine.proofs.Found.{kept_found, told_of, found_spent}
 
 -- how many events there are
 count : (c : After-has_room) → 1 + length (arriving c.args.t (arrival (c.args.self.now.events ++ event.End c.args.t c.args.w ∷ []) c.args.t)) ≡ c.if-spent.has_room
 count c =
     let h = c.args.self.now.events in
     let suits = end_suits c.args.self.now.pool h c.args.w c.args.t Try c.requires.stands c.requires.running in
-    let is = spent_of h c.args.t c.unwrap.result.now (told_of h c.args.t c.find.result c.unwrap.result c.find.ensures.record c.unwrap.ensures) ∙ sym c.is_spent-spent.ensures in
+    let is = found_spent h c.args.t c.unwrap.result.now (told_of h c.args.t c.find.result c.unwrap.result c.find.ensures.record c.unwrap.ensures) ∙ sym c.is_spent-spent.ensures in
     try_count c.args.self.now.pool h c.args.w c.args.t _ _ c.find.ensures.lawful.allowed (c.requires.running, suits.0) (not-false (is_completer h c.args.t) suits.1) is
     (either_way c.is_spent-spent.result c.if-spent.has_room 1 2 (elim c.if-spent.branch [ then-spent w ↦ inl (w.if-spent.true, w.has_room-is) | else-spent w ↦ inr (w.if-spent.false, w.has_room-is) ]))
 
