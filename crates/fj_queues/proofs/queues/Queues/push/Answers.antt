@@ -5,11 +5,16 @@ use Rattle.fj_queues.specs.Queues.{Lists, total}
 use Rattle.fj_queues.proofs.QueueWrites.{queue_read, queue_written, count_written, room_read, room_written}
 use Rattle.fj_queues.proofs.Counts.{one_in_all}
 use Rattle.fj_queues.proofs.queues.Queues.push.Goals as goal
+use Rattle.fj_queues.proofs.queues.Queues.push.Goals.{After-index_mut}
+
+-- there is such a queue
+owned : (c : After-index_mut) → c.args.o < length c.self.inside.queues.items
+owned c = omega (arith, ap (λ (qs : Lists). length qs.lists) c.self.view_is, length-map c.self.inside.queues.items (λ d. d.items), c.requires.owner)
 
 pub push_back_reserved-requires : goal.push_back_reserved-requires
 push_back_reserved-requires c =
     let vs = c.self.inside.queues.items in
-    let within : c.args.o < length vs = omega (arith, ap (λ (qs : Lists). length qs.lists) c.self.view_is, length-map vs (λ d. d.items), c.requires.owner) in
+    let within = owned (goal.at.push_back_reserved-requires c).After-index_mut in
     let queue = c.index_mut.result.now in
     let read = queue_read (λ d. d.items) vs c.args.o queue within c.index_mut.ensures.value in
     let few = one_in_all (map (λ d. d.items) vs) c.args.o (omega (arith, length-map vs (λ d. d.items))) in
@@ -19,7 +24,7 @@ push_back_reserved-requires c =
 pub invariant_of-self : goal.invariant_of-self
 invariant_of-self c =
     let vs = c.self.inside.queues.items in
-    let within : c.args.o < length vs = omega (arith, ap (λ (qs : Lists). length qs.lists) c.self.view_is, length-map vs (λ d. d.items), c.requires.owner) in
+    let within = owned (goal.at.invariant_of-self c).After-index_mut in
     let old = c.index_mut.result.now in
     let new = c.push_back_reserved.new.self in
     let count = count_written (λ d. d.items) vs c.args.o old new within c.index_mut.ensures.value in (
@@ -30,7 +35,7 @@ invariant_of-self c =
 pub returns-clause-pushed : goal.returns-clause-pushed
 returns-clause-pushed c =
     let vs = c.self.inside.queues.items in
-    let within : c.args.o < length vs = omega (arith, ap (λ (qs : Lists). length qs.lists) c.self.view_is, length-map vs (λ d. d.items), c.requires.owner) in
+    let within = owned (goal.at.returns-clause-pushed c).After-index_mut in
     rw (← c.self.view_is) (ap (λ (lists : List (List ℕ)). let qs : Lists = record { lists = lists; room = c.self.inside.room } in qs)
     (queue_written (λ d. d.items) (λ ts. ts ++ c.args.serial ∷ []) vs c.args.o c.index_mut.result.now c.push_back_reserved.new.self within c.index_mut.ensures.value c.push_back_reserved.ensures.items))
 

@@ -6,11 +6,16 @@ use Rattle.fj_queues.specs.Queues.{Lists, queue_at, total, without_last}
 use Rattle.fj_queues.proofs.QueueWrites.{queue_read, queue_written, count_written, room_written, untouched}
 use Rattle.fj_queues.proofs.Counts.{one_in_all}
 use Rattle.fj_queues.proofs.queues.Queues.take_new.Goals as goal
+use Rattle.fj_queues.proofs.queues.Queues.take_new.Goals.{After-index_mut}
+
+-- there is such a queue
+owned : (c : After-index_mut) → c.args.o < length c.self.inside.queues.items
+owned c = omega (arith, ap (λ (qs : Lists). length qs.lists) c.self.view_is, length-map c.self.inside.queues.items (λ d. d.items), c.requires)
 
 pub invariant_of-self : goal.invariant_of-self
 invariant_of-self c =
     let vs = c.self.inside.queues.items in
-    let within : c.args.o < length vs = omega (arith, ap (λ (qs : Lists). length qs.lists) c.self.view_is, length-map vs (λ d. d.items), c.requires) in
+    let within = owned (goal.at.invariant_of-self c).After-index_mut in
     let old = c.index_mut.result.now in
     let new = c.pop_back.new.self in
     let count = count_written (λ d. d.items) vs c.args.o old new within c.index_mut.ensures.value in (
@@ -21,14 +26,14 @@ invariant_of-self c =
 pub returns-in_err-serial-clause-rest : goal.returns-in_err-serial-clause-rest
 returns-in_err-serial-clause-rest c =
     let vs = c.self.inside.queues.items in
-    let within : c.args.o < length vs = omega (arith, ap (λ (qs : Lists). length qs.lists) c.self.view_is, length-map vs (λ d. d.items), c.requires) in
+    let within = owned (goal.at.returns-in_err-serial-clause-rest c).After-index_mut in
     rw (← c.self.view_is) (ap (λ (lists : List (List ℕ)). let qs : Lists = record { lists = lists; room = c.self.inside.room } in qs)
     (queue_written (λ d. d.items) without_last vs c.args.o c.index_mut.result.now c.pop_back.new.self within c.index_mut.ensures.value (c.pop_back.ensures.rest ∙ ap (λ n. take (n - 1) c.index_mut.result.now.items) c.index_mut.result.now.ok.0)))
 
 pub returns-in_err-serial-clause-stays : goal.returns-in_err-serial-clause-stays
 returns-in_err-serial-clause-stays c =
     let vs = c.self.inside.queues.items in
-    let within : c.args.o < length vs = omega (arith, ap (λ (qs : Lists). length qs.lists) c.self.view_is, length-map vs (λ d. d.items), c.requires) in
+    let within = owned (goal.at.returns-in_err-serial-clause-stays c).After-index_mut in
     let old = c.index_mut.result.now in
     let queue = queue_at c.args.self.now c.args.o in
     let read = queue_read (λ d. d.items) vs c.args.o old within c.index_mut.ensures.value in
@@ -42,7 +47,7 @@ returns-in_err-serial-clause-counted c =
 pub overflow_sub-self : goal.overflow_sub-self
 overflow_sub-self c =
     let vs = c.self.inside.queues.items in
-    let within : c.args.o < length vs = omega (arith, ap (λ (qs : Lists). length qs.lists) c.self.view_is, length-map vs (λ d. d.items), c.requires) in
+    let within = owned (goal.at.overflow_sub-self c).After-index_mut in
     let old = c.index_mut.result.now in
     let read = queue_read (λ d. d.items) vs c.args.o old within c.index_mut.ensures.value in
     let few = one_in_all (map (λ d. d.items) vs) c.args.o (omega (arith, length-map vs (λ d. d.items))) in
@@ -51,7 +56,7 @@ overflow_sub-self c =
 pub invariant_of-self-2 : goal.invariant_of-self-2
 invariant_of-self-2 c =
     let vs = c.self.inside.queues.items in
-    let within : c.args.o < length vs = omega (arith, ap (λ (qs : Lists). length qs.lists) c.self.view_is, length-map vs (λ d. d.items), c.requires) in
+    let within = owned (goal.at.invariant_of-self-2 c).After-index_mut in
     let old = c.index_mut.result.now in
     let new = c.pop_back.new.self in
     let count = count_written (λ d. d.items) vs c.args.o old new within c.index_mut.ensures.value in (
@@ -62,7 +67,7 @@ invariant_of-self-2 c =
 pub returns-clause-taken : goal.returns-clause-taken
 returns-clause-taken c =
     let vs = c.self.inside.queues.items in
-    let within : c.args.o < length vs = omega (arith, ap (λ (qs : Lists). length qs.lists) c.self.view_is, length-map vs (λ d. d.items), c.requires) in
+    let within = owned (goal.at.returns-clause-taken c).After-index_mut in
     let old = c.index_mut.result.now in
     let read = queue_read (λ d. d.items) vs c.args.o old within c.index_mut.ensures.value in
     let some : 0 < length old.items = omega (arith, old.ok.0, c.in_ok-serial.ensures.cases) in
@@ -73,14 +78,14 @@ returns-clause-taken c =
 pub returns-clause-rest : goal.returns-clause-rest
 returns-clause-rest c =
     let vs = c.self.inside.queues.items in
-    let within : c.args.o < length vs = omega (arith, ap (λ (qs : Lists). length qs.lists) c.self.view_is, length-map vs (λ d. d.items), c.requires) in
+    let within = owned (goal.at.returns-clause-rest c).After-index_mut in
     rw (← c.self.view_is) (ap (λ (lists : List (List ℕ)). let qs : Lists = record { lists = lists; room = c.self.inside.room } in qs)
     (queue_written (λ d. d.items) without_last vs c.args.o c.index_mut.result.now c.pop_back.new.self within c.index_mut.ensures.value (c.pop_back.ensures.rest ∙ ap (λ n. take (n - 1) c.index_mut.result.now.items) c.index_mut.result.now.ok.0)))
 
 pub returns-clause-counted : goal.returns-clause-counted
 returns-clause-counted c =
     let vs = c.self.inside.queues.items in
-    let within : c.args.o < length vs = omega (arith, ap (λ (qs : Lists). length qs.lists) c.self.view_is, length-map vs (λ d. d.items), c.requires) in
+    let within = owned (goal.at.returns-clause-counted c).After-index_mut in
     let old = c.index_mut.result.now in
     let read = queue_read (λ d. d.items) vs c.args.o old within c.index_mut.ensures.value in
     let few = one_in_all (map (λ d. d.items) vs) c.args.o (omega (arith, length-map vs (λ d. d.items))) in

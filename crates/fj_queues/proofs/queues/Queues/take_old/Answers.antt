@@ -5,11 +5,16 @@ use Rattle.fj_queues.specs.Queues.{Lists, queue_at, total, without_first}
 use Rattle.fj_queues.proofs.QueueWrites.{queue_read, queue_written, count_written, room_written, untouched}
 use Rattle.fj_queues.proofs.Counts.{one_in_all}
 use Rattle.fj_queues.proofs.queues.Queues.take_old.Goals as goal
+use Rattle.fj_queues.proofs.queues.Queues.take_old.Goals.{After-index_mut}
+
+-- there is such a queue
+owned : (c : After-index_mut) → c.args.o < length c.self.inside.queues.items
+owned c = omega (arith, ap (λ (qs : Lists). length qs.lists) c.self.view_is, length-map c.self.inside.queues.items (λ d. d.items), c.requires)
 
 pub invariant_of-self : goal.invariant_of-self
 invariant_of-self c =
     let vs = c.self.inside.queues.items in
-    let within : c.args.o < length vs = omega (arith, ap (λ (qs : Lists). length qs.lists) c.self.view_is, length-map vs (λ d. d.items), c.requires) in
+    let within = owned (goal.at.invariant_of-self c).After-index_mut in
     let old = c.index_mut.result.now in
     let new = c.pop_front.new.self in
     let count = count_written (λ d. d.items) vs c.args.o old new within c.index_mut.ensures.value in (
@@ -20,14 +25,14 @@ invariant_of-self c =
 pub returns-in_err-serial-clause-rest : goal.returns-in_err-serial-clause-rest
 returns-in_err-serial-clause-rest c =
     let vs = c.self.inside.queues.items in
-    let within : c.args.o < length vs = omega (arith, ap (λ (qs : Lists). length qs.lists) c.self.view_is, length-map vs (λ d. d.items), c.requires) in
+    let within = owned (goal.at.returns-in_err-serial-clause-rest c).After-index_mut in
     rw (← c.self.view_is) (ap (λ (lists : List (List ℕ)). let qs : Lists = record { lists = lists; room = c.self.inside.room } in qs)
     (queue_written (λ d. d.items) without_first vs c.args.o c.index_mut.result.now c.pop_front.new.self within c.index_mut.ensures.value c.pop_front.ensures.rest))
 
 pub returns-in_err-serial-clause-stays : goal.returns-in_err-serial-clause-stays
 returns-in_err-serial-clause-stays c =
     let vs = c.self.inside.queues.items in
-    let within : c.args.o < length vs = omega (arith, ap (λ (qs : Lists). length qs.lists) c.self.view_is, length-map vs (λ d. d.items), c.requires) in
+    let within = owned (goal.at.returns-in_err-serial-clause-stays c).After-index_mut in
     let old = c.index_mut.result.now in
     let queue = queue_at c.args.self.now c.args.o in
     let read = queue_read (λ d. d.items) vs c.args.o old within c.index_mut.ensures.value in
@@ -41,7 +46,7 @@ returns-in_err-serial-clause-counted c =
 pub overflow_sub-self : goal.overflow_sub-self
 overflow_sub-self c =
     let vs = c.self.inside.queues.items in
-    let within : c.args.o < length vs = omega (arith, ap (λ (qs : Lists). length qs.lists) c.self.view_is, length-map vs (λ d. d.items), c.requires) in
+    let within = owned (goal.at.overflow_sub-self c).After-index_mut in
     let old = c.index_mut.result.now in
     let read = queue_read (λ d. d.items) vs c.args.o old within c.index_mut.ensures.value in
     let few = one_in_all (map (λ d. d.items) vs) c.args.o (omega (arith, length-map vs (λ d. d.items))) in
@@ -50,7 +55,7 @@ overflow_sub-self c =
 pub invariant_of-self-2 : goal.invariant_of-self-2
 invariant_of-self-2 c =
     let vs = c.self.inside.queues.items in
-    let within : c.args.o < length vs = omega (arith, ap (λ (qs : Lists). length qs.lists) c.self.view_is, length-map vs (λ d. d.items), c.requires) in
+    let within = owned (goal.at.invariant_of-self-2 c).After-index_mut in
     let old = c.index_mut.result.now in
     let new = c.pop_front.new.self in
     let count = count_written (λ d. d.items) vs c.args.o old new within c.index_mut.ensures.value in (
@@ -61,14 +66,14 @@ invariant_of-self-2 c =
 pub returns-clause-rest : goal.returns-clause-rest
 returns-clause-rest c =
     let vs = c.self.inside.queues.items in
-    let within : c.args.o < length vs = omega (arith, ap (λ (qs : Lists). length qs.lists) c.self.view_is, length-map vs (λ d. d.items), c.requires) in
+    let within = owned (goal.at.returns-clause-rest c).After-index_mut in
     rw (← c.self.view_is) (ap (λ (lists : List (List ℕ)). let qs : Lists = record { lists = lists; room = c.self.inside.room } in qs)
     (queue_written (λ d. d.items) without_first vs c.args.o c.index_mut.result.now c.pop_front.new.self within c.index_mut.ensures.value c.pop_front.ensures.rest))
 
 pub returns-clause-counted : goal.returns-clause-counted
 returns-clause-counted c =
     let vs = c.self.inside.queues.items in
-    let within : c.args.o < length vs = omega (arith, ap (λ (qs : Lists). length qs.lists) c.self.view_is, length-map vs (λ d. d.items), c.requires) in
+    let within = owned (goal.at.returns-clause-counted c).After-index_mut in
     let old = c.index_mut.result.now in
     let read = queue_read (λ d. d.items) vs c.args.o old within c.index_mut.ensures.value in
     let few = one_in_all (map (λ d. d.items) vs) c.args.o (omega (arith, length-map vs (λ d. d.items))) in
