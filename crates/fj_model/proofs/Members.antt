@@ -17,7 +17,7 @@ times_in_append t xs ys = sum_by-append (λ u. cond (u == t) 1 0) xs ys
 pub times_in_cons : (t x : ℕ) (xs : List ℕ) → times_in t (x ∷ xs) ≡ cond (x == t) 1 0 + times_in t xs
 times_in_cons t x xs = times_in_append t (x ∷ []) xs ∙ ap (λ n. n + times_in t xs) (zero-add (cond (x == t) 1 0))
 
--- a number that is not there stands there no time
+-- a number that is not in the list stands there zero times
 pub times_in_none : (t : ℕ) (xs : List ℕ) → is_in t xs ≡ false → times_in t xs ≡ 0
 times_in_none t [] absent = refl
 times_in_none t (x ∷ xs) absent =

@@ -110,20 +110,20 @@ pub path_once : (pool : Pool) (h : List Event) (c : ℕ) → AllowedFrom pool []
 unfolding path
 path_once pool h c so = way_once pool (suc c) h (Some c) so
 
--- what the first on a way has, and each hands on to its parent, all on the way have
-pub way_has : (P : ℕ → Bool) (n : ℕ) (h : List Event) (c u : ℕ) → ((t p : ℕ) → P t ≡ true → parent h t ≡ Some p → P p ≡ true)
-    → P c ≡ true → is_in u (path_up n h (Some c)) ≡ true → P u ≡ true
+-- a test that the first on a way passes, and each parent whose child passes it, is passed by all on the way
+pub way_has : (test : ℕ → Bool) (n : ℕ) (h : List Event) (c u : ℕ) → ((t p : ℕ) → test t ≡ true → parent h t ≡ Some p → test p ≡ true)
+    → test c ≡ true → is_in u (path_up n h (Some c)) ≡ true → test u ≡ true
 unfolding path_up
-way_has P zero h c u hands has there = absurd cc
-way_has P (suc n) h c u hands has there =
-    ⊎_elim (λ here. ap P (sym (eqb-true c u here)) ∙ has) (λ later. go (parent h c) refl later (λ p. way_has P n h p u hands)) (or_cases (c == u) (is_in u (path_up n h (parent h c))) there)
+way_has test zero h c u hands has there = absurd cc
+way_has test (suc n) h c u hands has there =
+    ⊎_elim (λ here. ap test (sym (eqb-true c u here)) ∙ has) (λ later. go (parent h c) refl later (λ p. way_has test n h p u hands)) (or_cases (c == u) (is_in u (path_up n h (parent h c))) there)
   where
     none_from : (n : ℕ) → is_in u (path_up n h None) ≡ true → ⊥
     none_from zero there = absurd cc
     none_from (suc n) there = absurd cc
 
     go : (from : Option ℕ) → parent h c ≡ from → is_in u (path_up n h from) ≡ true
-        → ((p : ℕ) → P p ≡ true → is_in u (path_up n h (Some p)) ≡ true → P u ≡ true) → P u ≡ true
+        → ((p : ℕ) → test p ≡ true → is_in u (path_up n h (Some p)) ≡ true → test u ≡ true) → test u ≡ true
     go None is later rest = absurd (none_from n later)
     go (Some p) is later rest = rest p (hands c p has is) later
 

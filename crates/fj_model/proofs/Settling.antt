@@ -1,5 +1,5 @@
 -- Several tasks that become exceptional one after another, as a relayed code makes them.
-use Rattle.std.proofs.Common.{ℕ, ◌≡◌, ◌+◌, Bool, map, List, [], ◌∷◌, ◌++◌, None, refl, ap, ◌∙◌, append_assoc}
+use Rattle.std.proofs.Common.{ℕ, ◌≡◌, Bool, map, List, [], ◌∷◌, ◌++◌, None, refl, ap, ◌∙◌, append_assoc}
 use Rattle.std.proofs.lemmas.List.{append-nil}
 use Rattle.fj_model.specs.declared.event.Event.{Event}
 use Rattle.fj_model.specs.declared.event.Event.TheVariants as event
