@@ -8,8 +8,9 @@ use Rattle.fj_gate.specs.Rule.{joined, admitted, turned_away, IsUntold, IsOpen, 
 use Rattle.fj_gate.specs.Steps.{fresh, drew, turned, heard_closed, saw, closed_at}
 use Rattle.fj_gate.specs.declared.word.View.{View}
 use Rattle.std.proofs.lemmas.List.Sums.{count_by-le-length}
-use Rattle.fj_gate.proofs.Lists.{times_in-append, times_in-one, times_in-joined, length-joined, sum_by-set, sum_by-bound, joined-set_same, one_more}
+use Rattle.fj_gate.proofs.Lists.{times_in-one, times_in-joined, length-joined, sum_by-set, sum_by-bound, joined-set_same, one_more}
 use Rattle.fj_gate.proofs.Seats.{EachSeat-set, first_after, first_set, parts_of}
+use Rattle.fj_model.proofs.Members.{times_in_append}
 
 module _ (word : ℕ) (views : List View) (r : IsGate word views) (seat : ℕ) (v : View) (at : get_elem? views seat ≡ some v) where
   -- an open gate, and room in the seat for one ticket more
@@ -31,7 +32,7 @@ module _ (word : ℕ) (views : List View) (r : IsGate word views) (seat : ℕ) (
           refl,
           λ x.
               let t = sum_by-set (λ u. times_in x u.drawn) views seat v w at in
-              let e = times_in-append x v.drawn (admitted views ∷ []) in
+              let e = times_in_append x v.drawn (admitted views ∷ []) in
               let one = times_in-one x (admitted views) in
               let b = times_in-joined x views in
               let a = times_in-joined x views' in

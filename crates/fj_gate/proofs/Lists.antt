@@ -1,23 +1,21 @@
 -- Sums and joined lists over all seats, after a change of one of them.
 use Rattle.std.proofs.Common.{◌≡◌, ℕ, zero, suc, ◌+◌, ◌*◌, ◌≤◌, ◌==◌, cond, nat_lt, List, [], ◌∷◌, ◌++◌, length, set, sym, refl, ap, ◌∙◌, arith, sum_by}
 use Rattle.std.proofs.lemmas.Bool.Decides.{nat_tests}
-use Rattle.std.proofs.lemmas.List.Sums.{sum_by-cons, sum_by-append}
+use Rattle.std.proofs.lemmas.List.Sums.{sum_by-cons}
 use Rattle.std.proofs.lemmas.List.Concat.{length-flat_map}
 use mathlib.Core.Option.{some, some-injective, some-ne-none}
 use lib.ListN.{get_elem?}
 use Rattle.fj_model.specs.Lists.{times_in}
 use Rattle.fj_gate.specs.Rule.{joined}
 use Rattle.fj_gate.specs.declared.word.View.{View}
-
-pub times_in-append : (x : ℕ) (xs ys : List ℕ) → times_in x (xs ++ ys) ≡ times_in x xs + times_in x ys
-times_in-append x xs ys = sum_by-append (λ y. cond (y == x) 1 0) xs ys
+use Rattle.fj_model.proofs.Members.{times_in_append}
 
 pub times_in-one : (x y : ℕ) → times_in x (y ∷ []) ≡ cond (y == x) 1 0
 times_in-one x y = omega (arith, sum_by-cons (λ z. cond (z == x) 1 0) y [])
 
 pub times_in-joined : (x : ℕ) (views : List View) → times_in x (joined views) ≡ sum_by (λ v. times_in x v.drawn) views
 times_in-joined x [] = refl
-times_in-joined x (v ∷ vs) = times_in-append x v.drawn (joined vs) ∙ ap (λ n. times_in x v.drawn + n) (times_in-joined x vs) ∙ sym (sum_by-cons (λ u. times_in x u.drawn) v vs)
+times_in-joined x (v ∷ vs) = times_in_append x v.drawn (joined vs) ∙ ap (λ n. times_in x v.drawn + n) (times_in-joined x vs) ∙ sym (sum_by-cons (λ u. times_in x u.drawn) v vs)
 
 pub length-joined : (views : List View) → length (joined views) ≡ sum_by (λ v. length v.drawn) views
 length-joined views = length-flat_map (λ v. v.drawn) views

@@ -10,8 +10,9 @@ use Rattle.fj_model.specs.Lists.{times_in}
 use Rattle.fj_gate.specs.Rule.{joined, admitted, turned_away, IsUntold, IsOpen, IsClosed, Fits, IsGate, IsRuled}
 use Rattle.fj_gate.specs.Steps.{fresh, less_one, together}
 use Rattle.fj_gate.specs.declared.word.View.{View}
-use Rattle.fj_gate.proofs.Lists.{times_in-append, times_in-joined, length-joined, sum_by-set}
+use Rattle.fj_gate.proofs.Lists.{times_in-joined, length-joined, sum_by-set}
 use Rattle.fj_gate.proofs.Seats.{EachSeat-set, EachSeat-push, first_set, knows, parts_of}
+use Rattle.fj_model.proofs.Members.{times_in_append}
 
 -- the gate at its start
 pub begins : IsRuled (record { words = 0 ∷ []; homes = []; views = fresh 32 ∷ [] })
@@ -140,7 +141,7 @@ taken_in word views r v at other apart w there =
       (
         refl,
         λ x.
-            let g = times_in-append x v.drawn w.drawn in
+            let g = times_in_append x v.drawn w.drawn in
             let a = change (λ u. times_in x u.drawn) in
             let b = more (λ u. times_in x u.drawn) in
             let c = times_in-joined x views in
