@@ -3,3 +3,5 @@ pub mod Lines
 pub mod Pasts
 pub mod Steps
 pub mod FaultsFound
+pub mod Begun
+pub mod Answered

@@ -1,7 +1,9 @@
 -- The command line.
-use Rattle.std.specs.Prelude.{List, [], ◌∷◌, codes, true, Option, option_map}
-use Rattle.clap.specs.Words.{App, Row, Text, new_app, subcommand_of, with_subcommand}
+use Rattle.std.specs.Prelude.{◌≢◌, ◌⊎◌, List, [], ◌∷◌, codes, true, Option, option_map}
+use Rattle.clap.specs.Words.{App, IsAmong, Kinds, Row, Text, fault_of, new_app, subcommand_of, with_subcommand}
 use Rattle.clap.specs.Simple.{on_top}
+use Rattle.clap.specs.declared.error.kind.ErrorKind.{ErrorKind}
+use Rattle.clap.specs.declared.error.kind.ErrorKind.TheVariants.{DisplayHelp, DisplayVersion}
 
 -- what a parse reads of the whole command line
 abbrev pub whole_line : App
@@ -15,3 +17,15 @@ replay_words = codes "fj" ∷ codes "replay" ∷ []
 -- the name of the command that a parse meets in these words, if it meets one
 abbrev pub command_in : List Text → Option Text
 command_in words = option_map (λ (met : Text × List Row). met.0) (subcommand_of whole_line words)
+
+-- the kinds of error that a parse of these words may give, but for want of memory
+abbrev pub faults_in : List Text → Kinds
+faults_in words = fault_of whole_line words
+
+-- the words ask for help or for the version
+abbrev pub AsksToShow : List Text → Type 0
+AsksToShow words = IsAmong DisplayHelp (faults_in words) ⊎ IsAmong DisplayVersion (faults_in words)
+
+-- there is a fault in the words
+abbrev pub IsAtFault : List Text → Type 0
+IsAtFault words = (kind : ErrorKind) × IsAmong kind (faults_in words) × (kind ≢ DisplayHelp) × (kind ≢ DisplayVersion)

@@ -71,3 +71,8 @@ pub record IsReplayed (b : List ℕ) (before ahead start now : Option (List ℕ)
   pub whole : IsAtEnd ahead
   pub script : IsScript b
   pub written : Appends start now (text b)
+
+-- these bytes were read, and a beginning of the replies to them was written
+pub record IsBegun (b : List ℕ) (before ahead start now : Option (List ℕ)) : Type 0 where
+  pub read : Consumes before ahead b
+  pub written : AppendsSome start now (text b)

@@ -1,5 +1,7 @@
 -- What an exit status says.
-use Rattle.std.specs.Prelude.{ℕ, ◌≡◌, List, Option}
+use Rattle.std.specs.Prelude.{ℕ, ◌≡◌, ◌≢◌, List, Option}
+use Rattle.std.specs.declared.io.ErrorKind.{ErrorKind}
+use Rattle.std.specs.declared.io.ErrorKind.TheVariants.{InvalidData}
 use Rattle.fj_cli.specs.declared.fault.ReplayFault.{ReplayFault}
 use Rattle.fj_cli.specs.declared.fault.ReplayFault.TheVariants.{Line, Limits, Memory, Read, Write}
 use Rattle.fj_cli.specs.Faults.{Ends}
@@ -16,3 +18,7 @@ status_of Write = 5
 abbrev pub EndsBy : ℕ → Option (List ℕ) → Option (List ℕ) → Option (List ℕ) → Option (List ℕ) → Type 0
 EndsBy status before ahead start now =
     (fault : ReplayFault) × (b : List ℕ) × (status ≡ status_of fault) × Ends fault b before ahead start now
+
+-- the exit status where the words could not be had: 2 where one is no text, 4 for any other error
+abbrev pub StatusOfNoWords : ErrorKind → ℕ → Type 0
+StatusOfNoWords kind status = (kind ≡ InvalidData → status ≡ 2) × (kind ≢ InvalidData → status ≡ 4)

@@ -1,6 +1,6 @@
-ghost use Rattle.std.specs.Prelude.{◌≡◌, ◌↔◌, Some, IfOk, MatchResult, codes, map};
-ghost use Rattle.clap.specs.Words.{app_of, kind_of};
-ghost use Rattle.fj_cli.specs.Commands.{whole_line, replay_words, command_in};
+ghost use Rattle.std.specs.Prelude.{◌≡◌, ◌↔◌, Some, IfOk, IfErr, MatchResult, codes, map};
+ghost use Rattle.clap.specs.Words.{HasKind, app_of, kind_of};
+ghost use Rattle.fj_cli.specs.Commands.{whole_line, replay_words, command_in, faults_in};
 
 use clap::error::ErrorKind;
 use clap::{Command, Error};
@@ -30,6 +30,7 @@ fn command<'a>(alloc: Global) -> Result<Command<'a>, AllocError>
 /// Reads the words of a command line, of which the first is the program's name. `None` if they name no command.
 pub fn read<'a>(alloc: Global, words: &'a [&'a str]) -> Result<Option<Task>, Error>
     ensures task { IfOk result (λ task. (task ≡ Some Task.Replay) ↔ (command_in (map (λ word. word.now) words.entry.now) ≡ Some (codes "replay"))) }
+    ensures fault { IfErr result (λ error. HasKind (faults_in (map (λ word. word.now) words.entry.now)) error) }
     ensures known { map (λ word. word.now) words.entry.now ≡ replay_words → MatchResult result (λ task. task ≡ Some Task.Replay) (λ error. kind_of error ≡ ErrorKind.OutOfMemory) }
 {
     match command(alloc)?.try_get_matches_from(words) {

@@ -1,8 +1,9 @@
 ghost use Rattle.std.specs.Prelude.{◌≡◌, ◌≢◌, ◌⊎◌, ℕ, List, Some, codes, map};
 ghost use Rattle.clap.specs.Words.{kind_of};
-ghost use Rattle.fj_cli.specs.Commands.{command_in, replay_words};
-ghost use Rattle.fj_cli.specs.Faults.{IsReplayed};
-ghost use Rattle.fj_cli.specs.Statuses.{EndsBy};
+ghost use Rattle.std.specs.IoError.{error_kind};
+ghost use Rattle.fj_cli.specs.Commands.{command_in, replay_words, AsksToShow, IsAtFault};
+ghost use Rattle.fj_cli.specs.Faults.{IsBegun, IsReplayed};
+ghost use Rattle.fj_cli.specs.Statuses.{EndsBy, StatusOfNoWords};
 
 use crate::line::{Task, read};
 use crate::play::play;
@@ -17,6 +18,7 @@ use std::io::{self, Read, Write};
 /// 0: it was run, or help or the version was asked for and written to `out`. 2: a fault of the words. 3: a fault of the input. 4: memory
 /// was refused. 5: a read or a write failed. For all but 0 a text is sent to `err`, which may fail. `out` is flushed after a replay, and
 /// after help or the version; a failed flush gives 5.
+#[tactic(auto, using(crate::proofs::Answered::shown_asks))]
 pub fn fj<R: Read, W: Write, E: Write>(
     alloc: Global,
     words: &[&str],
@@ -31,10 +33,13 @@ pub fn fj<R: Read, W: Write, E: Write>(
     // Words that name no replay read nothing.
     ensures unread { command_in (map (λ word. word.now) words.entry.now) ≢ Some (codes "replay") → R.remaining input.new ≡ R.remaining input.old }
     // What else each status says.
-    ensures done { result ≡ 0 → ((b : List ℕ) × IsReplayed b (R.remaining input.old) (R.remaining input.new) (W.contents out.old) (W.contents out.new)) ⊎ (R.remaining input.new ≡ R.remaining input.old) }
+    ensures done { result ≡ 0 → ((b : List ℕ) × IsReplayed b (R.remaining input.old) (R.remaining input.new) (W.contents out.old) (W.contents out.new)) ⊎ (AsksToShow (map (λ word. word.now) words.entry.now) × (R.remaining input.new ≡ R.remaining input.old)) }
     ensures words { result ≡ 2 → (R.remaining input.new ≡ R.remaining input.old) × (W.contents out.new ≡ W.contents out.old) }
+    ensures at_fault { result ≡ 2 → IsAtFault (map (λ word. word.now) words.entry.now) ⊎ (command_in (map (λ word. word.now) words.entry.now) ≢ Some (codes "replay")) }
     ensures fault { result ≡ 3 → EndsBy 3 (R.remaining input.old) (R.remaining input.new) (W.contents out.old) (W.contents out.new) }
     ensures memory { result ≡ 4 → EndsBy 4 (R.remaining input.old) (R.remaining input.new) (W.contents out.old) (W.contents out.new) ⊎ ((R.remaining input.new ≡ R.remaining input.old) × (W.contents out.new ≡ W.contents out.old)) }
+    // Whatever the status: what was written is a beginning of the replies to what was read, or nothing was read.
+    ensures begun { ((b : List ℕ) × IsBegun b (R.remaining input.old) (R.remaining input.new) (W.contents out.old) (W.contents out.new)) ⊎ (R.remaining input.new ≡ R.remaining input.old) }
 {
     match read(alloc, words) {
         Ok(Some(Task::Replay)) => play(alloc, input, out, err),
@@ -45,7 +50,7 @@ pub fn fj<R: Read, W: Write, E: Write>(
 
 /// Tells what stops the program before a command runs: a word that is not text, or want of memory. Gives the exit status.
 pub fn unread<E: Write>(error: &io::Error, err: &mut E) -> u8
-    ensures { (result ≡ 2) ⊎ (result ≡ 4) }
+    ensures { StatusOfNoWords (error_kind error.now) result }
 {
     if error.kind() == io::ErrorKind::InvalidData {
         told(
@@ -62,18 +67,21 @@ pub fn unread<E: Write>(error: &io::Error, err: &mut E) -> u8
 fn answered<W: Write, E: Write>(error: &Error, out: &mut W, err: &mut E) -> u8
     ensures status { (result ≡ 0) ⊎ ((result ≡ 2) ⊎ ((result ≡ 4) ⊎ (result ≡ 5))) }
     ensures unread { kind_of error.now ≡ ErrorKind.OutOfMemory → result ≡ 4 }
+    ensures shown { result ≡ 0 → (kind_of error.now ≡ ErrorKind.DisplayHelp) ⊎ (kind_of error.now ≡ ErrorKind.DisplayVersion) }
     ensures words { result ≡ 2 → W.contents out.new ≡ W.contents out.old }
+    ensures at_fault { result ≡ 2 → (kind_of error.now ≢ ErrorKind.OutOfMemory) × (kind_of error.now ≢ ErrorKind.DisplayHelp) × (kind_of error.now ≢ ErrorKind.DisplayVersion) }
     ensures memory { result ≡ 4 → W.contents out.new ≡ W.contents out.old }
 {
-    if error.kind() == ErrorKind::OutOfMemory {
-        return told(err, "out of memory\n", 4);
-    }
-    if error.use_stderr() {
-        if write!(err, "{error}").is_ok() { 2 } else { 5 }
-    } else if write!(out, "{error}").is_ok() && flush_whole(out).is_ok() {
-        0
-    } else {
-        told(err, "write failed\n", 5)
+    match error.kind() {
+        ErrorKind::OutOfMemory => told(err, "out of memory\n", 4),
+        ErrorKind::DisplayHelp | ErrorKind::DisplayVersion => {
+            if write!(out, "{error}").is_ok() && flush_whole(out).is_ok() {
+                0
+            } else {
+                told(err, "write failed\n", 5)
+            }
+        }
+        _ => { if write!(err, "{error}").is_ok() { 2 } else { 5 } }
     }
 }
 

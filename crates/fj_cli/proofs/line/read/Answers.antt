@@ -1,5 +1,5 @@
-use Rattle.std.proofs.Common.{◌≡◌, ◌∙◌, sym, ap, ap₂, refl, codes, true, Option, Some, None, option_map, List}
-use Rattle.clap.specs.Words.{App, HasMatchesOf, Text, Row, is_simple, takes, subcommand_of, subcommand_rows_of, subcommand_rows, subcommand_name_of}
+use Rattle.std.proofs.Common.{◌≡◌, ◌∙◌, sym, subst, ap, ap₂, refl, map, codes, true, Option, Some, None, option_map, List}
+use Rattle.clap.specs.Words.{App, HasKind, HasMatchesOf, Text, Row, fault_of, is_simple, is_simple_and_free, takes, subcommand_of, subcommand_rows_of, subcommand_rows, subcommand_name_of}
 use Rattle.clap.specs.declared.parser.matches.ArgMatches.{ArgMatches}
 use Rattle.clap.specs.declared.parser.matches.ArgMatches.TheViews.{out-ArgMatches, out-SubCommand}
 use Rattle.std.specs.Box.{box_value}
@@ -11,6 +11,10 @@ use Rattle.fj_cli.proofs.line.read.Goals as goal
 is_taken : takes whole_line replay_words ≡ true
 unfolding clap_on_literals
 is_taken = refl
+
+is_free : is_simple_and_free whole_line ≡ true
+unfolding clap_on_literals
+is_free = refl
 
 abbrev name_in : Option (Text × List Row) → Option Text
 name_in = option_map (λ met. met.0)
@@ -51,3 +55,8 @@ pub returns-then-is_some-clause-task : goal.returns-then-is_some-clause-task
 returns-then-is_some-clause-task c =
     let name = named c.in-Ok.matches _ _ c.in_ok-command.ensures c.in-Ok.ensures.matches in
     (λ e. sym name ∙ c.subcommand_matches.ensures.found.0 (sym c.is_some.ensures ∙ c.if-is_some.true), λ met. refl)
+
+pub returns-clause-fault : goal.returns-clause-fault
+returns-clause-fault c =
+    let is = c.in_ok-command.ensures in
+    subst (λ line. HasKind (fault_of line (map (λ word. word.now) c.args.words.now)) c.in-Err.error) is (c.in-Err.ensures.kinds (ap is_simple_and_free is ∙ is_free))
