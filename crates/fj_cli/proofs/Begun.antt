@@ -1,5 +1,5 @@
 -- However a replay ends, a beginning of the replies to what was read was written.
-use Rattle.std.proofs.Common.{ℕ, ◌≡◌, ◌≤◌, List, Option, length, arith}
+use Rattle.std.proofs.Common.{ℕ, List, Option, length, arith}
 use Rattle.std.specs.Io.KnownBytes.{Appends, Keeps}
 use Rattle.fj_cli.specs.declared.fault.ReplayFault.{ReplayFault}
 use Rattle.fj_cli.specs.declared.fault.ReplayFault.TheVariants.{Line, Limits, Memory, Read, Write}
