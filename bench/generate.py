@@ -2,13 +2,14 @@
 """Writes a script to standard output, of so many rounds, or as many as the history has room for.
 
 plain: a plain task is submitted, polled, ended and released.
+polls: the same, and before each submission a worker polls in vain.
 tree: a completer forks children, which count it down; then all are released.
 chain: each completer forks the next one; the last is climbed from by hooks, or by pass in every other round; all are released.
 churn: a population of plain tasks is kept; some are cancelled or fail while they are queued; tasks are released in random order.
 queues: 32 submitters hand in and 32 workers poll, each from another queue; half of them fork, and all tasks are ended and released.
 refusals: with a history that is full, every step is refused, or changes nothing.
 
-In all but refusals, every step line changes the machine. A script has the same lines each time.
+In all but refusals and polls, every step line changes the machine. A script has the same lines each time.
 """
 
 import argparse
@@ -31,6 +32,12 @@ def plain(_size: int) -> Parts:
     yield ONE_WORKER, 0
     for task in count():
         yield f"submit 0\npoll 0 0\nend 0 ok\nrelease {task}\n", 5
+
+
+def polls(_size: int) -> Parts:
+    yield ONE_WORKER, 0
+    for task in count():
+        yield f"poll 0 0\nsubmit 0\npoll 0 0\nend 0 ok\nrelease {task}\n", 5
 
 
 def tree(children: int) -> Parts:
@@ -134,7 +141,7 @@ def refusals(_size: int) -> Parts:
         yield "submit 0\npoll 0 0\nend 0 ok\ncancel 0\nfault 1 7\nrelease 0\npoll 1 0\n", 0
 
 
-LOADS = {"plain": plain, "tree": tree, "chain": chain, "churn": churn, "queues": queues, "refusals": refusals}
+LOADS = {"plain": plain, "polls": polls, "tree": tree, "chain": chain, "churn": churn, "queues": queues, "refusals": refusals}
 # The smallest size, the largest one, and the one that is taken where none is given.
 SIZES = {"tree": (1, TASKS - 1, TASKS - 1), "chain": (2, TASKS, TASKS), "churn": (2, TASKS, 2_048)}
 

@@ -1,6 +1,6 @@
 #!/usr/bin/env bash
 # Times `fj replay` on a generated script: seconds, lines a second, peak memory. Beside it the plain C program, if there is a compiler.
-# Usage: bench/run.sh [KIND [ROUNDS [SIZE]]]     KIND is plain (default), tree, chain, churn, queues or refusals
+# Usage: bench/run.sh [KIND [ROUNDS [SIZE]]]     KIND is plain (default), polls, tree, chain, churn, queues or refusals
 # RUNS=N bench/run.sh ..     the least seconds of N runs are printed (default: 5)
 set -euo pipefail
 export LC_ALL=C
