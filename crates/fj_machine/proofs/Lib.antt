@@ -41,5 +41,6 @@ pub mod Spent
 pub mod Stepping
 pub mod TakeSteps
 pub mod Taken
+pub mod TakenOut
 pub mod Telling
 pub mod WaysTold

@@ -1,5 +1,5 @@
 -- All that is kept, after a task was fired, passed or settled.
-use Rattle.std.proofs.Common.{ℕ, ◌≡◌, ◌<◌, ◌≤◌, Bool, true, false, List, [], ◌∷◌, ◌++◌, length, Option, Some, None, refl, ap, sym, ◌∙◌, arith}
+use Rattle.std.proofs.Common.{ℕ, ◌≡◌, ◌<◌, ◌≤◌, Bool, true, false, cond, List, [], ◌∷◌, ◌++◌, length, Option, Some, None, refl, ap, sym, ◌∙◌, arith}
 use Rattle.std.specs.Prelude.{if◌then◌else◌}
 use Rattle.std.specs.List.{filter_map, list_any, cons_option}
 use Rattle.std.proofs.lemmas.Bool.{eq-eqb}
@@ -9,15 +9,17 @@ use Rattle.fj_model.specs.declared.event.Event.TheVariants.{Fire, Pass, Settle}
 use Rattle.fj_model.specs.declared.place.Place.{Place}
 use Rattle.fj_model.specs.declared.place.Place.TheVariants.{Queued, Held, Open, Gone}
 use Rattle.fj_model.specs.Bounds.{Pool}
-use Rattle.fj_model.specs.Lists.{is_in, without}
+use Rattle.fj_model.specs.Lists.{is_in, times_in, without}
 use Rattle.fj_model.specs.Tasks.{tasks, accepted, accepted_by, is_kept, is_completer, kind}
 use Rattle.fj_model.specs.Statuses.{status}
 use Rattle.fj_model.specs.Completers.{pending, fires_or_passes}
 use Rattle.fj_model.specs.Climbs.{climbed_by}
-use Rattle.fj_model.specs.Places.{place, is_open, open_tasks, gone}
+use Rattle.fj_model.specs.Places.{place, is_open, opened, open_tasks, gone}
 use Rattle.fj_model.specs.Allowed.{Allowed, AllowedFrom}
 use Rattle.fj_model.proofs.PlaceLaws.{none_accepted, unmoved_queue, unmoved_stack}
 use Rattle.fj_model.proofs.Spending.{spends, closed, spends_unmoved, spent_place, spending_open, spending_gone}
+use Rattle.fj_model.proofs.Members.{times_in_filter}
+use Rattle.fj_model.proofs.OnePlace.{opened_once}
 use Rattle.fj_model.proofs.OpenList.{in_open, gone_short}
 use Rattle.fj_model.proofs.Queues.{without_absent}
 use Rattle.fj_queues.specs.Queues.{Lists as Waiting}
@@ -58,6 +60,17 @@ gone_room pool h queues stacks hands tree opens gones holds =
   where
     length_of : List ℕ → ℕ
     length_of ts = length ts
+
+-- no task is listed as open twice
+pub open_once : (pool : Pool) (h : List Event) (queues : Waiting) (stacks : Lists) (hands : List (Option InHand)) (tree : Records) (opens gones : List ℕ)
+    → Holds pool h queues stacks hands tree opens gones → (t : ℕ) → times_in t opens ≤ 1
+unfolding open_tasks
+open_once pool h queues stacks hands tree opens gones holds t =
+    omega (arith, ap {B = ℕ} (times_in t) holds.open_kept, times_in_filter (λ u. is_open (place h u)) t (opened h), opened_once pool h holds.lawful t, fewer (is_open (place h t)) (times_in t (opened h)))
+  where
+    fewer : (b : Bool) (n : ℕ) → cond b n 0 ≤ n
+    fewer true n = omega arith
+    fewer false n = omega arith
 
 -- ---- the record
 

@@ -1,6 +1,6 @@
 //! An open task goes.
-ghost use Rattle.std.specs.Prelude.{◌≡◌, ◌<◌, ◌∷◌, [], ◌++◌, length, if◌then◌else◌, vec_capacity};
-ghost use Rattle.fj_model.specs.Lists.{without};
+ghost use Rattle.std.specs.Prelude.{ℕ, ◌≡◌, ◌<◌, ◌≤◌, ◌∷◌, [], ◌++◌, length, if◌then◌else◌, vec_capacity};
+ghost use Rattle.fj_model.specs.Lists.{times_in, without};
 ghost use Rattle.fj_tree.specs.Records.{IsGood};
 ghost use Rattle.fj_machine.specs.Closing.{is_open_at, closed};
 
@@ -15,6 +15,7 @@ pub(super) fn close(
     h: Handle,
 )
     requires good { IsGood tree.old h }
+    requires once { (t : ℕ) → times_in t open_tasks.old.items ≤ 1 }
     requires room { length gone.old.items < vec_capacity gone.old }
     ensures tree { tree.new ≡ closed tree.old h }
     ensures open { open_tasks.new.items ≡ (if is_open_at tree.old h then without open_tasks.old.items (h.serial ∷ []) else open_tasks.old.items) }
@@ -29,10 +30,18 @@ pub(super) fn close(
     }
 }
 
-/// Takes a number out of a list.
+/// Takes a number out of a list that has it at most once. It looks from the end: who came to be open last is most often the first to go.
 fn take_out(ts: &mut Vec<Serial>, t: Serial)
+    requires { times_in t ts.old.items ≤ 1 }
     ensures items { ts.new.items ≡ without ts.old.items (t ∷ []) }
     ensures room { vec_capacity ts.new ≡ vec_capacity ts.old }
 {
-    ts.retain(|u| *u != t);
+    let mut i = ts.len();
+    while i > 0 {
+        i -= 1;
+        if ts[i] == t {
+            let _gone = ts.remove(i);
+            return;
+        }
+    }
 }

@@ -9,7 +9,7 @@ use Rattle.fj_tree.specs.declared.record.Record.{Record}
 use Rattle.fj_machine.specs.InHands.{InHand}
 use Rattle.fj_machine.proofs.Located.{located, completer_at, read_at}
 use Rattle.fj_machine.proofs.Settled.{fire_holds}
-use Rattle.fj_machine.proofs.Spent.{gone_room}
+use Rattle.fj_machine.proofs.Spent.{gone_room, open_once}
 use Rattle.fj_machine.proofs.ledger.Ledger.fire.Goals as goal
 
 pub fire-requires : goal.fire-requires
@@ -18,6 +18,9 @@ fire-requires c =
     let is : is_completer h c.args.c ≡ true = subst (λ (p : Past). is_completer p.events c.args.c ≡ true) (sym c.self.view_is) c.requires.completer in
     let l = located c.self.inside.tree c.args.c c.find.result c.unwrap-h.result c.find.ensures.found c.find.ensures.good c.unwrap-h.ensures in
     completer_at h c.self.inside.tree c.args.c c.unwrap-h.result l (c.self.invariant.0.tree_kept.each c.unwrap-h.result.key l.found l.at) is
+
+pub close-requires-clause-once : goal.close-requires-clause-once
+close-requires-clause-once c = open_once _ _ _ _ _ _ _ _ c.self.invariant.0
 
 pub close-requires-clause-room : goal.close-requires-clause-room
 close-requires-clause-room c =

@@ -6,7 +6,7 @@ use Rattle.fj_model.specs.Allowed.{Allowed}
 use Rattle.fj_model.specs.Runs.{Past}
 use Rattle.fj_machine.proofs.Located.{located, completer_at}
 use Rattle.fj_machine.proofs.Settled.{pass_holds}
-use Rattle.fj_machine.proofs.Spent.{gone_room}
+use Rattle.fj_machine.proofs.Spent.{gone_room, open_once}
 use Rattle.fj_machine.proofs.ledger.Ledger.pass.Goals as goal
 
 pub fire-requires : goal.fire-requires
@@ -15,6 +15,9 @@ fire-requires c =
     let is : is_completer h c.args.c ≡ true = subst (λ (p : Past). is_completer p.events c.args.c ≡ true) (sym c.self.view_is) c.requires.completer in
     let l = located c.self.inside.tree c.args.c c.find.result c.unwrap-h.result c.find.ensures.found c.find.ensures.good c.unwrap-h.ensures in
     completer_at h c.self.inside.tree c.args.c c.unwrap-h.result l (c.self.invariant.0.tree_kept.each c.unwrap-h.result.key l.found l.at) is
+
+pub close-requires-clause-once : goal.close-requires-clause-once
+close-requires-clause-once c = open_once _ _ _ _ _ _ _ _ c.self.invariant.0
 
 pub close-requires-clause-room : goal.close-requires-clause-room
 close-requires-clause-room c =

@@ -11,7 +11,7 @@ use Rattle.fj_model.proofs.OnePlace.{never}
 use Rattle.fj_machine.specs.Holds.{hook_completers}
 use Rattle.fj_machine.proofs.Located.{located}
 use Rattle.fj_machine.proofs.Settled.{settle_holds, settle_left_holds}
-use Rattle.fj_machine.proofs.Spent.{gone_room}
+use Rattle.fj_machine.proofs.Spent.{gone_room, open_once}
 use Rattle.fj_machine.proofs.ledger.Ledger.settle.Goals as goal
 use Rattle.fj_machine.proofs.ledger.Ledger.settle.Goals.{After-self}
 
@@ -20,6 +20,9 @@ fits c = subst (λ (p : Past). length p.events < p.pool.limits.events) (sym c.se
 
 may : (c : After-self) → Allowed (record { mode = c.self.inside.mode; limits = c.self.inside.limits }) c.self.inside.log.events (Settle c.args.t c.args.status)
 may c = subst (λ (p : Past). Allowed p.pool p.events (Settle c.args.t c.args.status)) (sym c.self.view_is) c.requires.may
+
+pub close-requires-clause-once : goal.close-requires-clause-once
+close-requires-clause-once c = open_once _ _ _ _ _ _ _ _ c.self.invariant.0
 
 pub close-requires-clause-room : goal.close-requires-clause-room
 close-requires-clause-room c =
