@@ -16,7 +16,7 @@ pub enum Closing {
     Already(u64),
 }
 
-/// The end that closes a gate. There is one. It is this project's own: Java lets any thread shut a pool down.
+/// The end that closes a gate. There is one. Java has no counterpart: it lets any thread shut a pool down.
 #[derive(Drop)]
 pub struct Closer {
     pub(crate) table: Arc<Word>,

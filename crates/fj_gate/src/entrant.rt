@@ -7,7 +7,7 @@ use crate::word::{Admit, EntrantLook, Token, Word};
 use std::marker::Model;
 use std::sync::Arc;
 
-/// A submitter's end of a gate. It draws tickets until the gate is closed. It is this project's own.
+/// A submitter's end of a gate. It draws tickets until the gate is closed. Java has no counterpart.
 #[derive(Drop)]
 pub struct Entrant {
     pub(crate) table: Arc<Word>,
@@ -42,7 +42,7 @@ impl Entrant {
     /// Draws the next ticket, by one exchange. No other entrant draws the same one.
     ///
     /// `Closed` if the gate was closed, or if this entrant was told so before; then no exchange is made. Java's counterpart is
-    /// `RejectedExecutionException` of `ForkJoinPool.submit` after a shutdown; tickets are this project's own.
+    /// `RejectedExecutionException` of `ForkJoinPool.submit` after a shutdown; Java has no tickets.
     ///
     /// The caller answers for fewer than `each` tickets so far. Only tickets count, not refusals.
     pub fn admit(&mut self) -> Result<Ticket, Closed>

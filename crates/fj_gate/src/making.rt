@@ -10,7 +10,7 @@ use fj_model::OutOfMemory;
 use std::alloc::{AllocError, Global};
 use std::sync::Arc;
 
-/// An open gate: an entrant for each submitter, and its closer. Nobody has drawn a ticket. It is this project's own.
+/// An open gate: an entrant for each submitter, and its closer. Nobody has drawn a ticket. Java has no counterpart.
 ///
 /// `OutOfMemory` where memory is refused, and no other error. No other call of this crate takes memory.
 ///

@@ -8,7 +8,7 @@ use crate::entrant::Entrant;
 use crate::word::{LastLook, Part, Token, Word};
 use std::sync::Arc;
 
-/// What all ends of a gate know together. It is this project's own.
+/// What all ends of a gate know together. Java has no counterpart.
 #[derive(Clone, Copy, Debug, PartialEq, Eq)]
 pub struct Tickets {
     /// How many tickets were drawn, from 0 to submitters times `each`, which is at most 2,097,152.
@@ -17,7 +17,7 @@ pub struct Tickets {
     pub closed: Option<u64>,
 }
 
-/// Takes all ends of a gate back. It allocates nothing and waits for nobody. It is this project's own.
+/// Takes all ends of a gate back. It allocates nothing and waits for nobody. Java has no counterpart.
 ///
 /// The tickets that the entrants drew are the numbers below `drawn`, each once, and `drawn` is the closing number if the gate was
 /// closed. If it was not, nobody was told Closed. Nobody had seen more admissions than `drawn`.

@@ -2,7 +2,7 @@ use std::marker::Model;
 
 /// The number of an admission: 0, 1, 2, .. in the order of the exchanges, over all entrants of a gate.
 ///
-/// At a gate it is below the number of submitters times `each`, so below 2,097,152. It is this project's own.
+/// At a gate it is below the number of submitters times `each`, so below 2,097,152. Java has no counterpart.
 #[derive(Clone, Copy, Debug, PartialEq, Eq)]
 pub struct Ticket(pub u64);
 

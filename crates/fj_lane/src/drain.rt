@@ -7,7 +7,7 @@ use crossbeam_deque::{Pass, Steal, Stealer};
 use std::alloc::Global;
 use std::marker::Model;
 
-/// The end of a lane that takes. There is one. It is this project's own.
+/// The end of a lane that takes. There is one. Java has no counterpart.
 #[derive(Drop)]
 pub struct Drain<B> {
     pub(crate) stealer: Stealer<Parcel<B>, Global, View<B>, LaneRule>,

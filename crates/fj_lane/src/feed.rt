@@ -6,7 +6,7 @@ use crossbeam_deque::Worker;
 use std::alloc::Global;
 use std::marker::Model;
 
-/// The end of a lane that pushes. There is one. It is this project's own, and so is its capacity, from 1 to 65,536.
+/// The end of a lane that pushes. There is one. Java has no counterpart of it, nor of its capacity, from 1 to 65,536.
 #[derive(Drop)]
 pub struct Feed<B> {
     pub(crate) worker: Worker<Parcel<B>, Global, View<B>, LaneRule>,

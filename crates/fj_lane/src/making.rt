@@ -10,7 +10,7 @@ use crossbeam_deque::Worker;
 use fj_model::OutOfMemory;
 use std::alloc::Global;
 
-/// An empty lane, as its two ends: nothing was pushed and nothing taken. It is this project's own.
+/// An empty lane, as its two ends: nothing was pushed and nothing taken. Java has no counterpart.
 ///
 /// `OutOfMemory` where memory is refused, and no other error. No other call of this crate is refused for that.
 ///

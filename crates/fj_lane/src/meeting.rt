@@ -8,7 +8,7 @@ use crossbeam_deque::Worker;
 use std::alloc::Global;
 use std::marker::Model;
 
-/// What was pushed into a lane and not taken: at most 65,536 parcels. It is this project's own.
+/// What was pushed into a lane and not taken: at most 65,536 parcels. Java has no counterpart.
 #[derive(Drop)]
 pub struct Rest<B> {
     pub(crate) worker: Worker<Parcel<B>, Global, View<B>, LaneRule>,
@@ -31,7 +31,7 @@ impl<B> Model for Rest<B> {
     } };
 }
 
-/// Takes both ends of a lane back. It waits for nobody, and is never refused. It is this project's own.
+/// Takes both ends of a lane back. It waits for nobody, and is never refused. Java has no counterpart.
 ///
 /// What the drain took, followed by what is left, is what the feed pushed, which is at most its capacity.
 ///

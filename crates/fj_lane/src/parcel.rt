@@ -1,6 +1,6 @@
 use fj_gate::Ticket;
 
-/// A body, with the ticket under which it was admitted. It is this project's own.
+/// A body, with the ticket under which it was admitted. Java has no counterpart.
 #[derive(Debug, Drop)]
 pub struct Parcel<B> {
     /// The number of its admission, drawn at the gate.
@@ -11,6 +11,6 @@ pub struct Parcel<B> {
 
 /// The lane has taken as many parcels as its capacity. It stays so: a take makes no room.
 ///
-/// To a submitter this is refusal 11, `LaneSpent` of `fj_model::Refusal`. The limit is this project's own.
+/// To a submitter this is refusal 11, `LaneSpent` of `fj_model::Refusal`. Java knows no such limit.
 #[derive(Clone, Copy, Debug, PartialEq, Eq)]
 pub struct LaneSpent;

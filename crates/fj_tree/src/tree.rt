@@ -131,7 +131,7 @@ impl Tree {
     /// A spent or done one stays as it is, a pending count above 0 falls by one, a queued or held one stays as it is, and otherwise
     /// the completer becomes spent: it fires. The first of these that holds is answered. Place and status stay.
     ///
-    /// It is what `CountedCompleter.tryComplete` does at one completer. That an arrival can be early is this project's own.
+    /// It is what `CountedCompleter.tryComplete` does at one completer. In Java no arrival is early.
     pub fn arrive(&mut self, h: Handle) -> Arrived
         requires { IsCompleter self.old h }
         ensures answer { Some result ≡ option_map arrival_at (record_of self.old h) }
