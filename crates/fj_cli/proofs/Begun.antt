@@ -1,16 +1,17 @@
 -- However a replay ends, a beginning of the replies to what was read was written.
-use Rattle.std.proofs.Common.{ℕ, List, Option, length, arith}
+use Rattle.std.proofs.Common.{ℕ, List, Option, length}
+use Rattle.std.proofs.Math.Seq.{take-length}
 use Rattle.std.specs.Io.KnownBytes.{Appends, Keeps}
 use Rattle.fj_cli.specs.declared.fault.ReplayFault.{ReplayFault}
 use Rattle.fj_cli.specs.declared.fault.ReplayFault.TheVariants.{Line, Limits, Memory, Read, Write}
 use Rattle.fj_cli.specs.Cuts.{AppendsSome}
 use Rattle.fj_cli.specs.Scripts.{text}
 use Rattle.fj_cli.specs.Faults.{Ends, FaultOf, IsBegun, IsReplayed}
-use Rattle.fj_cli.proofs.Bytes.{appends_keeps, take_all}
+use Rattle.fj_cli.proofs.Bytes.{appends_keeps}
 
 -- the whole is a beginning too
 all_some : (a b : Option (List ℕ)) (t : List ℕ) → Appends a b t → AppendsSome a b t
-all_some a b t p = (length t, rw (take_all t (length t) (omega arith)) p)
+all_some a b t p = (length t, rw (take-length t) p)
 
 some_keeps : (a b c : Option (List ℕ)) (t : List ℕ) → AppendsSome a b t → Keeps b c → AppendsSome a c t
 some_keeps a b c t p q = (p.0, appends_keeps a b c _ p.1 q)
