@@ -62,18 +62,12 @@ impl Playback {
         ensures err { IfErr result (λ fault. FaultAt fault self.old 10 (W.contents w.old) (W.contents w.new)) }
     {
         match &mut self.replier {
-            None => match Replier::open(alloc, self.line.as_slice()) {
-                Ok(replier) => self.replier = Some(replier),
-                Err(fault) => return Err(fault),
-            },
+            None => self.replier = Some(Replier::open(alloc, self.line.as_slice())?),
             Some(replier) => {
                 let Ok(asked) = read_step(self.line.as_slice()) else {
                     return Err(ReplayFault::Line(self.count + 1));
                 };
-                match replier.reply(&asked, w) {
-                    Ok(()) => (),
-                    Err(fault) => return Err(fault),
-                }
+                replier.reply(&asked, w)?;
             }
         }
         self.line.clear();
@@ -111,10 +105,7 @@ impl Playback {
         ensures err { IfErr result (λ fault. (b : List ℕ) (start ahead : Option (List ℕ)) → IsAt b self.old start (W.contents w.old) → FaultOf fault (b ++ bytes.now) ahead start (W.contents w.new)) }
     {
         for byte in bytes {
-            match self.feed(alloc, *byte, w) {
-                Ok(()) => (),
-                Err(fault) => return Err(fault),
-            }
+            self.feed(alloc, *byte, w)?;
         }
         Ok(())
     }

@@ -29,14 +29,8 @@ pub fn replay<R: Read, W: Write>(alloc: Global, r: &mut R, w: &mut W) -> Result<
             return Err(ReplayFault::Read);
         }
         match r.read(&mut chunk) {
-            Ok(0) => match playback.finish() {
-                Ok(()) => return Ok(()),
-                Err(fault) => return Err(fault),
-            },
-            Ok(n) => match playback.feed_all(alloc, &chunk[..n], w) {
-                Ok(()) => (),
-                Err(fault) => return Err(fault),
-            },
+            Ok(0) => return playback.finish(),
+            Ok(n) => playback.feed_all(alloc, &chunk[..n], w)?,
             Err(e) => {
                 if e.kind() != ErrorKind::Interrupted {
                     return Err(ReplayFault::Read);
@@ -55,8 +49,6 @@ pub fn replayed(alloc: Global, script: &[u8]) -> Result<Vec<u8>, ReplayFault>
 {
     let mut rest = script;
     let mut replies = Vec::new(alloc);
-    match replay(alloc, &mut rest, &mut replies) {
-        Ok(()) => Ok(replies),
-        Err(fault) => Err(fault),
-    }
+    replay(alloc, &mut rest, &mut replies)?;
+    Ok(replies)
 }

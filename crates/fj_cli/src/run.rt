@@ -81,7 +81,10 @@ fn answered<W: Write, E: Write>(error: &Error, out: &mut W, err: &mut E) -> u8
                 told(err, "write failed\n", 5)
             }
         }
-        _ => { if write!(err, "{error}").is_ok() { 2 } else { 5 } }
+        _ => match write!(err, "{error}") {
+            Ok(()) => 2,
+            Err(_) => 5,
+        },
     }
 }
 

@@ -16,18 +16,3 @@ mod steps;
 
 pub use machine::Machine;
 pub use runs::run;
-
-#[cfg(test)]
-mod completer_tests;
-#[cfg(test)]
-mod failure_tests;
-#[cfg(test)]
-mod shut_tests;
-#[cfg(test)]
-mod task_tests;
-#[cfg(test)]
-mod test_rows;
-#[cfg(test)]
-mod tests;
-#[cfg(test)]
-mod thread_tests;

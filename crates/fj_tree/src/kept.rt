@@ -9,7 +9,7 @@ use std::marker::Model;
 /// The numbers of the records that are kept, in rising order, each with the key of its record.
 ///
 /// Numbers are given out in rising order. So a new one goes to the end, and one is found by halves. Where one is taken out, the side
-/// with fewer numbers closes up: what was made first is most often released first.
+/// with fewer numbers closes up, so the oldest goes as fast as the newest.
 #[derive(Drop)]
 pub struct Kept {
     pairs: VecDeque<(u64, usize)>,

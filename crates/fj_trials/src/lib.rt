@@ -1,7 +1,22 @@
-//! Trials of the machine over many steps that a seeded generator picks. The crate has tests alone.
+//! Trials of the machine from outside: tables of scripts with the replies that they must get, a machine behind a lock, and random steps
+//! that a seeded generator picks. The crate has tests alone.
 #![tactic(auto)]
 
+#[cfg(test)]
+mod completer_tests;
+#[cfg(test)]
+mod failure_tests;
 #[cfg(test)]
 mod picks;
 #[cfg(test)]
 mod place_tests;
+#[cfg(test)]
+mod run_tests;
+#[cfg(test)]
+mod shut_tests;
+#[cfg(test)]
+mod task_tests;
+#[cfg(test)]
+mod test_rows;
+#[cfg(test)]
+mod thread_tests;

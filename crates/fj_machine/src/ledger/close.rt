@@ -30,7 +30,8 @@ pub(super) fn close(
     }
 }
 
-/// Takes a number out of a list that has it at most once. It looks from the end: who came to be open last is most often the first to go.
+/// Takes a number out of a list that has it at most once. It looks from the end: of nested completers the innermost came last and goes
+/// first.
 fn take_out(ts: &mut Vec<Serial>, t: Serial)
     requires { times_in t ts.old.items ≤ 1 }
     ensures items { ts.new.items ≡ without ts.old.items (t ∷ []) }

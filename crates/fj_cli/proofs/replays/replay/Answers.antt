@@ -1,36 +1,39 @@
 use Rattle.std.proofs.Common.{◌<◌, ◌++◌, length, take, rules}
+use Rattle.std.proofs.lemmas.Result.{MatchResult-weaker, err_from_is_err_and, on_ok_weaker}
 use Rattle.fj_cli.proofs.Bytes.{consumes_twice, consumes_kept, read_end}
 use Rattle.fj_cli.proofs.FaultsFound.{ended, replayed_whole}
 use Rattle.fj_cli.proofs.replays.replay.Goals as goal
-use Rattle.fj_cli.proofs.replays.replay.Goals.{in-Ok-read+in-Ok-feed_all, in-Err+else-ne}
+use Rattle.fj_cli.proofs.replays.replay.Goals.{in-Ok-read+in_ok-feed_all-in-Ok-read, in-Err+else-ne}
 
-pub returns-in-Ok-finish-clause-ok : goal.returns-in-Ok-finish-clause-ok
-returns-in-Ok-finish-clause-ok g c =
+pub returns-in-Ok-eq0-clause-ok : goal.returns-in-Ok-eq0-clause-ok
+returns-in-Ok-eq0-clause-ok g c =
     let so_far = c.loop.invariant in
-    let done = c.in-Ok-finish.ensures.ok in
     let room : 0 < length c.read.new.buf = search rules in
     let end = read_end _ _ _ so_far.0 c.read.new.buf c.in-Ok-eq0.field-0 so_far.1 c.in-Ok-eq0.ensures.bytes c.in-Ok-eq0.field-0-test room in
-    (so_far.0, replayed_whole so_far.0 _ _ _ _ _ end.0 end.1 so_far.2 done.0 done.1)
+    on_ok_weaker c.finish.result (λ done. (so_far.0, replayed_whole so_far.0 _ _ _ _ _ end.0 end.1 so_far.2 done.0 done.1)) c.finish.ensures.ok
 
-pub returns-in-Err-finish-clause-err : goal.returns-in-Err-finish-clause-err
-returns-in-Err-finish-clause-err g c =
+pub returns-in-Ok-eq0-clause-err : goal.returns-in-Ok-eq0-clause-err
+returns-in-Ok-eq0-clause-err g c =
     let so_far = c.loop.invariant in
     let room : 0 < length c.read.new.buf = search rules in
-    let end = read_end _ _ _ so_far.0 c.read.new.buf c.in-Ok-eq0.field-0 so_far.1 c.in-Ok-eq0.ensures.bytes c.in-Ok-eq0.field-0-test room in (
+    let end = read_end _ _ _ so_far.0 c.read.new.buf c.in-Ok-eq0.field-0 so_far.1 c.in-Ok-eq0.ensures.bytes c.in-Ok-eq0.field-0-test room in
+    MatchResult-weaker c.finish.result c.finish.ensures.err (λ _ same. same) (λ fault early. (
       so_far.0,
       record {
         read = end.0;
-        means = ended c.in-Err-finish.fault so_far.0 _ _ _ _ c.in-Err-finish.ensures.err so_far.2 end.1;
+        means = ended fault so_far.0 _ _ _ _ early so_far.2 end.1;
       },
-    )
+    ))
 
-pub returns-in-Err-feed_all-clause-err : goal.returns-in-Err-feed_all-clause-err
-returns-in-Err-feed_all-clause-err g c =
-    let so_far = c.loop.invariant in (
+pub returns-in_err-feed_all-in-Ok-read-clause-err : goal.returns-in_err-feed_all-in-Ok-read-clause-err
+returns-in_err-feed_all-in-Ok-read-clause-err g c =
+    let so_far = c.loop.invariant in
+    let p = err_from_is_err_and c.from_residual.result c.from_residual.ensures.1 in
+    rw (p.1, p.2) (
       so_far.0 ++ take c.in-Ok-read.n c.read.new.buf,
       record {
         read = consumes_twice _ _ _ _ _ so_far.1 c.in-Ok-read.ensures.bytes.0;
-        means = c.in-Err-feed_all.ensures.err so_far.0 (g.W.Write.contents c.args.w.now) (g.R.Read.remaining c.read.new.self) so_far.2;
+        means = c.in_err-feed_all-in-Ok-read.ensures.err so_far.0 (g.W.Write.contents c.args.w.now) (g.R.Read.remaining c.read.new.self) so_far.2;
       },
     )
 
@@ -38,7 +41,7 @@ pub loop-preserved : goal.loop-preserved
 loop-preserved g c =
     let so_far = c.loop.invariant in
     elim c.match-read.branch [
-      | in-Ok-read+in-Ok-feed_all w ↦
-          rw (w.playback-is, w.w-is) (so_far.0 ++ take w.in-Ok-read.n c.read.new.buf, consumes_twice _ _ _ _ _ so_far.1 w.in-Ok-read.ensures.bytes.0, w.in-Ok-feed_all.ensures.ok so_far.0 _ so_far.2)
+      | in-Ok-read+in_ok-feed_all-in-Ok-read w ↦
+          rw (w.playback-is, w.w-is) (so_far.0 ++ take w.in-Ok-read.n c.read.new.buf, consumes_twice _ _ _ _ _ so_far.1 w.in-Ok-read.ensures.bytes.0, w.in_ok-feed_all-in-Ok-read.ensures.ok so_far.0 _ so_far.2)
       | in-Err+else-ne w ↦ rw (w.playback-is, w.w-is) (so_far.0, consumes_kept _ _ _ _ so_far.1 w.in-Err.ensures.bytes, so_far.2)
     ]

@@ -1,4 +1,4 @@
-use Rattle.std.proofs.Common.{arith, ap, sym, ◌∙◌, ◌≡◌, ◌-◌, ◌<◌, ◌≤◌, get_or, length}
+use Rattle.std.proofs.Common.{arith, sym, ◌∙◌, ◌≡◌, ◌-◌, ◌<◌, ◌≤◌, get_or, length}
 use Rattle.std.proofs.lemmas.Bool.{eqb-true}
 use Rattle.fj_model.specs.Lists.{times_in}
 use Rattle.fj_model.proofs.Queues.{without_absent}

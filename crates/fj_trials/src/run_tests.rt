@@ -1,5 +1,5 @@
 use crate::test_rows::first_other_at;
-use crate::{Machine, run};
+use fj_machine::{Machine, run};
 use fj_model::{Ending, Limits, Mode, Said, Serial, Step, SubId, SubmittedKind, WorkerId};
 use std::alloc::Global;
 use std::test::Fail;

@@ -1,4 +1,4 @@
-use crate::Machine;
+use fj_machine::Machine;
 use fj_model::{
     Ending, Event, Kind, Limits, Mode, Owner, Refusal, Said, Serial, Step, SubId, SubmittedKind,
     WorkerId,

@@ -1,4 +1,4 @@
-use crate::Machine;
+use fj_machine::Machine;
 use fj_model::{Limits, Owner, Serial, SubId, WorkerId, read_head, read_step};
 use std::alloc::Global;
 use std::fmt::Write;
