@@ -1,7 +1,7 @@
 //! The program `fj`.
 #![tactic(auto)]
 
-use fj_cli::{fj, unread};
+use fj_cli::{fj, without_words};
 use std::io::BufWriter;
 use std::process::ExitCode;
 use std::rt::Stderr;
@@ -11,7 +11,7 @@ fn main(rt: HostRuntime) -> ExitCode {
     let mut err = rt.stderr();
     let status = match run(&rt, &mut err) {
         Ok(status) => status,
-        Err(error) => unread(&error, &mut err),
+        Err(error) => without_words(&error, &mut err),
     };
     ExitCode::from(status)
 }

@@ -5,12 +5,12 @@
 //! [`fj`] runs a command over any reader and writers.
 #![tactic(auto)]
 
+mod command_line;
 #[cfg(test)]
 mod completer_tests;
 mod fault;
 #[cfg(test)]
 mod last_tests;
-mod line;
 mod play;
 mod playback;
 mod replays;
@@ -30,4 +30,4 @@ mod writes;
 
 pub use fault::ReplayFault;
 pub use replays::{replay, replayed};
-pub use run::{fj, unread};
+pub use run::{fj, without_words};

@@ -5,7 +5,7 @@ ghost use Rattle.fj_cli.specs.Commands.{command_in, replay_words, AsksToShow, Is
 ghost use Rattle.fj_cli.specs.Faults.{IsBegun, IsReplayed};
 ghost use Rattle.fj_cli.specs.Statuses.{EndsBy, StatusOfNoWords};
 
-use crate::line::{Task, read};
+use crate::command_line::{Subcommand, read};
 use crate::play::play;
 use crate::writes::flush_whole;
 use clap::Error;
@@ -35,21 +35,21 @@ pub fn fj<R: Read, W: Write, E: Write>(
     // What else each status says.
     ensures done { result ≡ 0 → ((b : List ℕ) × IsReplayed b (R.remaining input.old) (R.remaining input.new) (W.contents out.old) (W.contents out.new)) ⊎ (AsksToShow (map (λ word. word.now) words.entry.now) × (R.remaining input.new ≡ R.remaining input.old)) }
     ensures words { result ≡ 2 → (R.remaining input.new ≡ R.remaining input.old) × (W.contents out.new ≡ W.contents out.old) }
-    ensures at_fault { result ≡ 2 → IsAtFault (map (λ word. word.now) words.entry.now) ⊎ (command_in (map (λ word. word.now) words.entry.now) ≢ Some (codes "replay")) }
-    ensures fault { result ≡ 3 → EndsBy 3 (R.remaining input.old) (R.remaining input.new) (W.contents out.old) (W.contents out.new) }
+    ensures fault_of_words { result ≡ 2 → IsAtFault (map (λ word. word.now) words.entry.now) ⊎ (command_in (map (λ word. word.now) words.entry.now) ≢ Some (codes "replay")) }
+    ensures fault_of_input { result ≡ 3 → EndsBy 3 (R.remaining input.old) (R.remaining input.new) (W.contents out.old) (W.contents out.new) }
     ensures memory { result ≡ 4 → EndsBy 4 (R.remaining input.old) (R.remaining input.new) (W.contents out.old) (W.contents out.new) ⊎ ((R.remaining input.new ≡ R.remaining input.old) × (W.contents out.new ≡ W.contents out.old)) }
     // Whatever the status: what was written is a beginning of the replies to what was read, or nothing was read.
     ensures begun { ((b : List ℕ) × IsBegun b (R.remaining input.old) (R.remaining input.new) (W.contents out.old) (W.contents out.new)) ⊎ (R.remaining input.new ≡ R.remaining input.old) }
 {
     match read(alloc, words) {
-        Ok(Some(Task::Replay)) => play(alloc, input, out, err),
+        Ok(Some(Subcommand::Replay)) => play(alloc, input, out, err),
         Ok(None) => told(err, "no such command\n", 2),
         Err(error) => answered(&error, out, err),
     }
 }
 
 /// Tells what stops the program before a command runs: a word that is not text, or want of memory. Gives the exit status.
-pub fn unread<E: Write>(error: &io::Error, err: &mut E) -> u8
+pub fn without_words<E: Write>(error: &io::Error, err: &mut E) -> u8
     ensures { StatusOfNoWords (error_kind error.now) result }
 {
     if error.kind() == io::ErrorKind::InvalidData {
@@ -66,10 +66,10 @@ pub fn unread<E: Write>(error: &io::Error, err: &mut E) -> u8
 // Tells why the words name no command, or what they ask for of the command line itself.
 fn answered<W: Write, E: Write>(error: &Error, out: &mut W, err: &mut E) -> u8
     ensures status { (result ≡ 0) ⊎ ((result ≡ 2) ⊎ ((result ≡ 4) ⊎ (result ≡ 5))) }
-    ensures unread { kind_of error.now ≡ ErrorKind.OutOfMemory → result ≡ 4 }
+    ensures out_of_memory { kind_of error.now ≡ ErrorKind.OutOfMemory → result ≡ 4 }
     ensures shown { result ≡ 0 → (kind_of error.now ≡ ErrorKind.DisplayHelp) ⊎ (kind_of error.now ≡ ErrorKind.DisplayVersion) }
     ensures words { result ≡ 2 → W.contents out.new ≡ W.contents out.old }
-    ensures at_fault { result ≡ 2 → (kind_of error.now ≢ ErrorKind.OutOfMemory) × (kind_of error.now ≢ ErrorKind.DisplayHelp) × (kind_of error.now ≢ ErrorKind.DisplayVersion) }
+    ensures fault_of_words { result ≡ 2 → (kind_of error.now ≢ ErrorKind.OutOfMemory) × (kind_of error.now ≢ ErrorKind.DisplayHelp) × (kind_of error.now ≢ ErrorKind.DisplayVersion) }
     ensures memory { result ≡ 4 → W.contents out.new ≡ W.contents out.old }
 {
     match error.kind() {

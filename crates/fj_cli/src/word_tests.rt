@@ -1,4 +1,4 @@
-use crate::run::unread;
+use crate::run::without_words;
 use crate::test_rows::command;
 use std::alloc::Global;
 use std::io::{self, ErrorKind};
@@ -59,14 +59,14 @@ fn words_that_cannot_be_read(rt: HostRuntime) -> Result<(), Fail> {
     let alloc = rt.alloc();
     let mut err = Vec::new(alloc);
     assert_eq!(rt;
-        unread(&io::Error::from(ErrorKind::InvalidData), &mut err),
+        without_words(&io::Error::from(ErrorKind::InvalidData), &mut err),
         2
     );
     assert!(rt; err.len() > 0);
 
     let mut err = Vec::new(alloc);
     assert_eq!(rt;
-        unread(&io::Error::from(ErrorKind::OutOfMemory), &mut err),
+        without_words(&io::Error::from(ErrorKind::OutOfMemory), &mut err),
         4
     );
     assert_eq!(rt; err.as_slice(), b"out of memory\n".as_slice());

@@ -172,7 +172,7 @@ impl Ledger {
     }
 
     /// Whether submissions are refused: there was a shutdown or a stop.
-    pub(crate) fn is_closed(&self) -> bool
+    pub(crate) fn is_shut(&self) -> bool
         ensures closed { result ≡ (is_closed self.now.events || is_stopped self.now.events) }
         ensures lawful { IsLawful self.now.pool self.now.events }
     {
@@ -188,7 +188,7 @@ impl Ledger {
     }
 
     /// Whether one task more can be kept.
-    pub(crate) fn has_place(&self) -> bool
+    pub(crate) fn has_task_room(&self) -> bool
         ensures { IsTrue result ↔ (live self.now.events < self.now.pool.limits.tasks) }
     {
         self.tree.len() < self.limits.tasks() as usize

@@ -1,4 +1,4 @@
-//! The steps, each with the one reply and the events that its rule says.
+//! The steps, each with the one reply and the events that the definitions give it.
 //!
 //! First comes why a step is refused, if it is; then whether its events fit into the history; then each event.
 

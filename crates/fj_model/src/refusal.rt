@@ -39,7 +39,7 @@ pub enum Refusal {
     /// 11: the lane has taken as many tasks as its capacity.
     #[error("the lane has taken as many tasks as its capacity")]
     LaneSpent,
-    /// 12: memory was refused, or the start of a thread.
+    /// 12: memory was refused.
     #[error("out of memory")]
     OutOfMemory,
     /// 13: a limit is out of its range.

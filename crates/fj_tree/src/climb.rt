@@ -29,6 +29,7 @@ impl Tree {
         ensures completer { IfSome result (IsCompleter self.now) }
         ensures smaller { IfSome result (λ up. up.serial < h.serial) }
     {
+        // the records are sound
         let _ = self.len();
         let record = self.get(h)?;
         let serial = record.kind.parent()?;

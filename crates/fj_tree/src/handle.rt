@@ -3,8 +3,8 @@ use std::marker::Model;
 
 /// A name for a record: where it is, and the number that it has there.
 ///
-/// A handle is good while the record at its key has its number. A number is never used again, so a handle that was good and is not
-/// any more stays so.
+/// A handle is good while the record at its key has its number. A number is never used again, so a handle that has ceased to be
+/// good is never good again.
 #[derive(Clone, Copy, Debug, PartialEq, Eq)]
 pub struct Handle {
     /// The key of the record.

@@ -142,7 +142,7 @@ fn steps_of_completers_are_refused_in_order(rt: HostRuntime) -> Result<(), Fail>
 }
 
 #[test]
-fn a_full_log_stops_the_whole_step(rt: HostRuntime) -> Result<(), Fail> {
+fn a_full_log_stops_each_step_of_completers(rt: HostRuntime) -> Result<(), Fail> {
     let given = wrong(rt.alloc(), LAST)?;
     assert_eq!(rt; given.as_str(), "");
     Ok(())

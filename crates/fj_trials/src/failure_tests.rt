@@ -249,7 +249,7 @@ fn a_failing_end_is_a_fault(rt: HostRuntime) -> Result<(), Fail> {
 }
 
 #[test]
-fn a_full_log_stops_the_whole_step(rt: HostRuntime) -> Result<(), Fail> {
+fn a_full_log_stops_each_failing_step(rt: HostRuntime) -> Result<(), Fail> {
     let given = wrong(rt.alloc(), LAST)?;
     assert_eq!(rt; given.as_str(), "");
     Ok(())

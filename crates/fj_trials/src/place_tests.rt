@@ -9,7 +9,7 @@ const SEEDS: u64 = 16;
 
 const STEPS: u32 = 1000;
 
-// What the steps of a trial did, so that a trial in which nothing happens is seen.
+// What the steps of the trials did, so that it is seen if nothing happens.
 #[derive(Clone, Copy)]
 struct Tally {
     accepted: u32,

@@ -55,7 +55,7 @@ impl Ledger {
         if !self.has_submitter(s) {
             return Some(Refusal::NoSuch);
         }
-        if self.is_closed() {
+        if self.is_shut() {
             return Some(Refusal::Closed);
         }
         self.room_refusal(kind.to_kind().count())

@@ -53,7 +53,7 @@ impl Ledger {
 }
 
 /// How many events an arrival appends.
-pub(super) fn events_of(arrived: Arrived) -> u64
+pub(super) fn arrival_events(arrived: Arrived) -> u64
     ensures { result ≡ length (arriving 0 (as_arrival arrived)) }
 {
     match arrived {

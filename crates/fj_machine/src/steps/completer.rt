@@ -1,4 +1,4 @@
-//! Running tasks change other completers.
+//! Running tasks change completers.
 ghost use Rattle.std.specs.Prelude.{◌≡◌};
 ghost use Rattle.fj_model.specs.declared.step.Step.TheVariants.{Add, QuietRoot};
 ghost use Rattle.fj_model.specs.Answers.{first_that_stands, refusals_of};

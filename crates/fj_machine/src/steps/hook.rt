@@ -9,7 +9,7 @@ ghost use Rattle.fj_model.specs.declared.step.Step.TheVariants.{HookDone};
 ghost use Rattle.fj_model.specs.Runs.{Steps};
 
 use crate::ledger::{Hook, Ledger};
-use crate::steps::arrive::events_of;
+use crate::steps::arrive::arrival_events;
 use fj_model::{How, Refusal, Said, Serial, Status, WorkerId};
 
 impl Ledger {
@@ -72,7 +72,7 @@ impl Ledger {
         ensures { Steps self.old (HookDone w) result self.new }
     {
         let events = if settles { 2 } else { 1 };
-        if !self.has_room(events + events_of(self.arrival(p))) {
+        if !self.has_room(events + arrival_events(self.arrival(p))) {
             return Said::Refused(Refusal::LogFull);
         }
         self.end_hook(c, w);

@@ -1,4 +1,4 @@
-//! The end of a body that climbs to the root without completion actions.
+//! The end of a body from which a climb goes up without completion actions.
 ghost use Rattle.std.specs.Prelude.{◌≡◌, ◌≤◌, ◌+◌, None, Some, true, length, map};
 ghost use Rattle.fj_model.specs.declared.event.Event.TheVariants as event;
 ghost use Rattle.fj_model.specs.declared.step.Step.TheVariants.{End};
@@ -22,7 +22,7 @@ impl Ledger {
         ensures { Steps self.old (End w Ending.Pass) result self.new }
     {
         let climb = self.pass_look(t, w);
-        if !self.has_room(1 + climb.passed + events_of(climb.how)) {
+        if !self.has_room(1 + climb.passed + climb_events(climb.how)) {
             return Said::Refused(Refusal::LogFull);
         }
         self.end_body(t, w);
@@ -72,7 +72,7 @@ impl Ledger {
 }
 
 /// How many events come where a climb ends.
-fn events_of(how: PassHow) -> u64
+fn climb_events(how: PassHow) -> u64
     ensures { result ≡ length (climb_end how 0) }
 {
     match how {

@@ -47,7 +47,7 @@ impl Ledger {
         if u64::from(count) > MAX_PENDING {
             return Some(Refusal::CountTooLarge);
         }
-        if !self.has_place() {
+        if !self.has_task_room() {
             return Some(Refusal::TooManyTasks);
         }
         None

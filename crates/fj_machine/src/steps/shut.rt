@@ -10,7 +10,7 @@ impl Ledger {
     pub(crate) fn shutdown(&mut self) -> Said
         ensures { Steps self.old Shutdown result self.new }
     {
-        if self.is_closed() {
+        if self.is_shut() {
             return Said::Done;
         }
         if !self.has_room(1) {

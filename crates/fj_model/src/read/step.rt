@@ -33,7 +33,7 @@ pub fn read_step(line: &[u8]) -> Result<Step, LineFault>
     step_said(verb, behind)
 }
 
-// The step that a first word and what stands behind it say. Most lines are one of the three here.
+// The step that a first word and what stands behind it say.
 #[tactic(auto, unfolding(crate::specs::Readings::step_said))]
 fn step_said(verb: &[u8], behind: &[u8]) -> Result<Step, LineFault>
     ensures { MatchResult result
@@ -51,7 +51,7 @@ fn step_said(verb: &[u8], behind: &[u8]) -> Result<Step, LineFault>
     }
 }
 
-// What else a worker does, and the steps below. Kept out of line, which is faster for the lines above.
+// What else a worker does, and the steps below. Kept out of line, so that `step_said` stays small.
 #[tactic(auto, unfolding(crate::specs::Readings::worker_said))]
 #[inline(never)]
 fn worker_said(verb: &[u8], behind: &[u8]) -> Result<Step, LineFault>

@@ -23,10 +23,10 @@ abbrev ended : After-has_room → List Event
 ended c = c.args.self.now.events ++ event.End c.args.t c.args.w ∷ []
 
 -- how many events there are
-count : (c : After-has_room) → 1 + length (map event.Pass (passed (ended c) c.args.t) ++ climb_end c.pass_look-climb.result.how c.pass_look-climb.result.at) ≡ 1 + c.pass_look-climb.result.passed + c.events_of.result
-count c = pass_count (ended c) c.args.t c.pass_look-climb.result c.pass_look-climb.ensures.climbs ∙ ap (λ (n : ℕ). 1 + c.pass_look-climb.result.passed + n) (sym c.events_of.ensures)
+count : (c : After-has_room) → 1 + length (map event.Pass (passed (ended c) c.args.t) ++ climb_end c.pass_look-climb.result.how c.pass_look-climb.result.at) ≡ 1 + c.pass_look-climb.result.passed + c.climb_events.result
+count c = pass_count (ended c) c.args.t c.pass_look-climb.result c.pass_look-climb.ensures.climbs ∙ ap (λ (n : ℕ). 1 + c.pass_look-climb.result.passed + n) (sym c.climb_events.ensures)
 
-count_after : (c : After-has_room) → 1 + length (after_end (ended c) c.args.t Pass) ≡ 1 + c.pass_look-climb.result.passed + c.events_of.result
+count_after : (c : After-has_room) → 1 + length (after_end (ended c) c.args.t Pass) ≡ 1 + c.pass_look-climb.result.passed + c.climb_events.result
 count_after c = ap (λ (es : List Event). 1 + length es) (pass_events (ended c) c.args.t c.pass_look-climb.result c.pass_look-climb.ensures.climbs) ∙ count c
 
 pub returns-then-not-has_room : goal.returns-then-not-has_room

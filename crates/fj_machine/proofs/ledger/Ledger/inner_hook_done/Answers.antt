@@ -24,10 +24,10 @@ own_many c =
     own_count c.args.c _ _
     (either_way c.args.settles c.if-settles.events 2 1 (elim c.if-settles.branch [ then-settles w ↦ inl (w.if-settles.true, w.events-is) | else-settles w ↦ inr (w.if-settles.false, w.events-is) ]))
 
-arrival_many : (c : After-has_room) → length (arriving c.args.p (arrival c.args.self.now.events c.args.p)) ≡ c.events_of.result
-arrival_many c = arriving_count c.args.p 0 (arrival c.args.self.now.events c.args.p) ∙ ap (λ a. length (arriving 0 a)) (sym c.arrival.ensures.arrival) ∙ sym c.events_of.ensures
+arrival_many : (c : After-has_room) → length (arriving c.args.p (arrival c.args.self.now.events c.args.p)) ≡ c.arrival_events.result
+arrival_many c = arriving_count c.args.p 0 (arrival c.args.self.now.events c.args.p) ∙ ap (λ a. length (arriving 0 a)) (sym c.arrival.ensures.arrival) ∙ sym c.arrival_events.ensures
 
-count : (c : After-has_room) → 1 + length (own c.args.c c.args.settles ++ arriving c.args.p (arrival c.args.self.now.events c.args.p)) ≡ c.if-settles.events + c.events_of.result
+count : (c : After-has_room) → 1 + length (own c.args.c c.args.settles ++ arriving c.args.p (arrival c.args.self.now.events c.args.p)) ≡ c.if-settles.events + c.arrival_events.result
 count c = inner_count c.args.c _ _ c.args.settles _ (own_many c) (arrival_many c)
 
 -- what there is before the arrival

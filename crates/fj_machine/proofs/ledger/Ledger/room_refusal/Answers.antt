@@ -5,10 +5,10 @@ use Rattle.fj_model.specs.Tasks.{live}
 use Rattle.fj_machine.proofs.Refusing.{is_full, not_below}
 use Rattle.fj_machine.proofs.ledger.Ledger.room_refusal.Goals as goal
 
-pub returns-then-not-has_place : goal.returns-then-not-has_place
-returns-then-not-has_place c =
+pub returns-then-not-has_task_room : goal.returns-then-not-has_task_room
+returns-then-not-has_task_room c =
     let pool = c.args.self.now.pool in
     let h = c.args.self.now.events in
     let small : nat_lt 65535 c.args.count ≡ false = le-ltb 65535 c.args.count (omega (arith, c.if-from-gt-MAX_PENDING.false, c.from.ensures)) in
-    let over : pool.limits.tasks ≤ live h = not_below c.has_place.result (live h) pool.limits.tasks c.if-not-has_place.true c.has_place.ensures.1 in
+    let over : pool.limits.tasks ≤ live h = not_below c.has_task_room.result (live h) pool.limits.tasks c.if-not-has_task_room.true c.has_task_room.ensures.1 in
     rw (small, is_full pool h c.requires.lawful over) refl

@@ -8,7 +8,7 @@ use std::alloc::{AllocError, Global};
 
 /// What is to be run.
 #[derive(Clone, Copy, Debug, PartialEq, Eq)]
-pub enum Task {
+pub enum Subcommand {
     /// A script on standard input.
     Replay,
 }
@@ -28,15 +28,15 @@ fn command<'a>(alloc: Global) -> Result<Command<'a>, AllocError>
 }
 
 /// Reads the words of a command line, of which the first is the program's name. `None` if they name no command.
-pub fn read<'a>(alloc: Global, words: &'a [&'a str]) -> Result<Option<Task>, Error>
-    ensures task { IfOk result (λ task. (task ≡ Some Task.Replay) ↔ (command_in (map (λ word. word.now) words.entry.now) ≡ Some (codes "replay"))) }
+pub fn read<'a>(alloc: Global, words: &'a [&'a str]) -> Result<Option<Subcommand>, Error>
+    ensures subcommand { IfOk result (λ asked. (asked ≡ Some Subcommand.Replay) ↔ (command_in (map (λ word. word.now) words.entry.now) ≡ Some (codes "replay"))) }
     ensures fault { IfErr result (λ error. HasKind (faults_in (map (λ word. word.now) words.entry.now)) error) }
-    ensures known { map (λ word. word.now) words.entry.now ≡ replay_words → MatchResult result (λ task. task ≡ Some Task.Replay) (λ error. kind_of error ≡ ErrorKind.OutOfMemory) }
+    ensures known { map (λ word. word.now) words.entry.now ≡ replay_words → MatchResult result (λ asked. asked ≡ Some Subcommand.Replay) (λ error. kind_of error ≡ ErrorKind.OutOfMemory) }
 {
     match command(alloc)?.try_get_matches_from(words) {
         Ok(matches) => {
             if matches.subcommand_matches("replay").is_some() {
-                Ok(Some(Task::Replay))
+                Ok(Some(Subcommand::Replay))
             } else {
                 Ok(None)
             }

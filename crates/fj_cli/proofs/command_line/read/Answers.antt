@@ -6,7 +6,7 @@ use Rattle.std.specs.Box.{box_value}
 use Rattle.std.specs.Prelude.{IsSome, is_some, false}
 use Rattle.clap.proofs.OnLiterals.{clap_on_literals}
 use Rattle.fj_cli.specs.Commands.{whole_line, replay_words, command_in}
-use Rattle.fj_cli.proofs.line.read.Goals as goal
+use Rattle.fj_cli.proofs.command_line.read.Goals as goal
 
 is_taken : takes whole_line replay_words ≡ true
 unfolding clap_on_literals
@@ -46,13 +46,13 @@ returns-in-Ok-clause-known c words_are =
     let name = named c.in-Ok.matches _ _ c.in_ok-command.ensures c.in-Ok.ensures.matches in
     absurd (not_both c.subcommand_matches.result (c.subcommand_matches.ensures.found.1 (name ∙ (ap command_in words_are ∙ is_met))) (sym c.is_some.ensures ∙ c.if-is_some.false))
 
-pub returns-in-Ok-clause-task : goal.returns-in-Ok-clause-task
-returns-in-Ok-clause-task c =
+pub returns-in-Ok-clause-subcommand : goal.returns-in-Ok-clause-subcommand
+returns-in-Ok-clause-subcommand c =
     let name = named c.in-Ok.matches _ _ c.in_ok-command.ensures c.in-Ok.ensures.matches in
     (λ e. absurd cc, λ met. absurd (not_both c.subcommand_matches.result (c.subcommand_matches.ensures.found.1 (name ∙ met)) (sym c.is_some.ensures ∙ c.if-is_some.false)))
 
-pub returns-then-is_some-clause-task : goal.returns-then-is_some-clause-task
-returns-then-is_some-clause-task c =
+pub returns-then-is_some-clause-subcommand : goal.returns-then-is_some-clause-subcommand
+returns-then-is_some-clause-subcommand c =
     let name = named c.in-Ok.matches _ _ c.in_ok-command.ensures c.in-Ok.ensures.matches in
     (λ e. sym name ∙ c.subcommand_matches.ensures.found.0 (sym c.is_some.ensures ∙ c.if-is_some.true), λ met. refl)
 
