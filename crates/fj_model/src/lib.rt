@@ -23,7 +23,7 @@ mod write;
 pub use event::{Event, How};
 pub use ids::{Serial, SubId, WorkerId};
 pub use kind::{Kind, SubmittedKind};
-pub use limits::Limits;
+pub use limits::{Limits, MAX_PENDING};
 pub use memory::OutOfMemory;
 pub use mode::Mode;
 pub use owner::Owner;

@@ -4,6 +4,9 @@ use crate::owner::Owner;
 use crate::refusal::Refusal;
 use std::marker::Model;
 
+/// The largest pending count of a completer. Java has no such bound.
+pub const MAX_PENDING: u64 = 65_535;
+
 /// How large a pool may grow: 1 to 32 workers, 1 to 32 submitters, 1 to 4,096 tasks kept at a time, 1 to 1,048,576 events in all.
 #[derive(Clone, Copy, Debug, PartialEq, Eq)]
 pub struct Limits {

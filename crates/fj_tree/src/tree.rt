@@ -16,13 +16,10 @@ use crate::arrive::Arrived;
 use crate::handle::Handle;
 use crate::kept::Kept;
 use crate::record::Record;
-use fj_model::{Kind, OutOfMemory, Place, Refusal, Serial, Status};
+use fj_model::{Kind, MAX_PENDING, OutOfMemory, Place, Refusal, Serial, Status};
 use slab::Slab;
 use std::alloc::Global;
 use std::marker::Model;
-
-/// The largest pending count.
-const MAX_PENDING: u64 = 65_535;
 
 /// The records of the tasks that are kept, with room that is taken when the tree is made.
 #[derive(Drop)]

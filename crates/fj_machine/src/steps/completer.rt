@@ -5,8 +5,7 @@ ghost use Rattle.fj_model.specs.Answers.{first_that_stands, refusals_of};
 ghost use Rattle.fj_model.specs.Runs.{Steps};
 
 use crate::ledger::Ledger;
-use crate::steps::refuse::MAX_PENDING;
-use fj_model::{Refusal, Said, Serial, Status, WorkerId};
+use fj_model::{MAX_PENDING, Refusal, Said, Serial, Status, WorkerId};
 
 impl Ledger {
     /// Raises the pending count of a completer, spent or not: `CountedCompleter.addToPendingCount`.

@@ -4,10 +4,7 @@ ghost use Rattle.fj_model.specs.Answers.{first_that_stands, no_such_worker, hook
 ghost use Rattle.fj_machine.specs.Holds.{IsLawful};
 
 use crate::ledger::Ledger;
-use fj_model::{Refusal, WorkerId};
-
-/// The largest pending count.
-pub(super) const MAX_PENDING: u64 = 65_535;
+use fj_model::{MAX_PENDING, Refusal, WorkerId};
 
 impl Ledger {
     /// Why a worker can make no step, if it cannot: there is no such worker, or it has a completion action in hand.
