@@ -8,9 +8,10 @@ use Rattle.fj_model.specs.declared.said.Said.{Said}
 use Rattle.fj_model.specs.declared.event.Event.{Event}
 use Rattle.fj_model.specs.Bounds.{Bounds, Pool}
 use Rattle.fj_model.specs.Answers.{answer}
-use Rattle.fj_model.specs.Runs.{Past, Runs, RunsFrom}
+use Rattle.fj_model.specs.Pasts.{Past, grown}
+use Rattle.fj_model.specs.Runs.{Runs, RunsFrom}
 use Rattle.fj_model.specs.Lines.{head_in, step_in, reply_line}
-use Rattle.fj_cli.specs.Scripts.{pool_in, is_step, is_good, pool, before_those, steps_of, steps, replies, history, joined, said, IsRun}
+use Rattle.fj_cli.specs.Scripts.{pool_in, is_step, is_good, pool, before_those, steps_of, steps, replies, history, after, start, joined, said, IsRun}
 use Rattle.fj_cli.specs.Cuts.{lines}
 use Rattle.fj_cli.specs.Faults.{IsFaultyAfter}
 use Rattle.fj_cli.specs.Playbacks.{opened, past_of, stepped, past_after, replied, line_text, IsFaulty}
@@ -29,13 +30,13 @@ steps-append (l ∷ ls) ms e =
     let here : is_some (step_in l) ≡ true = and_left (is_step l) (list_all is_step ls) e in
     ap (before_those (step_in l)) (steps-append ls ms (and_right (is_step l) (list_all is_step ls) e)) ∙ before-append (step_in l) (steps_of ls) (steps_of ms) here
 
-pub history-append : (p : Pool) (h : List Event) (xs ys : List Step) → history p h (xs ++ ys) ≡ history p (history p h xs) ys
-history-append p h [] ys = refl
-history-append p h (x ∷ xs) ys = history-append p (h ++ (answer p h x).1) xs ys
+pub history-append : (past : Past) (xs ys : List Step) → history past (xs ++ ys) ≡ history (after past xs) ys
+history-append past [] ys = refl
+history-append past (x ∷ xs) ys = history-append (grown past (answer past x).1) xs ys
 
-pub replies-append : (p : Pool) (h : List Event) (xs ys : List Step) → replies p h (xs ++ ys) ≡ replies p h xs ++ replies p (history p h xs) ys
-replies-append p h [] ys = refl
-replies-append p h (x ∷ xs) ys = ap (λ l. (answer p h x).0 ∷ l) (replies-append p (h ++ (answer p h x).1) xs ys)
+pub replies-append : (past : Past) (xs ys : List Step) → replies past (xs ++ ys) ≡ replies past xs ++ replies (after past xs) ys
+replies-append past [] ys = refl
+replies-append past (x ∷ xs) ys = ap (λ l. (answer past x).0 ∷ l) (replies-append (grown past (answer past x).1) xs ys)
 
 pub joined-append : (limits : Bounds) (xs ys : List Said) → joined limits (xs ++ ys) ≡ joined limits xs ++ joined limits ys
 joined-append limits [] ys = refl
@@ -43,24 +44,24 @@ joined-append limits (x ∷ xs) ys =
     ap (λ l. reply_line limits x ++ l) (joined-append limits xs ys) ∙ sym (append_assoc (reply_line limits x) (joined limits xs) (joined limits ys))
 
 -- the steps with the replies to them are a run
-pub runs_from : (p : Pool) (h : List Event) (asked : List Step) → RunsFrom p h asked (replies p h asked) (history p h asked)
-runs_from p h [] = refl
-runs_from p h (x ∷ xs) = ((answer p h x).1, refl, runs_from p (h ++ (answer p h x).1) xs)
+pub runs_from : (past : Past) (asked : List Step) → RunsFrom past asked (replies past asked) (after past asked)
+runs_from past [] = refl
+runs_from past (x ∷ xs) = ((answer past x).1, refl, runs_from (grown past (answer past x).1) xs)
 
 -- ---- lines behind good ones
 
 -- what is replied to the lines after this past
 pub text_from : Option Past → List (List ℕ) → List ℕ
 text_from None ms = said (pool ms) (steps ms)
-text_from (Some past) ms = joined past.pool.limits (replies past.pool past.events (steps_of ms))
+text_from (Some past) ms = joined past.pool.limits (replies past (steps_of ms))
 
 text_more : (o : Option Pool) (ls ms : List (List ℕ)) → is_some o ≡ true → list_all is_step ls ≡ true → said o (steps_of (ls ++ ms)) ≡ said o (steps_of ls) ++ text_from (opened o (steps_of ls)) ms
 unfolding text_from
 text_more None ls ms e all = absurd cc
 text_more (Some p) ls ms e all =
-    ap (λ s. joined p.limits (replies p [] s)) (steps-append ls ms all)
-    ∙ (ap (joined p.limits) (replies-append p [] (steps_of ls) (steps_of ms))
-    ∙ joined-append p.limits (replies p [] (steps_of ls)) (replies p (history p [] (steps_of ls)) (steps_of ms)))
+    ap (λ s. joined p.limits (replies (start p) s)) (steps-append ls ms all)
+    ∙ (ap (joined p.limits) (replies-append (start p) (steps_of ls) (steps_of ms))
+    ∙ joined-append p.limits (replies (start p) (steps_of ls)) (replies (after (start p) (steps_of ls)) (steps_of ms)))
 
 pub text-append : (ls ms : List (List ℕ)) → is_good ls ≡ true → said (pool (ls ++ ms)) (steps (ls ++ ms)) ≡ said (pool ls) (steps ls) ++ text_from (past_of ls) ms
 unfolding text_from
@@ -78,16 +79,16 @@ pool_there : (o : Option Pool) (asked : List Step) → is_some (opened o asked) 
 pool_there None asked e = absurd cc
 pool_there (Some p) asked e = refl
 
-past_grows : (past : Past) (o : Option Step) → is_some o ≡ true → Some (record { pool = past.pool; events = history past.pool past.events (before_those o []) }) ≡ stepped past o
+past_grows : (past : Past) (o : Option Step) → is_some o ≡ true → Some (after past (before_those o [])) ≡ stepped past o
 past_grows past None e = absurd cc
 past_grows past (Some asked) e = refl
 
 past_more : (o : Option Pool) (ls : List (List ℕ)) (l : List ℕ) → is_some o ≡ true → list_all is_step ls ≡ true → is_some (past_after (opened o (steps_of ls)) l) ≡ true → opened o (steps_of (ls ++ l ∷ [])) ≡ past_after (opened o (steps_of ls)) l
 past_more None ls l e all there = absurd cc
 past_more (Some p) ls l e all there =
-    let past : Past = record { pool = p; events = history p [] (steps_of ls) } in
+    let past : Past = after (start p) (steps_of ls) in
     ap (λ s. opened (Some p) s) (steps-append ls (l ∷ []) all)
-    ∙ (ap (λ h. Some (record { pool = p; events = h })) (history-append p [] (steps_of ls) (before_those (step_in l) []))
+    ∙ (ap (λ (h : List Event). let q : Past = record (start p) { events = h } in Some q) (history-append (start p) (steps_of ls) (before_those (step_in l) []))
     ∙ past_grows past (step_in l) (step_there past (step_in l) there))
 
 pub past-snoc : (ls : List (List ℕ)) (l : List ℕ) → is_good ls ≡ true → is_some (past_after (past_of ls) l) ≡ true → past_of (ls ++ l ∷ []) ≡ past_after (past_of ls) l
@@ -103,7 +104,7 @@ all_more (k ∷ ls) l all e =
 
 step_good : (o : Option Pool) (asked : List Step) (l : List ℕ) → is_some o ≡ true → is_some (past_after (opened o asked) l) ≡ true → is_step l ≡ true
 step_good None asked l e there = absurd cc
-step_good (Some p) asked l e there = step_there (record { pool = p; events = history p [] asked }) (step_in l) there
+step_good (Some p) asked l e there = step_there (after (start p) asked) (step_in l) there
 
 pub good-snoc : (ls : List (List ℕ)) (l : List ℕ) → is_good ls ≡ true → is_some (past_after (past_of ls) l) ≡ true → is_good (ls ++ l ∷ []) ≡ true
 good-snoc [] l good there = rw (pool_there (pool_in l) [] there) refl
@@ -118,7 +119,7 @@ unfolding text_from
 opens None asked e ms = absurd cc
 opens (Some p) asked e ms = refl
 
-replies_on : (past : Past) (o : Option Step) (ms : List (List ℕ)) → is_some (stepped past o) ≡ true → joined past.pool.limits (replies past.pool past.events (before_those o (steps_of ms))) ≡ replied past o ++ text_from (stepped past o) ms
+replies_on : (past : Past) (o : Option Step) (ms : List (List ℕ)) → is_some (stepped past o) ≡ true → joined past.pool.limits (replies past (before_those o (steps_of ms))) ≡ replied past o ++ text_from (stepped past o) ms
 unfolding text_from
 replies_on past None ms e = absurd cc
 replies_on past (Some asked) ms e = refl
@@ -132,7 +133,7 @@ stays_shut : (o : Option Pool) (asked : List Step) → opened o [] ≡ None → 
 stays_shut None asked e = refl
 stays_shut (Some p) asked e = absurd cc
 
-stops : (past : Past) (o : Option Step) (later : List Step) → stepped past o ≡ None → joined past.pool.limits (replies past.pool past.events (before_those o later)) ≡ []
+stops : (past : Past) (o : Option Step) (later : List Step) → stepped past o ≡ None → joined past.pool.limits (replies past (before_those o later)) ≡ []
 stops past None later e = refl
 stops past (Some asked) later e = absurd cc
 
@@ -142,9 +143,9 @@ unfolding text_from
 text-stops None l ms e = stays_shut (pool_in l) (steps_of ms) e
 text-stops (Some past) l ms e = stops past (step_in l) (steps_of ms) e
 
-replies_begin : (past : Past) (o : Option Step) (later : List Step) → (more : List ℕ) × (joined past.pool.limits (replies past.pool past.events (before_those o later)) ≡ replied past o ++ more)
+replies_begin : (past : Past) (o : Option Step) (later : List Step) → (more : List ℕ) × (joined past.pool.limits (replies past (before_those o later)) ≡ replied past o ++ more)
 replies_begin past None later = ([], refl)
-replies_begin past (Some asked) later = (joined past.pool.limits (replies past.pool (past.events ++ (answer past.pool past.events asked).1) later), refl)
+replies_begin past (Some asked) later = (joined past.pool.limits (replies (grown past (answer past asked).1) later), refl)
 
 -- the text begins with that of the line
 pub text-begins : (v : Option Past) (l : List ℕ) (ms : List (List ℕ)) → (more : List ℕ) × (text_from v (l ∷ ms) ≡ line_text v l ++ more)
@@ -181,9 +182,9 @@ pub faulty_behind : (ls : List (List ℕ)) (l : List ℕ) → is_good ls ≡ tru
 faulty_behind [] l good e = e
 faulty_behind (k ∷ ls) l good e = faulty_step (pool_in k) (steps_of ls) l (and_left (is_some (pool_in k)) (list_all is_step ls) good) e
 
-run_of : (o : Option Pool) (asked : List Step) → is_some (opened o asked) ≡ true → (p : Pool) × (o ≡ Some p) × (said o asked ≡ joined p.limits (replies p [] asked)) × Runs p asked (replies p [] asked) (history p [] asked)
+run_of : (o : Option Pool) (asked : List Step) → is_some (opened o asked) ≡ true → (p : Pool) × (o ≡ Some p) × (said o asked ≡ joined p.limits (replies (start p) asked)) × Runs p.mode p.limits asked (replies (start p) asked) (after (start p) asked)
 run_of None asked e = absurd cc
-run_of (Some p) asked e = (p, refl, refl, runs_from p [] asked)
+run_of (Some p) asked e = (p, refl, refl, runs_from (start p) asked)
 
 -- where there is a past, the text is that of a run
 pub is_run : (b : List ℕ) → is_some (past_of (lines b)) ≡ true → IsRun b

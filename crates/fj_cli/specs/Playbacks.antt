@@ -9,7 +9,7 @@ use Rattle.fj_model.specs.Lines.{head_in, step_in, reply_line}
 use Rattle.fj_cli.specs.declared.fault.ReplayFault.{ReplayFault}
 use Rattle.fj_cli.specs.declared.fault.ReplayFault.TheVariants.{Line, Limits, Memory, Read, Write}
 use Rattle.fj_cli.specs.Cuts.{lines, rest, AppendsSome}
-use Rattle.fj_cli.specs.Scripts.{pool_in, is_good, pool, steps, history, text}
+use Rattle.fj_cli.specs.Scripts.{pool_in, is_good, pool, steps, after, start, text}
 use Rattle.fj_cli.specs.Faults.{IsOutOfLimits}
 
 -- what a playback keeps: the number of whole lines, the line that goes on, and the machine's past once there is a heading
@@ -24,7 +24,7 @@ nothing_kept = record { count = 0; line = []; past = None }
 
 abbrev pub opened : Option Pool → List Step → Option Past
 opened None asked = None
-opened (Some p) asked = Some (record { pool = p; events = history p [] asked })
+opened (Some p) asked = Some (after (start p) asked)
 
 -- the machine's past after these lines
 abbrev pub past_of : List (List ℕ) → Option Past
@@ -43,7 +43,7 @@ pub record IsAt (b : List ℕ) (v : Kept) (start now : Option (List ℕ)) : Type
 
 abbrev pub stepped : Past → Option Step → Option Past
 stepped past None = None
-stepped past (Some asked) = Some (grown past (answer past.pool past.events asked).1)
+stepped past (Some asked) = Some (grown past (answer past asked).1)
 
 -- the past after the line, if the line is good
 abbrev pub past_after : Option Past → List ℕ → Option Past
@@ -52,7 +52,7 @@ past_after (Some past) line = stepped past (step_in line)
 
 abbrev pub replied : Past → Option Step → List ℕ
 replied past None = []
-replied past (Some asked) = reply_line past.pool.limits (answer past.pool past.events asked).0
+replied past (Some asked) = reply_line past.pool.limits (answer past asked).0
 
 -- what is written at the end of the line
 abbrev pub line_text : Option Past → List ℕ → List ℕ

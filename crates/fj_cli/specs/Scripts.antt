@@ -8,6 +8,7 @@ use Rattle.fj_model.specs.declared.said.Said.{Said}
 use Rattle.fj_model.specs.declared.event.Event.{Event}
 use Rattle.fj_model.specs.Bounds.{Bounds, Pool}
 use Rattle.fj_model.specs.Answers.{answer}
+use Rattle.fj_model.specs.Pasts.{Past, fresh, grown}
 use Rattle.fj_model.specs.Runs.{Runs}
 use Rattle.fj_model.specs.Lines.{head_in, step_in, reply_line}
 use Rattle.fj_cli.specs.Cuts.{lines}
@@ -67,15 +68,23 @@ steps (head ∷ others) = steps_of others
 
 -- ---- from steps to replies
 
--- the replies to the steps after this history
-abbrev pub replies : Pool → List Event → List Step → List Said
-replies pool h [] = []
-replies pool h (asked ∷ later) = (answer pool h asked).0 ∷ replies pool (h ++ (answer pool h asked).1) later
+-- the replies to the steps at this past
+abbrev pub replies : Past → List Step → List Said
+replies past [] = []
+replies past (asked ∷ later) = (answer past asked).0 ∷ replies (grown past (answer past asked).1) later
 
--- the history to which the steps lead from this one
-abbrev pub history : Pool → List Event → List Step → List Event
-history pool h [] = h
-history pool h (asked ∷ later) = history pool (h ++ (answer pool h asked).1) later
+-- the history to which the steps lead from this past
+abbrev pub history : Past → List Step → List Event
+history past [] = past.events
+history past (asked ∷ later) = history (grown past (answer past asked).1) later
+
+-- the past to which they lead
+abbrev pub after : Past → List Step → Past
+after past asked = record past { events = history past asked }
+
+-- a new pool
+abbrev pub start : Pool → Past
+start p = fresh p.mode p.limits
 
 -- the lines of the replies, joined
 abbrev pub joined : Bounds → List Said → List ℕ
@@ -85,7 +94,7 @@ joined limits (reply ∷ later) = reply_line limits reply ++ joined limits later
 -- what is replied to the steps by a new pool, if there is one
 abbrev pub said : Option Pool → List Step → List ℕ
 said None asked = []
-said (Some p) asked = joined p.limits (replies p [] asked)
+said (Some p) asked = joined p.limits (replies (start p) asked)
 
 -- ---- from bytes to bytes
 
@@ -97,5 +106,5 @@ text b = said (pool (lines b)) (steps (lines b))
 abbrev pub IsRun : List ℕ → Type 0
 IsRun b =
     (p : Pool) × (pool (lines b) ≡ Some p)
-    × (text b ≡ joined p.limits (replies p [] (steps (lines b))))
-    × Runs p (steps (lines b)) (replies p [] (steps (lines b))) (history p [] (steps (lines b)))
+    × (text b ≡ joined p.limits (replies (start p) (steps (lines b))))
+    × Runs p.mode p.limits (steps (lines b)) (replies (start p) (steps (lines b))) (after (start p) (steps (lines b)))

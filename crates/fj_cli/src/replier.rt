@@ -1,10 +1,10 @@
-ghost use Rattle.std.specs.Prelude.{◌≡◌, [], Some, None, OnOk, OnErr, IfOk, IfErr, Option};
+ghost use Rattle.std.specs.Prelude.{◌≡◌, Some, OnOk, OnErr, IfOk, IfErr, Option};
 ghost use Rattle.std.specs.Io.KnownBytes.{Appends};
 ghost use Rattle.fj_model.specs.Answers.{answer};
-ghost use Rattle.fj_model.specs.Runs.{Past, fresh, grown};
+ghost use Rattle.fj_model.specs.Pasts.{grown};
 ghost use Rattle.fj_model.specs.Lines.{reply_line};
 ghost use Rattle.fj_cli.specs.Cuts.{AppendsSome};
-ghost use Rattle.fj_cli.specs.Scripts.{pool_in};
+ghost use Rattle.fj_cli.specs.Scripts.{pool_in, start};
 ghost use Rattle.fj_cli.specs.Playbacks.{IsHeadFault, IsReplyFault};
 
 use crate::fault::ReplayFault;
@@ -41,7 +41,7 @@ impl Replier {
     /// A new machine, as the heading says. `Line` where the line is no heading, `Limits` where a limit is out of its range.
     pub fn open(alloc: Global, heading: &[u8]) -> Result<Replier, ReplayFault>
         ensures pool { IfOk result (λ r. pool_in heading.now ≡ Some r.pool) }
-        ensures fresh { IfOk result (λ r. r.events ≡ []) }
+        ensures fresh { IfOk result (λ r. r ≡ start r.pool) }
         ensures err { IfErr result (λ fault. IsHeadFault fault heading.now) }
     {
         let Ok(head) = read_head(heading) else {
@@ -63,10 +63,10 @@ impl Replier {
 
     /// Makes the step, and writes the reply. `Memory` or `Write` where only a first part of the reply, or nothing, was written.
     pub fn reply<W: Write>(&mut self, asked: &Step, w: &mut W) -> Result<(), ReplayFault>
-        ensures past { OnOk result (self.new ≡ grown self.old (answer self.old.pool self.old.events asked.now).1) }
-        ensures written { OnOk result (Appends (W.contents w.old) (W.contents w.new) (reply_line self.old.pool.limits (answer self.old.pool self.old.events asked.now).0)) }
+        ensures past { OnOk result (self.new ≡ grown self.old (answer self.old asked.now).1) }
+        ensures written { OnOk result (Appends (W.contents w.old) (W.contents w.new) (reply_line self.old.pool.limits (answer self.old asked.now).0)) }
         ensures err { IfErr result (λ fault. IsReplyFault fault) }
-        ensures some { OnErr result (AppendsSome (W.contents w.old) (W.contents w.new) (reply_line self.old.pool.limits (answer self.old.pool self.old.events asked.now).0)) }
+        ensures some { OnErr result (AppendsSome (W.contents w.old) (W.contents w.new) (reply_line self.old.pool.limits (answer self.old asked.now).0)) }
     {
         // The check wants each type inside a reply to be named where one is moved.
         let _inside: Option<(Place, Owner, Status, Refusal, Serial, SubId, WorkerId)> = None;

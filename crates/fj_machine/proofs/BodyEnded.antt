@@ -1,5 +1,5 @@
 -- All that is kept, after a body has ended.
-use Rattle.std.proofs.Common.{ℕ, ◌≡◌, ◌-◌, ◌<◌, Bool, true, not, List, [], ◌∷◌, ◌++◌, length, take, Option, Some, refl, ap, sym, ◌∙◌, arith, ⊎_elim}
+use Rattle.std.proofs.Common.{append_assoc, ◌+◌, ℕ, ◌≡◌, ◌-◌, ◌<◌, Bool, true, not, List, [], ◌∷◌, ◌++◌, length, take, Option, Some, refl, ap, sym, ◌∙◌, arith, ⊎_elim}
 use Rattle.std.specs.Prelude.{◌&&◌, if◌then◌else◌}
 use Rattle.std.proofs.Math.ListN.{length-set}
 use Rattle.std.proofs.lemmas.Bool.{cases_eq}
@@ -12,7 +12,7 @@ use Rattle.fj_model.specs.Bounds.{Pool}
 use Rattle.fj_model.specs.Lists.{is_in, last_of}
 use Rattle.fj_model.specs.Tasks.{tasks, is_completer, is_completer_kind}
 use Rattle.fj_model.specs.Stacks.{stack}
-use Rattle.fj_model.specs.Places.{place}
+use Rattle.fj_model.specs.Places.{gone, place}
 use Rattle.fj_model.specs.Allowed.{Allowed, AllowedFrom}
 use Rattle.fj_model.proofs.Ends.{stack_end, stack_end_other}
 use Rattle.fj_model.proofs.Opening.{opens, ended_accepted, ended_place, ended_open, ended_gone}
@@ -57,11 +57,11 @@ pub stays_told : (h : List Event) (r : Record) → Tells h r → (is_completer_k
 unfolding is_completer
 stays_told h r tells = rw (tells.kind, spent_told h r tells) refl
 
-pub ended_holds : (pool : Pool) (h : List Event) (t w : ℕ) (b : Bool) (p : Place) (queues : Waiting) (stacks : Lists) (hands : List (Option InHand)) (tree : Records) (opened gones opened2 gones2 : List ℕ) (at : Handle)
-    → Holds pool h queues stacks hands tree opened gones → IsSound tree → IsLocated tree t at → Allowed pool h (End t w) → w < pool.limits.workers → length h < pool.limits.events
+pub ended_holds : {sealed : List Event} (pool : Pool) (h : List Event) (t w : ℕ) (b : Bool) (p : Place) (queues : Waiting) (stacks : Lists) (hands : List (Option InHand)) (tree : Records) (opened gones opened2 gones2 : List ℕ) (at : Handle)
+    → Holds pool sealed h queues stacks hands tree opened gones → IsSound tree → IsLocated tree t at → Allowed pool h (End t w) → w < pool.limits.workers → length h < length sealed + pool.limits.events
     → opens h t ≡ b → p ≡ (if b then Open else Gone) → opened2 ≡ opened ++ (if b then t ∷ [] else []) → gones2 ≡ gones ++ (if b then [] else t ∷ [])
-    → Holds pool (h ++ End t w ∷ []) queues (with_stack stacks w (take (length (stack_at stacks w) - 1) (stack_at stacks w))) hands (changed tree at.key (with_place p)) opened2 gones2
-ended_holds pool h t w b p queues stacks hands tree opened gones opened2 gones2 at holds sound l may within fits is placed open_is gone_is =
+    → Holds pool sealed (h ++ End t w ∷ []) queues (with_stack stacks w (take (length (stack_at stacks w) - 1) (stack_at stacks w))) hands (changed tree at.key (with_place p)) opened2 gones2
+ended_holds {sealed} pool h t w b p queues stacks hands tree opened gones opened2 gones2 at holds sound l may within fits is placed open_is gone_is =
     let e = End t w in
     let r = l.found in
     let so = holds.lawful in
@@ -82,5 +82,5 @@ ended_holds pool h t w b p queues stacks hands tree opened gones opened2 gones2 
       hands_kept = hands_same pool h e hands so may refl refl (λ c said there. absurd cc) holds.hands_kept;
       tree_kept = tree_written pool h e tree (changed tree at.key (with_place p)) at.key r (with_place p r) so may refl refl (ap Some (sym number)) sound (written tree at.key r (with_place p) l.at) refl new holds.tree_kept;
       open_kept = open_is ∙ ap (λ (ts : List ℕ). ts ++ (if b then t ∷ [] else [])) holds.open_kept ∙ sym (ended_open pool h t w so may ∙ rw is refl);
-      gone_kept = gone_is ∙ ap (λ (ts : List ℕ). ts ++ (if b then [] else t ∷ [])) holds.gone_kept ∙ sym (ended_gone pool h t w so may ∙ rw is refl);
+      gone_kept = ap (λ (ts : List ℕ). gone sealed ++ ts) gone_is ∙ sym (append_assoc (gone sealed) gones (if b then [] else t ∷ [])) ∙ ap (λ (ts : List ℕ). ts ++ (if b then [] else t ∷ [])) holds.gone_kept ∙ sym (ended_gone pool h t w so may ∙ rw is refl);
     })

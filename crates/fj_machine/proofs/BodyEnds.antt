@@ -2,6 +2,7 @@
 use Rattle.std.proofs.Common.{ℕ, ◌≡◌, ◌+◌, ◌-◌, ◌≤◌, ◌<◌, Bool, true, false, List, [], ◌∷◌, ◌++◌, length, Option, Some, None, refl, ap, sym, ◌∙◌, subst, arith, not, ◌⊎◌, inl, inr}
 use Rattle.std.specs.Prelude.{if◌then◌else◌, nat_lt}
 use Rattle.std.proofs.lemmas.Bool.{eq-eqb, not-false}
+use Rattle.fj_model.specs.Pasts.{limit}
 use Rattle.fj_model.specs.declared.event.Event.{Event}
 use Rattle.fj_model.specs.declared.event.Event.TheVariants as event
 use Rattle.fj_model.specs.declared.event.How.TheVariants.{Complete}
@@ -43,7 +44,7 @@ use Rattle.fj_machine.proofs.Stepping.{steps_full, steps_made, may_step}
 use Rattle.fj_model.proofs.Releasing.{kept_same}
 
 -- a running task is kept
-pub running_kept : (pool : Pool) (h : List Event) (w t : ℕ) → IsLawful pool h → running h w ≡ Some t → is_kept h t ≡ true
+pub running_kept : {most : ℕ} (pool : Pool) (h : List Event) (w t : ℕ) → IsLawful pool most h → running h w ≡ Some t → is_kept h t ≡ true
 running_kept pool h w t law is = held_kept pool h w t law.allowed (get_is_in t (stack h w) (length (stack h w) - 1) is)
 
 -- where the worker runs a task, only a misfit of the ending can stand against it
@@ -94,7 +95,7 @@ end_reply pool h w t ending is = rw is refl
 
 -- the events do not fit
 pub end_full : (now : Past) (w t : ℕ) (ending : Ending) (n : ℕ) → first_that_stands (refusals_of now.pool now.events (End w ending)) ≡ None → running now.events w ≡ Some t
-    → 1 + length (after_end (now.events ++ event.End t w ∷ []) t ending) ≡ n → now.pool.limits.events < length now.events + n → Steps now (End w ending) (says.Refused LogFull) now
+    → 1 + length (after_end (now.events ++ event.End t w ∷ []) t ending) ≡ n → limit now < length now.events + n → Steps now (End w ending) (says.Refused LogFull) now
 end_full now w t ending n stands is count over =
     steps_full now (End w ending) stands (rw (end_events now.pool now.events w t ending is) (omega (arith, count, over)))
 
@@ -102,7 +103,7 @@ end_full now w t ending n stands is count over =
 pub end_made : (old new : Past) (w t : ℕ) (ending : Ending) (events : List Event) (reply : Said) (n : ℕ)
     → first_that_stands (refusals_of old.pool old.events (End w ending)) ≡ None → running old.events w ≡ Some t
     → after_end (old.events ++ event.End t w ∷ []) t ending ≡ events → reply ≡ end_says (old.events ++ event.End t w ∷ []) t ending
-    → 1 + length events ≡ n → length old.events + n ≤ old.pool.limits.events
+    → 1 + length events ≡ n → length old.events + n ≤ limit old
     → new ≡ grown (grown old (event.End t w ∷ [])) events → Steps old (End w ending) reply new
 end_made old new w t ending events reply n stands is after said count fits are =
     steps_made old new (End w ending) reply stands
@@ -111,16 +112,15 @@ end_made old new w t ending events reply n stands is after said count fits are =
     (are ∙ grown_twice old (event.End t w ∷ []) events ∙ ap (grown old) (ap (λ (es : List Event). event.End t w ∷ es) (sym after) ∙ sym (end_events old.pool old.events w t ending is)))
 
 -- the end of the body is allowed, and so is what comes after it
-pub may_end : (pool : Pool) (h : List Event) (w t : ℕ) (ending : Ending) (n : ℕ) → IsLawful pool h → first_that_stands (refusals_of pool h (End w ending)) ≡ None → running h w ≡ Some t
-    → 1 + length (after_end (h ++ event.End t w ∷ []) t ending) ≡ n → length h + n ≤ pool.limits.events
+pub may_end : {most : ℕ} (pool : Pool) (h : List Event) (w t : ℕ) (ending : Ending) → IsLawful pool most h → first_that_stands (refusals_of pool h (End w ending)) ≡ None → running h w ≡ Some t
     → Allowed pool h (event.End t w) × AllowedFrom pool (h ++ event.End t w ∷ []) (after_end (h ++ event.End t w ∷ []) t ending)
-may_end pool h w t ending n law stands is count fits =
+may_end pool h w t ending law stands is =
     subst (AllowedFrom pool h) (end_events pool h w t ending is)
-    (may_step pool h (End w ending) law stands (rw (end_events pool h w t ending is) (omega (arith, count, fits))))
+    (may_step pool h (End w ending) law stands)
 
 -- ---- after it
 
-pub ended_kept : (pool : Pool) (h : List Event) (w t : ℕ) → IsLawful pool h → running h w ≡ Some t → is_kept (h ++ event.End t w ∷ []) t ≡ true
+pub ended_kept : {most : ℕ} (pool : Pool) (h : List Event) (w t : ℕ) → IsLawful pool most h → running h w ≡ Some t → is_kept (h ++ event.End t w ∷ []) t ≡ true
 ended_kept pool h w t law is = kept_same h (event.End t w) t refl refl ∙ running_kept pool h w t law is
 
 -- the ending suits the running task

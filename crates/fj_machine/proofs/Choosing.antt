@@ -4,6 +4,7 @@ use Rattle.std.proofs.lemmas.List.{append-nil}
 use Rattle.std.proofs.lemmas.Bool.{cases_lt}
 use Rattle.std.specs.Prelude.{MatchOption}
 use Rattle.std.specs.List.{range_with_len}
+use Rattle.fj_model.specs.Pasts.{limit}
 use Rattle.fj_model.specs.declared.event.Event.{Event}
 use Rattle.fj_model.specs.declared.mode.Mode.{Mode}
 use Rattle.fj_model.specs.declared.mode.Mode.TheVariants.{Async, Joining}
@@ -129,15 +130,15 @@ end_there : (source : Source) (ts : List ℕ) → 0 < length ts → (t : ℕ) ×
 end_there (Oldest q) ts some = some_get ts 0 some
 end_there (Newest q) ts some = some_get ts (length ts - 1) (omega arith)
 
-pub takes_none : (past : Past) (w r : ℕ) → length past.events ≤ past.pool.limits.events → choice past.pool past.events w r ≡ None → TakesChoice past w r says.None past
+pub takes_none : (past : Past) (w r : ℕ) → length past.events ≤ limit past → choice past.pool past.events w r ≡ None → TakesChoice past w r says.None past
 takes_none past w r fits is =
     let nothing_taken : taking past.events w (choice past.pool past.events w r) ≡ [] = rw is refl in
     record {
       full = λ over. absurd (omega (arith, over, ap length nothing_taken));
-      fits = λ room. (rw is refl, rw nothing_taken (ap (λ (es : List Event). let p : Past = record { pool = past.pool; events = es } in p) (sym (append-nil past.events))));
+      fits = λ room. (rw is refl, rw nothing_taken (ap (λ (es : List Event). let p : Past = record past { events = es } in p) (sym (append-nil past.events))));
     }
 
-pub takes_full : (past : Past) (w r : ℕ) (source : Source) → past.pool.limits.events ≤ length past.events → IsChosenFrom past w r source → TakesChoice past w r (says.Refused LogFull) past
+pub takes_full : (past : Past) (w r : ℕ) (source : Source) → limit past ≤ length past.events → IsChosenFrom past w r source → TakesChoice past w r (says.Refused LogFull) past
 takes_full past w r source full from =
     let t = end_there source (tasks_there past source) from.filled in
     record {
@@ -151,7 +152,7 @@ takes_one past w r source from =
     let t = end_there source (tasks_there past source) from.filled in
     taking_one past.events w (choice past.pool past.events w r) t.0 (from.chosen ∙ t.1)
 
-pub takes_it : (past new : Past) (w r : ℕ) (source : Source) (reply : Said) → length past.events + 1 ≤ past.pool.limits.events → IsChosenFrom past w r source
+pub takes_it : (past new : Past) (w r : ℕ) (source : Source) (reply : Said) → length past.events + 1 ≤ limit past → IsChosenFrom past w r source
     → reply ≡ taking_says past.events (task_at past source) → new ≡ grown past (taking past.events w (task_at past source)) → TakesChoice past w r reply new
 takes_it past new w r source reply room from said events = record {
   full = λ over. absurd (omega (arith, over, room, takes_one past w r source from));
@@ -167,13 +168,12 @@ pub choice_steps : (old new : Past) (asked : Step) (w r : ℕ) (reply : Said) �
 choice_steps old new asked w r reply takes stands events replies = ⊎_elim
     (λ over. rw ((takes.full over).0, (takes.full over).1) (steps_full old asked stands (rw events over)))
     (λ room. steps_made old new asked reply stands (rw events room) ((takes.fits room).0 ∙ sym replies) ((takes.fits room).1 ∙ ap (grown old) (sym events)))
-    (cases_lt old.pool.limits.events (length old.events + length (taking old.events w (choice old.pool old.events w r))))
+    (cases_lt (limit old) (length old.events + length (taking old.events w (choice old.pool old.events w r))))
 
 -- the choice of such a step may be taken where there is room
-pub choice_may : (now : Past) (asked : Step) (w r : ℕ) → IsLawful now.pool now.events
+pub choice_may : (now : Past) (asked : Step) (w r : ℕ) → IsLawful now.pool (limit now) now.events
     → first_that_stands (refusals_of now.pool now.events asked) ≡ None
     → events_of now.pool now.events asked ≡ taking now.events w (choice now.pool now.events w r)
-    → length now.events + length (taking now.events w (choice now.pool now.events w r)) ≤ now.pool.limits.events
     → AllowedFrom now.pool now.events (taking now.events w (choice now.pool now.events w r))
-choice_may now asked w r law stands events room =
-    subst (AllowedFrom now.pool now.events) events (may_step now.pool now.events asked law stands (rw events room))
+choice_may now asked w r law stands events =
+    subst (AllowedFrom now.pool now.events) events (may_step now.pool now.events asked law stands)

@@ -49,10 +49,10 @@ record IsCount (e : Event) (t : ℕ) : Type 0 where
   other : is_of_hook e ≡ false
   unsettled : settled_by e ≡ None
 
-count_holds : (pool : Pool) (h : List Event) (e : Event) (queues : Waiting) (stacks : Lists) (hands : List (Option InHand)) (tree : Records) (opens gones : List ℕ) (at : Handle) (r : Record) (change : Record → Record)
-    → Holds pool h queues stacks hands tree opens gones → Allowed pool h e → length h < pool.limits.events → IsCount e r.serial
+count_holds : {sealed : List Event} (pool : Pool) (h : List Event) (e : Event) (queues : Waiting) (stacks : Lists) (hands : List (Option InHand)) (tree : Records) (opens gones : List ℕ) (at : Handle) (r : Record) (change : Record → Record)
+    → Holds pool sealed h queues stacks hands tree opens gones → Allowed pool h e → length h < length sealed + pool.limits.events → IsCount e r.serial
     → ((d : ℕ) → climbed_by e ≡ Some d → is_completer h d ≡ true) → IsSound tree → record_at tree at.key ≡ Some r → (change r).serial ≡ r.serial → Tells (h ++ e ∷ []) (change r)
-    → Holds pool (h ++ e ∷ []) queues stacks hands (changed tree at.key change) opens gones
+    → Holds pool sealed (h ++ e ∷ []) queues stacks hands (changed tree at.key change) opens gones
 count_holds pool h e queues stacks hands tree opens gones at r change holds may fits is at_completers sound found same tells =
     let so = holds.lawful in
     let unmoved = calm_unmoved e is.calm in
@@ -85,37 +85,37 @@ count_tells pool h e r n so may is unfired tells count =
       spent = fired_same h e r.serial unfired ∙ tells.spent;
     }
 
-pub raise_holds : (pool : Pool) (h : List Event) (c n : ℕ) (queues : Waiting) (stacks : Lists) (hands : List (Option InHand)) (tree : Records) (opens gones : List ℕ) (at : Handle)
-    → Holds pool h queues stacks hands tree opens gones → IsSound tree → IsLocated tree c at → Allowed pool h (Add c n) → length h < pool.limits.events
-    → Holds pool (h ++ Add c n ∷ []) queues stacks hands (changed tree at.key (with_added n)) opens gones
-raise_holds pool h c n queues stacks hands tree opens gones at holds sound l may fits =
+pub raise_holds : {sealed : List Event} (pool : Pool) (h : List Event) (c n : ℕ) (queues : Waiting) (stacks : Lists) (hands : List (Option InHand)) (tree : Records) (opens gones : List ℕ) (at : Handle)
+    → Holds pool sealed h queues stacks hands tree opens gones → IsSound tree → IsLocated tree c at → Allowed pool h (Add c n) → length h < length sealed + pool.limits.events
+    → Holds pool sealed (h ++ Add c n ∷ []) queues stacks hands (changed tree at.key (with_added n)) opens gones
+raise_holds {sealed = sealed} pool h c n queues stacks hands tree opens gones at holds sound l may fits =
     let r = l.found in
     let e = Add r.serial n in
     let number : r.serial ≡ c = l.serial ∙ l.number in
     let may_r : Allowed pool h e = subst (λ (u : ℕ). Allowed pool h (Add u n)) (sym number) may in
     let tells = holds.tree_kept.each at.key r l.at in
     let is : IsCount e r.serial = record { calm = refl; one = refl; about = refl; other = refl; unsettled = refl } in
-    subst (λ (u : ℕ). Holds pool (h ++ Add u n ∷ []) queues stacks hands (changed tree at.key (with_added n)) opens gones) number
+    subst (λ (u : ℕ). Holds pool sealed (h ++ Add u n ∷ []) queues stacks hands (changed tree at.key (with_added n)) opens gones) number
     (count_holds pool h e queues stacks hands tree opens gones at r (with_added n) holds may_r fits is (λ d none. absurd cc) sound l.at refl
     (count_tells pool h e r (r.pending + n) holds.lawful may_r is refl tells (pending_added pool h r.serial n holds.lawful ∙ ap (λ (m : ℕ). m + n) tells.pending)))
 
-pub count_down_holds : (pool : Pool) (h : List Event) (c : ℕ) (queues : Waiting) (stacks : Lists) (hands : List (Option InHand)) (tree : Records) (opens gones : List ℕ) (at : Handle)
-    → Holds pool h queues stacks hands tree opens gones → IsSound tree → IsLocated tree c at → Allowed pool h (Dec c) → is_completer h c ≡ true → length h < pool.limits.events
-    → Holds pool (h ++ Dec c ∷ []) queues stacks hands (changed tree at.key (arrived Counted)) opens gones
-count_down_holds pool h c queues stacks hands tree opens gones at holds sound l may completer fits =
+pub count_down_holds : {sealed : List Event} (pool : Pool) (h : List Event) (c : ℕ) (queues : Waiting) (stacks : Lists) (hands : List (Option InHand)) (tree : Records) (opens gones : List ℕ) (at : Handle)
+    → Holds pool sealed h queues stacks hands tree opens gones → IsSound tree → IsLocated tree c at → Allowed pool h (Dec c) → is_completer h c ≡ true → length h < length sealed + pool.limits.events
+    → Holds pool sealed (h ++ Dec c ∷ []) queues stacks hands (changed tree at.key (arrived Counted)) opens gones
+count_down_holds {sealed = sealed} pool h c queues stacks hands tree opens gones at holds sound l may completer fits =
     let r = l.found in
     let e = Dec r.serial in
     let number : r.serial ≡ c = l.serial ∙ l.number in
     let may_r : Allowed pool h e = subst (λ (u : ℕ). Allowed pool h (Dec u)) (sym number) may in
     let tells = holds.tree_kept.each at.key r l.at in
     let is : IsCount e r.serial = record { calm = refl; one = refl; about = refl; other = refl; unsettled = refl } in
-    subst (λ (u : ℕ). Holds pool (h ++ Dec u ∷ []) queues stacks hands (changed tree at.key (arrived Counted)) opens gones) number
+    subst (λ (u : ℕ). Holds pool sealed (h ++ Dec u ∷ []) queues stacks hands (changed tree at.key (arrived Counted)) opens gones) number
     (count_holds pool h e queues stacks hands tree opens gones at r (arrived Counted) holds may_r fits is (λ d same. ap (is_completer h) (same_Some d c (sym same ∙ ap Some number)) ∙ completer) sound l.at refl
     (count_tells pool h e r (r.pending - 1) holds.lawful may_r is refl tells (pending_counted h r.serial ∙ ap (λ (m : ℕ). m - 1) tells.pending)))
 
 -- the arrival that the record tells is the one of the event
-pub counted_at : (pool : Pool) (h : List Event) (c : ℕ) (queues : Waiting) (stacks : Lists) (hands : List (Option InHand)) (tree : Records) (opens gones : List ℕ) (at : Handle) (a : Arrived)
-    → Holds pool h queues stacks hands tree opens gones → IsLocated tree c at → Allowed pool h (Dec c) → Some a ≡ option_map arrival_at (record_of tree at) → a ≡ Counted
+pub counted_at : {sealed : List Event} (pool : Pool) (h : List Event) (c : ℕ) (queues : Waiting) (stacks : Lists) (hands : List (Option InHand)) (tree : Records) (opens gones : List ℕ) (at : Handle) (a : Arrived)
+    → Holds pool sealed h queues stacks hands tree opens gones → IsLocated tree c at → Allowed pool h (Dec c) → Some a ≡ option_map arrival_at (record_of tree at) → a ≡ Counted
 counted_at pool h c queues stacks hands tree opens gones at a holds l may said =
     let r = l.found in
     let number : r.serial ≡ c = l.serial ∙ l.number in
@@ -131,8 +131,8 @@ counted_at pool h c queues stacks hands tree opens gones at a holds l may said =
     only arrive.Fire is = absurd cc
 
 -- an addition that may be made is not refused
-pub addable : (pool : Pool) (h : List Event) (c n : ℕ) (queues : Waiting) (stacks : Lists) (hands : List (Option InHand)) (tree : Records) (opens gones : List ℕ) (at : Handle)
-    → Holds pool h queues stacks hands tree opens gones → IsLocated tree c at → Allowed pool h (Add c n) → add_refusal tree at n ≡ None
+pub addable : {sealed : List Event} (pool : Pool) (h : List Event) (c n : ℕ) (queues : Waiting) (stacks : Lists) (hands : List (Option InHand)) (tree : Records) (opens gones : List ℕ) (at : Handle)
+    → Holds pool sealed h queues stacks hands tree opens gones → IsLocated tree c at → Allowed pool h (Add c n) → add_refusal tree at n ≡ None
 unfolding is_completer
 addable pool h c n queues stacks hands tree opens gones at holds l may =
     let r = l.found in

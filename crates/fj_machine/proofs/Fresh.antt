@@ -1,5 +1,5 @@
 -- A ledger to which nothing has happened.
-use Rattle.std.proofs.Common.{ℕ, ◌≡◌, [], get_or, replicate, Option, Some, None, refl, sym, ◌∙◌, arith, zero, suc}
+use Rattle.std.proofs.Common.{append-nil, ℕ, ◌≡◌, [], get_or, replicate, Option, Some, None, refl, sym, ◌∙◌, arith, zero, suc}
 use Rattle.std.proofs.Math.ListN.{length-replicate}
 use Rattle.fj_model.specs.declared.owner.Owner.{Owner}
 use Rattle.fj_model.specs.Bounds.{Pool, IsWithin, queues_in, owner_at}
@@ -52,13 +52,14 @@ no_hook : (n i : ℕ) (k : InHand) → get_or (replicate {A = Option InHand} n N
 no_hook n i k is = let bad : None ≡ Some k = sym (empty_row n i None) ∙ is in absurd cc
 
 pub fresh_holds : (pool : Pool) → IsWithin pool.limits.workers pool.limits.submitters pool.limits.tasks pool.limits.events
-    → Holds pool [] (record { lists = replicate (queues_in pool.limits) []; room = pool.limits.tasks }) (record { lists = replicate pool.limits.workers []; room = pool.limits.tasks })
+    → Holds pool [] [] (record { lists = replicate (queues_in pool.limits) []; room = pool.limits.tasks }) (record { lists = replicate pool.limits.workers []; room = pool.limits.tasks })
     (replicate pool.limits.workers None) (record { slots = []; made = 0; room = pool.limits.tasks }) [] []
 unfolding is_kept tasks hooks
 fresh_holds pool within = record {
   within = within;
   lawful = tt;
   climbs = climbs_none;
+  sealed_part = record { begins = ([], refl); few = omega arith; left = rw none_accepted (omega arith) };
   fits = omega arith;
   queues_kept = record {
     count = length-replicate (queues_in pool.limits) [];
@@ -86,5 +87,5 @@ fresh_holds pool within = record {
     all = λ t kept. absurd cc;
   };
   open_kept = none_open;
-  gone_kept = none_gone;
+  gone_kept = append-nil (gone []);
 }

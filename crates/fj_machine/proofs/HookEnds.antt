@@ -1,5 +1,5 @@
 -- All that is kept, after a hook has ended.
-use Rattle.std.proofs.Common.{ℕ, ◌≡◌, ◌<◌, List, [], ◌∷◌, ◌++◌, length, Option, Some, None, refl, sym, ◌∙◌}
+use Rattle.std.proofs.Common.{◌+◌, ℕ, ◌≡◌, ◌<◌, List, [], ◌∷◌, ◌++◌, length, Option, Some, None, refl, sym, ◌∙◌}
 use Rattle.std.proofs.Math.ListN.{set}
 use Rattle.fj_model.specs.declared.event.Event.{Event}
 use Rattle.fj_model.specs.declared.event.Event.TheVariants.{Hooked}
@@ -18,9 +18,9 @@ use Rattle.fj_machine.proofs.HandParts.{hands_ended}
 use Rattle.fj_machine.proofs.Parts.{queues_same, stacks_same}
 use Rattle.fj_machine.proofs.Records.{tree_same}
 
-pub hook_end_holds : (pool : Pool) (h : List Event) (c w : ℕ) (queues : Waiting) (stacks : Lists) (hands : List (Option InHand)) (tree : Records) (opens gones : List ℕ)
-    → Holds pool h queues stacks hands tree opens gones → w < pool.limits.workers → hand h w ≡ Some c → length h < pool.limits.events
-    → Holds pool (h ++ Hooked c ∷ []) queues stacks (set hands w None) tree opens gones
+pub hook_end_holds : {sealed : List Event} (pool : Pool) (h : List Event) (c w : ℕ) (queues : Waiting) (stacks : Lists) (hands : List (Option InHand)) (tree : Records) (opens gones : List ℕ)
+    → Holds pool sealed h queues stacks hands tree opens gones → w < pool.limits.workers → hand h w ≡ Some c → length h < length sealed + pool.limits.events
+    → Holds pool sealed (h ++ Hooked c ∷ []) queues stacks (set hands w None) tree opens gones
 hook_end_holds pool h c w queues stacks hands tree opens gones holds within is fits =
     let e = Hooked c in
     let may : Allowed pool h e = (w, is) in

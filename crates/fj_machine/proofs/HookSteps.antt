@@ -1,14 +1,15 @@
 -- The end of a completion action that is in a worker's hand.
 use Rattle.std.proofs.Common.{ℕ, ◌≡◌, ◌≢◌, ◌+◌, ◌≤◌, ◌<◌, Bool, true, false, ◌&&◌, List, [], ◌∷◌, ◌++◌, length, Some, None, refl, ap, sym, ◌∙◌, subst, arith}
-use Rattle.std.specs.Prelude.{if◌then◌else◌, nat_lt}
+use Rattle.std.specs.Prelude.{if◌then◌else◌}
 use Rattle.std.specs.List.{list_any}
-use Rattle.std.proofs.lemmas.Bool.{lt-leb, le-leb, ltb-true, ltb-false, ne_eqb}
+use Rattle.std.proofs.lemmas.Bool.{lt-leb, ne_eqb}
 use Rattle.std.proofs.lemmas.List.{append-nil, length-append}
 use Rattle.std.proofs.lemmas.List.Folds.{list_any-append}
+use Rattle.fj_model.specs.Pasts.{limit}
 use Rattle.fj_model.specs.declared.event.Event.{Event}
 use Rattle.fj_model.specs.declared.event.Event.TheVariants.{Hooked, Settle}
 use Rattle.fj_model.specs.declared.status.Status.TheVariants.{Normal}
-use Rattle.fj_model.specs.declared.refusal.Refusal.TheVariants.{NoSuch, NotRunning, LogFull}
+use Rattle.fj_model.specs.declared.refusal.Refusal.TheVariants.{LogFull}
 use Rattle.fj_model.specs.declared.said.Said.{Said}
 use Rattle.fj_model.specs.declared.said.Said.TheVariants as says
 use Rattle.fj_model.specs.declared.step.Step.TheVariants.{HookDone}
@@ -32,21 +33,13 @@ use Rattle.fj_machine.specs.Holds.{IsLawful, hook_completers}
 use Rattle.fj_machine.proofs.HandParts.{hand_same}
 use Rattle.fj_machine.proofs.HookLists.{completers, hand_emptied, worker_found, but_unlisted}
 use Rattle.fj_machine.proofs.RoomTests.{grown_twice}
-use Rattle.fj_machine.proofs.Stepping.{steps_refused, steps_full, steps_made, may_step}
+use Rattle.fj_machine.proofs.Stepping.{steps_full, steps_made, may_step}
 
 -- ---- the step
 
 -- nothing stands against it
 hook_stands : (pool : Pool) (h : List Event) (w c : ℕ) → w < pool.limits.workers → hand h w ≡ Some c → first_that_stands (refusals_of pool h (HookDone w)) ≡ None
 hook_stands pool h w c within is = rw (lt-leb pool.limits.workers w within, is) refl
-
--- there is no such worker
-pub hook_no_such : (now : Past) (w : ℕ) → nat_lt w now.pool.limits.workers ≡ false → Steps now (HookDone w) (says.Refused NoSuch) now
-hook_no_such now w over = steps_refused now (HookDone w) NoSuch (rw (le-leb now.pool.limits.workers w (ltb-false w now.pool.limits.workers over)) refl)
-
--- no action is in its hand
-pub hook_none : (now : Past) (w : ℕ) → nat_lt w now.pool.limits.workers ≡ true → hand now.events w ≡ None → Steps now (HookDone w) (says.Refused NotRunning) now
-hook_none now w within none = steps_refused now (HookDone w) NotRunning (rw (lt-leb now.pool.limits.workers w (ltb-true w now.pool.limits.workers within), none) refl)
 
 hook_done_events : (pool : Pool) (h : List Event) (w c : ℕ) (events : List Event) → hand h w ≡ Some c → hook_events h (Some c) ≡ Hooked c ∷ events → events_of pool h (HookDone w) ≡ Hooked c ∷ events
 unfolding events_of
@@ -58,13 +51,13 @@ hook_done_reply pool h w c is = ap (hook_done_says h) is
 
 -- the events do not fit
 pub hook_full : (now : Past) (w c : ℕ) (events : List Event) (n : ℕ) → w < now.pool.limits.workers → hand now.events w ≡ Some c → hook_events now.events (Some c) ≡ Hooked c ∷ events
-    → 1 + length events ≡ n → now.pool.limits.events < length now.events + n → Steps now (HookDone w) (says.Refused LogFull) now
+    → 1 + length events ≡ n → limit now < length now.events + n → Steps now (HookDone w) (says.Refused LogFull) now
 hook_full now w c events n within is after count over =
     steps_full now (HookDone w) (hook_stands now.pool now.events w c within is) (rw (hook_done_events now.pool now.events w c events is after) (omega (arith, count, over)))
 
 -- the completion action ends, and then comes what follows
 pub hook_made : (old new : Past) (w c : ℕ) (events : List Event) (reply : Said) (n : ℕ) → w < old.pool.limits.workers → hand old.events w ≡ Some c → hook_events old.events (Some c) ≡ Hooked c ∷ events
-    → reply ≡ hook_done_says old.events (Some c) → 1 + length events ≡ n → length old.events + n ≤ old.pool.limits.events
+    → reply ≡ hook_done_says old.events (Some c) → 1 + length events ≡ n → length old.events + n ≤ limit old
     → new ≡ grown (grown old (Hooked c ∷ [])) events → Steps old (HookDone w) reply new
 hook_made old new w c events reply n within is after said count fits are =
     steps_made old new (HookDone w) reply (hook_stands old.pool old.events w c within is)
@@ -73,11 +66,11 @@ hook_made old new w c events reply n within is after said count fits are =
     (are ∙ grown_twice old (Hooked c ∷ []) events ∙ ap (grown old) (sym (hook_done_events old.pool old.events w c events is after)))
 
 -- each of the events is allowed
-pub may_hook : (pool : Pool) (h : List Event) (w c : ℕ) (events : List Event) (n : ℕ) → IsLawful pool h → w < pool.limits.workers → hand h w ≡ Some c → hook_events h (Some c) ≡ Hooked c ∷ events
-    → 1 + length events ≡ n → length h + n ≤ pool.limits.events → AllowedFrom pool (h ++ Hooked c ∷ []) events
-may_hook pool h w c events n law within is after count fits =
+pub may_hook : {most : ℕ} (pool : Pool) (h : List Event) (w c : ℕ) (events : List Event) → IsLawful pool most h → w < pool.limits.workers → hand h w ≡ Some c → hook_events h (Some c) ≡ Hooked c ∷ events
+    → AllowedFrom pool (h ++ Hooked c ∷ []) events
+may_hook pool h w c events law within is after =
     (subst (AllowedFrom pool h) (hook_done_events pool h w c events is after)
-    (may_step pool h (HookDone w) law (hook_stands pool h w c within is) (rw (hook_done_events pool h w c events is after) (omega (arith, count, fits))))).1
+    (may_step pool h (HookDone w) law (hook_stands pool h w c within is))).1
 
 -- ---- its completer
 
@@ -114,7 +107,7 @@ root_rest pool h c false true so is = rw (append-nil, is) refl
 root_rest pool h c true false so is = rw (append-nil, is) refl
 root_rest pool h c false false so is = rw (append-nil, is) refl
 
-pub root_events : (pool : Pool) (h : List Event) (w c : ℕ) (undone : Bool) → IsLawful pool h → hand h w ≡ Some c → parent h c ≡ None → is_undone (status h c) ≡ undone
+pub root_events : {most : ℕ} (pool : Pool) (h : List Event) (w c : ℕ) (undone : Bool) → IsLawful pool most h → hand h w ≡ Some c → parent h c ≡ None → is_undone (status h c) ≡ undone
     → hook_events h (Some c) ≡ Hooked c ∷ own c undone
 root_events pool h w c undone law is root so =
     let ended = h ++ Hooked c ∷ [] in
@@ -131,10 +124,10 @@ own_count c n false count = sym count
 -- ---- with a parent
 
 -- the parent is another task
-parent_other : (pool : Pool) (h : List Event) (c p : ℕ) → IsLawful pool h → parent h c ≡ Some p → c ≢ p
+parent_other : {most : ℕ} (pool : Pool) (h : List Event) (c p : ℕ) → IsLawful pool most h → parent h c ≡ Some p → c ≢ p
 parent_other pool h c p law is same = omega (arith, parent_smaller pool h c p law.allowed is, same)
 
-pub parent_is_completer : (pool : Pool) (h : List Event) (c p : ℕ) → IsLawful pool h → parent h c ≡ Some p → is_completer h p ≡ true
+pub parent_is_completer : {most : ℕ} (pool : Pool) (h : List Event) (c p : ℕ) → IsLawful pool most h → parent h c ≡ Some p → is_completer h p ≡ true
 parent_is_completer pool h c p law is = parent_completer pool h c p law.allowed is
 
 -- the history after the end of the action, and after the completion of its own completer
@@ -146,26 +139,26 @@ either_own : (P : List Event → Type 0) (h : List Event) (c : ℕ) (settles : B
 either_own P h c true ended settled = settled
 either_own P h c false ended settled = subst P (sym (append-nil (h ++ Hooked c ∷ []))) ended
 
-pub parent_still_completer : (pool : Pool) (h : List Event) (c p : ℕ) (settles : Bool) → IsLawful pool h → parent h c ≡ Some p → is_completer (past_own h c settles) p ≡ true
+pub parent_still_completer : {most : ℕ} (pool : Pool) (h : List Event) (c p : ℕ) (settles : Bool) → IsLawful pool most h → parent h c ≡ Some p → is_completer (past_own h c settles) p ≡ true
 parent_still_completer pool h c p settles law is =
     let ended = completer_same h (Hooked c) p refl ∙ parent_completer pool h c p law.allowed is in
     either_own (λ (g : List Event). is_completer g p ≡ true) h c settles ended (completer_same (h ++ Hooked c ∷ []) (Settle c Normal) p refl ∙ ended)
 
 -- the worker's hand is empty, and the next hook goes to it
-hooked_free : (pool : Pool) (h : List Event) (w c : ℕ) → IsLawful pool h → hand h w ≡ Some c → hand (h ++ Hooked c ∷ []) w ≡ None
+hooked_free : {most : ℕ} (pool : Pool) (h : List Event) (w c : ℕ) → IsLawful pool most h → hand h w ≡ Some c → hand (h ++ Hooked c ∷ []) w ≡ None
 unfolding hand
 hooked_free pool h w c law is = ap (λ s. completer_in w s.in_hands) (hooks_more h (Hooked c)) ∙ hand_emptied w c (hooks h).in_hands is (law.one_each w)
 
-pub past_free : (pool : Pool) (h : List Event) (w c : ℕ) (settles : Bool) → IsLawful pool h → hand h w ≡ Some c → hand (past_own h c settles) w ≡ None
+pub past_free : {most : ℕ} (pool : Pool) (h : List Event) (w c : ℕ) (settles : Bool) → IsLawful pool most h → hand h w ≡ Some c → hand (past_own h c settles) w ≡ None
 past_free pool h w c settles law is =
     let ended = hooked_free pool h w c law is in
     either_own (λ (g : List Event). hand g w ≡ None) h c settles ended (hand_same (h ++ Hooked c ∷ []) (Settle c Normal) w refl ∙ ended)
 
-hooked_given : (pool : Pool) (h : List Event) (w c : ℕ) → IsLawful pool h → hand h w ≡ Some c → (hooks (h ++ Hooked c ∷ [])).last_worker ≡ Some w
+hooked_given : {most : ℕ} (pool : Pool) (h : List Event) (w c : ℕ) → IsLawful pool most h → hand h w ≡ Some c → (hooks (h ++ Hooked c ∷ [])).last_worker ≡ Some w
 unfolding hand
 hooked_given pool h w c law is = ap (λ s. s.last_worker) (hooks_more h (Hooked c)) ∙ worker_found w c (hooks h).in_hands is (law.once c)
 
-pub past_given : (pool : Pool) (h : List Event) (w c p : ℕ) (settles : Bool) → IsLawful pool h → hand h w ≡ Some c
+pub past_given : {most : ℕ} (pool : Pool) (h : List Event) (w c p : ℕ) (settles : Bool) → IsLawful pool most h → hand h w ≡ Some c
     → receiver p (hooks (past_own h c settles)).just_ended (hooks (past_own h c settles)).last_worker ≡ Some w
 past_given pool h w c p settles law is =
     let ended = hooked_given pool h w c law is in
@@ -174,16 +167,16 @@ past_given pool h w c p settles law is =
     (ap (λ s. receiver p s.just_ended s.last_worker) (hooks_more (h ++ Hooked c ∷ []) (Settle c Normal)) ∙ ended)
 
 -- the arrival at the parent is what it was before
-pub parent_arrival : (pool : Pool) (h : List Event) (c p : ℕ) (settles : Bool) → IsLawful pool h → parent h c ≡ Some p → arrival (past_own h c settles) p ≡ arrival h p
+pub parent_arrival : {most : ℕ} (pool : Pool) (h : List Event) (c p : ℕ) (settles : Bool) → IsLawful pool most h → parent h c ≡ Some p → arrival (past_own h c settles) p ≡ arrival h p
 parent_arrival pool h c p settles law is =
     let ended = arrival_untouched h (Hooked c) p refl refl in
     either_own (λ (g : List Event). arrival g p ≡ arrival h p) h c settles ended (arrival_untouched (h ++ Hooked c ∷ []) (Settle c Normal) p refl (ne_eqb c p (parent_other pool h c p law is)) ∙ ended)
 
-pub inner_events : (pool : Pool) (h : List Event) (c p : ℕ) (settles : Bool) → IsLawful pool h → parent h c ≡ Some p → (is_fired_by_complete h c && is_undone (status h c)) ≡ settles
+pub inner_events : {most : ℕ} (pool : Pool) (h : List Event) (c p : ℕ) (settles : Bool) → IsLawful pool most h → parent h c ≡ Some p → (is_fired_by_complete h c && is_undone (status h c)) ≡ settles
     → hook_events h (Some c) ≡ Hooked c ∷ (own c settles ++ arriving p (arrival h p))
 inner_events pool h c p settles law is so = rw (is, own_is h c settles so, parent_arrival pool h c p settles law is) refl
 
-pub inner_says : (pool : Pool) (h : List Event) (c p : ℕ) (settles : Bool) → IsLawful pool h → parent h c ≡ Some p → (is_fired_by_complete h c && is_undone (status h c)) ≡ settles
+pub inner_says : {most : ℕ} (pool : Pool) (h : List Event) (c p : ℕ) (settles : Bool) → IsLawful pool most h → parent h c ≡ Some p → (is_fired_by_complete h c && is_undone (status h c)) ≡ settles
     → arriving_says p (arrival h p) ≡ hook_done_says h (Some c)
 inner_says pool h c p settles law is so = rw (is, own_is h c settles so, parent_arrival pool h c p settles law is) refl
 
@@ -196,8 +189,8 @@ arriving_count c d Fires = refl
 pub inner_count : (c n m : ℕ) (settles : Bool) (events : List Event) → 1 + length (own c settles) ≡ n → length events ≡ m → 1 + length (own c settles ++ events) ≡ n + m
 inner_count c n m settles events count more = omega (arith, length-append (own c settles) events, count, more)
 
-pub past_fits : (pool : Pool) (h : List Event) (c p n m : ℕ) (settles : Bool) → IsLawful pool h → parent h c ≡ Some p → 1 + length (own c settles) ≡ n → length (arriving p (arrival h p)) ≡ m
-    → length h + (n + m) ≤ pool.limits.events → length (past_own h c settles) + length (arriving p (arrival (past_own h c settles) p)) ≤ pool.limits.events
+pub past_fits : {most : ℕ} (pool : Pool) (h : List Event) (c p n m : ℕ) (settles : Bool) → IsLawful pool most h → parent h c ≡ Some p → 1 + length (own c settles) ≡ n → length (arriving p (arrival h p)) ≡ m
+    → length h + (n + m) ≤ most → length (past_own h c settles) + length (arriving p (arrival (past_own h c settles) p)) ≤ most
 past_fits pool h c p n m settles law is count more fits =
     rw (parent_arrival pool h c p settles law is)
     (omega (arith, length-append (h ++ Hooked c ∷ []) (own c settles), length-append h (Hooked c ∷ []), count, more, fits))

@@ -1,5 +1,5 @@
 -- What holds of the history of each ledger.
-use Rattle.std.proofs.Common.{ℕ, List, Option}
+use Rattle.std.proofs.Common.{ℕ, ◌+◌, List, length, Option}
 use Rattle.fj_model.specs.declared.event.Event.{Event}
 use Rattle.fj_model.specs.Bounds.{Pool}
 use Rattle.fj_queues.specs.Queues.{Lists as Waiting}
@@ -8,8 +8,8 @@ use Rattle.fj_machine.specs.Stacks.{Lists}
 use Rattle.fj_machine.specs.InHands.{InHand}
 use Rattle.fj_machine.specs.Holds.{Holds, IsLawful}
 
-pub lawful : (pool : Pool) (h : List Event) (queues : Waiting) (stacks : Lists) (hands : List (Option InHand)) (tree : Records) (opens gones : List ℕ)
-    → Holds pool h queues stacks hands tree opens gones → IsLawful pool h
+pub lawful : {sealed : List Event} (pool : Pool) (h : List Event) (queues : Waiting) (stacks : Lists) (hands : List (Option InHand)) (tree : Records) (opens gones : List ℕ)
+    → Holds pool sealed h queues stacks hands tree opens gones → IsLawful pool (length sealed + pool.limits.events) h
 lawful pool h queues stacks hands tree opens gones holds = record {
   within = holds.within;
   allowed = holds.lawful;

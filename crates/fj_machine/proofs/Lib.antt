@@ -17,7 +17,9 @@ pub mod HookSteps
 pub mod KeptChildren
 pub mod Lawfuls
 pub mod Located
+pub mod MovesMore
 pub mod OneEvent
+pub mod Outcomes
 pub mod Parts
 pub mod PassSteps
 pub mod Passing
@@ -34,6 +36,7 @@ pub mod RoomTests
 pub mod Rooms
 pub mod Running
 pub mod SettleSteps
+pub mod Sealed
 pub mod Settled
 pub mod Shut
 pub mod ShutSteps

@@ -204,9 +204,9 @@ hands_released pool h t s hands so may is = hands_mapped pool.limits h (Rel t) (
 
 -- ---- all
 
-pub release_holds : (pool : Pool) (h : List Event) (t : ℕ) (s : Status) (queues : Waiting) (stacks : Lists) (hands : List (Option InHand)) (old new : Records) (opens gones : List ℕ) (key : ℕ) (r : Record)
-    → Holds pool h queues stacks hands old opens gones → IsSound old → IsReleased old new key r → r.serial ≡ t → Allowed pool h (Rel t) → length h < pool.limits.events → status h t ≡ s
-    → Holds pool (h ++ Rel t ∷ []) queues stacks (map (option_map (left_by t s)) hands) new opens gones
+pub release_holds : {sealed : List Event} (pool : Pool) (h : List Event) (t : ℕ) (s : Status) (queues : Waiting) (stacks : Lists) (hands : List (Option InHand)) (old new : Records) (opens gones : List ℕ) (key : ℕ) (r : Record)
+    → Holds pool sealed h queues stacks hands old opens gones → IsSound old → IsReleased old new key r → r.serial ≡ t → Allowed pool h (Rel t) → length h < length sealed + pool.limits.events → status h t ≡ s
+    → Holds pool sealed (h ++ Rel t ∷ []) queues stacks (map (option_map (left_by t s)) hands) new opens gones
 release_holds pool h t s queues stacks hands old new opens gones key r holds sound released number may fits is =
     let e = Rel t in
     let so = holds.lawful in

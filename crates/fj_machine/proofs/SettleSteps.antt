@@ -2,9 +2,9 @@
 use Rattle.std.proofs.Common.{ℕ, ◌≡◌, Bool, true, false, List, [], ◌∷◌, ◌++◌, length, None, refl, ap, sym, ◌∙◌}
 use Rattle.std.specs.Prelude.{if◌then◌else◌}
 use Rattle.std.proofs.lemmas.List.{length-map}
+use Rattle.fj_model.specs.Pasts.{limit}
 use Rattle.fj_model.specs.declared.event.Event.{Event}
 use Rattle.fj_model.specs.declared.event.Event.TheVariants as event
-use Rattle.fj_model.specs.declared.refusal.Refusal.TheVariants.{Unknown}
 use Rattle.fj_model.specs.declared.said.Said.TheVariants as says
 use Rattle.fj_model.specs.declared.status.Status.{Status}
 use Rattle.fj_model.specs.declared.status.Status.TheVariants.{Cancelled}
@@ -19,13 +19,7 @@ use Rattle.fj_model.proofs.Settling.{settles, relayed_same, failing_end}
 use Rattle.fj_machine.specs.Holds.{IsLawful}
 use Rattle.fj_machine.proofs.OneEvent.{IsOf, only_tells}
 use Rattle.fj_machine.proofs.Relaying.{failing_settles, none_relayed}
-use Rattle.fj_machine.proofs.Stepping.{told, steps_refused}
-
-pub cancel_unknown : (now : Past) (t : ℕ) → is_kept now.events t ≡ false → Steps now (Cancel t) (says.Refused Unknown) now
-cancel_unknown now t none = steps_refused now (Cancel t) Unknown (rw none refl)
-
-pub fault_unknown : (now : Past) (t code : ℕ) → is_kept now.events t ≡ false → Steps now (Fault t code) (says.Refused Unknown) now
-fault_unknown now t code none = steps_refused now (Fault t code) Unknown (rw none refl)
+use Rattle.fj_machine.proofs.Stepping.{told}
 
 pub cancel_stands : (now : Past) (t : ℕ) → is_kept now.events t ≡ true → first_that_stands (refusals_of now.pool now.events (Cancel t)) ≡ None
 cancel_stands now t kept = rw kept refl
@@ -43,7 +37,7 @@ unfolding reply_of
 cancel_replies now t s is = ap cancel_says (sym is)
 
 -- one that is done stays as it is
-pub cancel_tells : (now : Past) (t : ℕ) (s : Status) → IsLawful now.pool now.events → is_kept now.events t ≡ true → status now.events t ≡ s → is_undone s ≡ false → Steps now (Cancel t) (cancel_says s) now
+pub cancel_tells : (now : Past) (t : ℕ) (s : Status) → IsLawful now.pool (limit now) now.events → is_kept now.events t ≡ true → status now.events t ≡ s → is_undone s ≡ false → Steps now (Cancel t) (cancel_says s) now
 unfolding events_of
 cancel_tells now t s law kept is done =
     told now (Cancel t) (cancel_says s)
@@ -60,7 +54,7 @@ unfolding reply_of
 fault_says now t code b is = rw is refl
 
 -- one that is done stays as it is
-pub fault_tells : (now : Past) (t code : ℕ) → IsLawful now.pool now.events → is_kept now.events t ≡ true → is_undone (status now.events t) ≡ false → Steps now (Fault t code) says.No now
+pub fault_tells : (now : Past) (t code : ℕ) → IsLawful now.pool (limit now) now.events → is_kept now.events t ≡ true → is_undone (status now.events t) ≡ false → Steps now (Fault t code) says.No now
 fault_tells now t code law kept done =
     told now (Fault t code) says.No
     (only_tells now (Fault t code) says.No law (fault_stands now t code kept) (fault_events now t code ∙ ap (settles code) (none_relayed now.events t done)) (sym (fault_says now t code false done)))

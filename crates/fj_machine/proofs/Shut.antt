@@ -1,5 +1,5 @@
 -- All that is kept, after the pool was shut.
-use Rattle.std.proofs.Common.{ℕ, ◌≡◌, ◌<◌, Bool, true, false, cond, List, [], ◌∷◌, ◌++◌, length, map, Option, Some, None, refl, ap, sym, ◌∙◌, subst}
+use Rattle.std.proofs.Common.{append_assoc, ◌+◌, ℕ, ◌≡◌, ◌<◌, Bool, true, false, cond, List, [], ◌∷◌, ◌++◌, length, map, Option, Some, None, refl, ap, sym, ◌∙◌, subst}
 use Rattle.std.specs.Prelude.{option_map, IsPermutation}
 use Rattle.std.specs.List.{list_any}
 use Rattle.std.specs.List.Sorted.{IsNonDecreasing}
@@ -37,9 +37,9 @@ use Rattle.fj_machine.proofs.Telling.{fired_same}
 use Rattle.fj_model.proofs.KindsKept.{kept_known}
 
 -- no submission is accepted from now on
-pub close_holds : (pool : Pool) (h : List Event) (queues : Waiting) (stacks : Lists) (hands : List (Option InHand)) (tree : Records) (opens gones : List ℕ)
-    → Holds pool h queues stacks hands tree opens gones → Allowed pool h Close → length h < pool.limits.events
-    → Holds pool (h ++ Close ∷ []) queues stacks hands tree opens gones
+pub close_holds : {sealed : List Event} (pool : Pool) (h : List Event) (queues : Waiting) (stacks : Lists) (hands : List (Option InHand)) (tree : Records) (opens gones : List ℕ)
+    → Holds pool sealed h queues stacks hands tree opens gones → Allowed pool h Close → length h < length sealed + pool.limits.events
+    → Holds pool sealed (h ++ Close ∷ []) queues stacks hands tree opens gones
 close_holds pool h queues stacks hands tree opens gones holds may fits =
     let e = Close in
     let so = holds.lawful in
@@ -159,9 +159,9 @@ stopped_hook pool h k so tells = record {
 -- ---- all
 
 -- each undone task is cancelled, and no task is accepted from now on
-pub stop_holds : (pool : Pool) (h : List Event) (queues : Waiting) (stacks : Lists) (hands : List (Option InHand)) (old new : Records) (opens gones sorted : List ℕ)
-    → Holds pool h queues stacks hands old opens gones → Allowed pool h Stop → length h < pool.limits.events → IsStopped old new → IsPermutation opens sorted → IsNonDecreasing sorted
-    → Holds pool (h ++ Stop ∷ []) queues stacks (map (option_map if_cancelled) hands) new [] (gones ++ sorted)
+pub stop_holds : {sealed : List Event} (pool : Pool) (h : List Event) (queues : Waiting) (stacks : Lists) (hands : List (Option InHand)) (old new : Records) (opens gones sorted : List ℕ)
+    → Holds pool sealed h queues stacks hands old opens gones → Allowed pool h Stop → length h < length sealed + pool.limits.events → IsStopped old new → IsPermutation opens sorted → IsNonDecreasing sorted
+    → Holds pool sealed (h ++ Stop ∷ []) queues stacks (map (option_map if_cancelled) hands) new [] (gones ++ sorted)
 stop_holds pool h queues stacks hands old new opens gones sorted holds may fits is moved up =
     let e = Stop in
     let so = holds.lawful in
@@ -171,5 +171,5 @@ stop_holds pool h queues stacks hands old new opens gones sorted holds may fits 
       hands_kept = hands_mapped pool.limits h e if_cancelled hands refl (λ k. refl) (λ k tells. stopped_hook pool h k so tells) holds.hands_kept;
       tree_kept = tree_stopped pool h old new so may is holds.tree_kept;
       open_kept = sym (stop_open pool h so may);
-      gone_kept = ap (λ (ts : List ℕ). ts ++ sorted) holds.gone_kept ∙ sym (stop_gone_sorted pool h sorted so may (subst (λ (ts : List ℕ). IsPermutation ts sorted) holds.open_kept moved) up);
+      gone_kept = sym (append_assoc _ gones sorted) ∙ ap (λ (ts : List ℕ). ts ++ sorted) holds.gone_kept ∙ sym (stop_gone_sorted pool h sorted so may (subst (λ (ts : List ℕ). IsPermutation ts sorted) holds.open_kept moved) up);
     })

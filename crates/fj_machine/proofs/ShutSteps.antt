@@ -1,6 +1,7 @@
 -- Steps that shut the pool, and that release tasks.
 use Rattle.std.proofs.Common.{ℕ, ◌≡◌, true, false, None, refl}
 use Rattle.std.specs.Prelude.{◌||◌}
+use Rattle.fj_model.specs.Pasts.{limit}
 use Rattle.fj_model.specs.declared.event.Event.TheVariants as event
 use Rattle.fj_model.specs.declared.said.Said.TheVariants as says
 use Rattle.fj_model.specs.declared.step.Step.TheVariants.{Shutdown, Stop, Release}
@@ -16,7 +17,7 @@ unfolding events_of
 closes now open_yet = record { stands = refl; event = rw open_yet refl }
 
 -- a second one, and one after a stop, changes nothing
-pub closed_tells : (now : Past) → IsLawful now.pool now.events → (is_closed now.events || is_stopped now.events) ≡ true → Steps now Shutdown says.Done now
+pub closed_tells : (now : Past) → IsLawful now.pool (limit now) now.events → (is_closed now.events || is_stopped now.events) ≡ true → Steps now Shutdown says.Done now
 unfolding events_of reply_of
 closed_tells now law closed = told now Shutdown says.Done (only_tells now Shutdown says.Done law refl (rw closed refl) refl)
 
@@ -24,7 +25,7 @@ pub stops : (now : Past) → is_stopped now.events ≡ false → IsOf now Stop e
 unfolding events_of
 stops now open_yet = record { stands = refl; event = rw open_yet refl }
 
-pub stopped_tells : (now : Past) → IsLawful now.pool now.events → is_stopped now.events ≡ true → Steps now Stop says.Done now
+pub stopped_tells : (now : Past) → IsLawful now.pool (limit now) now.events → is_stopped now.events ≡ true → Steps now Stop says.Done now
 unfolding events_of reply_of
 stopped_tells now law stopped = told now Stop says.Done (only_tells now Stop says.Done law refl (rw stopped refl) refl)
 

@@ -1,9 +1,10 @@
 -- All that is kept, after a task was fired, passed or settled.
-use Rattle.std.proofs.Common.{ℕ, ◌≡◌, ◌<◌, ◌≤◌, Bool, true, false, cond, List, [], ◌∷◌, ◌++◌, length, Option, Some, None, refl, ap, sym, ◌∙◌, arith}
+use Rattle.std.proofs.Common.{ℕ, ◌≡◌, ◌<◌, ◌≤◌, Bool, true, false, cond, List, [], ◌∷◌, ◌++◌, length, Option, Some, None, ◌+◌, refl, ap, sym, subst, ◌∙◌, arith, append_assoc, length-append}
 use Rattle.std.specs.Prelude.{if◌then◌else◌}
 use Rattle.std.specs.List.{filter_map, list_any, cons_option}
 use Rattle.std.proofs.lemmas.Bool.{eq-eqb}
 use Rattle.std.proofs.lemmas.List.{append-nil}
+use Rattle.std.proofs.lemmas.List.Elements.{filter_map-append}
 use Rattle.fj_model.specs.declared.event.Event.{Event}
 use Rattle.fj_model.specs.declared.event.Event.TheVariants.{Fire, Pass, Settle}
 use Rattle.fj_model.specs.declared.place.Place.{Place}
@@ -20,7 +21,7 @@ use Rattle.fj_model.proofs.PlaceLaws.{none_accepted, unmoved_queue, unmoved_stac
 use Rattle.fj_model.proofs.Spending.{spends, closed, spends_unmoved, spent_place, spending_open, spending_gone}
 use Rattle.fj_model.proofs.Members.{times_in_filter}
 use Rattle.fj_model.proofs.OnePlace.{opened_once}
-use Rattle.fj_model.proofs.OpenList.{in_open, gone_short}
+use Rattle.fj_model.proofs.OpenList.{in_open}
 use Rattle.fj_model.proofs.Queues.{without_absent}
 use Rattle.fj_queues.specs.Queues.{Lists as Waiting}
 use Rattle.fj_tree.specs.declared.record.Record.{Record}
@@ -33,6 +34,7 @@ use Rattle.fj_machine.specs.Closing.{is_open_at, is_open_in}
 use Rattle.fj_machine.specs.Closing as closing
 use Rattle.fj_machine.specs.Holds.{Holds, Tells, KeepsHands}
 use Rattle.fj_machine.proofs.Growing.{grown_holds}
+use Rattle.fj_machine.proofs.Rooms.{going_few}
 use Rattle.fj_machine.proofs.Parts.{queues_same, stacks_same}
 use Rattle.fj_machine.proofs.Records.{tree_written}
 use Rattle.fj_machine.proofs.Telling.{is_of_one, kept_more, spends_touched}
@@ -53,17 +55,30 @@ pub few_accepted : (h : List Event) → accepted h ≤ length h
 unfolding accepted tasks
 few_accepted h = few_selected h
 
-pub gone_room : (pool : Pool) (h : List Event) (queues : Waiting) (stacks : Lists) (hands : List (Option InHand)) (tree : Records) (opens gones : List ℕ)
-    → Holds pool h queues stacks hands tree opens gones → length gones ≤ length h
-gone_room pool h queues stacks hands tree opens gones holds =
-    omega (arith, ap length_of holds.gone_kept, gone_short pool h holds.lawful, few_accepted h)
+few_more : (h more : List Event) → accepted (h ++ more) ≤ accepted h + length more
+unfolding accepted tasks
+few_more h more = rw filter_map-append (omega (arith, length-append (filter_map accepted_by h) (filter_map accepted_by more), few_selected more))
+
+-- since the last seal no more tasks went than were open then and were accepted since
+pub gone_room : {sealed : List Event} (pool : Pool) (h : List Event) (queues : Waiting) (stacks : Lists) (hands : List (Option InHand)) (tree : Records) (opens gones : List ℕ)
+    → Holds pool sealed h queues stacks hands tree opens gones → length sealed + length gones + length opens ≤ length h + pool.limits.tasks
+gone_room {sealed} pool h queues stacks hands tree opens gones holds =
+    let present = holds.sealed_part.begins.0 in
+    let is = holds.sealed_part.begins.1 in
+    let all : length (gone sealed) + length gones ≡ length (gone h) = sym (length-append (gone sealed) gones) ∙ ap length_of holds.gone_kept in
+    let long : length h ≡ length sealed + length present = ap length_in is ∙ length-append sealed present in
+    let many : accepted h ≤ accepted sealed + length present = subst (λ (es : List Event). accepted es ≤ accepted sealed + length present) (sym is) (few_more sealed present) in
+    omega (arith, all, long, many, holds.sealed_part.left, going_few pool h holds.lawful, ap length_of holds.open_kept)
   where
     length_of : List ℕ → ℕ
     length_of ts = length ts
 
+    length_in : List Event → ℕ
+    length_in es = length es
+
 -- no task is listed as open twice
-pub open_once : (pool : Pool) (h : List Event) (queues : Waiting) (stacks : Lists) (hands : List (Option InHand)) (tree : Records) (opens gones : List ℕ)
-    → Holds pool h queues stacks hands tree opens gones → (t : ℕ) → times_in t opens ≤ 1
+pub open_once : {sealed : List Event} (pool : Pool) (h : List Event) (queues : Waiting) (stacks : Lists) (hands : List (Option InHand)) (tree : Records) (opens gones : List ℕ)
+    → Holds pool sealed h queues stacks hands tree opens gones → (t : ℕ) → times_in t opens ≤ 1
 unfolding open_tasks
 open_once pool h queues stacks hands tree opens gones holds t =
     omega (arith, ap {B = ℕ} (times_in t) holds.open_kept, times_in_filter (λ u. is_open (place h u)) t (opened h), opened_once pool h holds.lawful t, fewer (is_open (place h t)) (times_in t (opened h)))
@@ -139,10 +154,10 @@ pub open_after : (h : List Event) (opens : List ℕ) (c : ℕ) (b : Bool) → op
 open_after h opens c true is open_now = ap (λ ts. without ts (c ∷ [])) is
 open_after h opens c false is shut = is ∙ sym (without_absent (open_tasks h) c (in_open h c ∙ shut))
 
-pub gone_after : (h : List Event) (gones : List ℕ) (c : ℕ) (b : Bool) → gones ≡ gone h → is_open (place h c) ≡ b
-    → (if b then gones ++ c ∷ [] else gones) ≡ gone h ++ (if is_open (place h c) then c ∷ [] else [])
-gone_after h gones c true is open_now = rw open_now (ap (λ ts. ts ++ c ∷ []) is)
-gone_after h gones c false is shut = rw shut (is ∙ sym (append-nil (gone h)))
+pub gone_after : (before : List ℕ) (h : List Event) (gones : List ℕ) (c : ℕ) (b : Bool) → before ++ gones ≡ gone h → is_open (place h c) ≡ b
+    → before ++ (if b then gones ++ c ∷ [] else gones) ≡ gone h ++ (if is_open (place h c) then c ∷ [] else [])
+gone_after before h gones c true is open_now = rw open_now (sym (append_assoc before gones (c ∷ [])) ∙ ap (λ ts. ts ++ c ∷ []) is)
+gone_after before h gones c false is shut = rw shut (is ∙ sym (append-nil (gone h)))
 
 -- ---- all
 
@@ -152,11 +167,11 @@ spends_one (Pass d) c is = refl
 spends_one (Settle d s) c is = refl
 spends_one _ c is = absurd cc
 
-pub spent_holds : (pool : Pool) (h : List Event) (e : Event) (queues : Waiting) (stacks : Lists) (hands hands2 : List (Option InHand)) (tree mid : Records) (opens gones : List ℕ) (at : Handle) (r s : Record)
-    → Holds pool h queues stacks hands tree opens gones → Allowed pool h e → length h < pool.limits.events → spends e ≡ Some at.serial
+pub spent_holds : {sealed : List Event} (pool : Pool) (h : List Event) (e : Event) (queues : Waiting) (stacks : Lists) (hands hands2 : List (Option InHand)) (tree mid : Records) (opens gones : List ℕ) (at : Handle) (r s : Record)
+    → Holds pool sealed h queues stacks hands tree opens gones → Allowed pool h e → length h < length sealed + pool.limits.events → spends e ≡ Some at.serial
     → ((d : ℕ) → climbed_by e ≡ Some d → is_completer h d ≡ true) → IsSound tree → IsWritten tree mid at.key r s → r.serial ≡ at.serial → Respent (h ++ e ∷ []) r s
     → KeepsHands pool.limits (h ++ e ∷ []) hands2
-    → Holds pool (h ++ e ∷ []) queues stacks hands2 (closing.closed mid at) (if is_open_at mid at then without opens (at.serial ∷ []) else opens) (if is_open_at mid at then gones ++ at.serial ∷ [] else gones)
+    → Holds pool sealed (h ++ e ∷ []) queues stacks hands2 (closing.closed mid at) (if is_open_at mid at then without opens (at.serial ∷ []) else opens) (if is_open_at mid at then gones ++ at.serial ∷ [] else gones)
 spent_holds pool h e queues stacks hands hands2 tree mid opens gones at r s holds may fits is at_completers sound wrote number re hands_kept =
     let so = holds.lawful in
     let one = spends_one e at.serial is in
@@ -174,7 +189,7 @@ spent_holds pool h e queues stacks hands hands2 tree mid opens gones at r s hold
       tree_kept = tree_written pool h e tree (closing.closed mid at) at.key r _ so may one (none_accepted e unmoved) (spends_touched e r.serial is_r) sound shut.1
           (closed_serial (is_open s.place) s ∙ re.serial) (spent_tells pool h e r s so may is_r (kept_more h e r.serial one tells.kept) tells re) holds.tree_kept;
       open_kept = open_after h opens at.serial (is_open_at mid at) holds.open_kept opened ∙ sym (spending_open pool h e at.serial so may is);
-      gone_kept = gone_after h gones at.serial (is_open_at mid at) holds.gone_kept opened ∙ sym (spending_gone pool h e at.serial so may is known_at);
+      gone_kept = gone_after _ h gones at.serial (is_open_at mid at) holds.gone_kept opened ∙ sym (spending_gone pool h e at.serial so may is known_at);
     })
   where
     closed_serial : (b : Bool) (s : Record) → (if b then with_place Gone s else s).serial ≡ s.serial

@@ -1,5 +1,5 @@
 -- All that is kept, after a task was taken from a queue.
-use Rattle.std.proofs.Common.{ℕ, ◌≡◌, ◌-◌, ◌<◌, true, false, List, [], ◌∷◌, ◌++◌, length, Option, Some, None, refl, ap, sym, ◌∙◌, arith, ⊎_elim}
+use Rattle.std.proofs.Common.{append_assoc, ◌+◌, ℕ, ◌≡◌, ◌-◌, ◌<◌, true, false, List, [], ◌∷◌, ◌++◌, length, Option, Some, None, refl, ap, sym, ◌∙◌, arith, ⊎_elim}
 use Rattle.std.proofs.Math.ListN.{length-set}
 use Rattle.std.proofs.lemmas.Bool.{cases_eq, eq-eqb, ne_eqb}
 use Rattle.std.proofs.lemmas.List.{get_or-set_other}
@@ -112,10 +112,10 @@ place_tells h e r p is moved none unfired added counted tells placed = record {
     some_none none said = absurd cc
 
 -- a task was skipped
-pub skipped_holds : (pool : Pool) (h : List Event) (t w : ℕ) (source : Source) (queues : Waiting) (stacks : Lists) (hands : List (Option InHand)) (tree : Records) (opens gones : List ℕ) (at : Handle)
-    → Holds pool h queues stacks hands tree opens gones → IsSound tree → IsLocated tree t at → Allowed pool h (Skip t w) → length h < pool.limits.events
+pub skipped_holds : {sealed : List Event} (pool : Pool) (h : List Event) (t w : ℕ) (source : Source) (queues : Waiting) (stacks : Lists) (hands : List (Option InHand)) (tree : Records) (opens gones : List ℕ) (at : Handle)
+    → Holds pool sealed h queues stacks hands tree opens gones → IsSound tree → IsLocated tree t at → Allowed pool h (Skip t w) → length h < length sealed + pool.limits.events
     → queue_of source < queues_in pool.limits → end_of source (queue h (owner_at pool.limits (queue_of source))) ≡ Some t
-    → Holds pool (h ++ Skip t w ∷ []) (with_queue queues (queue_of source) (rest_of source (queue_at queues (queue_of source)))) stacks hands (changed tree at.key (with_place Gone)) opens (gones ++ t ∷ [])
+    → Holds pool sealed (h ++ Skip t w ∷ []) (with_queue queues (queue_of source) (rest_of source (queue_at queues (queue_of source)))) stacks hands (changed tree at.key (with_place Gone)) opens (gones ++ t ∷ [])
 skipped_holds pool h t w source queues stacks hands tree opens gones at holds sound l may fits within first =
     let e = Skip t w in
     let r = l.found in
@@ -129,14 +129,14 @@ skipped_holds pool h t w source queues stacks hands tree opens gones at holds so
       hands_kept = hands_same pool h e hands so may refl refl (λ c said there. absurd cc) holds.hands_kept;
       tree_kept = tree_written pool h e tree (changed tree at.key (with_place Gone)) at.key r (with_place Gone r) so may refl refl (ap Some (sym number)) sound (written tree at.key r (with_place Gone) l.at) refl new holds.tree_kept;
       open_kept = holds.open_kept ∙ sym (taking_open pool h e t so may refl);
-      gone_kept = ap (λ (ts : List ℕ). ts ++ t ∷ []) holds.gone_kept ∙ sym (skipped_gone pool h t w so may);
+      gone_kept = sym (append_assoc _ gones (t ∷ [])) ∙ ap (λ (ts : List ℕ). ts ++ t ∷ []) holds.gone_kept ∙ sym (skipped_gone pool h t w so may);
     })
 
 -- a task was handed out
-pub handed_holds : (pool : Pool) (h : List Event) (t w : ℕ) (source : Source) (queues : Waiting) (stacks : Lists) (hands : List (Option InHand)) (tree : Records) (opens gones : List ℕ) (at : Handle)
-    → Holds pool h queues stacks hands tree opens gones → IsSound tree → IsLocated tree t at → Allowed pool h (Out t w) → length h < pool.limits.events → w < pool.limits.workers
+pub handed_holds : {sealed : List Event} (pool : Pool) (h : List Event) (t w : ℕ) (source : Source) (queues : Waiting) (stacks : Lists) (hands : List (Option InHand)) (tree : Records) (opens gones : List ℕ) (at : Handle)
+    → Holds pool sealed h queues stacks hands tree opens gones → IsSound tree → IsLocated tree t at → Allowed pool h (Out t w) → length h < length sealed + pool.limits.events → w < pool.limits.workers
     → queue_of source < queues_in pool.limits → end_of source (queue h (owner_at pool.limits (queue_of source))) ≡ Some t
-    → Holds pool (h ++ Out t w ∷ []) (with_queue queues (queue_of source) (rest_of source (queue_at queues (queue_of source)))) (with_stack stacks w (stack_at stacks w ++ t ∷ [])) hands (changed tree at.key (with_place (Held w))) opens gones
+    → Holds pool sealed (h ++ Out t w ∷ []) (with_queue queues (queue_of source) (rest_of source (queue_at queues (queue_of source)))) (with_stack stacks w (stack_at stacks w ++ t ∷ [])) hands (changed tree at.key (with_place (Held w))) opens gones
 handed_holds pool h t w source queues stacks hands tree opens gones at holds sound l may fits worker within first =
     let e = Out t w in
     let r = l.found in

@@ -1,5 +1,5 @@
 -- What a machine keeps beside its history is what the history says.
-use Rattle.std.specs.Prelude.{ℕ, ◌≡◌, ◌≤◌, ◌<◌, Bool, true, false, List, [], length, map, Option, Some, None, IsSome, option_map, get_or}
+use Rattle.std.specs.Prelude.{ℕ, ◌≡◌, ◌≤◌, ◌<◌, ◌+◌, Bool, true, false, List, [], ◌++◌, length, map, Option, Some, None, IsSome, option_map, get_or}
 use Rattle.std.specs.List.{list_any}
 use Rattle.fj_model.specs.declared.event.Event.{Event}
 use Rattle.fj_model.specs.declared.event.How.{How}
@@ -16,6 +16,7 @@ use Rattle.fj_model.specs.Completers.{pending, fires_or_passes}
 use Rattle.fj_model.specs.Places.{place, open_tasks, gone}
 use Rattle.fj_model.specs.Climbs.{ClimbsCompleters}
 use Rattle.fj_model.specs.Allowed.{AllowedFrom, is_fired_by_complete}
+use Rattle.fj_model.specs.Epochs.{most_events}
 use Rattle.fj_queues.specs.Queues.{Lists as Waiting, queue_at}
 use Rattle.fj_tree.specs.declared.record.Record.{Record}
 use Rattle.fj_tree.specs.Records.{Records, record_at, handle_of, count}
@@ -88,24 +89,33 @@ pub record KeepsHands (l : Bounds) (h : List Event) (hands : List (Option InHand
   pub once : (c : ℕ) → times_in c (hook_completers h) ≤ 1
   pub fired : (c : ℕ) → is_in c (hook_completers h) ≡ true → list_any (fires_or_passes c) h ≡ true
 
--- what holds of the history of each ledger, whatever is kept beside it
-pub record IsLawful (pool : Pool) (h : List Event) : Type 0 where
+-- what holds of the history of each ledger, whatever is kept beside it; it has at most so many events
+pub record IsLawful (pool : Pool) (most : ℕ) (h : List Event) : Type 0 where
   pub within : IsWithin pool.limits.workers pool.limits.submitters pool.limits.tasks pool.limits.events
   pub allowed : AllowedFrom pool [] h
   pub climbs : ClimbsCompleters h
-  pub fits : length h ≤ pool.limits.events
+  pub fits : length h ≤ most
   pub one_each : (w : ℕ) → times_in w (hook_workers h) ≤ 1
   pub once : (c : ℕ) → times_in c (hook_completers h) ≤ 1
 
+-- what was sealed is a beginning of the history, and left room for what may come
+pub record IsSealed (pool : Pool) (sealed h : List Event) : Type 0 where
+  pub begins : (present : List Event) × (h ≡ sealed ++ present)
+  -- task numbers have 64 bits
+  pub few : length sealed ≤ most_events
+  -- at the seal each task was open or gone
+  pub left : accepted sealed ≤ length (gone sealed) + pool.limits.tasks
+
 -- all that is kept, and that the history is lawful and within the limit
-pub record Holds (pool : Pool) (h : List Event) (queues : Waiting) (stacks : Lists) (hands : List (Option InHand)) (tree : Records) (opens gones : List ℕ) : Type 0 where
+pub record Holds (pool : Pool) (sealed h : List Event) (queues : Waiting) (stacks : Lists) (hands : List (Option InHand)) (tree : Records) (opens gones : List ℕ) : Type 0 where
   pub within : IsWithin pool.limits.workers pool.limits.submitters pool.limits.tasks pool.limits.events
   pub lawful : AllowedFrom pool [] h
   pub climbs : ClimbsCompleters h
-  pub fits : length h ≤ pool.limits.events
+  pub sealed_part : IsSealed pool sealed h
+  pub fits : length h ≤ length sealed + pool.limits.events
   pub queues_kept : KeepsQueues pool.limits h queues
   pub stacks_kept : KeepsStacks pool.limits h stacks
   pub hands_kept : KeepsHands pool.limits h hands
   pub tree_kept : KeepsTree pool.limits h tree
   pub open_kept : opens ≡ open_tasks h
-  pub gone_kept : gones ≡ gone h
+  pub gone_kept : gone sealed ++ gones ≡ gone h

@@ -8,6 +8,7 @@ use Rattle.fj_model.specs.declared.refusal.Refusal.TheVariants.{LogFull}
 use Rattle.fj_model.specs.declared.said.Said.{Said}
 use Rattle.fj_model.specs.declared.said.Said.TheVariants as says
 use Rattle.fj_model.specs.Answers.{taking, taking_says}
+use Rattle.fj_model.specs.Pasts.{limit}
 use Rattle.fj_model.specs.Runs.{Past, grown}
 use Rattle.fj_queues.specs.Queues.{without_first, without_last}
 use Rattle.fj_machine.specs.declared.source.Source.{Source}
@@ -44,6 +45,6 @@ pub record IsChosenFrom (past : Past) (w r : ℕ) (source : Source) : Type 0 whe
 
 -- the worker took its choice, if it has one; or the history was full, and nothing changed
 pub record TakesChoice (old : Past) (w r : ℕ) (reply : Said) (new : Past) : Type 0 where
-  pub full : old.pool.limits.events < length old.events + length (taking old.events w (choice old.pool old.events w r)) → (reply ≡ says.Refused LogFull) × (new ≡ old)
-  pub fits : length old.events + length (taking old.events w (choice old.pool old.events w r)) ≤ old.pool.limits.events
+  pub full : limit old < length old.events + length (taking old.events w (choice old.pool old.events w r)) → (reply ≡ says.Refused LogFull) × (new ≡ old)
+  pub fits : length old.events + length (taking old.events w (choice old.pool old.events w r)) ≤ limit old
       → (reply ≡ taking_says old.events (choice old.pool old.events w r)) × (new ≡ grown old (taking old.events w (choice old.pool old.events w r)))

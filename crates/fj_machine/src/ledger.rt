@@ -1,15 +1,16 @@
 //! The history, and what stands where after it. Each change here is one event.
-ghost use Rattle.std.specs.Prelude.{◌≡◌, ◌≤◌, ◌<◌, ◌+◌, ◌↔◌, [], IfOk, IfSome, IsTrue, nat_lt, option_map, MatchOption, length, true, false, Some, option_copied, is_none, ◌||◌};
+ghost use Rattle.std.specs.Prelude.{◌≡◌, ◌≤◌, ◌<◌, ◌+◌, ◌↔◌, ◌∷◌, [], IfOk, IfSome, IsTrue, nat_lt, option_map, MatchOption, length, true, false, Some, option_copied, is_none, ◌||◌};
 ghost use Rattle.std.specs.List.{list_all};
 ghost use Rattle.fj_model.specs.Queues.{queue};
 ghost use Rattle.fj_model.specs.Stacks.{stack};
-ghost use Rattle.fj_model.specs.Places.{open_tasks, gone};
+ghost use Rattle.fj_model.specs.Places.{open_tasks};
 ghost use Rattle.fj_model.specs.Tasks.{is_kept, live};
 ghost use Rattle.fj_model.specs.Climbs.{path};
 ghost use Rattle.fj_model.specs.Hooks.{hand};
-ghost use Rattle.fj_model.specs.Answers.{running, is_quiet, root_of};
+ghost use Rattle.fj_model.specs.Answers.{running, is_quiet, root_of, first_that_stands, unknown_task};
+ghost use Rattle.fj_machine.specs.Outcomes.{refusal_in};
 ghost use Rattle.fj_model.specs.Allowed.{AllowedFrom, is_closed, is_stopped};
-ghost use Rattle.fj_model.specs.Runs.{fresh};
+ghost use Rattle.fj_model.specs.Pasts.{fresh, limit, present, gone_since};
 ghost use Rattle.fj_machine.specs.Holds.{IsLawful, TellsOf, TellsHook};
 
 mod accept;
@@ -20,6 +21,7 @@ mod end;
 mod hook;
 mod relay;
 mod release;
+mod seal;
 mod settle;
 mod shut;
 mod take;
@@ -27,9 +29,9 @@ mod take;
 pub(crate) use crate::ledger::hook::Hook;
 use crate::log::Log;
 use crate::stacks::Stacks;
-use fj_model::{Event, Limits, Mode, OutOfMemory, Owner, Serial, SubId, WorkerId};
+use fj_model::{Event, Limits, Mode, OutOfMemory, Owner, Refusal, Serial, SubId, WorkerId};
 use fj_queues::{Numbers, Queues};
-use fj_tree::{Record, Tree};
+use fj_tree::{Handle, Record, Tree};
 use std::alloc::Global;
 use std::marker::Model;
 
@@ -48,22 +50,25 @@ pub(crate) struct Ledger {
 }
 
 impl Model for Ledger {
-    ghost use Rattle.std.specs.Prelude.{◌≡◌, ◌≤◌, vec_capacity};
-    ghost use Rattle.fj_model.specs.Runs.{Past};
+    ghost use Rattle.std.specs.Prelude.{◌≡◌, ◌≤◌, ◌+◌, ◌++◌, vec_capacity};
+    ghost use Rattle.fj_model.specs.Places.{gone};
+    ghost use Rattle.fj_model.specs.Pasts.{Past};
     ghost use Rattle.fj_machine.specs.Holds.{Holds};
 
     ghost Value = { Past };
 
     ghost view = { λ m. record {
       pool = record { mode = m.mode; limits = m.limits };
+      sealed = m.log.sealed;
       events = m.log.events;
+      seals = m.log.seals;
     } };
 
     ghost invariant = { λ m.
-        Holds (record { mode = m.mode; limits = m.limits }) m.log.events m.queues m.stacks m.hands.items m.tree m.open_tasks.items m.gone.items
+        Holds (record { mode = m.mode; limits = m.limits }) m.log.sealed m.log.events m.queues m.stacks m.hands.items m.tree m.open_tasks.items m.gone.items
         × (m.log.room ≡ m.limits.events)
         × (m.limits.tasks ≤ vec_capacity m.open_tasks)
-        × (m.limits.events ≤ vec_capacity m.gone) };
+        × (m.limits.events + m.limits.tasks ≤ vec_capacity m.gone) };
 }
 
 impl Ledger {
@@ -84,13 +89,14 @@ impl Ledger {
             hands: Vec::from_elem(alloc, None, workers)?,
             tree: Tree::new(alloc, tasks)?,
             open_tasks: Vec::with_capacity(alloc, tasks)?,
-            gone: Vec::with_capacity(alloc, events)?,
+            // A stop may send tasks that were opened before the last seal.
+            gone: Vec::with_capacity(alloc, events + tasks)?,
         })
     }
 
-    /// What has happened, the oldest first. Each event was allowed where it stands.
+    /// What has happened since the last seal, the oldest first. Each event was allowed where it stands.
     pub(crate) fn history(&self) -> &[Event]
-        ensures events { result.now ≡ self.now.events }
+        ensures events { result.now ≡ present self.now }
         ensures lawful { AllowedFrom self.now.pool [] self.now.events }
     {
         self.log.events()
@@ -123,9 +129,9 @@ impl Ledger {
         self.open_tasks.as_slice()
     }
 
-    /// The gone tasks, in the order in which they came to be gone.
+    /// The tasks that came to be gone since the last seal, in that order.
     pub(crate) fn gone(&self) -> &[Serial]
-        ensures { result.now ≡ gone self.now.events }
+        ensures { result.now ≡ gone_since self.now }
     {
         self.gone.as_slice()
     }
@@ -133,10 +139,49 @@ impl Ledger {
     /// The record of a task. None if it was never accepted, or was released.
     pub(crate) fn find(&self, t: Serial) -> Option<&Record>
         ensures record { MatchOption (option_copied result) (is_kept self.now.events t ≡ false) (TellsOf self.now.events t) }
-        ensures lawful { IsLawful self.now.pool self.now.events }
+        ensures lawful { IsLawful self.now.pool (limit self.now) self.now.events }
     {
         let h = self.tree.find(t)?;
         self.tree.get(h)
+    }
+
+    /// A name for a task, by which its record is found at once if it is kept.
+    pub(crate) fn named(&self, t: Serial) -> Handle
+        ensures { result.serial ≡ t }
+    {
+        match self.tree.find(t) {
+            Some(h) => h,
+            None => Handle { key: 0, serial: t },
+        }
+    }
+
+    /// The kept task of a number.
+    pub(crate) fn known(&self, t: Serial) -> Result<Handle, Refusal>
+        ensures refusal { refusal_in result ≡ first_that_stands (unknown_task self.now.events t ∷ []) }
+        ensures number { IfOk result (λ h. h.serial ≡ t) }
+        ensures lawful { IsLawful self.now.pool (limit self.now) self.now.events }
+    {
+        match self.tree.find(t) {
+            Some(h) => Ok(h),
+            None => Err(Refusal::Unknown),
+        }
+    }
+
+    /// The record of a task. None if it was released.
+    pub(crate) fn look(&self, t: Handle) -> Option<&Record>
+        ensures record { MatchOption (option_copied result) (is_kept self.now.events t.serial ≡ false) (TellsOf self.now.events t.serial) }
+        ensures lawful { IsLawful self.now.pool (limit self.now) self.now.events }
+    {
+        let h = self.tree.renew(t)?;
+        self.tree.get(h)
+    }
+
+    /// The record of a kept task.
+    pub(crate) fn record(&self, t: Handle) -> &Record
+        requires { is_kept self.now.events t.serial ≡ true }
+        ensures { TellsOf self.now.events t.serial result.now }
+    {
+        self.look(t).unwrap()
     }
 
     /// The running task of a worker: the newest that it holds. None for a worker that is not there.
@@ -158,7 +203,7 @@ impl Ledger {
     /// Whether there is such a worker.
     pub(crate) fn has_worker(&self, w: WorkerId) -> bool
         ensures there { result ≡ nat_lt w self.now.pool.limits.workers }
-        ensures lawful { IsLawful self.now.pool self.now.events }
+        ensures lawful { IsLawful self.now.pool (limit self.now) self.now.events }
     {
         w.0 < self.limits.workers()
     }
@@ -166,7 +211,7 @@ impl Ledger {
     /// Whether there is such a submitter.
     pub(crate) fn has_submitter(&self, s: SubId) -> bool
         ensures there { result ≡ nat_lt s self.now.pool.limits.submitters }
-        ensures lawful { IsLawful self.now.pool self.now.events }
+        ensures lawful { IsLawful self.now.pool (limit self.now) self.now.events }
     {
         s.0 < self.limits.submitters()
     }
@@ -174,7 +219,7 @@ impl Ledger {
     /// Whether submissions are refused: there was a shutdown or a stop.
     pub(crate) fn is_shut(&self) -> bool
         ensures closed { result ≡ (is_closed self.now.events || is_stopped self.now.events) }
-        ensures lawful { IsLawful self.now.pool self.now.events }
+        ensures lawful { IsLawful self.now.pool (limit self.now) self.now.events }
     {
         self.log.is_closed() || self.log.is_stopped()
     }
@@ -182,7 +227,7 @@ impl Ledger {
     /// Whether forks and triggers are refused too: there was a stop.
     pub(crate) fn is_stopped(&self) -> bool
         ensures stopped { result ≡ is_stopped self.now.events }
-        ensures lawful { IsLawful self.now.pool self.now.events }
+        ensures lawful { IsLawful self.now.pool (limit self.now) self.now.events }
     {
         self.log.is_stopped()
     }
@@ -197,7 +242,7 @@ impl Ledger {
     /// Whether no task is queued or held, and no completion action is in a hand.
     pub(crate) fn is_quiet(&self) -> bool
         ensures quiet { result ≡ is_quiet self.now.pool.limits self.now.events }
-        ensures lawful { IsLawful self.now.pool self.now.events }
+        ensures lawful { IsLawful self.now.pool (limit self.now) self.now.events }
     {
         if self.queues.total() > 0 {
             return false;
@@ -214,10 +259,10 @@ impl Ledger {
         self.tree.root(self.tree.find(t).unwrap()).serial
     }
 
-    /// Whether the history has room for so many events more.
+    /// Whether there is room for so many events more before the next seal.
     pub(crate) fn has_room(&self, events: u64) -> bool
-        ensures room { IsTrue result ↔ (length self.now.events + events ≤ self.now.pool.limits.events) }
-        ensures lawful { IsLawful self.now.pool self.now.events }
+        ensures room { IsTrue result ↔ (length self.now.events + events ≤ limit self.now) }
+        ensures lawful { IsLawful self.now.pool (limit self.now) self.now.events }
     {
         events <= u64::from(self.limits.events()) - self.log.len() as u64
     }

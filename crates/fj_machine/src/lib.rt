@@ -6,6 +6,7 @@
 //! whether its events fit, and then make these changes. Nothing here waits or starts a thread.
 #![tactic(auto)]
 
+mod epochs;
 mod ledger;
 mod log;
 mod machine;
@@ -14,5 +15,6 @@ mod source;
 mod stacks;
 mod steps;
 
+pub use epochs::run_epochs;
 pub use machine::Machine;
 pub use runs::run;

@@ -1,57 +1,117 @@
-ghost use Rattle.std.specs.Prelude.{◌≡◌, ◌<◌, ◌∷◌, [], ◌++◌, length, IfOk};
+ghost use Rattle.std.specs.Prelude.{◌≡◌, ◌<◌, ◌≤◌, ◌+◌, ◌∷◌, [], ◌++◌, length, nat_lt, vec_capacity, IfOk};
+ghost use Rattle.fj_model.specs.Epochs.{most_events};
 ghost use Rattle.fj_model.specs.Allowed.{is_close, is_stop, is_closed, is_stopped};
 
 use fj_model::{Event, How, Kind, Owner, Serial, Status, SubId, WorkerId};
 use std::alloc::{AllocError, Global};
 use std::marker::Model;
+use std::mem;
+use std::snapshot::Snapshot;
 
-/// A history, with room for so many events, which is taken when it is made, and whether there was a shutdown or a stop.
+/// The greatest number to which the events and the seals may add up at a seal.
+const MOST_EVENTS: u64 = 4_611_686_018_427_387_904;
+
+/// A history, of which the part since the last seal is kept, with room for so many events since then.
+///
+/// What was sealed was handed out. Only proofs read it, so nothing of it is kept when the program runs.
 #[derive(Drop)]
 pub struct Log {
+    // the log as it was when it was sealed last: a value without bytes
+    before: Option<Snapshot<Log>>,
     events: Vec<Event>,
     room: usize,
     closed: bool,
     stopped: bool,
+    // how many events were sealed, and how often
+    sealed: u64,
+    seals: u64,
 }
 
 impl Model for Log {
-    ghost use Rattle.std.specs.Prelude.{◌≤◌, vec_capacity};
-    ghost use Rattle.std.specs.Prelude.{◌≡◌};
+    ghost use Rattle.std.specs.Prelude.{◌≡◌, ◌≤◌, ◌+◌, ◌++◌, length, vec_capacity, option_map};
     ghost use Rattle.fj_model.specs.Allowed.{is_closed, is_stopped};
-    ghost use Rattle.fj_machine.specs.Logs.{Logged};
+    ghost use Rattle.fj_machine.specs.Logs.{Logged, sealed_in, seals_in};
 
     ghost Value = { Logged };
 
-    ghost view = { λ l. record { events = l.events.items; room = l.room } };
+    ghost view = { λ l. record {
+      sealed = sealed_in (option_map (λ s. s.value) l.before);
+      events = sealed_in (option_map (λ s. s.value) l.before) ++ l.events.items;
+      room = l.room;
+      seals = l.seals;
+    } };
 
-    ghost invariant = { λ l. (l.room ≤ vec_capacity l.events) × (l.closed ≡ is_closed l.events.items) × (l.stopped ≡ is_stopped l.events.items) };
+    ghost invariant = { λ l.
+        (l.room ≤ vec_capacity l.events)
+        × (l.closed ≡ is_closed (sealed_in (option_map (λ s. s.value) l.before) ++ l.events.items))
+        × (l.stopped ≡ is_stopped (sealed_in (option_map (λ s. s.value) l.before) ++ l.events.items))
+        × (l.sealed ≡ length (sealed_in (option_map (λ s. s.value) l.before)))
+        × (l.seals ≡ seals_in (option_map (λ s. s.value) l.before))
+        × (l.sealed + l.seals ≤ 4611686018427387905) };
+
+    // a log that was sealed had fewer seals
+    ghost size = { λ v. v.seals };
 }
 
 impl Log {
     /// A log without events, with room for so many.
     pub fn new(alloc: Global, room: usize) -> Result<Log, AllocError>
-        ensures { IfOk result (λ l. l ≡ record { events = []; room = room }) }
+        ensures { IfOk result (λ l. l ≡ record { sealed = []; events = []; room = room; seals = 0 }) }
     {
         Ok(Log {
+            before: None,
             events: Vec::with_capacity(alloc, room)?,
             room,
             closed: false,
             stopped: false,
+            sealed: 0,
+            seals: 0,
         })
     }
 
-    /// How many events there were.
+    /// How many events there were since the last seal.
     pub fn len(&self) -> usize
-        ensures { result ≡ length self.now.events }
+        ensures { length self.now.events ≡ length self.now.sealed + result }
     {
         self.events.len()
     }
 
-    /// The events, the first one first.
+    /// The events since the last seal, the first one first.
     pub fn events(&self) -> &[Event]
-        ensures { result.now ≡ self.now.events }
+        ensures { self.now.events ≡ self.now.sealed ++ result.now }
     {
         self.events.as_slice()
+    }
+
+    /// How many seals there were.
+    pub fn seals(&self) -> u64
+        ensures { result ≡ self.now.seals }
+    {
+        self.seals
+    }
+
+    /// Whether the events and the seals are too many for one seal more.
+    pub fn is_worn(&self) -> bool
+        ensures { result ≡ nat_lt most_events (length self.now.events + self.now.seals) }
+    {
+        let before = self.sealed + self.seals;
+        MOST_EVENTS < before || MOST_EVENTS - before < self.events.len() as u64
+    }
+
+    /// All events are sealed: those since the last seal are handed out, and the log goes on with this empty list.
+    pub fn seal(&mut self, empty: Vec<Event>) -> Vec<Event>
+        requires few { length self.old.events + self.old.seals ≤ most_events }
+        requires empty { empty.items ≡ [] }
+        requires room { self.old.room ≤ vec_capacity empty }
+        ensures part { self.old.events ≡ self.old.sealed ++ result.items }
+        ensures sealed { self.new ≡ record { sealed = self.old.events; events = self.old.events; room = self.old.room; seals = self.old.seals + 1 } }
+    {
+        let before = Snapshot::of(&*self);
+        let events = mem::replace(&mut self.events, empty);
+        self.sealed += events.len() as u64;
+        self.seals += 1;
+        self.before = Some(before);
+        events
     }
 
     /// Whether there was a shutdown.
@@ -70,8 +130,8 @@ impl Log {
 
     /// One event more. The caller answers for the room.
     pub fn push(&mut self, event: Event)
-        requires { length self.old.events < self.old.room }
-        ensures { self.new ≡ record { events = self.old.events ++ event ∷ []; room = self.old.room } }
+        requires { length self.old.events < length self.old.sealed + self.old.room }
+        ensures { self.new ≡ record { sealed = self.old.sealed; events = self.old.events ++ event ∷ []; room = self.old.room; seals = self.old.seals } }
     {
         // The check wants each type inside an event to be named where one is moved.
         let _inside: Option<(Owner, Kind, Status, How, Serial, SubId, WorkerId)> = None;

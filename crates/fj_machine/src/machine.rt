@@ -1,15 +1,20 @@
-ghost use Rattle.std.specs.Prelude.{◌≡◌, IfOk, OnErr, ◌∷◌, []};
+ghost use Rattle.std.specs.Prelude.{◌≡◌, IfOk, OnOk, IfErr, OnErr, ◌∷◌, [], ◌++◌, None, List};
 ghost use Rattle.fj_model.specs.Queues.{queue};
 ghost use Rattle.fj_model.specs.Stacks.{stack};
-ghost use Rattle.fj_model.specs.Places.{open_tasks, gone};
+ghost use Rattle.fj_model.specs.Places.{open_tasks};
 ghost use Rattle.fj_model.specs.Allowed.{AllowedFrom};
 ghost use Rattle.fj_model.specs.Answers.{answer};
-ghost use Rattle.fj_model.specs.Runs.{Steps, IsHistory, fresh};
+ghost use Rattle.fj_model.specs.Pasts.{fresh, present, gone_since, sealed_now};
+ghost use Rattle.fj_model.specs.Runs.{Steps};
+ghost use Rattle.fj_model.specs.Epochs.{IsPast, seal_refusal, RefusesSeal};
+ghost use Rattle.fj_model.specs.Parts.{Fits};
 ghost use Rattle.fj_model.specs.Headline.{Headline, RepliesTell};
+ghost use Rattle.fj_machine.specs.Outcomes.{Makes, said_by};
+ghost use Rattle.fj_model.specs.declared.epoch.Sealed.{Sealed as Part};
 ghost use Rattle.fj_model.specs.declared.refusal.Refusal.{Refusal as RefusalCase};
 
 use crate::ledger::Ledger;
-use fj_model::{Event, Limits, Mode, Owner, Refusal, Said, Serial, Step, WorkerId};
+use fj_model::{Event, Limits, Mode, Owner, Refusal, Said, Sealed, Serial, Step, WorkerId};
 use fj_queues::Numbers;
 use std::alloc::Global;
 use std::marker::Model;
@@ -23,13 +28,14 @@ pub struct Machine {
 }
 
 impl Model for Machine {
-    ghost use Rattle.fj_model.specs.Runs.{Past, IsHistory};
+    ghost use Rattle.fj_model.specs.Pasts.{Past};
+    ghost use Rattle.fj_model.specs.Epochs.{IsPast};
 
     ghost Value = { Past };
 
     ghost view = { λ m. m.ledger };
 
-    ghost invariant = { λ m. IsHistory m.ledger.pool m.ledger.events };
+    ghost invariant = { λ m. IsPast m.ledger };
 }
 
 impl Machine {
@@ -45,10 +51,11 @@ impl Machine {
         })
     }
 
-    /// What has happened, the oldest first: the history of a run, for which the headline holds.
+    /// What has happened since the last seal, the oldest first. With what was sealed before it, it is the history of a run, for which the
+    /// headline holds.
     pub fn history(&self) -> &[Event]
-        ensures events { result.now ≡ self.now.events }
-        ensures run { IsHistory self.now.pool self.now.events }
+        ensures events { result.now ≡ present self.now }
+        ensures run { IsPast self.now }
         ensures headline { Headline self.now.pool self.now.events }
     {
         self.ledger.history()
@@ -76,11 +83,36 @@ impl Machine {
         self.ledger.open()
     }
 
-    /// The gone tasks, in the order in which they came to be gone.
+    /// The tasks that came to be gone since the last seal, in that order.
     pub fn gone(&self) -> &[Serial]
-        ensures { result.now ≡ gone self.now.events }
+        ensures { result.now ≡ gone_since self.now }
     {
         self.ledger.gone()
+    }
+
+    /// How many seals there were.
+    pub fn epoch(&self) -> u64
+        ensures { result ≡ self.now.seals }
+    {
+        self.ledger.seals()
+    }
+
+    /// Hands out what has happened since the last seal, and goes on with an empty history. The kept tasks stay, open ones too, and task
+    /// numbers go on.
+    ///
+    /// It is refused by `NotIdle` where the machine is not quiescent, else by `Closed` after a shutdown or a stop, else by `LogFull` where
+    /// the events, the sealed ones too, and the seals are more than 2^62, else by `OutOfMemory`, and then changes nothing.
+    pub fn seal(&mut self, alloc: Global) -> Result<Sealed, Refusal>
+        ensures events { IfOk result (λ part. part.events.items ≡ present self.old) }
+        ensures gone { IfOk result (λ part. part.gone.items ≡ gone_since self.old) }
+        ensures may { OnOk result (seal_refusal self.old ≡ None) }
+        ensures sealed { OnOk result (self.new ≡ sealed_now self.old) }
+        // The parts that were handed out before, and this one behind them, are those of the new history.
+        ensures fits { IfOk result (λ part. (parts : List Part) → Fits parts self.old → Fits (parts ++ part ∷ []) self.new) }
+        ensures err { IfErr result (λ refusal. RefusesSeal self.old refusal) }
+        ensures stays { OnErr result (self.new ≡ self.old) }
+    {
+        self.ledger.seal(alloc)
     }
 
     /// Makes one step: the reply, after which the events of the step stand at the end of the history. It takes no memory.
@@ -107,18 +139,30 @@ impl Machine {
     pub fn step(&mut self, asked: &Step) -> Said
         ensures step { Steps self.old asked.now result self.new }
         // Each event may follow those before it.
-        ensures allowed { AllowedFrom self.old.pool self.old.events (answer self.old.pool self.old.events asked.now).1 }
+        ensures allowed { AllowedFrom self.old.pool self.old.events (answer self.old asked.now).1 }
         // The reply `task`, `run` or `hook` is given exactly where a task is accepted, a task or a hook is handed out.
-        ensures tells { RepliesTell (answer self.old.pool self.old.events asked.now).1 (result ∷ []) }
+        ensures tells { RepliesTell (answer self.old asked.now).1 (result ∷ []) }
+        // Nothing was handed out.
+        ensures fits { (parts : List Part) → Fits parts self.old → Fits parts self.new }
         ensures refused { (r : RefusalCase) → result ≡ Said.Refused r → self.new ≡ self.old }
     {
-        make(&mut self.ledger, asked)
+        said(make(&mut self.ledger, asked))
     }
 }
 
-/// Makes one step.
-fn make(ledger: &mut Ledger, asked: &Step) -> Said
-    ensures { Steps ledger.old asked.now result ledger.new }
+/// The reply to a step.
+fn said(outcome: Result<Said, Refusal>) -> Said
+    ensures { result ≡ said_by outcome }
+{
+    match outcome {
+        Ok(said) => said,
+        Err(refusal) => Said::Refused(refusal),
+    }
+}
+
+/// Makes one step, or tells why it is refused.
+fn make(ledger: &mut Ledger, asked: &Step) -> Result<Said, Refusal>
+    ensures { Makes ledger.old asked.now result ledger.new }
 {
     match *asked {
         Step::Submit { s, kind } => ledger.submit(s, &kind),
@@ -131,7 +175,7 @@ fn make(ledger: &mut Ledger, asked: &Step) -> Said
         Step::HookDone { w } => ledger.hook_done(w),
         Step::Add { w, c, n } => ledger.add(w, c, n),
         Step::QuietRoot { w, t } => ledger.quiet_root(w, t),
-        Step::IsQuiescent => ledger.is_quiescent(),
+        Step::IsQuiescent => Ok(ledger.is_quiescent()),
         Step::State { t } => ledger.state(t),
         Step::Fault { t, code } => ledger.fault(t, code),
         Step::Cancel { t } => ledger.cancel(t),

@@ -1,17 +1,17 @@
 -- The headline holds of the history of every run.
-use Rattle.std.proofs.Common.{List}
-use Rattle.fj_model.specs.declared.event.Event.{Event}
-use Rattle.fj_model.specs.Bounds.{Pool}
 use Rattle.fj_model.specs.Headline.{Headline}
-use Rattle.fj_model.specs.Runs.{IsHistory}
+use Rattle.fj_model.specs.Pasts.{Past}
+use Rattle.fj_model.specs.Epochs.{IsPast}
 use Rattle.fj_model.proofs.AnswersAllowed.{history_allowed}
 use Rattle.fj_model.proofs.Lawful.{handed_once, left_in_order}
 use Rattle.fj_model.proofs.OnePlace.{one_place}
 use Rattle.fj_model.proofs.Firings.{none_after_shutdown, fired_once, fired_at_zero}
 
-pub headline : (pool : Pool) (h : List Event) → IsHistory pool h → Headline pool h
-headline pool h run =
-    let so = history_allowed pool h run in
+pub headline : (past : Past) → IsPast past → Headline past.pool past.events
+headline past run =
+    let pool = past.pool in
+    let h = past.events in
+    let so = history_allowed past run in
     record {
       allowed = so;
       place = one_place pool h so;

@@ -60,3 +60,5 @@ pub mod Closing
 pub mod KeptParents
 pub mod Settling
 pub mod ArrivalPlaces
+pub mod Sealing
+pub mod Parting

@@ -171,8 +171,9 @@ member_passes p (y ∷ ys) x (suc k) passes within is = or_right (p y) (list_any
 -- a completer is fired by Complete only by the ending Complete of the worker that runs it
 pub fires_by_complete_only_own : (pool : Pool) → FiresByCompleteOnlyOwn pool
 unfolding answer
-fires_by_complete_only_own pool h asked c contains = go (refusal_of pool h asked) (member_passes (fires_by_complete c) (answer pool h asked).1 (Fire c how.Complete) contains.0 (eq-eqb c c refl) contains.1 contains.2)
+fires_by_complete_only_own pool past asked c same contains =
+    go (refusal_of past asked) (member_passes (fires_by_complete c) (answer past asked).1 (Fire c how.Complete) contains.0 (eq-eqb c c refl) contains.1 contains.2)
   where
-    go : (r : Option Refusal) → list_any (fires_by_complete c) (answer_of pool h asked r).1 ≡ true → IsOwn h asked c
-    go None there = step_own pool h asked c there
+    go : (r : Option Refusal) → list_any (fires_by_complete c) (answer_of past asked r).1 ≡ true → IsOwn past.events asked c
+    go None there = step_own past.pool past.events asked c there
     go (Some refusal) there = absurd cc

@@ -20,6 +20,7 @@ use Rattle.fj_model.specs.declared.said.Said.{Said}
 use Rattle.fj_model.specs.declared.said.Said.TheVariants as says
 use Rattle.fj_model.specs.Bounds.{Pool}
 use Rattle.fj_model.specs.Answers.{answer_of, refusal_of}
+use Rattle.fj_model.specs.Pasts.{Past}
 use Rattle.fj_model.specs.Tasks.{accepted, tasks, released, is_kept, live, kind, is_completer, parent}
 use Rattle.fj_model.specs.Queues.{pushed, taken, left, queue}
 use Rattle.fj_model.specs.Stacks.{ended, stack}
@@ -33,16 +34,20 @@ use Rattle.fj_model.specs.Choices.{first_queued, choice}
 use Rattle.fj_model.specs.Allowed.{is_closed, is_stopped, has_kept_child, is_fired_by_complete}
 use Rattle.fj_model.specs.Answers.{is_quiet, events_of, reply_of}
 
+-- the past of a machine without seals
+abbrev pub unsealed : Pool → List Event → Past
+unsealed pool h = record { pool = pool; sealed = []; events = h; seals = 0 }
+
 -- the replies to the steps after this history, of a machine that has them all
 abbrev pub replies_after : Pool → List Event → List Step → List Said
 replies_after pool h [] = []
 replies_after pool h (asked ∷ steps) =
-    let told = answer_of pool h asked (refusal_of pool h asked) in told.0 ∷ replies_after pool (h ++ told.1) steps
+    let told = answer_of (unsealed pool h) asked (refusal_of (unsealed pool h) asked) in told.0 ∷ replies_after pool (h ++ told.1) steps
 
 -- the history that they leave
 abbrev pub history_after : Pool → List Event → List Step → List Event
 history_after pool h [] = h
-history_after pool h (asked ∷ steps) = history_after pool (h ++ (answer_of pool h asked (refusal_of pool h asked)).1) steps
+history_after pool h (asked ∷ steps) = history_after pool (h ++ (answer_of (unsealed pool h) asked (refusal_of (unsealed pool h) asked)).1) steps
 
 -- each event was allowed where it stands, and each task is in one place
 abbrev pub is_sound : Pool → List Event → Bool

@@ -9,6 +9,7 @@ use Rattle.fj_model.specs.declared.refusal.Refusal.TheVariants.{LogFull}
 use Rattle.fj_model.specs.Bounds.{Pool}
 use Rattle.fj_model.specs.Lists.{or_else}
 use Rattle.fj_model.specs.Allowed.{AllowedFrom, newest}
+use Rattle.fj_model.specs.Pasts.{Past}
 use Rattle.fj_model.specs.Answers.{refusal_of, first_that_stands, refusals_of, does_not_fit}
 
 -- events that may follow, after events that may
@@ -52,14 +53,9 @@ some_or_none (Some x) none = absurd cc
 -- what holds where a step is not refused
 pub record Stands (pool : Pool) (h : List Event) (asked : Step) : Type 0 where
   pub tests : AllFail (refusals_of pool h asked)
-  pub fits : does_not_fit pool h asked ≡ false
 
-pub stands : (pool : Pool) (h : List Event) (asked : Step) → refusal_of pool h asked ≡ None → Stands pool h asked
+pub stands : (past : Past) (asked : Step) → refusal_of past asked ≡ None → Stands past.pool past.events asked
 unfolding refusal_of
-stands pool h asked none =
-    let parts = neither (first_that_stands (refusals_of pool h asked)) (if does_not_fit pool h asked then Some LogFull else None) none in
-    record { tests = all_fail (refusals_of pool h asked) parts.0; fits = fitting (does_not_fit pool h asked) parts.1 }
-  where
-    fitting : (b : Bool) → ◌≡◌ {A = Option Refusal} (if b then Some LogFull else None) None → b ≡ false
-    fitting true none = absurd cc
-    fitting false none = refl
+stands past asked none =
+    let tests = first_that_stands (refusals_of past.pool past.events asked) in
+    record { tests = all_fail (refusals_of past.pool past.events asked) (neither tests (if does_not_fit past asked then Some LogFull else None) none).0 }

@@ -27,6 +27,7 @@ use Rattle.fj_model.specs.Hooks.{hand}
 use Rattle.fj_model.specs.Statuses.{status, is_undone}
 use Rattle.fj_model.specs.Completers.{pending, is_spent}
 use Rattle.fj_model.specs.Places.{place, is_gone}
+use Rattle.fj_model.specs.Pasts.{Past, limit}
 use Rattle.fj_model.specs.Choices.{choice}
 use Rattle.fj_model.specs.Climbs.{Arrival, arrival, path, passed, relayed}
 use Rattle.fj_model.specs.Climbs as climb
@@ -289,19 +290,19 @@ refusals_of pool h IsQuiescent = []
 refusals_of pool h (State t) = unknown_task h t ∷ []
 refusals_of pool h (Release t) = unknown_task h t ∷ (not (is_gone (place h t)) || has_kept_child h t, NotDone) ∷ []
 
--- whether the history would pass its limit by the events of the step
-abbrev pub does_not_fit : Pool → List Event → Step → Bool
-does_not_fit pool h asked = nat_lt pool.limits.events (length h + length (events_of pool h asked))
+-- whether the events since the last seal would be more than the limit by those of the step
+abbrev pub does_not_fit : Past → Step → Bool
+does_not_fit past asked = nat_lt (limit past) (length past.events + length (events_of past.pool past.events asked))
 
 -- why the step is refused, if it is: the first test that stands, and else where its events do not fit
-unfoldable pub refusal_of : Pool → List Event → Step → Option Refusal
-refusal_of pool h asked = or_else (first_that_stands (refusals_of pool h asked)) (if does_not_fit pool h asked then Some LogFull else None)
+unfoldable pub refusal_of : Past → Step → Option Refusal
+refusal_of past asked = or_else (first_that_stands (refusals_of past.pool past.events asked)) (if does_not_fit past asked then Some LogFull else None)
 
 -- what a refused step, and one that is not refused, replies and appends
-abbrev pub answer_of : Pool → List Event → Step → Option Refusal → Said × List Event
-answer_of pool h asked (Some refusal) = (says.Refused refusal, [])
-answer_of pool h asked None = (reply_of pool h asked, events_of pool h asked)
+abbrev pub answer_of : Past → Step → Option Refusal → Said × List Event
+answer_of past asked (Some refusal) = (says.Refused refusal, [])
+answer_of past asked None = (reply_of past.pool past.events asked, events_of past.pool past.events asked)
 
 -- the one reply to the step, and the events that it appends
-unfoldable pub answer : Pool → List Event → Step → Said × List Event
-answer pool h asked = answer_of pool h asked (refusal_of pool h asked)
+unfoldable pub answer : Past → Step → Said × List Event
+answer past asked = answer_of past asked (refusal_of past asked)

@@ -25,6 +25,7 @@ use Rattle.fj_model.specs.Queues.{pushed, left, queue}
 use Rattle.fj_model.specs.Stacks.{stack}
 use Rattle.fj_model.specs.Completers.{pending}
 use Rattle.fj_model.specs.Places.{open_tasks, gone}
+use Rattle.fj_model.specs.Pasts.{Past}
 
 -- the lists of all places, joined
 unfoldable pub all_places : Bounds → List Event → List ℕ
@@ -81,8 +82,8 @@ FiredAtZero h = (before later : List Event) (c : ℕ) → h ≡ before ++ Fire c
 -- a `Fire(c, Complete)` is appended only by the ending Complete of a worker whose running task is c
 abbrev pub FiresByCompleteOnlyOwn : Pool → Type 0
 FiresByCompleteOnlyOwn pool =
-    (h : List Event) (asked : Step) (c : ℕ) → Contains (answer pool h asked).1 (Fire c Complete)
-    → (w : ℕ) × (asked ≡ ask.End w ending.Complete) × (running h w ≡ Some c)
+    (past : Past) (asked : Step) (c : ℕ) → past.pool ≡ pool → Contains (answer past asked).1 (Fire c Complete)
+    → (w : ℕ) × (asked ≡ ask.End w ending.Complete) × (running past.events w ≡ Some c)
 
 -- the task that a reply accepts, the one that it hands out for running, and the completer whose hook it hands out
 abbrev pub task_in : Said → Option ℕ

@@ -9,8 +9,11 @@ pub mod Completers
 pub mod Places
 pub mod Climbs
 pub mod Choices
+pub mod Pasts
 pub mod Allowed
 pub mod Answers
+pub mod Epochs
+pub mod Parts
 pub mod Runs
 pub mod Headline
 pub mod Words

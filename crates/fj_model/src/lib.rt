@@ -4,6 +4,7 @@
 //! is a definition over its history, in `specs/`; the laws that hold of every history are in `proofs/`.
 #![tactic(auto)]
 
+mod epoch;
 mod event;
 mod ids;
 mod kind;
@@ -20,6 +21,7 @@ mod status;
 mod step;
 mod write;
 
+pub use epoch::{Answer, Move, Sealed};
 pub use event::{Event, How};
 pub use ids::{Serial, SubId, WorkerId};
 pub use kind::{Kind, SubmittedKind};

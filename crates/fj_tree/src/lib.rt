@@ -14,6 +14,7 @@
 mod arrive;
 mod climb;
 mod handle;
+mod hints;
 mod kept;
 mod pass;
 mod record;

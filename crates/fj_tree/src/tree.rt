@@ -14,6 +14,7 @@ mod releases;
 
 use crate::arrive::Arrived;
 use crate::handle::Handle;
+use crate::hints::Hints;
 use crate::kept::Kept;
 use crate::record::Record;
 use fj_model::{Kind, MAX_PENDING, OutOfMemory, Place, Refusal, Serial, Status};
@@ -27,6 +28,8 @@ pub struct Tree {
     records: Slab<Record>,
     /// The numbers of the records, by which they are found.
     kept: Kept,
+    /// For each number below 4,096, the key under which the last number was put that leaves this rest: where to look first.
+    hints: Hints,
     /// How many records were made so far, which is the number of the next one.
     made: u64,
     room: usize,
@@ -51,9 +54,11 @@ impl Tree {
     {
         let records = Slab::with_capacity(alloc, room)?;
         let kept = Kept::new(alloc, room)?;
+        let hints = Hints::new(alloc)?;
         Ok(Tree {
             records,
             kept,
+            hints,
             made: 0,
             room,
         })
@@ -102,8 +107,30 @@ impl Tree {
         ensures absent { IfNone result ((key : ℕ) (r : Record) → record_at self.now key ≡ Some r → r.serial ≢ serial) }
         ensures sound { IsSound self.now }
     {
+        let _ = &self.records;
+        let guess = Handle {
+            key: self.hints.key(serial),
+            serial,
+        };
+        if self.get(guess).is_some() {
+            return Some(guess);
+        }
         let key = self.kept.key(serial)?;
         Some(Handle { key, serial })
+    }
+
+    /// The kept record of a handle's number: the handle itself where it is good. None if that number is not kept.
+    pub fn renew(&self, h: Handle) -> Option<Handle>
+        ensures found { result ≡ handle_of self.now h.serial }
+        ensures good { IfSome result (IsGood self.now) }
+        ensures sound { IsSound self.now }
+    {
+        let _ = &self.records;
+        if self.get(h).is_some() {
+            Some(h)
+        } else {
+            self.find(h.serial)
+        }
     }
 
     /// Makes a completer spent. The caller answers for a good handle of a completer.
@@ -244,6 +271,7 @@ impl Tree {
             children: 0,
         });
         self.kept.push(serial, key);
+        self.hints.put(serial, key);
         self.made += 1;
         if let Some(p) = parent {
             self.records[p.key].children += 1;

@@ -5,6 +5,8 @@
 #[cfg(test)]
 mod completer_tests;
 #[cfg(test)]
+mod epoch_tests;
+#[cfg(test)]
 mod failure_tests;
 #[cfg(test)]
 mod picks;

@@ -4,6 +4,7 @@ ghost use Rattle.fj_model.specs.declared.event.Event.TheVariants.{Acc, Make};
 ghost use Rattle.fj_model.specs.declared.kind.Kind.TheVariants.{Completer};
 ghost use Rattle.fj_model.specs.Tasks.{accepted};
 ghost use Rattle.fj_model.specs.Allowed.{Allowed};
+ghost use Rattle.fj_model.specs.Pasts.{limit};
 ghost use Rattle.fj_model.specs.Runs.{grown};
 
 use crate::ledger::Ledger;
@@ -13,7 +14,7 @@ impl Ledger {
     /// Accepts a task into an owner's queue, with the next number.
     pub(crate) fn accept(&mut self, owner: &Owner, kind: &Kind) -> Serial
         requires may { Allowed self.old.pool self.old.events (Acc (accepted self.old.events) owner.now kind.now) }
-        requires fits { length self.old.events < self.old.pool.limits.events }
+        requires fits { length self.old.events < limit self.old }
         ensures number { result ≡ accepted self.old.events }
         ensures events { self.new ≡ grown self.old (Acc (accepted self.old.events) owner.now kind.now ∷ []) }
     {
@@ -26,7 +27,7 @@ impl Ledger {
     /// Makes a trigger, with the next number. It is open at once.
     pub(crate) fn make_trigger(&mut self, count: u32) -> Serial
         requires may { Allowed self.old.pool self.old.events (Make (accepted self.old.events) (Completer None count true)) }
-        requires fits { length self.old.events < self.old.pool.limits.events }
+        requires fits { length self.old.events < limit self.old }
         ensures number { result ≡ accepted self.old.events }
         ensures events { self.new ≡ grown self.old (Make (accepted self.old.events) (Completer None count true) ∷ []) }
     {

@@ -1,5 +1,5 @@
 //! Where climbs without completion actions end.
-ghost use Rattle.std.specs.Prelude.{◌≡◌, ◌≤◌, ◌∷◌, [], ◌++◌, true};
+ghost use Rattle.std.specs.Prelude.{◌≡◌, ◌^◌, ◌≤◌, ◌∷◌, [], ◌++◌, true};
 ghost use Rattle.fj_model.specs.declared.event.Event.TheVariants.{End};
 ghost use Rattle.fj_model.specs.Tasks.{is_completer};
 ghost use Rattle.fj_model.specs.Allowed.{Allowed};
@@ -7,7 +7,7 @@ ghost use Rattle.fj_machine.specs.Climbing.{Climbs};
 
 use crate::ledger::Ledger;
 use fj_model::{Serial, WorkerId};
-use fj_tree::{PassEnd, PassHow};
+use fj_tree::{Handle, PassEnd, PassHow};
 
 /// Where a climb without completion actions ends.
 #[derive(Drop)]
@@ -22,14 +22,14 @@ pub(crate) struct Climb {
 
 impl Ledger {
     /// Where a climb from a running completer ends, once its body has ended.
-    pub(crate) fn pass_look(&self, t: Serial, w: WorkerId) -> Climb
-        requires may { Allowed self.now.pool self.now.events (End t w) }
-        requires completer { is_completer self.now.events t ≡ true }
-        ensures climbs { Climbs (self.now.events ++ End t w ∷ []) t result }
-        ensures few { result.passed ≤ 1048576 }
+    pub(crate) fn pass_look(&self, t: Handle, w: WorkerId) -> Climb
+        requires may { Allowed self.now.pool self.now.events (End t.serial w) }
+        requires completer { is_completer self.now.events t.serial ≡ true }
+        ensures climbs { Climbs (self.now.events ++ End t.serial w ∷ []) t.serial result }
+        ensures few { result.passed ≤ 2 ^ 63 }
     {
         let _ = w;
-        by_number(self.tree.pass_look(self.tree.find(t).unwrap()))
+        by_number(self.tree.pass_look(self.tree.renew(t).unwrap()))
     }
 }
 

@@ -4,18 +4,20 @@ ghost use Rattle.fj_model.specs.declared.event.Event.TheVariants.{Add, Dec, Fire
 ghost use Rattle.fj_model.specs.Hooks.{hooks, hand, receiver};
 ghost use Rattle.fj_model.specs.Tasks.{is_kept, is_completer};
 ghost use Rattle.fj_model.specs.Allowed.{Allowed};
+ghost use Rattle.fj_model.specs.Pasts.{limit};
 ghost use Rattle.fj_model.specs.Runs.{grown};
 
 use crate::ledger::Ledger;
 use crate::ledger::close::close;
 use crate::ledger::hook::Hook;
 use fj_model::{Event, How, Serial, WorkerId};
+use fj_tree::Handle;
 
 impl Ledger {
     /// Raises the pending count of a completer.
     pub(crate) fn raise(&mut self, c: Serial, n: u32)
         requires may { Allowed self.old.pool self.old.events (Add c n) }
-        requires fits { length self.old.events < self.old.pool.limits.events }
+        requires fits { length self.old.events < limit self.old }
         ensures { self.new ≡ grown self.old (Add c n ∷ []) }
     {
         let h = self.tree.find(c).unwrap();
@@ -24,36 +26,36 @@ impl Ledger {
     }
 
     /// Lowers the pending count of a completer by one.
-    pub(crate) fn count_down(&mut self, c: Serial)
-        requires kept { is_kept self.old.events c ≡ true }
-        requires completer { is_completer self.old.events c ≡ true }
-        requires may { Allowed self.old.pool self.old.events (Dec c) }
-        requires fits { length self.old.events < self.old.pool.limits.events }
-        ensures { self.new ≡ grown self.old (Dec c ∷ []) }
+    pub(crate) fn count_down(&mut self, c: Handle)
+        requires kept { is_kept self.old.events c.serial ≡ true }
+        requires completer { is_completer self.old.events c.serial ≡ true }
+        requires may { Allowed self.old.pool self.old.events (Dec c.serial) }
+        requires fits { length self.old.events < limit self.old }
+        ensures { self.new ≡ grown self.old (Dec c.serial ∷ []) }
     {
-        let h = self.tree.find(c).unwrap();
-        self.log.push(Event::Dec(c));
+        let h = self.tree.renew(c).unwrap();
+        self.log.push(Event::Dec(c.serial));
         self.tree.arrive(h);
     }
 
     /// Fires a completer: its completion action goes into the hand of the worker.
-    pub(crate) fn fire(&mut self, c: Serial, w: WorkerId, how: How)
+    pub(crate) fn fire(&mut self, c: Handle, w: WorkerId, how: How)
         requires worker { w < self.old.pool.limits.workers }
-        requires kept { is_kept self.old.events c ≡ true }
-        requires completer { is_completer self.old.events c ≡ true }
+        requires kept { is_kept self.old.events c.serial ≡ true }
+        requires completer { is_completer self.old.events c.serial ≡ true }
         requires free { hand self.old.events w ≡ None }
-        requires given { receiver c (hooks self.old.events).just_ended (hooks self.old.events).last_worker ≡ Some w }
-        requires may { Allowed self.old.pool self.old.events (Fire c how) }
-        requires fits { length self.old.events < self.old.pool.limits.events }
-        ensures { self.new ≡ grown self.old (Fire c how ∷ []) }
+        requires given { receiver c.serial (hooks self.old.events).just_ended (hooks self.old.events).last_worker ≡ Some w }
+        requires may { Allowed self.old.pool self.old.events (Fire c.serial how) }
+        requires fits { length self.old.events < limit self.old }
+        ensures { self.new ≡ grown self.old (Fire c.serial how ∷ []) }
     {
-        let h = self.tree.find(c).unwrap();
+        let h = self.tree.renew(c).unwrap();
         let parent = self.tree.get(h).unwrap().kind.parent();
-        self.log.push(Event::Fire(c, how));
+        self.log.push(Event::Fire(c.serial, how));
         self.tree.fire(h);
         close(&mut self.tree, &mut self.open_tasks, &mut self.gone, h);
         self.hands[w.0 as usize] = Some(Hook {
-            completer: c,
+            completer: c.serial,
             parent,
             how,
             left: None,
@@ -65,7 +67,7 @@ impl Ledger {
         requires kept { is_kept self.old.events c ≡ true }
         requires completer { is_completer self.old.events c ≡ true }
         requires may { Allowed self.old.pool self.old.events (Pass c) }
-        requires fits { length self.old.events < self.old.pool.limits.events }
+        requires fits { length self.old.events < limit self.old }
         ensures { self.new ≡ grown self.old (Pass c ∷ []) }
     {
         let h = self.tree.find(c).unwrap();

@@ -5,41 +5,42 @@ ghost use Rattle.fj_model.specs.Tasks.{is_completer_kind};
 ghost use Rattle.fj_model.specs.Hooks.{hand};
 ghost use Rattle.fj_tree.specs.Arrivals.{is_spent};
 ghost use Rattle.fj_model.specs.Allowed.{Allowed};
+ghost use Rattle.fj_model.specs.Pasts.{limit};
 ghost use Rattle.fj_model.specs.Runs.{grown};
 
 use crate::ledger::Ledger;
-use fj_model::{Event, Place, Serial, WorkerId};
-use fj_tree::Record;
+use fj_model::{Event, Place, WorkerId};
+use fj_tree::{Handle, Record};
 
 impl Ledger {
     /// The body of a worker's running task ends. A completer that is not spent is open from now on.
-    pub(crate) fn end_body(&mut self, t: Serial, w: WorkerId)
+    pub(crate) fn end_body(&mut self, t: Handle, w: WorkerId)
         requires worker { w < self.old.pool.limits.workers }
-        requires may { Allowed self.old.pool self.old.events (End t w) }
-        requires fits { length self.old.events < self.old.pool.limits.events }
-        ensures { self.new ≡ grown self.old (End t w ∷ []) }
+        requires may { Allowed self.old.pool self.old.events (End t.serial w) }
+        requires fits { length self.old.events < limit self.old }
+        ensures { self.new ≡ grown self.old (End t.serial w ∷ []) }
     {
-        let h = self.tree.find(t).unwrap();
+        let h = self.tree.renew(t).unwrap();
         let stays = stays_open(self.tree.get(h).unwrap());
-        self.log.push(Event::End(t, w));
+        self.log.push(Event::End(t.serial, w));
         self.stacks.take_last(w.0 as usize);
         if stays {
             self.tree.set_place(h, Place::Open);
-            self.open_tasks.push_reserved(t);
+            self.open_tasks.push_reserved(t.serial);
         } else {
             self.tree.set_place(h, Place::Gone);
-            self.gone.push_reserved(t);
+            self.gone.push_reserved(t.serial);
         }
     }
 
     /// The completion action in a worker's hand ends.
-    pub(crate) fn end_hook(&mut self, c: Serial, w: WorkerId)
+    pub(crate) fn end_hook(&mut self, c: Handle, w: WorkerId)
         requires worker { w < self.old.pool.limits.workers }
-        requires hand { hand self.old.events w ≡ Some c }
-        requires fits { length self.old.events < self.old.pool.limits.events }
-        ensures { self.new ≡ grown self.old (Hooked c ∷ []) }
+        requires hand { hand self.old.events w ≡ Some c.serial }
+        requires fits { length self.old.events < limit self.old }
+        ensures { self.new ≡ grown self.old (Hooked c.serial ∷ []) }
     {
-        self.log.push(Event::Hooked(c));
+        self.log.push(Event::Hooked(c.serial));
         self.hands[w.0 as usize] = None;
     }
 }

@@ -3,6 +3,7 @@ ghost use Rattle.std.specs.Prelude.{◌≡◌, ◌≤◌, ◌<◌, ◌+◌, ◌�
 ghost use Rattle.std.specs.List.Sorted.{IsNonDecreasing};
 ghost use Rattle.fj_model.specs.declared.event.Event.TheVariants.{Close, Stop};
 ghost use Rattle.fj_model.specs.Allowed.{Allowed};
+ghost use Rattle.fj_model.specs.Pasts.{limit};
 ghost use Rattle.fj_model.specs.Runs.{grown};
 
 use crate::ledger::Ledger;
@@ -13,7 +14,7 @@ impl Ledger {
     /// No submission is accepted from now on.
     pub(crate) fn close_pool(&mut self)
         requires may { Allowed self.old.pool self.old.events Close }
-        requires fits { length self.old.events < self.old.pool.limits.events }
+        requires fits { length self.old.events < limit self.old }
         ensures { self.new ≡ grown self.old (Close ∷ []) }
     {
         self.log.push(Event::Close);
@@ -22,7 +23,7 @@ impl Ledger {
     /// Each undone task is cancelled, the open ones go, and no task is accepted from now on. Queues and stacks stay as they are.
     pub(crate) fn stop_pool(&mut self)
         requires may { Allowed self.old.pool self.old.events Stop }
-        requires fits { length self.old.events < self.old.pool.limits.events }
+        requires fits { length self.old.events < limit self.old }
         ensures { self.new ≡ grown self.old (Stop ∷ []) }
     {
         self.log.push(Event::Stop);

@@ -4,6 +4,7 @@ ghost use Rattle.fj_model.specs.Bounds.{queues_in};
 ghost use Rattle.fj_model.specs.Choices.{choice};
 ghost use Rattle.fj_model.specs.Allowed.{AllowedFrom};
 ghost use Rattle.fj_model.specs.Answers.{taking, taking_says};
+ghost use Rattle.fj_model.specs.Pasts.{limit};
 ghost use Rattle.fj_model.specs.Runs.{grown};
 ghost use Rattle.fj_machine.specs.Sources.{IsChosenFrom, queue_of, task_at, tasks_there};
 
@@ -33,7 +34,7 @@ impl Ledger {
     /// Takes a queued task: it is handed out if it is undone, and else skipped.
     pub(crate) fn take(&mut self, w: WorkerId, source: Source) -> Said
         requires worker { w < self.old.pool.limits.workers }
-        requires fits { length self.old.events < self.old.pool.limits.events }
+        requires fits { length self.old.events < limit self.old }
         requires queue { queue_of source < queues_in self.old.pool.limits }
         requires filled { 0 < length (tasks_there self.old source) }
         requires may { AllowedFrom self.old.pool self.old.events (taking self.old.events w (task_at self.old source)) }

@@ -4,107 +4,84 @@ ghost use Rattle.fj_model.specs.declared.refusal.Refusal.TheVariants.{Unknown, N
 ghost use Rattle.fj_model.specs.declared.step.Step.TheVariants.{Fork, Submit, Trigger};
 ghost use Rattle.fj_model.specs.Tasks.{parent_in};
 ghost use Rattle.fj_model.specs.Answers.{first_that_stands, refusals_of, is_unknown_parent, is_plain_parent};
-ghost use Rattle.fj_model.specs.Runs.{Steps};
+ghost use Rattle.fj_machine.specs.Outcomes.{Makes, refusal_in};
 
 use crate::ledger::Ledger;
 use fj_model::{Kind, Owner, Refusal, Said, SubId, SubmittedKind, WorkerId};
+use fj_tree::Handle;
 
 impl Ledger {
     /// A submitter hands in a task, which goes to the new end of its queue: `ForkJoinPool.submit`.
-    pub(crate) fn submit(&mut self, s: SubId, kind: &SubmittedKind) -> Said
-        ensures { Steps self.old (Submit s kind.now) result self.new }
+    pub(crate) fn submit(&mut self, s: SubId, kind: &SubmittedKind) -> Result<Said, Refusal>
+        ensures { Makes self.old (Submit s kind.now) result self.new }
     {
-        if let Some(refusal) = self.submit_refusal(s, kind) {
-            return Said::Refused(refusal);
-        }
-        if !self.has_room(1) {
-            return Said::Refused(Refusal::LogFull);
-        }
-        Said::Task(self.accept(&Owner::Sub(s), &kind.to_kind()))
+        self.may_submit(s, kind)?;
+        self.room_for(1)?;
+        Ok(Said::Task(self.accept(&Owner::Sub(s), &kind.to_kind())))
     }
 
     /// The running task of a worker forks a task, which goes to the new end of the worker's queue: `ForkJoinTask.fork`.
-    pub(crate) fn fork(&mut self, w: WorkerId, kind: &Kind) -> Said
-        ensures { Steps self.old (Fork w kind.now) result self.new }
+    pub(crate) fn fork(&mut self, w: WorkerId, kind: &Kind) -> Result<Said, Refusal>
+        ensures { Makes self.old (Fork w kind.now) result self.new }
     {
-        if let Some(refusal) = self.fork_refusal(w, kind) {
-            return Said::Refused(refusal);
-        }
-        if !self.has_room(1) {
-            return Said::Refused(Refusal::LogFull);
-        }
-        Said::Task(self.accept(&Owner::Work(w), kind))
+        self.may_fork(w, kind)?;
+        self.room_for(1)?;
+        Ok(Said::Task(self.accept(&Owner::Work(w), kind)))
     }
 
     /// The running task of a worker makes a trigger: a completer without a parent that is never queued.
-    pub(crate) fn trigger(&mut self, w: WorkerId, count: u32) -> Said
-        ensures { Steps self.old (Trigger w count) result self.new }
+    pub(crate) fn trigger(&mut self, w: WorkerId, count: u32) -> Result<Said, Refusal>
+        ensures { Makes self.old (Trigger w count) result self.new }
     {
-        if let Some(refusal) = self.trigger_refusal(w, count) {
-            return Said::Refused(refusal);
-        }
-        if !self.has_room(1) {
-            return Said::Refused(Refusal::LogFull);
-        }
-        Said::Task(self.make_trigger(count))
+        self.may_trigger(w, count)?;
+        self.room_for(1)?;
+        Ok(Said::Task(self.make_trigger(count)))
     }
 
-    fn submit_refusal(&self, s: SubId, kind: &SubmittedKind) -> Option<Refusal>
-        ensures { result ≡ first_that_stands (refusals_of self.now.pool self.now.events (Submit s kind.now)) }
+    fn may_submit(&self, s: SubId, kind: &SubmittedKind) -> Result<(), Refusal>
+        ensures { refusal_in result ≡ first_that_stands (refusals_of self.now.pool self.now.events (Submit s kind.now)) }
     {
         if !self.has_submitter(s) {
-            return Some(Refusal::NoSuch);
+            return Err(Refusal::NoSuch);
         }
         if self.is_shut() {
-            return Some(Refusal::Closed);
+            return Err(Refusal::Closed);
         }
-        self.room_refusal(kind.to_kind().count())
+        self.task_room(kind.to_kind().count())
     }
 
-    fn fork_refusal(&self, w: WorkerId, kind: &Kind) -> Option<Refusal>
-        ensures { result ≡ first_that_stands (refusals_of self.now.pool self.now.events (Fork w kind.now)) }
+    fn may_fork(&self, w: WorkerId, kind: &Kind) -> Result<(), Refusal>
+        ensures { refusal_in result ≡ first_that_stands (refusals_of self.now.pool self.now.events (Fork w kind.now)) }
     {
-        let refusal = self.running_refusal(w);
-        if refusal.is_some() {
-            return refusal;
-        }
-        let refusal = self.parent_refusal(kind);
-        if refusal.is_some() {
-            return refusal;
-        }
+        self.running_task(w)?;
+        self.parent_of(kind)?;
         if self.is_stopped() {
-            return Some(Refusal::Closed);
+            return Err(Refusal::Closed);
         }
-        self.room_refusal(kind.count())
+        self.task_room(kind.count())
     }
 
-    /// Why the parent that a kind names cannot be one, if it names one that cannot.
-    fn parent_refusal(&self, kind: &Kind) -> Option<Refusal>
-        ensures { result ≡ first_that_stands ((is_unknown_parent self.now.events (parent_in (Some kind.now)), Unknown) ∷ (is_plain_parent self.now.events (parent_in (Some kind.now)), NotCompleter) ∷ []) }
+    /// The parent that a kind names, if it names one: a kept completer.
+    fn parent_of(&self, kind: &Kind) -> Result<Option<Handle>, Refusal>
+        ensures { refusal_in result ≡ first_that_stands ((is_unknown_parent self.now.events (parent_in (Some kind.now)), Unknown) ∷ (is_plain_parent self.now.events (parent_in (Some kind.now)), NotCompleter) ∷ []) }
     {
-        let parent = kind.parent()?;
-        match self.find(parent) {
-            None => Some(Refusal::Unknown),
-            Some(record) => {
-                if record.kind.is_completer() {
-                    None
-                } else {
-                    Some(Refusal::NotCompleter)
-                }
-            }
+        let Some(parent) = kind.parent() else {
+            return Ok(None);
+        };
+        let p = self.known(parent)?;
+        if !self.record(p).kind.is_completer() {
+            return Err(Refusal::NotCompleter);
         }
+        Ok(Some(p))
     }
 
-    fn trigger_refusal(&self, w: WorkerId, count: u32) -> Option<Refusal>
-        ensures { result ≡ first_that_stands (refusals_of self.now.pool self.now.events (Trigger w count)) }
+    fn may_trigger(&self, w: WorkerId, count: u32) -> Result<(), Refusal>
+        ensures { refusal_in result ≡ first_that_stands (refusals_of self.now.pool self.now.events (Trigger w count)) }
     {
-        let refusal = self.running_refusal(w);
-        if refusal.is_some() {
-            return refusal;
-        }
+        self.running_task(w)?;
         if self.is_stopped() {
-            return Some(Refusal::Closed);
+            return Err(Refusal::Closed);
         }
-        self.room_refusal(count)
+        self.task_room(count)
     }
 }

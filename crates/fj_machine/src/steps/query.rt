@@ -2,6 +2,7 @@
 ghost use Rattle.std.specs.Prelude.{◌≡◌, []};
 ghost use Rattle.fj_model.specs.declared.step.Step.TheVariants.{IsQuiescent, State};
 ghost use Rattle.fj_model.specs.Answers.{answer};
+ghost use Rattle.fj_machine.specs.Outcomes.{said_by};
 
 use crate::ledger::Ledger;
 use fj_model::{Refusal, Said, Serial};
@@ -9,18 +10,18 @@ use fj_model::{Refusal, Said, Serial};
 impl Ledger {
     /// Whether nothing is queued or held and no completion action is in a hand: `ForkJoinPool.isQuiescent`.
     pub(crate) fn is_quiescent(&self) -> Said
-        ensures { answer self.now.pool self.now.events IsQuiescent ≡ (result, []) }
+        ensures { answer self.now IsQuiescent ≡ (result, []) }
     {
         if self.is_quiet() { Said::Yes } else { Said::No }
     }
 
     /// Where a task is, and how far it has come.
-    pub(crate) fn state(&self, t: Serial) -> Said
-        ensures { answer self.now.pool self.now.events (State t) ≡ (result, []) }
+    pub(crate) fn state(&self, t: Serial) -> Result<Said, Refusal>
+        ensures { answer self.now (State t) ≡ (said_by result, []) }
     {
         match self.find(t) {
-            None => Said::Refused(Refusal::Unknown),
-            Some(record) => Said::State(record.place, record.status),
+            None => Err(Refusal::Unknown),
+            Some(record) => Ok(Said::State(record.place, record.status)),
         }
     }
 }

@@ -1,52 +1,64 @@
 //! Why a step is refused.
-ghost use Rattle.std.specs.Prelude.{◌≡◌, ◌∷◌, []};
-ghost use Rattle.fj_model.specs.Answers.{first_that_stands, no_such_worker, hook_in_hand, nothing_running, count_too_large, too_many_tasks};
+ghost use Rattle.std.specs.Prelude.{◌≡◌, ◌∷◌, [], Some, IfOk};
+ghost use Rattle.fj_model.specs.Answers.{first_that_stands, no_such_worker, hook_in_hand, nothing_running, count_too_large, too_many_tasks, running};
+ghost use Rattle.fj_model.specs.Pasts.{limit};
 ghost use Rattle.fj_machine.specs.Holds.{IsLawful};
+ghost use Rattle.fj_machine.specs.Outcomes.{refusal_in, FindsRoom};
 
 use crate::ledger::Ledger;
 use fj_model::{MAX_PENDING, Refusal, WorkerId};
+use fj_tree::Handle;
 
 impl Ledger {
-    /// Why a worker can make no step, if it cannot: there is no such worker, or it has a completion action in hand.
-    pub(super) fn worker_refusal(&self, w: WorkerId) -> Option<Refusal>
-        ensures refusal { result ≡ first_that_stands (no_such_worker self.now.pool w ∷ hook_in_hand self.now.events w ∷ []) }
-        ensures lawful { IsLawful self.now.pool self.now.events }
+    /// A worker that can make a step: there is one, and it has no completion action in hand.
+    pub(super) fn free_worker(&self, w: WorkerId) -> Result<(), Refusal>
+        ensures refusal { refusal_in result ≡ first_that_stands (no_such_worker self.now.pool w ∷ hook_in_hand self.now.events w ∷ []) }
+        ensures lawful { IsLawful self.now.pool (limit self.now) self.now.events }
     {
         if !self.has_worker(w) {
-            return Some(Refusal::NoSuch);
+            return Err(Refusal::NoSuch);
         }
         if self.hook(w).is_some() {
-            return Some(Refusal::NotIdle);
+            return Err(Refusal::NotIdle);
         }
-        None
+        Ok(())
     }
 
-    /// Why a worker can make no step that needs a running task, if it cannot.
-    pub(super) fn running_refusal(&self, w: WorkerId) -> Option<Refusal>
-        ensures refusal { result ≡ first_that_stands (no_such_worker self.now.pool w ∷ hook_in_hand self.now.events w ∷ nothing_running self.now.events w ∷ []) }
-        ensures lawful { IsLawful self.now.pool self.now.events }
+    /// The running task of a worker that can make a step.
+    pub(super) fn running_task(&self, w: WorkerId) -> Result<Handle, Refusal>
+        ensures refusal { refusal_in result ≡ first_that_stands (no_such_worker self.now.pool w ∷ hook_in_hand self.now.events w ∷ nothing_running self.now.events w ∷ []) }
+        ensures running { IfOk result (λ t. running self.now.events w ≡ Some t.serial) }
+        ensures lawful { IsLawful self.now.pool (limit self.now) self.now.events }
     {
-        let refusal = self.worker_refusal(w);
-        if refusal.is_some() {
-            return refusal;
-        }
-        if self.running(w).is_none() {
-            return Some(Refusal::NotRunning);
-        }
-        None
+        self.free_worker(w)?;
+        let Some(t) = self.running(w) else {
+            return Err(Refusal::NotRunning);
+        };
+        Ok(self.named(t))
     }
 
-    /// Why no task with this pending count can be accepted, if none can: the count is too large, or there are too many tasks.
-    pub(super) fn room_refusal(&self, count: u32) -> Option<Refusal>
-        requires lawful { IsLawful self.now.pool self.now.events }
-        ensures { result ≡ first_that_stands (count_too_large count ∷ too_many_tasks self.now.pool self.now.events ∷ []) }
+    /// Room for one task more, with this pending count.
+    pub(super) fn task_room(&self, count: u32) -> Result<(), Refusal>
+        requires lawful { IsLawful self.now.pool (limit self.now) self.now.events }
+        ensures { refusal_in result ≡ first_that_stands (count_too_large count ∷ too_many_tasks self.now.pool self.now.events ∷ []) }
     {
         if u64::from(count) > MAX_PENDING {
-            return Some(Refusal::CountTooLarge);
+            return Err(Refusal::CountTooLarge);
         }
         if !self.has_task_room() {
-            return Some(Refusal::TooManyTasks);
+            return Err(Refusal::TooManyTasks);
         }
-        None
+        Ok(())
+    }
+
+    /// Room for so many events more.
+    pub(super) fn room_for(&self, events: u64) -> Result<(), Refusal>
+        ensures room { FindsRoom self.now events result }
+        ensures lawful { IsLawful self.now.pool (limit self.now) self.now.events }
+    {
+        if !self.has_room(events) {
+            return Err(Refusal::LogFull);
+        }
+        Ok(())
     }
 }

@@ -9,9 +9,9 @@ use Rattle.fj_machine.proofs.Found.{unkept}
 
 pub returns-in-None-clause-arrival : goal.returns-in-None-clause-arrival
 returns-in-None-clause-arrival c =
-    released_told c.args.self.now.pool c.args.self.now.events c.args.c c.find.ensures.lawful.allowed c.requires.completer (unkept c.args.self.now.events c.args.c c.find.result c.find.ensures.record c.in-None.is)
+    released_told c.args.self.now.pool c.args.self.now.events c.args.c.serial c.look.ensures.lawful.allowed c.requires.completer (unkept c.args.self.now.events c.args.c.serial c.look.result c.look.ensures.record c.in-None.is)
 
 pub returns-in-Some-clause-arrival : goal.returns-in-Some-clause-arrival
 returns-in-Some-clause-arrival c =
-    let told = MatchOption-at_some _ _ _ (ap option_copied c.in-Some.is) c.find.ensures.record in
+    let told = MatchOption-at_some _ _ _ (ap option_copied c.in-Some.is) c.look.ensures.record in
     ap as_arrival c.arrival.ensures ∙ arrival_told c.args.self.now.events c.in-Some.record.now told.tells ∙ ap (arrival c.args.self.now.events) told.number

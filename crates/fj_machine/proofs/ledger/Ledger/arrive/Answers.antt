@@ -5,8 +5,8 @@ use Rattle.fj_machine.proofs.ledger.Ledger.arrive.Goals as goal
 
 pub count_down-requires-clause-kept : goal.count_down-requires-clause-kept
 count_down-requires-clause-kept c =
-    arrived_kept c.args.self.now.pool c.args.self.now.events c.args.c _ c.arrival.ensures.lawful.allowed c.requires.completer (sym c.arrival.ensures.arrival ∙ ap as_arrival c.in-Counted.is) (λ same. absurd cc)
+    arrived_kept c.args.self.now.pool c.args.self.now.events c.args.c.serial _ c.arrival.ensures.lawful.allowed c.requires.completer (sym c.arrival.ensures.arrival ∙ ap as_arrival c.in-Counted.is) (λ same. absurd cc)
 
 pub fire-requires-clause-kept : goal.fire-requires-clause-kept
 fire-requires-clause-kept c =
-    arrived_kept c.args.self.now.pool c.args.self.now.events c.args.c _ c.arrival.ensures.lawful.allowed c.requires.completer (sym c.arrival.ensures.arrival ∙ ap as_arrival c.in-Fire.is) (λ same. absurd cc)
+    arrived_kept c.args.self.now.pool c.args.self.now.events c.args.c.serial _ c.arrival.ensures.lawful.allowed c.requires.completer (sym c.arrival.ensures.arrival ∙ ap as_arrival c.in-Fire.is) (λ same. absurd cc)

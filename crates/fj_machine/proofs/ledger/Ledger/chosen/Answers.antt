@@ -35,14 +35,14 @@ scanned c inside =
 pub returns-in-Async : goal.returns-in-Async
 returns-in-Async c =
     let at = goal.at.returns-in-Async c in
-    let past : Past = record { pool = record { mode = c.self.inside.mode; limits = c.self.inside.limits }; events = c.self.inside.log.events } in
+    let past : Past = record { pool = record { mode = c.self.inside.mode; limits = c.self.inside.limits }; sealed = c.self.inside.log.sealed; events = c.self.inside.log.events; seals = c.self.inside.log.seals } in
     let chosen = own_is_chosen past c.args.w c.args.r (within at.After-len) (omega (arith, own at.After-len)) in
     rw (← c.self.view_is, c.queue_number-own.ensures) (subst (λ (m : Mode). IsChosenFrom past c.args.w c.args.r (own_source m (c.self.inside.limits.submitters + c.args.w))) c.in-Async.is chosen)
 
 pub returns-in-Joining : goal.returns-in-Joining
 returns-in-Joining c =
     let at = goal.at.returns-in-Joining c in
-    let past : Past = record { pool = record { mode = c.self.inside.mode; limits = c.self.inside.limits }; events = c.self.inside.log.events } in
+    let past : Past = record { pool = record { mode = c.self.inside.mode; limits = c.self.inside.limits }; sealed = c.self.inside.log.sealed; events = c.self.inside.log.events; seals = c.self.inside.log.seals } in
     let chosen = own_is_chosen past c.args.w c.args.r (within at.After-len) (omega (arith, own at.After-len)) in
     rw (← c.self.view_is, c.queue_number-own.ensures) (subst (λ (m : Mode). IsChosenFrom past c.args.w c.args.r (own_source m (c.self.inside.limits.submitters + c.args.w))) c.in-Joining.is chosen)
 
@@ -56,6 +56,6 @@ returns-in-None c =
 pub returns-in-Some : goal.returns-in-Some
 returns-in-Some c =
     let at = goal.at.returns-in-Some c in
-    let past : Past = record { pool = record { mode = c.self.inside.mode; limits = c.self.inside.limits }; events = c.self.inside.log.events } in
+    let past : Past = record { pool = record { mode = c.self.inside.mode; limits = c.self.inside.limits }; sealed = c.self.inside.log.sealed; events = c.self.inside.log.events; seals = c.self.inside.log.seals } in
     let empty : length (queue c.self.inside.log.events (Work c.args.w)) ≡ 0 = omega (arith, own at.After-len) in
     rw (← c.self.view_is) (scanned_is_chosen past c.args.w c.args.r c.in-Some.q empty (rw c.in-Some.is at (scanned at.After-first_from (within at.After-len))))

@@ -1,6 +1,7 @@
 use Rattle.std.proofs.Common.{◌≡◌, ◌+◌, true, List, [], ◌∷◌, ◌++◌, map, take, Some, refl, ap, sym, ◌∙◌, subst, arith}
 use Rattle.std.specs.Prelude.{slice_get}
 use Rattle.std.proofs.lemmas.List.{append-nil}
+use Rattle.fj_model.specs.Pasts.{limit}
 use Rattle.fj_model.specs.declared.event.Event.{Event}
 use Rattle.fj_model.specs.declared.event.Event.TheVariants.{Pass}
 use Rattle.fj_model.specs.Tasks.{is_completer, is_kept, parent}
@@ -13,51 +14,52 @@ use Rattle.fj_machine.specs.Holds.{IsLawful}
 use Rattle.fj_machine.proofs.Passing.{passed_at, some_get, next_up, path_begins, may_next, still_completer, still_parent, allowed_front, next_more}
 use Rattle.fj_model.proofs.KeptParents.{path_kept}
 use Rattle.fj_machine.proofs.PassSteps.{kept_past}
+use Rattle.fj_tree.specs.Handles.{Handle}
 use Rattle.fj_machine.proofs.ledger.Ledger.climb.Goals as goal
 use Rattle.fj_machine.proofs.ledger.Ledger.climb.Goals.{In-loop, After-unwrap-c, After-find, After-parent-at}
 use Rattle.fj_machine.proofs.Found.{kept_found, told_of, found_parent}
 
 pub loop-init : goal.loop-init
 loop-init c = record {
-  past = ap (λ (es : List Event). let p : Past = record { pool = c.args.self.now.pool; events = es } in p) (sym (append-nil c.args.self.now.events));
-  next = λ some. sym (path_begins c.args.self.now.events c.args.t);
+  past = ap (λ (es : List Event). let p : Past = record c.args.self.now { events = es } in p) (sym (append-nil c.args.self.now.events));
+  next = λ some. ap (λ (x : Handle). Some x.serial) c.t.view_is ∙ sym (path_begins c.args.self.now.events c.args.t.serial);
 }
 
 -- the next one stands among those that are passed
-place : (c : In-loop) → c.loop.at ≡ slice_get (passed c.args.self.now.events c.args.t) c.loop.counter
+place : (c : In-loop) → c.loop.at ≡ slice_get (passed c.args.self.now.events c.args.t.serial) c.loop.counter
 place c =
     let h = c.args.self.now.events in
-    c.loop.invariant.next c.loop-test.true ∙ passed_at h c.args.t c.loop.counter (omega (arith, c.loop-test.true, c.requires.count))
+    c.loop.invariant.next c.loop-test.true ∙ passed_at h c.args.t.serial c.loop.counter (omega (arith, c.loop-test.true, c.requires.count))
 
 pub unwrap-c-requires : goal.unwrap-c-requires
 unwrap-c-requires c =
-    let some = some_get (passed c.args.self.now.events c.args.t) c.loop.counter (omega (arith, c.loop-test.true, c.requires.count)) in
+    let some = some_get (passed c.args.self.now.events c.args.t.serial) c.loop.counter (omega (arith, c.loop-test.true, c.requires.count)) in
     rw (place (goal.at.unwrap-c-requires c).In-loop, some.1) refl
 
-member : (c : After-unwrap-c) → c.loop.at ≡ slice_get (passed c.args.self.now.events c.args.t) c.loop.counter → slice_get (passed c.args.self.now.events c.args.t) c.loop.counter ≡ Some c.unwrap-c.result
+member : (c : After-unwrap-c) → c.loop.at ≡ slice_get (passed c.args.self.now.events c.args.t.serial) c.loop.counter → slice_get (passed c.args.self.now.events c.args.t.serial) c.loop.counter ≡ Some c.unwrap-c.result
 member c at = sym at ∙ c.unwrap-c.ensures
 
 -- it is a completer
-completer : (c : After-find) → c.loop.at ≡ slice_get (passed c.args.self.now.events c.args.t) c.loop.counter → slice_get (passed c.args.self.now.events c.args.t) c.loop.counter ≡ Some c.unwrap-c.result
+completer : (c : After-find) → c.loop.at ≡ slice_get (passed c.args.self.now.events c.args.t.serial) c.loop.counter → slice_get (passed c.args.self.now.events c.args.t.serial) c.loop.counter ≡ Some c.unwrap-c.result
     → is_completer c.loop.self.events c.unwrap-c.result ≡ true
 completer c at is =
     let h = c.args.self.now.events in
-    let t = c.args.t in
+    let t = c.args.t.serial in
     let i = c.loop.counter in
     let ps = passed h t in
-    let law : IsLawful c.args.self.now.pool (h ++ map Pass (take i ps)) = subst (λ (p : Past). IsLawful p.pool p.events) c.loop.invariant.past c.find.ensures.lawful in
+    let law : IsLawful c.args.self.now.pool (limit c.args.self.now) (h ++ map Pass (take i ps)) = subst (λ (p : Past). IsLawful p.pool (limit p) p.events) c.loop.invariant.past c.find.ensures.lawful in
     let so = allowed_front c.args.self.now.pool [] h (map Pass (take i ps)) law.allowed in
     let on_way : slice_get (path h t) i ≡ Some c.unwrap-c.result = passed_at h t i (omega (arith, c.loop-test.true, c.requires.count)) ∙ is in
     let was = path_completers c.args.self.now.pool h t c.unwrap-c.result so c.requires.completer (get_is_in c.unwrap-c.result (path h t) i on_way) in
     subst (λ (p : Past). is_completer p.events c.unwrap-c.result ≡ true) (sym c.loop.invariant.past) (still_completer h (take i ps) c.unwrap-c.result was)
 
-kept : (c : After-find) → slice_get (passed c.args.self.now.events c.args.t) c.loop.counter ≡ Some c.unwrap-c.result → is_kept c.loop.self.events c.unwrap-c.result ≡ true
+kept : (c : After-find) → slice_get (passed c.args.self.now.events c.args.t.serial) c.loop.counter ≡ Some c.unwrap-c.result → is_kept c.loop.self.events c.unwrap-c.result ≡ true
 kept c is =
     let h = c.args.self.now.events in
-    let t = c.args.t in
+    let t = c.args.t.serial in
     let i = c.loop.counter in
     let ps = passed h t in
-    let law : IsLawful c.args.self.now.pool (h ++ map Pass (take i ps)) = subst (λ (p : Past). IsLawful p.pool p.events) c.loop.invariant.past c.find.ensures.lawful in
+    let law : IsLawful c.args.self.now.pool (limit c.args.self.now) (h ++ map Pass (take i ps)) = subst (λ (p : Past). IsLawful p.pool (limit p) p.events) c.loop.invariant.past c.find.ensures.lawful in
     let so = allowed_front c.args.self.now.pool [] h (map Pass (take i ps)) law.allowed in
     let on_way : slice_get (path h t) i ≡ Some c.unwrap-c.result = passed_at h t i (omega (arith, c.loop-test.true, c.requires.count)) ∙ is in
     let was = path_kept c.args.self.now.pool h t c.unwrap-c.result so c.requires.kept (get_is_in c.unwrap-c.result (path h t) i on_way) in
@@ -78,7 +80,7 @@ pub pass-requires-clause-may : goal.pass-requires-clause-may
 pass-requires-clause-may c =
     let at = goal.at.pass-requires-clause-may c in
     let is = member at.After-unwrap-c (place at.In-loop) in
-    let may = may_next c.args.self.now.pool Pass c.args.self.now.events (passed c.args.self.now.events c.args.t) c.loop.counter c.unwrap-c.result c.requires.may is in
+    let may = may_next c.args.self.now.pool Pass c.args.self.now.events (passed c.args.self.now.events c.args.t.serial) c.loop.counter c.unwrap-c.result c.requires.may is in
     subst (λ (p : Past). Allowed p.pool p.events (Pass c.unwrap-c.result)) (sym c.loop.invariant.past) may
 
 -- what was read is the parent
@@ -91,7 +93,7 @@ pub loop-preserved : goal.loop-preserved
 loop-preserved c =
     let at = goal.at.loop-preserved c in
     let now = c.args.self.now in
-    let t = c.args.t in
+    let t = c.args.t.serial in
     let i = c.loop.counter in
     let ps = passed now.events t in
     let is = member at.After-unwrap-c (place at.In-loop) in

@@ -8,6 +8,6 @@ use Rattle.fj_machine.proofs.ledger.Ledger.climb.Given as goal
 -- so many were passed, and the next one stands at that place of the way
 abbrev pub invariant-loop : goal.invariant-loop
 invariant-loop l = record {
-  past : l.self ≡ grown l.fn.self (map Pass (take l.counter (passed l.fn.self.events l.fn.t)));
-  next : l.counter < l.count → l.at ≡ slice_get (path l.fn.self.events l.fn.t) l.counter;
+  past : l.self ≡ grown l.fn.self (map Pass (take l.counter (passed l.fn.self.events l.fn.t.serial)));
+  next : l.counter < l.count → l.at ≡ slice_get (path l.fn.self.events l.fn.t.serial) l.counter;
 }

@@ -1,6 +1,7 @@
-use Rattle.std.proofs.Common.{ℕ, ◌≡◌, ◌-◌, ◌<◌, true, false, not, List, length, ◌∷◌, [], Some, refl, ap, sym, ◌∙◌, subst, arith}
+use Rattle.std.proofs.Common.{◌+◌, ℕ, ◌≡◌, ◌-◌, ◌<◌, true, false, not, List, length, ◌∷◌, [], Some, refl, ap, sym, ◌∙◌, subst, arith}
 use Rattle.std.specs.Prelude.{◌&&◌}
 use Rattle.std.proofs.lemmas.List.{append-nil}
+use Rattle.fj_model.specs.Pasts.{limit}
 use Rattle.fj_model.specs.declared.event.Event.TheVariants.{End}
 use Rattle.fj_model.specs.Bounds.{Pool}
 use Rattle.fj_model.specs.Lists.{last_of}
@@ -18,17 +19,18 @@ use Rattle.fj_machine.proofs.BodyEnded.{stays_told, ended_holds}
 use Rattle.fj_machine.proofs.Located.{IsLocated, located, read_at}
 use Rattle.fj_machine.proofs.Rooms.{open_is_short}
 use Rattle.fj_machine.proofs.Spent.{gone_room}
+use Rattle.fj_tree.specs.Handles.{Handle}
 use Rattle.fj_machine.proofs.ledger.Ledger.end_body.Goals as goal
 use Rattle.fj_machine.proofs.ledger.Ledger.end_body.Goals.{After-self, After-unwrap-h, After-stays_open-stays}
 
-fits : (c : After-self) → length c.self.inside.log.events < c.self.inside.limits.events
-fits c = subst (λ (p : Past). length p.events < p.pool.limits.events) (sym c.self.view_is) c.requires.fits
+fits : (c : After-self) → length c.self.inside.log.events < length c.self.inside.log.sealed + c.self.inside.limits.events
+fits c = subst (λ (p : Past). length p.events < limit p) (sym c.self.view_is) c.requires.fits
 
 within : (c : After-self) → c.args.w < c.self.inside.limits.workers
 within c = subst (λ (p : Past). c.args.w < p.pool.limits.workers) (sym c.self.view_is) c.requires.worker
 
-may : (c : After-self) → Allowed (record { mode = c.self.inside.mode; limits = c.self.inside.limits }) c.self.inside.log.events (End c.args.t c.args.w)
-may c = subst (λ (p : Past). Allowed p.pool p.events (End c.args.t c.args.w)) (sym c.self.view_is) c.requires.may
+may : (c : After-self) → Allowed (record { mode = c.self.inside.mode; limits = c.self.inside.limits }) c.self.inside.log.events (End c.args.t.serial c.args.w)
+may c = subst (λ (p : Past). Allowed p.pool p.events (End c.args.t.serial c.args.w)) (sym c.self.view_is) c.requires.may
 
 pub unwrap-h-requires : goal.unwrap-h-requires
 unwrap-h-requires c =
@@ -36,16 +38,16 @@ unwrap-h-requires c =
     let pool : Pool = record { mode = c.self.inside.mode; limits = c.self.inside.limits } in
     let h = c.self.inside.log.events in
     let holds = c.self.invariant.0 in
-    rw c.find.ensures.found (holds.tree_kept.all c.args.t (held_kept pool h c.args.w c.args.t holds.lawful (get_is_in c.args.t (stack h c.args.w) (length (stack h c.args.w) - 1) (may at).0)))
+    rw c.renew.ensures.found (holds.tree_kept.all c.args.t.serial (held_kept pool h c.args.w c.args.t.serial holds.lawful (get_is_in c.args.t.serial (stack h c.args.w) (length (stack h c.args.w) - 1) (may at).0)))
 
-found : (c : After-unwrap-h) → IsLocated c.self.inside.tree c.args.t c.unwrap-h.result
-found c = located c.self.inside.tree c.args.t c.find.result c.unwrap-h.result c.find.ensures.found c.find.ensures.good c.unwrap-h.ensures
+found : (c : After-unwrap-h) → IsLocated c.self.inside.tree c.args.t.serial c.unwrap-h.result
+found c = located c.self.inside.tree c.args.t.serial c.renew.result c.unwrap-h.result c.renew.ensures.found c.renew.ensures.good c.unwrap-h.ensures
 
 -- what was read is whether the task is open then
-read : (c : After-stays_open-stays) (l : IsLocated c.self.inside.tree c.args.t c.unwrap-h.result) → c.stays_open-stays.result ≡ opens c.self.inside.log.events c.args.t
+read : (c : After-stays_open-stays) (l : IsLocated c.self.inside.tree c.args.t.serial c.unwrap-h.result) → c.stays_open-stays.result ≡ opens c.self.inside.log.events c.args.t.serial
 read c l =
     let h = c.self.inside.log.events in
-    let here = read_at c.self.inside.tree c.args.t c.unwrap-h.result l c.unwrap.result.now (rw c.unwrap.ensures at c.get.ensures) in
+    let here = read_at c.self.inside.tree c.args.t.serial c.unwrap-h.result l c.unwrap.result.now (rw c.unwrap.ensures at c.get.ensures) in
     c.stays_open-stays.ensures
     ∙ ap (λ (r : Record). is_completer_kind (Some r.kind) && not (is_spent r)) here
     ∙ stays_told h l.found (c.self.invariant.0.tree_kept.each c.unwrap-h.result.key l.found l.at)
@@ -61,7 +63,7 @@ push_reserved-requires c =
     let pool : Pool = record { mode = c.self.inside.mode; limits = c.self.inside.limits } in
     let h = c.self.inside.log.events in
     let holds = c.self.invariant.0 in
-    let short = open_is_short pool h c.args.w holds.lawful (within at) (some_last (stack h c.args.w) c.args.t (may at).0) in
+    let short = open_is_short pool h c.args.w holds.lawful (within at) (some_last (stack h c.args.w) c.args.t.serial (may at).0) in
     omega (arith, short, few_live pool h holds.lawful, ap (λ (ts : List ℕ). length ts) holds.open_kept, c.self.inside.open_tasks.ok.0, c.self.invariant.2)
 
 pub invariant_of-self : goal.invariant_of-self
@@ -71,8 +73,8 @@ invariant_of-self c =
     let h = c.self.inside.log.events in
     let l = found at.After-unwrap-h in
     let is = sym (read at.After-stays_open-stays l) ∙ c.if-stays.true in (
-      rw (c.push.ensures, c.take_last.ensures, c.set_place.ensures, c.push_reserved.ensures.items, c.w.view_is)
-          (ended_holds pool h c.args.t c.args.w true _ _ _ _ _ _ _ _ _ c.unwrap-h.result c.self.invariant.0 c.find.ensures.sound l (may at.After-self) (within at.After-self) (fits at.After-self) is refl refl (sym (append-nil c.self.inside.gone.items))),
+      rw (c.push.ensures, c.take_last.ensures, c.set_place.ensures, c.push_reserved.ensures.items, c.w.view_is, ap (λ (x : Handle). x.serial) c.t.view_is)
+          (ended_holds pool h c.args.t.serial c.args.w true _ _ _ _ _ _ _ _ _ c.unwrap-h.result c.self.invariant.0 c.renew.ensures.sound l (may at.After-self) (within at.After-self) (fits at.After-self) is refl refl (sym (append-nil c.self.inside.gone.items))),
       rw c.push.ensures (c.self.invariant.1),
       omega (arith, c.push_reserved.ensures.capacity, c.self.invariant.2),
       c.self.invariant.3,
@@ -90,8 +92,8 @@ invariant_of-self-else-stays c =
     let h = c.self.inside.log.events in
     let l = found at.After-unwrap-h in
     let is = sym (read at.After-stays_open-stays l) ∙ c.if-stays.false in (
-      rw (c.push.ensures, c.take_last.ensures, c.set_place-else-stays.ensures, c.push_reserved-else-stays.ensures.items, c.w.view_is)
-          (ended_holds pool h c.args.t c.args.w false _ _ _ _ _ _ _ _ _ c.unwrap-h.result c.self.invariant.0 c.find.ensures.sound l (may at.After-self) (within at.After-self) (fits at.After-self) is refl (sym (append-nil c.self.inside.open_tasks.items)) refl),
+      rw (c.push.ensures, c.take_last.ensures, c.set_place-else-stays.ensures, c.push_reserved-else-stays.ensures.items, c.w.view_is, ap (λ (x : Handle). x.serial) c.t.view_is)
+          (ended_holds pool h c.args.t.serial c.args.w false _ _ _ _ _ _ _ _ _ c.unwrap-h.result c.self.invariant.0 c.renew.ensures.sound l (may at.After-self) (within at.After-self) (fits at.After-self) is refl (sym (append-nil c.self.inside.open_tasks.items)) refl),
       rw c.push.ensures (c.self.invariant.1),
       c.self.invariant.2,
       omega (arith, c.push_reserved-else-stays.ensures.capacity, c.self.invariant.3),

@@ -1,3 +1,4 @@
+use Rattle.fj_model.specs.declared.step.Step.TheVariants as step
 use Rattle.std.proofs.Common.{ℕ, ◌≡◌, ◌+◌, ◌∷◌, ◌++◌, [], List, length, map, true, ap, sym, ◌∙◌, subst}
 use Rattle.fj_model.specs.declared.event.Event.{Event}
 use Rattle.fj_model.specs.declared.event.Event.TheVariants as event
@@ -12,103 +13,104 @@ use Rattle.fj_machine.specs.Climbing.{climb_end}
 use Rattle.fj_machine.proofs.BodyEnds.{end_full, end_made, end_suits, may_end, ended_completer}
 use Rattle.fj_machine.proofs.Passing.{still_completer, allowed_front}
 use Rattle.fj_machine.proofs.PassSteps.{pass_events, pass_reply, pass_count, climb_completer, kept_past, allowed_back}
-use Rattle.fj_machine.proofs.RoomTests.{is_room, no_room, grown_twice}
+use Rattle.fj_machine.proofs.RoomTests.{grown_twice}
 use Rattle.fj_machine.proofs.BodyEnds.{ended_kept}
 use Rattle.fj_machine.proofs.PassSteps.{climb_kept}
+use Rattle.fj_machine.proofs.Outcomes.{exits_full}
 use Rattle.fj_machine.proofs.ledger.Ledger.end_pass.Goals as goal
-use Rattle.fj_machine.proofs.ledger.Ledger.end_pass.Goals.{After-has_room, After-climb}
+use Rattle.fj_machine.proofs.ledger.Ledger.end_pass.Goals.{After-room_for, After-climb}
 
 -- the history once the body has ended
-abbrev ended : After-has_room → List Event
-ended c = c.args.self.now.events ++ event.End c.args.t c.args.w ∷ []
+abbrev ended : After-room_for → List Event
+ended c = c.args.self.now.events ++ event.End c.args.t.serial c.args.w ∷ []
 
 -- how many events there are
-count : (c : After-has_room) → 1 + length (map event.Pass (passed (ended c) c.args.t) ++ climb_end c.pass_look-climb.result.how c.pass_look-climb.result.at) ≡ 1 + c.pass_look-climb.result.passed + c.climb_events.result
-count c = pass_count (ended c) c.args.t c.pass_look-climb.result c.pass_look-climb.ensures.climbs ∙ ap (λ (n : ℕ). 1 + c.pass_look-climb.result.passed + n) (sym c.climb_events.ensures)
+count : (c : After-room_for) → 1 + length (map event.Pass (passed (ended c) c.args.t.serial) ++ climb_end c.pass_look-climb.result.how c.pass_look-climb.result.at) ≡ 1 + c.pass_look-climb.result.passed + c.climb_events.result
+count c = pass_count (ended c) c.args.t.serial c.pass_look-climb.result c.pass_look-climb.ensures.climbs ∙ ap (λ (n : ℕ). 1 + c.pass_look-climb.result.passed + n) (sym c.climb_events.ensures)
 
-count_after : (c : After-has_room) → 1 + length (after_end (ended c) c.args.t Pass) ≡ 1 + c.pass_look-climb.result.passed + c.climb_events.result
-count_after c = ap (λ (es : List Event). 1 + length es) (pass_events (ended c) c.args.t c.pass_look-climb.result c.pass_look-climb.ensures.climbs) ∙ count c
+count_after : (c : After-room_for) → 1 + length (after_end (ended c) c.args.t.serial Pass) ≡ 1 + c.pass_look-climb.result.passed + c.climb_events.result
+count_after c = ap (λ (es : List Event). 1 + length es) (pass_events (ended c) c.args.t.serial c.pass_look-climb.result c.pass_look-climb.ensures.climbs) ∙ count c
 
-pub returns-then-not-has_room : goal.returns-then-not-has_room
-returns-then-not-has_room c =
-    let at = (goal.at.returns-then-not-has_room c).After-has_room in
-    end_full c.args.self.now c.args.w c.args.t Pass _ c.requires.stands c.requires.running (count_after at) (no_room _ _ _ c.has_room.ensures.room c.if-not-has_room.true)
+pub returns-in_err-room_for : goal.returns-in_err-room_for
+returns-in_err-room_for c =
+    let at = (goal.at.returns-in_err-room_for c).After-room_for in
+    exits_full c.args.self.now (step.End c.args.w Pass) c.from_residual.result _ c.from_residual.ensures.1 c.in_err-room_for.ensures.room.0
+    (end_full c.args.self.now c.args.w c.args.t.serial Pass _ c.requires.stands c.requires.running (count_after at) c.in_err-room_for.ensures.room.1)
 
 -- what follows the end of the body is allowed
-may : (c : After-has_room) → c.has_room.result ≡ true → AllowedFrom c.args.self.now.pool (ended c) (map event.Pass (passed (ended c) c.args.t) ++ climb_end c.pass_look-climb.result.how c.pass_look-climb.result.at)
-may c room =
+may : (c : After-room_for) → AllowedFrom c.args.self.now.pool (ended c) (map event.Pass (passed (ended c) c.args.t.serial) ++ climb_end c.pass_look-climb.result.how c.pass_look-climb.result.at)
+may c =
     let now = c.args.self.now in
-    let fits = is_room _ _ _ c.has_room.ensures.room room in
-    subst (AllowedFrom now.pool (ended c)) (pass_events (ended c) c.args.t c.pass_look-climb.result c.pass_look-climb.ensures.climbs)
-    (may_end now.pool now.events c.args.w c.args.t Pass _ c.has_room.ensures.lawful c.requires.stands c.requires.running (count_after c) fits).1
+    subst (AllowedFrom now.pool (ended c)) (pass_events (ended c) c.args.t.serial c.pass_look-climb.result c.pass_look-climb.ensures.climbs)
+    (may_end now.pool now.events c.args.w c.args.t.serial Pass c.room_for.ensures.lawful c.requires.stands c.requires.running).1
 
 -- the task is a completer
-completer : (c : After-has_room) → is_completer (ended c) c.args.t ≡ true
+completer : (c : After-room_for) → is_completer (ended c) c.args.t.serial ≡ true
 completer c =
-    let suits = end_suits c.args.self.now.pool c.args.self.now.events c.args.w c.args.t Pass c.requires.stands c.requires.running in
-    ended_completer c.args.self.now.events c.args.w c.args.t suits.1
+    let suits = end_suits c.args.self.now.pool c.args.self.now.events c.args.w c.args.t.serial Pass c.requires.stands c.requires.running in
+    ended_completer c.args.self.now.events c.args.w c.args.t.serial suits.1
 
 pub climb-requires-clause-completer : goal.climb-requires-clause-completer
 climb-requires-clause-completer c =
-    let at = (goal.at.climb-requires-clause-completer c).After-has_room in
-    subst (λ (p : Past). is_completer p.events c.args.t ≡ true) (sym c.end_body.ensures) (completer at)
+    let at = (goal.at.climb-requires-clause-completer c).After-room_for in
+    subst (λ (p : Past). is_completer p.events c.args.t.serial ≡ true) (sym c.end_body.ensures) (completer at)
 
 pub climb-requires-clause-may : goal.climb-requires-clause-may
 climb-requires-clause-may c =
-    let at = (goal.at.climb-requires-clause-may c).After-has_room in
-    let first = allowed_front c.args.self.now.pool (ended at) (map event.Pass (passed (ended at) c.args.t)) _ (may at c.if-not-has_room.false) in
-    subst (λ (p : Past). AllowedFrom p.pool p.events (map event.Pass (passed p.events c.args.t))) (sym c.end_body.ensures) first
+    let at = (goal.at.climb-requires-clause-may c).After-room_for in
+    let first = allowed_front c.args.self.now.pool (ended at) (map event.Pass (passed (ended at) c.args.t.serial)) _ (may at) in
+    subst (λ (p : Past). AllowedFrom p.pool p.events (map event.Pass (passed p.events c.args.t.serial))) (sym c.end_body.ensures) first
 
 -- the past when the climb has ended
-climbed : (c : After-climb) → c.climb.new.self ≡ grown (grown c.args.self.now (event.End c.args.t c.args.w ∷ [])) (map event.Pass (passed (c.args.self.now.events ++ event.End c.args.t c.args.w ∷ []) c.args.t))
-climbed c = c.climb.ensures ∙ ap (λ (p : Past). grown p (map event.Pass (passed p.events c.args.t))) c.end_body.ensures
+climbed : (c : After-climb) → c.climb.new.self ≡ grown (grown c.args.self.now (event.End c.args.t.serial c.args.w ∷ [])) (map event.Pass (passed (c.args.self.now.events ++ event.End c.args.t.serial c.args.w ∷ []) c.args.t.serial))
+climbed c = c.climb.ensures ∙ ap (λ (p : Past). grown p (map event.Pass (passed p.events c.args.t.serial))) c.end_body.ensures
 
 -- the one at which it ends is a completer
-end_completer : (c : After-has_room) → is_completer (ended c) c.pass_look-climb.result.at ≡ true
+end_completer : (c : After-room_for) → is_completer (ended c) c.pass_look-climb.result.at ≡ true
 end_completer c =
     let now = c.args.self.now in
-    let suits = end_suits now.pool now.events c.args.w c.args.t Pass c.requires.stands c.requires.running in
-    let so = allowed_more now.pool [] now.events (event.End c.args.t c.args.w) c.has_room.ensures.lawful.allowed (c.requires.running, suits.0) in
-    climb_completer now.pool (ended c) c.args.t c.pass_look-climb.result so (completer c) c.pass_look-climb.ensures.climbs
+    let suits = end_suits now.pool now.events c.args.w c.args.t.serial Pass c.requires.stands c.requires.running in
+    let so = allowed_more now.pool [] now.events (event.End c.args.t.serial c.args.w) c.room_for.ensures.lawful.allowed (c.requires.running, suits.0) in
+    climb_completer now.pool (ended c) c.args.t.serial c.pass_look-climb.result so (completer c) c.pass_look-climb.ensures.climbs
 
 pub climb-requires-clause-kept : goal.climb-requires-clause-kept
 climb-requires-clause-kept c =
     let now = c.args.self.now in
-    subst (λ (p : Past). is_kept p.events c.args.t ≡ true) (sym c.end_body.ensures) (ended_kept now.pool now.events c.args.w c.args.t c.has_room.ensures.lawful c.requires.running)
+    subst (λ (p : Past). is_kept p.events c.args.t.serial ≡ true) (sym c.end_body.ensures) (ended_kept now.pool now.events c.args.w c.args.t.serial c.room_for.ensures.lawful c.requires.running)
 
 pub end_climb-requires-clause-kept : goal.end_climb-requires-clause-kept
 end_climb-requires-clause-kept c =
     let at = goal.at.end_climb-requires-clause-kept c in
-    let here = at.After-has_room in
+    let here = at.After-room_for in
     let now = c.args.self.now in
     let d = c.pass_look-climb.result.at in
-    let law = c.has_room.ensures.lawful in
-    let suits = end_suits now.pool now.events c.args.w c.args.t Pass c.requires.stands c.requires.running in
-    let so = allowed_more now.pool [] now.events (event.End c.args.t c.args.w) law.allowed (c.requires.running, suits.0) in
-    let kept = climb_kept now.pool (ended here) c.args.t c.pass_look-climb.result so (ended_kept now.pool now.events c.args.w c.args.t law c.requires.running) c.pass_look-climb.ensures.climbs in
-    subst (λ (p : Past). is_kept p.events d ≡ true) (sym (climbed at.After-climb)) (kept_past (ended here) (passed (ended here) c.args.t) d kept)
+    let law = c.room_for.ensures.lawful in
+    let suits = end_suits now.pool now.events c.args.w c.args.t.serial Pass c.requires.stands c.requires.running in
+    let so = allowed_more now.pool [] now.events (event.End c.args.t.serial c.args.w) law.allowed (c.requires.running, suits.0) in
+    let kept = climb_kept now.pool (ended here) c.args.t.serial c.pass_look-climb.result so (ended_kept now.pool now.events c.args.w c.args.t.serial law c.requires.running) c.pass_look-climb.ensures.climbs in
+    subst (λ (p : Past). is_kept p.events d ≡ true) (sym (climbed at.After-climb)) (kept_past (ended here) (passed (ended here) c.args.t.serial) d kept)
 
 pub end_climb-requires-clause-completer : goal.end_climb-requires-clause-completer
 end_climb-requires-clause-completer c =
     let at = goal.at.end_climb-requires-clause-completer c in
-    let here = at.After-has_room in
+    let here = at.After-room_for in
     let d = c.pass_look-climb.result.at in
-    subst (λ (p : Past). is_completer p.events d ≡ true) (sym (climbed at.After-climb)) (still_completer (ended here) (passed (ended here) c.args.t) d (end_completer here))
+    subst (λ (p : Past). is_completer p.events d ≡ true) (sym (climbed at.After-climb)) (still_completer (ended here) (passed (ended here) c.args.t.serial) d (end_completer here))
 
 pub end_climb-requires-clause-may : goal.end_climb-requires-clause-may
 end_climb-requires-clause-may c =
     let at = goal.at.end_climb-requires-clause-may c in
-    let here = at.After-has_room in
-    let rest = allowed_back c.args.self.now.pool (ended here) (map event.Pass (passed (ended here) c.args.t)) _ (may here c.if-not-has_room.false) in
+    let here = at.After-room_for in
+    let rest = allowed_back c.args.self.now.pool (ended here) (map event.Pass (passed (ended here) c.args.t.serial)) _ (may here) in
     subst (λ (p : Past). AllowedFrom p.pool p.events (climb_end c.pass_look-climb.result.how c.pass_look-climb.result.at)) (sym (climbed at.After-climb)) rest
 
 pub returns : goal.returns
 returns c =
     let at = goal.at.returns c in
-    let here = at.After-has_room in
+    let here = at.After-room_for in
     let now = c.args.self.now in
     let climb = c.pass_look-climb.result in
-    let ps = map event.Pass (passed (ended here) c.args.t) in
-    let events = c.end_climb.ensures.events ∙ ap (λ (p : Past). grown p (climb_end climb.how climb.at)) (climbed at.After-climb) ∙ grown_twice (grown now (event.End c.args.t c.args.w ∷ [])) ps (climb_end climb.how climb.at) in
-    end_made now c.end_climb.new.self c.args.w c.args.t Pass (ps ++ climb_end climb.how climb.at) _ _ c.requires.stands c.requires.running (pass_events (ended here) c.args.t climb c.pass_look-climb.ensures.climbs)
-    (c.end_climb.ensures.said ∙ pass_reply (ended here) c.args.t climb c.pass_look-climb.ensures.climbs) (count here) (is_room _ _ _ c.has_room.ensures.room c.if-not-has_room.false) events
+    let ps = map event.Pass (passed (ended here) c.args.t.serial) in
+    let events = c.end_climb.ensures.events ∙ ap (λ (p : Past). grown p (climb_end climb.how climb.at)) (climbed at.After-climb) ∙ grown_twice (grown now (event.End c.args.t.serial c.args.w ∷ [])) ps (climb_end climb.how climb.at) in
+    end_made now c.end_climb.new.self c.args.w c.args.t.serial Pass (ps ++ climb_end climb.how climb.at) _ _ c.requires.stands c.requires.running (pass_events (ended here) c.args.t.serial climb c.pass_look-climb.ensures.climbs)
+    (c.end_climb.ensures.said ∙ pass_reply (ended here) c.args.t.serial climb c.pass_look-climb.ensures.climbs) (count here) c.in_ok-room_for.ensures.room events

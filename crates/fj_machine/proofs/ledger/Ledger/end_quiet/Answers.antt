@@ -1,14 +1,17 @@
+use Rattle.fj_model.specs.declared.step.Step.TheVariants as step
 use Rattle.std.proofs.Common.{refl, ◌∙◌, []}
 use Rattle.fj_model.specs.declared.step.Ending.TheVariants.{Quiet}
 use Rattle.fj_machine.proofs.BodyEnds.{end_full, end_made}
-use Rattle.fj_machine.proofs.RoomTests.{is_room, no_room, grown_none}
+use Rattle.fj_machine.proofs.RoomTests.{grown_none}
+use Rattle.fj_machine.proofs.Outcomes.{exits_full}
 use Rattle.fj_machine.proofs.ledger.Ledger.end_quiet.Goals as goal
 
-pub returns-then-not-has_room : goal.returns-then-not-has_room
-returns-then-not-has_room c =
-    end_full c.args.self.now c.args.w c.args.t Quiet _ c.requires.stands c.requires.running refl (no_room _ _ _ c.has_room.ensures.room c.if-not-has_room.true)
+pub returns-in_err-room_for : goal.returns-in_err-room_for
+returns-in_err-room_for c =
+    exits_full c.args.self.now (step.End c.args.w Quiet) c.from_residual.result _ c.from_residual.ensures.1 c.in_err-room_for.ensures.room.0
+    (end_full c.args.self.now c.args.w c.args.t.serial Quiet _ c.requires.stands c.requires.running refl c.in_err-room_for.ensures.room.1)
 
 pub returns : goal.returns
 returns c =
-    end_made c.args.self.now c.end_body.new.self c.args.w c.args.t Quiet [] _ 1 c.requires.stands c.requires.running refl refl refl
-    (is_room _ _ _ c.has_room.ensures.room c.if-not-has_room.false) (c.end_body.ensures ∙ grown_none _)
+    end_made c.args.self.now c.end_body.new.self c.args.w c.args.t.serial Quiet [] _ 1 c.requires.stands c.requires.running refl refl refl
+    c.in_ok-room_for.ensures.room (c.end_body.ensures ∙ grown_none _)

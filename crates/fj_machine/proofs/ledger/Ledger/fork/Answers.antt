@@ -1,29 +1,19 @@
 use Rattle.std.proofs.Common.{ap, sym, ◌∙◌}
 use Rattle.fj_model.specs.declared.said.Said.TheVariants as says
 use Rattle.fj_model.specs.declared.step.Step.TheVariants.{Fork}
-use Rattle.fj_machine.proofs.Stepping.{steps_refused}
-use Rattle.fj_machine.proofs.OneEvent.{one_full, one_may, one_made}
 use Rattle.fj_machine.proofs.AcceptSteps.{forks, fork_says}
+use Rattle.fj_machine.proofs.Outcomes.{exits, full_of_one, may_one, made_one}
 use Rattle.fj_machine.proofs.ledger.Ledger.fork.Goals as goal
 
-pub returns-in-Some : goal.returns-in-Some
-returns-in-Some c = steps_refused c.args.self.now (Fork c.args.w c.args.kind.now) c.in-Some.refusal (sym c.fork_refusal.ensures ∙ c.in-Some.is)
+pub returns-in_err-may_fork : goal.returns-in_err-may_fork
+returns-in_err-may_fork c = exits c.args.self.now (Fork c.args.w c.args.kind.now) c.from_residual.result _ c.from_residual.ensures.1 (sym c.in_err-may_fork.ensures)
 
-pub returns-then-not-has_room : goal.returns-then-not-has_room
-returns-then-not-has_room c =
-    let now = c.args.self.now in
-    let is = forks now c.args.w c.args.kind.now (sym c.fork_refusal.ensures ∙ c.in_default.is) in
-    one_full now (Fork c.args.w c.args.kind.now) _ c.has_room.result is c.if-not-has_room.true c.has_room.ensures.room
+pub returns-in_err-room_for : goal.returns-in_err-room_for
+returns-in_err-room_for c =
+    full_of_one c.args.self.now (Fork c.args.w c.args.kind.now) _ c.from_residual-in_err-room_for.result _ c.from_residual-in_err-room_for.ensures.1 (forks c.args.self.now c.args.w c.args.kind.now (sym c.in_ok-may_fork.ensures)) c.in_err-room_for.ensures.room
 
 pub accept-requires-clause-may : goal.accept-requires-clause-may
-accept-requires-clause-may c =
-    let now = c.args.self.now in
-    let is = forks now c.args.w c.args.kind.now (sym c.fork_refusal.ensures ∙ c.in_default.is) in
-    one_may now (Fork c.args.w c.args.kind.now) _ c.has_room.result c.has_room.ensures.lawful is c.if-not-has_room.false c.has_room.ensures.room
+accept-requires-clause-may c = (may_one c.args.self.now (Fork c.args.w c.args.kind.now) _ c.in_ok-room_for.ensures.lawful (forks c.args.self.now c.args.w c.args.kind.now (sym c.in_ok-may_fork.ensures)))
 
 pub returns : goal.returns
-returns c =
-    let now = c.args.self.now in
-    let is = forks now c.args.w c.args.kind.now (sym c.fork_refusal.ensures ∙ c.in_default.is) in
-    one_made now c.accept.new.self (Fork c.args.w c.args.kind.now) _ _ c.has_room.result is c.if-not-has_room.false c.has_room.ensures.room
-    (ap says.Task c.accept.ensures.number ∙ fork_says now c.args.w c.args.kind.now) c.accept.ensures.events
+returns c = made_one c.args.self.now c.accept.new.self (Fork c.args.w c.args.kind.now) _ _ (forks c.args.self.now c.args.w c.args.kind.now (sym c.in_ok-may_fork.ensures)) c.in_ok-room_for.ensures.room (ap says.Task c.accept.ensures.number ∙ fork_says c.args.self.now c.args.w c.args.kind.now) c.accept.ensures.events

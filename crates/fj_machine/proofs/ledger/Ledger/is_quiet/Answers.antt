@@ -2,6 +2,7 @@ use Rattle.std.proofs.Common.{◌≡◌, refl, ap, sym, subst, ◌∙◌, arith}
 use Rattle.std.specs.Prelude.{is_none}
 use Rattle.std.specs.List.{list_all}
 use Rattle.std.proofs.lemmas.Bool.{eq-eqb, ne_eqb}
+use Rattle.fj_model.specs.Pasts.{limit}
 use Rattle.fj_model.specs.Runs.{Past}
 use Rattle.fj_queues.specs.Queues.{all_in}
 use Rattle.fj_machine.specs.Holds.{IsLawful}
@@ -10,13 +11,13 @@ use Rattle.fj_machine.proofs.Quiet.{quiet_is}
 use Rattle.fj_machine.proofs.ledger.Ledger.is_quiet.Goals as goal
 
 pub returns-then-total-gt0-clause-lawful : goal.returns-then-total-gt0-clause-lawful
-returns-then-total-gt0-clause-lawful c = subst (λ (p : Past). IsLawful p.pool p.events) c.self.view_is (lawful _ _ _ _ _ _ _ _ c.self.invariant.0)
+returns-then-total-gt0-clause-lawful c = subst (λ (p : Past). IsLawful p.pool (limit p) p.events) c.self.view_is (lawful _ _ _ _ _ _ _ _ c.self.invariant.0)
 
 pub returns-then-are_empty-clause-lawful : goal.returns-then-are_empty-clause-lawful
-returns-then-are_empty-clause-lawful c = subst (λ (p : Past). IsLawful p.pool p.events) c.self.view_is (lawful _ _ _ _ _ _ _ _ c.self.invariant.0)
+returns-then-are_empty-clause-lawful c = subst (λ (p : Past). IsLawful p.pool (limit p) p.events) c.self.view_is (lawful _ _ _ _ _ _ _ _ c.self.invariant.0)
 
 pub returns-else-are_empty-clause-lawful : goal.returns-else-are_empty-clause-lawful
-returns-else-are_empty-clause-lawful c = subst (λ (p : Past). IsLawful p.pool p.events) c.self.view_is (lawful _ _ _ _ _ _ _ _ c.self.invariant.0)
+returns-else-are_empty-clause-lawful c = subst (λ (p : Past). IsLawful p.pool (limit p) p.events) c.self.view_is (lawful _ _ _ _ _ _ _ _ c.self.invariant.0)
 
 pub returns-then-total-gt0-clause-quiet : goal.returns-then-total-gt0-clause-quiet
 returns-then-total-gt0-clause-quiet c =

@@ -1,4 +1,5 @@
-use Rattle.std.proofs.Common.{ℕ, List, ◌≡◌, ◌<◌, length, true, None, sym, ◌∙◌, ap, subst, arith}
+use Rattle.std.proofs.Common.{◌+◌, ℕ, List, ◌≡◌, ◌<◌, length, true, None, sym, ◌∙◌, ap, subst, arith}
+use Rattle.fj_model.specs.Pasts.{limit}
 use Rattle.fj_model.specs.declared.event.Event.TheVariants.{Make}
 use Rattle.fj_model.specs.declared.kind.Kind.TheVariants.{Completer}
 use Rattle.fj_model.specs.declared.place.Place.TheVariants.{Open}
@@ -15,8 +16,8 @@ use Rattle.fj_machine.proofs.Spent.{few_accepted}
 use Rattle.fj_machine.proofs.ledger.Ledger.make_trigger.Goals as goal
 use Rattle.fj_machine.proofs.ledger.Ledger.make_trigger.Goals.{After-self, After-unwrap}
 
-fits : (c : After-self) → length c.self.inside.log.events < c.self.inside.limits.events
-fits c = subst (λ (p : Past). length p.events < p.pool.limits.events) (sym c.self.view_is) c.requires.fits
+fits : (c : After-self) → length c.self.inside.log.events < length c.self.inside.log.sealed + c.self.inside.limits.events
+fits c = subst (λ (p : Past). length p.events < limit p) (sym c.self.view_is) c.requires.fits
 
 pub make-requires : goal.make-requires
 make-requires c =

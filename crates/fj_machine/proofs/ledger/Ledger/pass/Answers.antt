@@ -1,4 +1,5 @@
-use Rattle.std.proofs.Common.{◌≡◌, ◌<◌, length, true, sym, subst, arith}
+use Rattle.std.proofs.Common.{◌+◌, ◌≡◌, ◌<◌, length, true, sym, subst, arith}
+use Rattle.fj_model.specs.Pasts.{limit}
 use Rattle.fj_model.specs.declared.event.Event.TheVariants.{Pass}
 use Rattle.fj_model.specs.Bounds.{Pool}
 use Rattle.fj_model.specs.Tasks.{is_completer}
@@ -21,14 +22,14 @@ close-requires-clause-once c = open_once _ _ _ _ _ _ _ _ c.self.invariant.0
 
 pub close-requires-clause-room : goal.close-requires-clause-room
 close-requires-clause-room c =
-    let fits : length c.self.inside.log.events < c.self.inside.limits.events = subst (λ (p : Past). length p.events < p.pool.limits.events) (sym c.self.view_is) c.requires.fits in
+    let fits : length c.self.inside.log.events < length c.self.inside.log.sealed + c.self.inside.limits.events = subst (λ (p : Past). length p.events < limit p) (sym c.self.view_is) c.requires.fits in
     omega (arith, gone_room _ _ _ _ _ _ _ _ c.self.invariant.0, fits, c.self.invariant.3)
 
 pub invariant_of-self : goal.invariant_of-self
 invariant_of-self c =
     let pool : Pool = record { mode = c.self.inside.mode; limits = c.self.inside.limits } in
     let h = c.self.inside.log.events in
-    let fits : length h < c.self.inside.limits.events = subst (λ (p : Past). length p.events < p.pool.limits.events) (sym c.self.view_is) c.requires.fits in
+    let fits : length h < length c.self.inside.log.sealed + c.self.inside.limits.events = subst (λ (p : Past). length p.events < limit p) (sym c.self.view_is) c.requires.fits in
     let may : Allowed pool h (Pass c.args.c) = subst (λ (p : Past). Allowed p.pool p.events (Pass c.args.c)) (sym c.self.view_is) c.requires.may in
     let is : is_completer h c.args.c ≡ true = subst (λ (p : Past). is_completer p.events c.args.c ≡ true) (sym c.self.view_is) c.requires.completer in
     let l = located c.self.inside.tree c.args.c c.find.result c.unwrap-h.result c.find.ensures.found c.find.ensures.good c.unwrap-h.ensures in (

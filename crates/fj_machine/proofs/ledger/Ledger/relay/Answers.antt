@@ -1,6 +1,7 @@
 use Rattle.std.proofs.Common.{◌≡◌, ◌+◌, true, List, [], ◌∷◌, ◌++◌, take, Some, refl, ap, sym, ◌∙◌, subst, arith}
 use Rattle.std.specs.Prelude.{slice_get}
 use Rattle.std.proofs.lemmas.List.{append-nil}
+use Rattle.fj_model.specs.Pasts.{limit}
 use Rattle.fj_model.specs.declared.event.Event.{Event}
 use Rattle.fj_model.specs.declared.event.Event.TheVariants.{Settle}
 use Rattle.fj_model.specs.declared.status.Status.TheVariants.{Exceptional}
@@ -15,37 +16,38 @@ use Rattle.fj_machine.proofs.Passing.{some_get, next_up, path_begins, may_next, 
 use Rattle.fj_machine.proofs.Relaying.{relayed_at, parent_settled}
 use Rattle.fj_model.proofs.KeptParents.{relayed_kept}
 use Rattle.fj_model.proofs.Settling.{settles_kept}
+use Rattle.fj_tree.specs.Handles.{Handle}
 use Rattle.fj_machine.proofs.ledger.Ledger.relay.Goals as goal
 use Rattle.fj_machine.proofs.ledger.Ledger.relay.Goals.{In-loop, After-unwrap-c, After-find, After-parent-at}
 use Rattle.fj_machine.proofs.Found.{kept_found, told_of, found_parent}
 
 pub loop-init : goal.loop-init
 loop-init c = record {
-  past = ap (λ (es : List Event). let p : Past = record { pool = c.args.self.now.pool; events = es } in p) (sym (append-nil c.args.self.now.events));
-  next = λ some. sym (path_begins c.args.self.now.events c.args.t);
+  past = ap (λ (es : List Event). let p : Past = record c.args.self.now { events = es } in p) (sym (append-nil c.args.self.now.events));
+  next = λ some. ap (λ (x : Handle). Some x.serial) c.t.view_is ∙ sym (path_begins c.args.self.now.events c.args.t.serial);
 }
 
 -- the next one stands among those to whom the code is relayed
-place : (c : In-loop) → c.loop.at ≡ slice_get (relayed c.args.self.now.events c.args.t) c.loop.counter
+place : (c : In-loop) → c.loop.at ≡ slice_get (relayed c.args.self.now.events c.args.t.serial) c.loop.counter
 place c =
     let h = c.args.self.now.events in
-    c.loop.invariant.next c.loop-test.true ∙ relayed_at h c.args.t c.loop.counter (omega (arith, c.loop-test.true, c.requires.count))
+    c.loop.invariant.next c.loop-test.true ∙ relayed_at h c.args.t.serial c.loop.counter (omega (arith, c.loop-test.true, c.requires.count))
 
 pub unwrap-c-requires : goal.unwrap-c-requires
 unwrap-c-requires c =
-    let some = some_get (relayed c.args.self.now.events c.args.t) c.loop.counter (omega (arith, c.loop-test.true, c.requires.count)) in
+    let some = some_get (relayed c.args.self.now.events c.args.t.serial) c.loop.counter (omega (arith, c.loop-test.true, c.requires.count)) in
     rw (place (goal.at.unwrap-c-requires c).In-loop, some.1) refl
 
-member : (c : After-unwrap-c) → c.loop.at ≡ slice_get (relayed c.args.self.now.events c.args.t) c.loop.counter → slice_get (relayed c.args.self.now.events c.args.t) c.loop.counter ≡ Some c.unwrap-c.result
+member : (c : After-unwrap-c) → c.loop.at ≡ slice_get (relayed c.args.self.now.events c.args.t.serial) c.loop.counter → slice_get (relayed c.args.self.now.events c.args.t.serial) c.loop.counter ≡ Some c.unwrap-c.result
 member c at = sym at ∙ c.unwrap-c.ensures
 
 -- it is kept
-kept : (c : After-find) → slice_get (relayed c.args.self.now.events c.args.t) c.loop.counter ≡ Some c.unwrap-c.result → is_kept c.loop.self.events c.unwrap-c.result ≡ true
+kept : (c : After-find) → slice_get (relayed c.args.self.now.events c.args.t.serial) c.loop.counter ≡ Some c.unwrap-c.result → is_kept c.loop.self.events c.unwrap-c.result ≡ true
 kept c is =
     let h = c.args.self.now.events in
-    let t = c.args.t in
+    let t = c.args.t.serial in
     let us = take c.loop.counter (relayed h t) in
-    let law : IsLawful c.args.self.now.pool (h ++ settles c.args.code us) = subst (λ (p : Past). IsLawful p.pool p.events) c.loop.invariant.past c.find.ensures.lawful in
+    let law : IsLawful c.args.self.now.pool (limit c.args.self.now) (h ++ settles c.args.code us) = subst (λ (p : Past). IsLawful p.pool (limit p) p.events) c.loop.invariant.past c.find.ensures.lawful in
     let so = allowed_front c.args.self.now.pool [] h (settles c.args.code us) law.allowed in
     let was = relayed_kept c.args.self.now.pool h t c.unwrap-c.result so c.requires.kept (get_is_in c.unwrap-c.result (relayed h t) c.loop.counter is) in
     subst (λ (p : Past). is_kept p.events c.unwrap-c.result ≡ true) (sym c.loop.invariant.past) (settles_kept h c.args.code us c.unwrap-c.result ∙ was)
@@ -58,14 +60,14 @@ unwrap-requires c =
 pub settle-requires-clause-kept : goal.settle-requires-clause-kept
 settle-requires-clause-kept c there =
     let at = goal.at.settle-requires-clause-kept c in
-    kept at.After-find (member at.After-unwrap-c (place at.In-loop))
+    rw c.named.ensures (kept at.After-find (member at.After-unwrap-c (place at.In-loop)))
 
 pub settle-requires-clause-may : goal.settle-requires-clause-may
 settle-requires-clause-may c =
     let at = goal.at.settle-requires-clause-may c in
     let is = member at.After-unwrap-c (place at.In-loop) in
-    let may = may_next c.args.self.now.pool (λ u. Settle u (Exceptional c.args.code)) c.args.self.now.events (relayed c.args.self.now.events c.args.t) c.loop.counter c.unwrap-c.result c.requires.may is in
-    subst (λ (p : Past). Allowed p.pool p.events (Settle c.unwrap-c.result (Exceptional c.args.code))) (sym c.loop.invariant.past) may
+    let may = may_next c.args.self.now.pool (λ u. Settle u (Exceptional c.args.code)) c.args.self.now.events (relayed c.args.self.now.events c.args.t.serial) c.loop.counter c.unwrap-c.result c.requires.may is in
+    rw c.named.ensures (subst (λ (p : Past). Allowed p.pool p.events (Settle c.unwrap-c.result (Exceptional c.args.code))) (sym c.loop.invariant.past) may)
 
 -- what was read is the parent
 parent_read : (c : After-parent-at) → c.parent-at.result ≡ parent c.loop.self.events c.unwrap-c.result
@@ -77,13 +79,13 @@ pub loop-preserved : goal.loop-preserved
 loop-preserved c =
     let at = goal.at.loop-preserved c in
     let now = c.args.self.now in
-    let t = c.args.t in
+    let t = c.args.t.serial in
     let i = c.loop.counter in
     let us = relayed now.events t in
     let is = member at.After-unwrap-c (place at.In-loop) in
     let e = Settle c.unwrap-c.result (Exceptional c.args.code) in
     record {
-      past = c.settle.ensures ∙ ap (λ (p : Past). grown p (e ∷ [])) c.loop.invariant.past ∙ next_more (λ u. Settle u (Exceptional c.args.code)) now us i c.unwrap-c.result is;
+      past = (rw c.named.ensures at c.settle.ensures) ∙ ap (λ (p : Past). grown p (e ∷ [])) c.loop.invariant.past ∙ next_more (λ u. Settle u (Exceptional c.args.code)) now us i c.unwrap-c.result is;
       next = λ some.
           let later = some_get us (i + 1) (omega (arith, some, c.requires.count)) in
           let on_way : slice_get (path now.events t) i ≡ Some c.unwrap-c.result = relayed_at now.events t i (omega (arith, some, c.requires.count)) ∙ is in

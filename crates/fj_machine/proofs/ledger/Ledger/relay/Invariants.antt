@@ -8,6 +8,6 @@ use Rattle.fj_machine.proofs.ledger.Ledger.relay.Given as goal
 -- so many are settled, and the next one stands at that place of the way
 abbrev pub invariant-loop : goal.invariant-loop
 invariant-loop l = record {
-  past : l.self ≡ grown l.fn.self (settles l.fn.code (take l.counter (relayed l.fn.self.events l.fn.t)));
-  next : l.counter < l.count → l.at ≡ slice_get (path l.fn.self.events l.fn.t) l.counter;
+  past : l.self ≡ grown l.fn.self (settles l.fn.code (take l.counter (relayed l.fn.self.events l.fn.t.serial)));
+  next : l.counter < l.count → l.at ≡ slice_get (path l.fn.self.events l.fn.t.serial) l.counter;
 }

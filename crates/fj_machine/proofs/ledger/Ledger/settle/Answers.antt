@@ -1,6 +1,7 @@
-use Rattle.std.proofs.Common.{◌≡◌, ◌<◌, true, false, length, sym, ◌∙◌, subst, arith}
+use Rattle.std.proofs.Common.{◌+◌, ◌≡◌, ◌<◌, true, false, length, ap, sym, ◌∙◌, subst, arith}
 use Rattle.std.specs.Prelude.{Option, None, IsSome}
 use Rattle.std.proofs.lemmas.Bool.{true≢false}
+use Rattle.fj_model.specs.Pasts.{limit}
 use Rattle.fj_model.specs.declared.event.Event.TheVariants.{Settle}
 use Rattle.fj_model.specs.Bounds.{Pool}
 use Rattle.fj_model.specs.Lists.{is_in}
@@ -12,14 +13,15 @@ use Rattle.fj_machine.specs.Holds.{hook_completers}
 use Rattle.fj_machine.proofs.Located.{located}
 use Rattle.fj_machine.proofs.Settled.{settle_holds, settle_left_holds}
 use Rattle.fj_machine.proofs.Spent.{gone_room, open_once}
+use Rattle.fj_tree.specs.Handles.{Handle}
 use Rattle.fj_machine.proofs.ledger.Ledger.settle.Goals as goal
 use Rattle.fj_machine.proofs.ledger.Ledger.settle.Goals.{After-self}
 
-fits : (c : After-self) → length c.self.inside.log.events < c.self.inside.limits.events
-fits c = subst (λ (p : Past). length p.events < p.pool.limits.events) (sym c.self.view_is) c.requires.fits
+fits : (c : After-self) → length c.self.inside.log.events < length c.self.inside.log.sealed + c.self.inside.limits.events
+fits c = subst (λ (p : Past). length p.events < limit p) (sym c.self.view_is) c.requires.fits
 
-may : (c : After-self) → Allowed (record { mode = c.self.inside.mode; limits = c.self.inside.limits }) c.self.inside.log.events (Settle c.args.t c.args.status)
-may c = subst (λ (p : Past). Allowed p.pool p.events (Settle c.args.t c.args.status)) (sym c.self.view_is) c.requires.may
+may : (c : After-self) → Allowed (record { mode = c.self.inside.mode; limits = c.self.inside.limits }) c.self.inside.log.events (Settle c.args.t.serial c.args.status)
+may c = subst (λ (p : Past). Allowed p.pool p.events (Settle c.args.t.serial c.args.status)) (sym c.self.view_is) c.requires.may
 
 pub close-requires-clause-once : goal.close-requires-clause-once
 close-requires-clause-once c = open_once _ _ _ _ _ _ _ _ c.self.invariant.0
@@ -33,9 +35,9 @@ invariant_of-self c =
     let at = (goal.at.invariant_of-self c).After-self in
     let pool : Pool = record { mode = c.self.inside.mode; limits = c.self.inside.limits } in
     let h = c.self.inside.log.events in
-    let l = located c.self.inside.tree c.args.t c.find.result c.in-Some.h c.find.ensures.found c.find.ensures.good c.in-Some.is in (
-      rw (c.push.ensures, c.close.ensures.tree, c.close.ensures.open, c.close.ensures.gone, c.set_status.ensures)
-          (settle_holds pool h c.args.t c.args.status _ _ _ _ _ _ c.in-Some.h c.self.invariant.0 c.find.ensures.sound l (may at) (fits at)),
+    let l = located c.self.inside.tree c.args.t.serial c.renew.result c.in-Some.h c.renew.ensures.found c.renew.ensures.good c.in-Some.is in (
+      rw (c.push.ensures, c.close.ensures.tree, c.close.ensures.open, c.close.ensures.gone, c.set_status.ensures, ap (λ (x : Handle). x.serial) c.t.view_is)
+          (settle_holds pool h c.args.t.serial c.args.status _ _ _ _ _ _ c.in-Some.h c.self.invariant.0 c.renew.ensures.sound l (may at) (fits at)),
       rw c.push.ensures (c.self.invariant.1),
       omega (arith, c.close.ensures.open_room, c.self.invariant.2),
       omega (arith, c.close.ensures.gone_room, c.self.invariant.3),
@@ -50,10 +52,10 @@ invariant_of-self-in_default c =
     let pool : Pool = record { mode = c.self.inside.mode; limits = c.self.inside.limits } in
     let h = c.self.inside.log.events in
     let holds = c.self.invariant.0 in
-    let none : is_kept h c.args.t ≡ false = never (is_kept h c.args.t) (λ kept. none_there (sym c.find.ensures.found ∙ c.in_default.is) (holds.tree_kept.all c.args.t kept)) in
-    let kept : is_in c.args.t (hook_completers h) ≡ true → is_kept h c.args.t ≡ true = subst (λ (p : Past). is_in c.args.t (hook_completers p.events) ≡ true → is_kept p.events c.args.t ≡ true) (sym c.self.view_is) c.requires.kept in
-    let unlisted : is_in c.args.t (hook_completers h) ≡ false = never (is_in c.args.t (hook_completers h)) (λ there. true≢false (sym (kept there) ∙ none)) in (
-      rw c.push.ensures (settle_left_holds pool h c.args.t c.args.status _ _ _ _ _ _ holds (may at) (fits at) none unlisted),
+    let none : is_kept h c.args.t.serial ≡ false = never (is_kept h c.args.t.serial) (λ kept. none_there (sym c.renew.ensures.found ∙ c.in_default.is) (holds.tree_kept.all c.args.t.serial kept)) in
+    let kept : is_in c.args.t.serial (hook_completers h) ≡ true → is_kept h c.args.t.serial ≡ true = subst (λ (p : Past). is_in c.args.t.serial (hook_completers p.events) ≡ true → is_kept p.events c.args.t.serial ≡ true) (sym c.self.view_is) c.requires.kept in
+    let unlisted : is_in c.args.t.serial (hook_completers h) ≡ false = never (is_in c.args.t.serial (hook_completers h)) (λ there. true≢false (sym (kept there) ∙ none)) in (
+      rw (c.push.ensures, ap (λ (x : Handle). x.serial) c.t.view_is) (settle_left_holds pool h c.args.t.serial c.args.status _ _ _ _ _ _ holds (may at) (fits at) none unlisted),
       rw c.push.ensures (c.self.invariant.1),
       c.self.invariant.2,
       c.self.invariant.3,

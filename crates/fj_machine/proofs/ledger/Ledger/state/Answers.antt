@@ -10,7 +10,7 @@ use Rattle.fj_machine.proofs.ledger.Ledger.state.Goals as goal
 pub returns-in-None : goal.returns-in-None
 returns-in-None c =
     let none : is_kept c.args.self.now.events c.args.t ≡ false = c.in-None.ensures.record in
-    unknown_state c.args.self.now.pool c.args.self.now.events c.args.t none
+    unknown_state c.args.self.now c.args.t none
 
 pub returns-in-Some : goal.returns-in-Some
 returns-in-Some c =

@@ -1,28 +1,25 @@
-use Rattle.std.proofs.Common.{◌≡◌, ◌<◌, List, ℕ, length, map, ◌∙◌, ap, sym, subst, arith}
+use Rattle.std.proofs.Common.{◌+◌, ◌≡◌, ◌<◌, length, map, ◌∙◌, ap, sym, subst, arith}
 use Rattle.std.specs.Prelude.{option_map}
 use Rattle.std.proofs.lemmas.List.{length-map}
+use Rattle.fj_model.specs.Pasts.{limit}
 use Rattle.fj_model.specs.declared.event.Event.TheVariants.{Stop}
 use Rattle.fj_model.specs.Bounds.{Pool}
 use Rattle.fj_model.specs.Allowed.{Allowed}
 use Rattle.fj_model.specs.Runs.{Past}
 use Rattle.fj_machine.specs.InHands.{if_cancelled}
 use Rattle.fj_machine.proofs.HandParts.{written_back}
-use Rattle.fj_machine.proofs.Rooms.{going_few}
 use Rattle.fj_machine.proofs.Shut.{stopped_twice, stop_holds}
-use Rattle.fj_machine.proofs.Spent.{few_accepted}
+use Rattle.fj_machine.proofs.Spent.{gone_room}
 use Rattle.fj_machine.proofs.ledger.Ledger.stop_pool.Goals as goal
 use Rattle.fj_machine.proofs.ledger.Ledger.stop_pool.Goals.{After-self}
 
-fits : (c : After-self) → length c.self.inside.log.events < c.self.inside.limits.events
-fits c = subst (λ (p : Past). length p.events < p.pool.limits.events) (sym c.self.view_is) c.requires.fits
+fits : (c : After-self) → length c.self.inside.log.events < length c.self.inside.log.sealed + c.self.inside.limits.events
+fits c = subst (λ (p : Past). length p.events < limit p) (sym c.self.view_is) c.requires.fits
 
 pub move_sorted-requires : goal.move_sorted-requires
 move_sorted-requires c =
     let at = (goal.at.move_sorted-requires c).After-self in
-    let pool : Pool = record { mode = c.self.inside.mode; limits = c.self.inside.limits } in
-    let h = c.self.inside.log.events in
-    let holds = c.self.invariant.0 in
-    omega (arith, going_few pool h holds.lawful, few_accepted h, fits at, ap (λ (ts : List ℕ). length ts) holds.open_kept, ap (λ (ts : List ℕ). length ts) holds.gone_kept, c.self.invariant.3)
+    omega (arith, gone_room _ _ _ _ _ _ _ _ c.self.invariant.0, fits at, c.self.invariant.3)
 
 pub invariant_of-self : goal.invariant_of-self
 invariant_of-self c =

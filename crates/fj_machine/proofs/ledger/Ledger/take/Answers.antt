@@ -1,5 +1,6 @@
-use Rattle.std.proofs.Common.{◌≡◌, ◌<◌, length, Bool, true, false, Some, ap, sym, ◌∙◌, subst, arith}
+use Rattle.std.proofs.Common.{◌+◌, ◌≡◌, ◌<◌, length, Bool, true, false, Some, ap, sym, ◌∙◌, subst, arith}
 use Rattle.std.specs.Prelude.{if◌then◌else◌}
+use Rattle.fj_model.specs.Pasts.{limit}
 use Rattle.fj_model.specs.declared.event.Event.TheVariants.{Out, Skip}
 use Rattle.fj_model.specs.Bounds.{Pool, queues_in, owner_at}
 use Rattle.fj_model.specs.Queues.{queue}
@@ -18,8 +19,8 @@ use Rattle.fj_machine.proofs.Taken.{in_end, skipped_holds, handed_holds}
 use Rattle.fj_machine.proofs.ledger.Ledger.take.Goals as goal
 use Rattle.fj_machine.proofs.ledger.Ledger.take.Goals.{After-self, After-take_from-t, After-unwrap-h, After-is_undone}
 
-fits : (c : After-self) → length c.self.inside.log.events < c.self.inside.limits.events
-fits c = subst (λ (p : Past). length p.events < p.pool.limits.events) (sym c.self.view_is) c.requires.fits
+fits : (c : After-self) → length c.self.inside.log.events < length c.self.inside.log.sealed + c.self.inside.limits.events
+fits c = subst (λ (p : Past). length p.events < limit p) (sym c.self.view_is) c.requires.fits
 
 worker : (c : After-self) → c.args.w < c.self.inside.limits.workers
 worker c = subst (λ (p : Past). c.args.w < p.pool.limits.workers) (sym c.self.view_is) c.requires.worker

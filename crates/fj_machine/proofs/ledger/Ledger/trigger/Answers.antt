@@ -1,29 +1,23 @@
 use Rattle.std.proofs.Common.{ap, sym, ◌∙◌}
 use Rattle.fj_model.specs.declared.said.Said.TheVariants as says
 use Rattle.fj_model.specs.declared.step.Step.TheVariants.{Trigger}
-use Rattle.fj_machine.proofs.Stepping.{steps_refused}
-use Rattle.fj_machine.proofs.OneEvent.{one_full, one_may, one_made}
 use Rattle.fj_machine.proofs.AcceptSteps.{makes_trigger, trigger_says}
+use Rattle.fj_machine.proofs.Outcomes.{exits, full_of_one, may_one, made_one}
 use Rattle.fj_machine.proofs.ledger.Ledger.trigger.Goals as goal
 
-pub returns-in-Some : goal.returns-in-Some
-returns-in-Some c = steps_refused c.args.self.now (Trigger c.args.w c.args.count) c.in-Some.refusal (sym c.trigger_refusal.ensures ∙ c.in-Some.is)
+pub returns-in_err-may_trigger : goal.returns-in_err-may_trigger
+returns-in_err-may_trigger c = exits c.args.self.now (Trigger c.args.w c.args.count) c.from_residual.result _ c.from_residual.ensures.1 (sym c.in_err-may_trigger.ensures)
 
-pub returns-then-not-has_room : goal.returns-then-not-has_room
-returns-then-not-has_room c =
-    let now = c.args.self.now in
-    let is = makes_trigger now c.args.w c.args.count (sym c.trigger_refusal.ensures ∙ c.in_default.is) in
-    one_full now (Trigger c.args.w c.args.count) _ c.has_room.result is c.if-not-has_room.true c.has_room.ensures.room
+pub returns-in_err-room_for : goal.returns-in_err-room_for
+returns-in_err-room_for c =
+    full_of_one c.args.self.now (Trigger c.args.w c.args.count) _ c.from_residual-in_err-room_for.result _ c.from_residual-in_err-room_for.ensures.1
+    (makes_trigger c.args.self.now c.args.w c.args.count (sym c.in_ok-may_trigger.ensures)) c.in_err-room_for.ensures.room
 
 pub make_trigger-requires-clause-may : goal.make_trigger-requires-clause-may
 make_trigger-requires-clause-may c =
-    let now = c.args.self.now in
-    let is = makes_trigger now c.args.w c.args.count (sym c.trigger_refusal.ensures ∙ c.in_default.is) in
-    one_may now (Trigger c.args.w c.args.count) _ c.has_room.result c.has_room.ensures.lawful is c.if-not-has_room.false c.has_room.ensures.room
+    may_one c.args.self.now (Trigger c.args.w c.args.count) _ c.in_ok-room_for.ensures.lawful (makes_trigger c.args.self.now c.args.w c.args.count (sym c.in_ok-may_trigger.ensures))
 
 pub returns : goal.returns
 returns c =
-    let now = c.args.self.now in
-    let is = makes_trigger now c.args.w c.args.count (sym c.trigger_refusal.ensures ∙ c.in_default.is) in
-    one_made now c.make_trigger.new.self (Trigger c.args.w c.args.count) _ _ c.has_room.result is c.if-not-has_room.false c.has_room.ensures.room
-    (ap says.Task c.make_trigger.ensures.number ∙ trigger_says now c.args.w c.args.count) c.make_trigger.ensures.events
+    made_one c.args.self.now c.make_trigger.new.self (Trigger c.args.w c.args.count) _ _ (makes_trigger c.args.self.now c.args.w c.args.count (sym c.in_ok-may_trigger.ensures)) c.in_ok-room_for.ensures.room
+    (ap says.Task c.make_trigger.ensures.number ∙ trigger_says c.args.self.now c.args.w c.args.count) c.make_trigger.ensures.events

@@ -1,5 +1,8 @@
-use Rattle.std.proofs.Common.{sym}
-use Rattle.fj_tree.specs.Records.{Records}
+use Rattle.std.proofs.Common.{◌≡◌, true, sym, ◌∙◌, subst, refl, Option, Some, None, Bor}
+use Rattle.std.specs.Prelude.{IsSome, is_some, option_copied}
+use Rattle.fj_tree.specs.declared.record.Record.{Record}
+use Rattle.fj_tree.specs.Records.{Records, IsGood, IsSound}
+use Rattle.fj_tree.proofs.Finds.{named_record}
 use Rattle.fj_tree.proofs.Indexing.{absent_handle, absent_kept}
 use Rattle.fj_tree.proofs.Numbers.{found_there}
 use Rattle.fj_tree.proofs.tree.Tree.find.Goals as goal
@@ -17,3 +20,13 @@ returns-in_err-key-clause-found c =
 pub returns-in_err-key-clause-absent : goal.returns-in_err-key-clause-absent
 returns-in_err-key-clause-absent c =
     rw (c.from_residual.ensures, ← c.self.view_is) (λ key r. absent_kept _ _ c.args.serial key r c.self.invariant.3 c.in_err-key.ensures.absent)
+
+some_copied : (o : Option (Bor Record)) → is_some o ≡ true → IsSome (option_copied o)
+some_copied (Some r) some = refl
+some_copied None none = absurd cc
+
+pub returns-then-is_some-clause-found : goal.returns-then-is_some-clause-found
+returns-then-is_some-clause-found c =
+    let good : IsGood c.args.self.now (record { key = c.key.result; serial = c.args.serial }) = subst IsSome c.get.ensures (some_copied c.get.result (sym c.is_some.ensures ∙ c.if-is_some.true)) in
+    let named = named_record c.args.self.now (record { key = c.key.result; serial = c.args.serial }) good in
+    sym (found_there c.args.self.now c.args.serial c.key.result (subst IsSound c.self.view_is c.self.invariant.0) (rw named.1 named.2))

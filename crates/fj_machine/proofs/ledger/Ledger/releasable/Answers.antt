@@ -1,5 +1,6 @@
 use Rattle.std.proofs.Common.{◌≡◌, ap, sym, ◌∙◌, refl, subst}
 use Rattle.std.specs.Prelude.{◌==◌, ◌&&◌}
+use Rattle.fj_model.specs.Pasts.{limit}
 use Rattle.fj_model.specs.Bounds.{Pool}
 use Rattle.fj_model.specs.Runs.{Past}
 use Rattle.fj_tree.specs.declared.record.Record.{Record}
@@ -8,8 +9,8 @@ use Rattle.fj_machine.specs.Holds.{IsLawful}
 use Rattle.fj_machine.proofs.Lawfuls.{lawful}
 use Rattle.fj_machine.proofs.Located.{IsLocated, located, read_at}
 use Rattle.fj_machine.proofs.Released.{release_told}
-use Rattle.fj_machine.proofs.ledger.Ledger.release_refusal.Goals as goal
-use Rattle.fj_machine.proofs.ledger.Ledger.release_refusal.Goals.{After-is_free, In-Some}
+use Rattle.fj_machine.proofs.ledger.Ledger.releasable.Goals as goal
+use Rattle.fj_machine.proofs.ledger.Ledger.releasable.Goals.{After-is_free, In-Some}
 
 found : (c : In-Some) → IsLocated c.self.inside.tree c.args.t c.in-Some.h
 found c = located c.self.inside.tree c.args.t c.find.result c.in-Some.h c.find.ensures.found c.find.ensures.good c.in-Some.is
@@ -21,7 +22,7 @@ free c l =
     sym (c.is_free.ensures ∙ ap (λ (r : Record). is_gone r.place && (r.children == 0)) here)
 
 pub returns-in_default-clause-lawful : goal.returns-in_default-clause-lawful
-returns-in_default-clause-lawful c = subst (λ (p : Past). IsLawful p.pool p.events) c.self.view_is (lawful _ _ _ _ _ _ _ _ c.self.invariant.0)
+returns-in_default-clause-lawful c = subst (λ (p : Past). IsLawful p.pool (limit p) p.events) c.self.view_is (lawful _ _ _ _ _ _ _ _ c.self.invariant.0)
 
 pub returns-then-is_free-clause-refusal : goal.returns-then-is_free-clause-refusal
 returns-then-is_free-clause-refusal c =
@@ -32,7 +33,7 @@ returns-then-is_free-clause-refusal c =
     rw (← c.self.view_is) (sym (told ∙ rw (free at.After-is_free l, c.if-is_free.true) refl))
 
 pub returns-then-is_free-clause-lawful : goal.returns-then-is_free-clause-lawful
-returns-then-is_free-clause-lawful c = subst (λ (p : Past). IsLawful p.pool p.events) c.self.view_is (lawful _ _ _ _ _ _ _ _ c.self.invariant.0)
+returns-then-is_free-clause-lawful c = subst (λ (p : Past). IsLawful p.pool (limit p) p.events) c.self.view_is (lawful _ _ _ _ _ _ _ _ c.self.invariant.0)
 
 pub returns-else-is_free-clause-refusal : goal.returns-else-is_free-clause-refusal
 returns-else-is_free-clause-refusal c =
@@ -43,4 +44,4 @@ returns-else-is_free-clause-refusal c =
     rw (← c.self.view_is) (sym (told ∙ rw (free at.After-is_free l, c.if-is_free.false) refl))
 
 pub returns-else-is_free-clause-lawful : goal.returns-else-is_free-clause-lawful
-returns-else-is_free-clause-lawful c = subst (λ (p : Past). IsLawful p.pool p.events) c.self.view_is (lawful _ _ _ _ _ _ _ _ c.self.invariant.0)
+returns-else-is_free-clause-lawful c = subst (λ (p : Past). IsLawful p.pool (limit p) p.events) c.self.view_is (lawful _ _ _ _ _ _ _ _ c.self.invariant.0)

@@ -1,0 +1,12 @@
+use Rattle.std.proofs.Common.{subst}
+use Rattle.fj_model.specs.Pasts.{limit}
+use Rattle.fj_model.specs.Runs.{Past}
+use Rattle.fj_machine.specs.Holds.{IsLawful}
+use Rattle.fj_machine.proofs.Lawfuls.{lawful}
+use Rattle.fj_machine.proofs.ledger.Ledger.known.Goals as goal
+
+pub returns-in-None-clause-lawful : goal.returns-in-None-clause-lawful
+returns-in-None-clause-lawful c = subst (λ (p : Past). IsLawful p.pool (limit p) p.events) c.self.view_is (lawful _ _ _ _ _ _ _ _ c.self.invariant.0)
+
+pub returns-in-Some-clause-lawful : goal.returns-in-Some-clause-lawful
+returns-in-Some-clause-lawful c = subst (λ (p : Past). IsLawful p.pool (limit p) p.events) c.self.view_is (lawful _ _ _ _ _ _ _ _ c.self.invariant.0)

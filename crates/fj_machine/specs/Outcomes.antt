@@ -1,0 +1,48 @@
+-- What a check and a step come to: something found or said, or a refusal.
+use Rattle.std.specs.Prelude.{ℕ, ◌≡◌, ◌≤◌, ◌<◌, ◌+◌, Bool, true, not, Option, Some, None, Result, Ok, Err, length}
+use Rattle.fj_model.specs.declared.refusal.Refusal.{Refusal}
+use Rattle.fj_model.specs.declared.refusal.Refusal.TheVariants.{LogFull}
+use Rattle.fj_model.specs.declared.said.Said.{Said}
+use Rattle.fj_model.specs.declared.said.Said.TheVariants as says
+use Rattle.fj_model.specs.declared.step.Step.{Step}
+use Rattle.fj_model.specs.declared.step.Ending.{Ending}
+use Rattle.fj_model.specs.declared.step.Ending.TheVariants as ends
+use Rattle.fj_model.specs.declared.step.Step.TheVariants.{End}
+use Rattle.fj_model.specs.Answers.{first_that_stands, refusals_of, running}
+use Rattle.fj_model.specs.Pasts.{limit}
+use Rattle.fj_model.specs.Runs.{Past, Steps}
+use Rattle.fj_machine.specs.Holds.{IsLawful}
+
+-- why it is refused, if it is
+abbrev pub refusal_in : {A : Type 0} → Result A Refusal → Option Refusal
+refusal_in (Ok found) = None
+refusal_in (Err r) = Some r
+
+-- the reply
+abbrev pub said_by : Result Said Refusal → Said
+said_by (Ok said) = said
+said_by (Err r) = says.Refused r
+
+-- at the old past the step comes to this, and it leads to the new past
+abbrev pub Makes : Past → Step → Result Said Refusal → Past → Type 0
+Makes old asked result new = Steps old asked (said_by result) new
+
+-- so many events more fit, or the history is too full for them
+abbrev pub FindsRoom : {A : Type 0} → Past → ℕ → Result A Refusal → Type 0
+FindsRoom now n (Ok found) = length now.events + n ≤ limit now
+FindsRoom now n (Err r) = (r ≡ LogFull) × (limit now < length now.events + n)
+
+-- whether the ending suits a completer, or a plain task
+abbrev pub suits : Ending → Bool → Bool
+suits ends.Ok completer = not completer
+suits ends.Quiet completer = completer
+suits ends.Try completer = completer
+suits ends.Pass completer = completer
+suits ends.Complete completer = completer
+suits (ends.Fail code) completer = true
+
+-- the body of the task, which the worker runs, may end so
+pub record MayEnd (now : Past) (w : ℕ) (ending : Ending) (t : ℕ) : Type 0 where
+  pub lawful : IsLawful now.pool (limit now) now.events
+  pub stands : first_that_stands (refusals_of now.pool now.events (End w ending)) ≡ None
+  pub running : running now.events w ≡ Some t

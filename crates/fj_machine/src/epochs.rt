@@ -1,0 +1,85 @@
+ghost use Rattle.std.specs.Prelude.{◌≡◌, ◌++◌, length, IfOk, OnOk};
+ghost use Rattle.std.specs.List.{filter_map};
+ghost use Rattle.fj_model.specs.Places.{gone};
+ghost use Rattle.fj_model.specs.Pasts.{fresh, present, gone_since};
+ghost use Rattle.fj_model.specs.Epochs.{Moves, MovesFrom, reply_in};
+ghost use Rattle.fj_model.specs.Headline.{IsInOnePlace, IsHandedOutOnce, LeftInOrder, NoneAfterShutdown, IsFiredOnce, FiredAtZero, FiresByCompleteOnlyOwn, RepliesTell};
+ghost use Rattle.fj_model.specs.Parts.{Fits, events_in, gone_in};
+
+use crate::machine::Machine;
+use fj_model::{
+    Answer, Limits, Mode, Move, OutOfMemory, Owner, Place, Refusal, Said, Sealed, Serial, Status,
+    SubId, WorkerId,
+};
+use std::alloc::Global;
+
+/// Runs steps and seals from the start: the machine that they leave, the parts that were handed out, and the answer to each move.
+///
+/// What is promised of every list of steps and seals is the headline of the pool, of the parts that were handed out joined with the
+/// present one. The only error is that an allocation failed; one of a seal is the answer to it.
+pub fn run_epochs(
+    alloc: Global,
+    mode: Mode,
+    limits: Limits,
+    moves: &[Move],
+) -> Result<(Machine, Vec<Sealed>, Vec<Answer>), OutOfMemory>
+    ensures pool { IfOk result (λ r. r.0.pool ≡ record { mode = mode; limits = limits }) }
+    // Each step and each seal, refused or not, has the one answer.
+    ensures runs { IfOk result (λ r. MovesFrom (fresh mode limits) moves.now r.2.items r.0) }
+    // The events of the parts, followed by the present ones, are the history.
+    ensures events { IfOk result (λ r. r.0.events ≡ events_in r.1.items ++ present r.0) }
+    // The gone tasks of the parts, followed by the present ones, are those of the history.
+    ensures gone { IfOk result (λ r. gone r.0.events ≡ gone_in r.1.items ++ gone_since r.0) }
+    // There is one part for each seal.
+    ensures parts { IfOk result (λ r. length r.1.items ≡ r.0.seals) }
+    // Each accepted task is in exactly one place: one queue, one stack, among the open or among the gone tasks.
+    ensures place { IfOk result (λ r. IsInOnePlace r.0.pool.limits r.0.events) }
+    // Each task was handed out at most once.
+    ensures handed_once { IfOk result (λ r. IsHandedOutOnce r.0.events) }
+    // The tasks of each submitter and of each worker left its queue in the order pushed; in joining mode those of each submitter.
+    ensures order { IfOk result (λ r. LeftInOrder r.0.pool.mode r.0.events) }
+    // No submission was accepted after a shutdown.
+    ensures shutdown { IfOk result (λ r. NoneAfterShutdown r.0.events) }
+    // The `onCompletion` of each completer was handed out at most once.
+    ensures fired_once { IfOk result (λ r. IsFiredOnce r.0.events) }
+    // Unless `complete` handed it out, the pending count over the events before was zero.
+    ensures fired_at_zero { IfOk result (λ r. FiredAtZero r.0.events) }
+    // `complete` hands out an `onCompletion` only where the body of the running task ends by it, and only that task's own.
+    ensures completes { IfOk result (λ r. FiresByCompleteOnlyOwn r.0.pool) }
+    // The replies `task` are the tasks accepted, one for one and in order; so are `run` the tasks handed out, `hook` the `onCompletion`s.
+    ensures replies { IfOk result (λ r. RepliesTell r.0.events (filter_map reply_in r.2.items)) }
+{
+    // The check wants each type inside a reply to be named where one is moved.
+    let _inside: Option<(Said, Place, Owner, Status, Refusal, Serial, SubId, WorkerId)> = None;
+    let Ok(mut machine) = Machine::new(alloc, mode, limits) else {
+        return Err(OutOfMemory);
+    };
+    let mut parts = Vec::with_capacity(alloc, moves.len())?;
+    let mut answers = Vec::with_capacity(alloc, moves.len())?;
+    for asked in moves {
+        answers.push(make_move(alloc, &mut machine, &mut parts, asked)?)?;
+    }
+    Ok((machine, parts, answers))
+}
+
+/// Makes one move. A part that is handed out is put behind those before it.
+fn make_move(
+    alloc: Global,
+    machine: &mut Machine,
+    parts: &mut Vec<Sealed>,
+    asked: &Move,
+) -> Result<Answer, OutOfMemory>
+    ensures made { IfOk result (λ answer. Moves machine.old asked.now answer machine.new) }
+    ensures parts { OnOk result (Fits parts.old.items machine.old → Fits parts.new.items machine.new) }
+{
+    match asked {
+        Move::Step(step) => Ok(Answer::Said(machine.step(step))),
+        Move::Seal => match machine.seal(alloc) {
+            Ok(part) => {
+                parts.push(part)?;
+                Ok(Answer::Sealed)
+            }
+            Err(refusal) => Ok(Answer::Refused(refusal)),
+        },
+    }
+}

@@ -1,0 +1,34 @@
+use crate::event::Event;
+use crate::ids::Serial;
+use crate::refusal::Refusal;
+use crate::said::Said;
+use crate::step::Step;
+
+/// What a machine is asked for in a run with seals.
+#[derive(Clone, Copy, Debug, PartialEq, Eq)]
+pub enum Move {
+    /// A step.
+    Step(Step),
+    /// Hand out what has happened since the last seal.
+    Seal,
+}
+
+/// What a machine answers in a run with seals.
+#[derive(Clone, Copy, Debug, PartialEq, Eq)]
+pub enum Answer {
+    /// The reply to a step.
+    Said(Said),
+    /// The present part was handed out.
+    Sealed,
+    /// The seal was refused and changed nothing.
+    Refused(Refusal),
+}
+
+/// A part of a history that was handed out.
+#[derive(Drop)]
+pub struct Sealed {
+    /// What happened in this part, the oldest first.
+    pub events: Vec<Event>,
+    /// The tasks that came to be gone in it, in that order.
+    pub gone: Vec<Serial>,
+}
