@@ -3,6 +3,7 @@ pub mod Climbing
 pub mod Counts
 pub mod Finds
 pub mod Growing
+pub mod Halving
 pub mod Indexing
 pub mod Listing
 pub mod Names

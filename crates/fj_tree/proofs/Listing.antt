@@ -1,35 +1,10 @@
 -- What a search finds among rising numbers, and what one number more or fewer leaves.
 use Rattle.std.specs.List.{remove}
-use Rattle.std.specs.List.Sorted.{IsSearchInRange, IsBinarySearchResult, IsNonDecreasingBy}
-use Rattle.std.specs.Ordering.{nat_cmp, ordering_index}
-use Rattle.std.proofs.Common.{arith, ℕ, ◌≡◌, ◌≢◌, ◌+◌, ◌-◌, ◌<◌, ◌≤◌, ◌++◌, ◌∷◌, ◌⊎◌, [], length, get_or, Result, Ok, Err, IfOk, IfErr, sym, ◌∙◌, ap, refl, inl, inr}
+use Rattle.std.proofs.Common.{arith, ℕ, ◌≡◌, ◌≢◌, ◌+◌, ◌-◌, ◌<◌, ◌++◌, ◌∷◌, ◌⊎◌, [], length, get_or, sym, ◌∙◌, ap, refl, inl, inr}
 use Rattle.std.proofs.lemmas.Bool.{cases_eq, cases_lt}
-use Rattle.std.proofs.lemmas.Bool.Decides.{nat_tests}
-use Rattle.std.proofs.lemmas.Cmp.{ranked}
 use Rattle.std.proofs.lemmas.List.{get_or_append_left, get_or_push, length_push}
 use Rattle.std.proofs.lemmas.List.Edits.{length-remove, get_or-remove_below, get_or-remove_above}
-use Rattle.std.proofs.lemmas.List.Sorted.{IsNonDecreasingBy-from_default}
 use Rattle.fj_tree.specs.Kept.{Pairs, number_at, IsRising, IsAbsent, IsAt, IsListed}
-
-module _ (l : Pairs) (rising : IsRising l) (n : ℕ) where
-  -- the comparisons with the number rise along the list, as a binary search asks
-  comparisons_rise : IsNonDecreasingBy (λ pair. ordering_index (nat_cmp pair.0 n)) l
-  comparisons_rise = IsNonDecreasingBy-from_default (λ pair. ordering_index (nat_cmp pair.0 n)) l (0, 0) (λ i j le in_range.
-      let numbers_rise : number_at l i ≤ number_at l j = grind (arith, rising i j, λ (same : i ≡ j). ap (number_at l) same) in
-      grind (arith, nat_tests))
-
-  -- a binary search that finds has found the number
-  pub found_at : (r : Result ℕ ℕ) → IsSearchInRange r (length l) → IsBinarySearchResult (λ pair. nat_cmp pair.0 n) l r → IfOk r (IsAt l n)
-  found_at (Ok at) in_range equal = record { in_range = in_range; number = ranked _ n _ (sym (equal (0, 0))) }
-  found_at (Err at) in_range parted = tt
-
-  -- and one that finds none has all smaller numbers before, and all larger ones after the place
-  pub absent_past : (r : Result ℕ ℕ) → IsSearchInRange r (length l) → IsBinarySearchResult (λ pair. nat_cmp pair.0 n) l r → IfErr r (λ _. IsAbsent l n)
-  absent_past (Ok at) in_range equal = tt
-  absent_past (Err at) in_range parted = λ i within same.
-      let smaller : i < at → number_at l i < n = λ lt. ranked _ n _ (sym ((parted comparisons_rise).0 i (0, 0) (omega arith) lt)) in
-      let greater : at ≤ i → n < number_at l i = λ le. ranked _ n _ (sym ((parted comparisons_rise).1 i (0, 0) le within)) in
-      grind (arith, smaller, greater)
 
 -- no pair of an absent number is listed
 pub none_listed : (l : Pairs) (n key : ℕ) → IsAbsent l n → IsListed l n key → ⊥

@@ -1,5 +1,5 @@
 -- The numbers that are kept, each with the key of its record.
-use Rattle.std.specs.Prelude.{ℕ, ◌≡◌, ◌≢◌, ◌<◌, List, Option, Some, None, length, slice_index_or, is_some, IsSomeAnd}
+use Rattle.std.specs.Prelude.{ℕ, ◌≡◌, ◌≢◌, ◌<◌, ◌+◌, List, Option, Some, None, length, slice_index_or, is_some, IsSomeAnd}
 use Rattle.std.specs.List.{count_by}
 use Rattle.fj_tree.specs.declared.record.Record.{Record}
 
@@ -15,6 +15,10 @@ pub record Numbers : Type 0 where
 -- the number of the pair at a place
 abbrev pub number_at : Pairs → ℕ → ℕ
 number_at l i = let pair = slice_index_or l i (0, 0) in pair.0
+
+-- the key of the pair at a place
+abbrev pub key_at : Pairs → ℕ → ℕ
+key_at l i = let pair = slice_index_or l i (0, 0) in pair.1
 
 -- each number is smaller than the ones after it
 abbrev pub IsRising : Pairs → Type 0
@@ -44,3 +48,8 @@ pub record IsIndex (slots : List (Option Record)) (l : Pairs) : Type 0 where
   pub listed : (key : ℕ) (r : Record) → slice_index_or slots key None ≡ Some r → IsListed l r.serial key
   pub there : (n key : ℕ) → IsListed l n key → IsSomeAnd (slice_index_or slots key None) (λ r. r.serial ≡ n)
   pub count : length l ≡ count_by is_some slots
+
+-- how many probes there were, where there was a last one after so many
+abbrev pub count_after : Option ℕ → ℕ
+count_after None = 0
+count_after (Some before) = before + 1

@@ -1,15 +1,18 @@
-ghost use Rattle.std.specs.Prelude.{◌≡◌, ◌≢◌, ◌<◌, ◌+◌, ◌++◌, ◌∷◌, ◌↔◌, [], ℕ, length, IfErr, IfNone, IfOk, IfSome};
-ghost use Rattle.fj_tree.specs.Kept.{IsAbove, IsAbsent, IsAt, IsListed};
+ghost use Rattle.std.specs.Prelude.{◌≡◌, ◌<◌, ◌+◌, ◌++◌, ◌∷◌, [], length, remove, IfOk};
+ghost use Rattle.std.specs.Ordering.{nat_cmp};
+ghost use Rattle.fj_tree.specs.Kept.{IsAbove, IsRising, key_at, number_at};
 
+use crate::probes::Probes;
 use fj_model::Serial;
 use std::alloc::{AllocError, Global};
+use std::cmp::Ordering;
 use std::collections::VecDeque;
 use std::marker::Model;
 
 /// The numbers of the records that are kept, in rising order, each with the key of its record.
 ///
 /// Numbers are given out in rising order. So a new one goes to the end, and one is found by halves. Where one is taken out, the side
-/// with fewer numbers closes up, so the oldest goes as fast as the newest.
+/// with fewer numbers closes up, so the oldest goes as fast as the newest. [`Kept::probe`] alone tells of a number.
 #[derive(Drop)]
 pub struct Kept {
     pairs: VecDeque<(u64, usize)>,
@@ -39,18 +42,33 @@ impl Kept {
         })
     }
 
-    /// The key of a number's record. None if the number is not kept.
-    pub fn key(&self, serial: Serial) -> Option<usize>
-        ensures listed { IfSome result (IsListed self.now.pairs serial) }
-        ensures absent { IfNone result (IsAbsent self.now.pairs serial) }
+    /// How many numbers there are.
+    pub fn len(&self) -> usize
+        ensures count { result ≡ length self.now.pairs }
+        ensures rising { IsRising self.now.pairs }
     {
-        match self.place(serial) {
-            Ok(place) => Some(self.pairs[place].1),
-            Err(_) => None,
-        }
+        self.pairs.len()
     }
 
-    /// One number more, larger than all that are kept. The caller answers for that, and for the room.
+    /// Compares the number at place `i` with the given one, and counts one probe. Precondition: `i < len()`.
+    pub fn probe(&self, i: usize, serial: Serial, probes: &mut Probes) -> Ordering
+        requires { i < length self.now.pairs }
+        ensures compared { result ≡ nat_cmp (number_at self.now.pairs i) serial }
+        ensures counted { probes.new ≡ probes.old + 1 }
+    {
+        probes.add_one();
+        self.pairs[i].0.cmp(&serial.0)
+    }
+
+    /// The key at place `i`. Precondition: `i < len()`.
+    pub fn key(&self, i: usize) -> usize
+        requires { i < length self.now.pairs }
+        ensures { result ≡ key_at self.now.pairs i }
+    {
+        self.pairs[i].1
+    }
+
+    /// One number more, at the end, with the key of its record. Precondition: it is larger than all that there are, and there is room.
     pub fn push(&mut self, serial: Serial, key: usize)
         requires above { IsAbove self.old.pairs serial }
         requires room { length self.old.pairs < self.old.room }
@@ -60,24 +78,12 @@ impl Kept {
         self.pairs.push_back_reserved((serial.0, key));
     }
 
-    /// Takes a number out. One that is not kept leaves all as it is.
-    pub fn remove(&mut self, serial: Serial)
-        ensures absent { IsAbsent self.old.pairs serial → self.new ≡ self.old }
-        ensures others { (n key : ℕ) → IsListed self.new.pairs n key ↔ (IsListed self.old.pairs n key × (n ≢ serial)) }
-        ensures fewer { (key : ℕ) → IsListed self.old.pairs serial key → length self.new.pairs + 1 ≡ length self.old.pairs }
+    /// Takes the number at place `i` out. Precondition: `i < len()`.
+    pub fn remove(&mut self, i: usize)
+        requires { i < length self.old.pairs }
+        ensures pairs { self.new.pairs ≡ remove self.old.pairs i }
         ensures room { self.new.room ≡ self.old.room }
     {
-        if let Ok(place) = self.place(serial) {
-            let _removed = self.pairs.remove(place);
-        }
-    }
-
-    /// Where a number is. An error if it is not kept.
-    fn place(&self, serial: Serial) -> Result<usize, usize>
-        ensures found { IfOk result (IsAt self.now.pairs serial) }
-        ensures absent { IfErr result (λ _. IsAbsent self.now.pairs serial) }
-    {
-        self.pairs
-            .binary_search_by_key(&serial.0, |&(number, _)| number)
+        let _removed = self.pairs.remove(i);
     }
 }

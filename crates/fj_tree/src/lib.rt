@@ -16,7 +16,9 @@ mod climb;
 mod handle;
 mod hints;
 mod kept;
+mod lookup;
 mod pass;
+mod probes;
 mod record;
 #[cfg(test)]
 mod tests;
@@ -24,6 +26,9 @@ mod tree;
 
 pub use arrive::Arrived;
 pub use handle::Handle;
+pub use kept::Kept;
+pub use lookup::search;
 pub use pass::{PassEnd, PassHow};
+pub use probes::Probes;
 pub use record::Record;
 pub use tree::Tree;

@@ -16,6 +16,8 @@ use crate::arrive::Arrived;
 use crate::handle::Handle;
 use crate::hints::Hints;
 use crate::kept::Kept;
+use crate::lookup::search;
+use crate::probes::Probes;
 use crate::record::Record;
 use fj_model::{Kind, MAX_PENDING, OutOfMemory, Place, Refusal, Serial, Status};
 use slab::Slab;
@@ -115,7 +117,7 @@ impl Tree {
         if self.get(guess).is_some() {
             return Some(guess);
         }
-        let key = self.kept.key(serial)?;
+        let key = search(&self.kept, serial, &mut Probes::new())?;
         Some(Handle { key, serial })
     }
 

@@ -9,7 +9,7 @@ use Rattle.fj_tree.proofs.tree.Tree.find.Goals as goal
 
 pub returns-clause-found : goal.returns-clause-found
 returns-clause-found c =
-    let listed = c.in_ok-key.ensures.listed in
+    let listed = c.in_ok-key.ensures.found in
     rw (← c.self.view_is) (sym (found_there _ c.args.serial c.in_ok-key.key c.self.invariant.0 ((c.self.invariant.3).there c.args.serial c.in_ok-key.key listed)))
 
 pub returns-in_err-key-clause-found : goal.returns-in_err-key-clause-found

@@ -47,9 +47,9 @@ invariant_of-self c =
     let sound = sound_shrunk t (changed u p.key without_child) h.key i.result c.self.invariant.0 (removal_shrinks_below t u h p i.result c.self.invariant.0 removed up) in (
       subst (λ (o : Option Record). IsSound (record u { slots = slice_set u.slots p.key (option_map without_child o) })) c.index_mut.ensures.value sound,
       omega (arith, c.self.invariant.1, i.ensures.capacity),
-      omega (arith, c.self.invariant.2, c.remove.ensures.room),
+      omega (arith, c.self.invariant.2, c.take_out.ensures.room),
       index_written u.slots _ p.key c.index_mut.result.now _ (
-          index_shrunk t u c.self.inside.kept.pairs _ h.key i.result c.self.invariant.0 c.self.invariant.3 removed.out i.ensures.len (rw (removed.number) c.remove.ensures.others) (rw (removed.number) c.remove.ensures.fewer)
+          index_shrunk t u c.self.inside.kept.pairs _ h.key i.result c.self.invariant.0 c.self.invariant.3 removed.out i.ensures.len (rw (removed.number) c.take_out.ensures.others) (rw (removed.number) c.take_out.ensures.fewer)
           ) c.index_mut.ensures.value refl,
     )
 
@@ -64,8 +64,8 @@ invariant_of-self-in_default c =
     let none : above t h ≡ None = rw (c.in_default.is, ← c.self.view_is, ← c.h.view_is) at (sym c.requires.parent) in (
       sound_shrunk t u h.key i.result c.self.invariant.0 (removal_shrinks t u h i.result c.self.invariant.0 removed none),
       omega (arith, c.self.invariant.1, i.ensures.capacity),
-      omega (arith, c.self.invariant.2, c.remove.ensures.room),
-      index_shrunk t u c.self.inside.kept.pairs _ h.key i.result c.self.invariant.0 c.self.invariant.3 removed.out i.ensures.len (rw (removed.number) c.remove.ensures.others) (rw (removed.number) c.remove.ensures.fewer),
+      omega (arith, c.self.invariant.2, c.take_out.ensures.room),
+      index_shrunk t u c.self.inside.kept.pairs _ h.key i.result c.self.invariant.0 c.self.invariant.3 removed.out i.ensures.len (rw (removed.number) c.take_out.ensures.others) (rw (removed.number) c.take_out.ensures.fewer),
     )
 
 pub returns-in-Some-clause-others : goal.returns-in-Some-clause-others

@@ -1,0 +1,42 @@
+ghost use Rattle.std.specs.Prelude.{◌≡◌, ◌+◌};
+
+use std::marker::Model;
+use std::snapshot::Snapshot;
+
+/// How many probes were made: a number that contracts alone see.
+///
+/// Nothing is counted when the program runs, so nothing can be read there, and no count overflows.
+#[derive(Drop)]
+pub struct Probes {
+    // the count as it was before the last probe: a value without bytes
+    before: Option<Snapshot<Probes>>,
+}
+
+impl Model for Probes {
+    ghost use Rattle.std.specs.Prelude.{ℕ, option_map};
+    ghost use Rattle.fj_tree.specs.Kept.{count_after};
+
+    ghost Value = { ℕ };
+
+    ghost view = { λ p. count_after (option_map (λ s. s.value) p.before) };
+
+    // there was one probe fewer before the last one
+    ghost size = { λ count. count };
+}
+
+impl Probes {
+    /// No probe so far.
+    pub fn new() -> Probes
+        ensures { result ≡ 0 }
+    {
+        Probes { before: None }
+    }
+
+    /// One probe more.
+    pub(crate) fn add_one(&mut self)
+        ensures { self.new ≡ self.old + 1 }
+    {
+        let before = Snapshot::of(&*self);
+        self.before = Some(before);
+    }
+}
