@@ -1,6 +1,8 @@
+mod listed;
 mod rows;
 mod trial;
 
+use listed::{even, key_at, key_of, odd, odd_numbers};
 use rows::{first_other, wrong};
 use std::alloc::Global;
 use std::test::Fail;
@@ -95,6 +97,10 @@ state 0 > Gone undone 0 unspent 2; release 0 > refused 9; release 1 > done; stat
 release 2 > refused 9; release 3 > done; state 0 > Gone undone 0 unspent 1; release 2 > done; state 0 > Gone undone 0 unspent 0;
 release 0 > done; len > 0
 
+a release in the middle closes the list up
+3; make plain open > 0:0; make plain gone > 1:1; make plain open > 2:2; find 3 > none; release 1 > done; find 0 > 0:0;
+find 1 > none; find 2 > 2:2; make plain open > 1:3; find 1 > none; find 2 > 2:2; find 3 > 1:3; find 4 > none
+
 a key is used again but no number
 1; make plain gone > 0:0; make plain gone > refused 2; release 0 > done; find 0 > none; make plain gone > 0:1; get 0 > none;
 make 0 0 stop open > refused 5";
@@ -173,6 +179,39 @@ fn a_climb_ends_early_at_a_parent_that_is_queued_or_held(rt: HostRuntime) -> Res
         for put in ["place 0 submitted > done", "place 0 held > done"] {
             let other = other_climb(rt.alloc(), below, put, below, "Early")?;
             assert_eq!(rt; other.as_str(), "", "{below} below");
+        }
+    }
+    Ok(())
+}
+
+#[test]
+fn a_search_finds_each_number_and_no_other(rt: HostRuntime) -> Result<(), Fail> {
+    for count in [0, 1, 2, 3, 4096] {
+        let list = odd_numbers(rt.alloc(), count)?;
+        for i in 0..count {
+            assert_eq!(rt;
+                key_of(list.all(), odd(i)),
+                Some(key_at(count, i)),
+                "{i} of {count}"
+            );
+            assert_eq!(rt; key_of(list.all(), even(i)), None, "before {i} of {count}");
+        }
+        assert_eq!(rt; key_of(list.all(), even(count)), None, "behind {count}");
+    }
+    Ok(())
+}
+
+#[test]
+fn a_number_that_is_taken_out_is_found_no_more(rt: HostRuntime) -> Result<(), Fail> {
+    for (count, out) in [(1, 0), (2, 0), (2, 1), (3, 1), (4096, 5), (4096, 4000)] {
+        let left = odd_numbers(rt.alloc(), count)?.without(odd(out));
+        for i in 0..count {
+            let key = if i == out {
+                None
+            } else {
+                Some(key_at(count, i))
+            };
+            assert_eq!(rt; key_of(&left, odd(i)), key, "{i} of {count}");
         }
     }
     Ok(())
