@@ -55,6 +55,9 @@ class Mutant:
             for word, _, rest in (it.rstrip("\n").partition(": ") for it in text):
                 if word == "file":
                     file = rest
+                    if not os.path.isfile(f"{TOP}/crates/{crate}/{file}"):
+                        self.bad = f"there is no file {file}"
+                        return
                     if file not in texts:
                         with open(f"{TOP}/crates/{crate}/{file}", encoding="utf-8") as it:
                             texts[file] = it.read().split("\n")
@@ -71,7 +74,7 @@ class Mutant:
                     self.functions.update([names[file][at[0]]] if file in names else [])
 
     def may_join(self, batch):
-        """Returns whether no other mutant of the batch changes a function or a line of this one."""
+        """Returns whether no mutant of the batch changes a function or a line of this one."""
         mine = self.functions | self.lines.keys()
         return None not in mine and not any(None in it.functions or mine & (it.functions | it.lines.keys()) for it in batch)
 
@@ -90,11 +93,10 @@ def check(room, crate, jobs, mutants):
             it.write("\n".join(lines))
     how = {"cwd": folder, "stdin": subprocess.DEVNULL, "stdout": subprocess.PIPE, "stderr": subprocess.STDOUT}
     said = subprocess.run(["rt", "check", *jobs], **how, text=True, errors="replace").stdout
+    # what a check without mutants has proved is kept for those that follow
+    shutil.rmtree(folder if mutants else f"{room}/{crate}")
     if not mutants:
-        shutil.rmtree(f"{room}/{crate}")
         os.rename(folder, f"{room}/{crate}")
-    else:
-        shutil.rmtree(folder)
     return said
 
 
@@ -113,28 +115,25 @@ def refusals(said):
 
 
 def judge(room, crate, jobs, mutants):
-    """Tries the mutants by one check, by more where it is not read by the prover."""
+    """Tries the mutants by one check, those that compile."""
     started = time.monotonic()
     said = check(room, crate, jobs, mutants)
     print(f"{crate}: {len(mutants)} in one check, {time.monotonic() - started:.0f} s", flush=True)
-    if not re.search(r"^logic=", said, re.M):
-        errors = re.findall(r"^(\S+?):(\d+):\d+: (error.*)$", said, re.M)
+    if re.search(r"^logic=", said, re.M):
+        found = refusals(said)
         for it in mutants:
-            it.bad = next((why for file, line, why in errors if (file, int(line) - 1) in it.lines), "")
-        left = [it for it in mutants if not it.bad]
-        if len(mutants) == 1:
-            mutants[0].bad = mutants[0].bad or f"it does not reach the prover: {said[:200]}"
-        elif left:
-            # where no line tells whose error it is, halves do
-            half = len(left) // 2 if left == mutants else 0
-            for part in (left[:half], left[half:]):
-                judge(room, crate, jobs, part) if part else None
+            own = [name for name in found if any(re.fullmatch(place, name) for place in it.functions if place)]
+            own = own or (list(found) if len(mutants) == 1 else [])
+            it.told = "; ".join(f"{name}: {found[name]}" for name in own)
         return
-    found = refusals(said)
+    errors = re.findall(r"^(\S+?):(\d+):\d+: (error.*)$", said, re.M)
     for it in mutants:
-        own = [name for name in found if any(re.fullmatch(place, name) for place in it.functions if place)]
-        own = own or (list(found) if len(mutants) == 1 else [])
-        it.told = "; ".join(f"{name}: {found[name]}" for name in own)
+        other = "" if len(mutants) > 1 else f"it does not reach the prover: {said[:200]}"
+        it.bad = next((why for file, line, why in errors if (file, int(line) - 1) in it.lines), other)
+    left = [it for it in mutants if not it.bad]
+    # where no line tells whose error it is, each is tried alone
+    for batch in [[it] for it in left] if left == mutants else [left] if left else []:
+        judge(room, crate, jobs, batch)
 
 
 def try_all(room, crate, jobs, mutants):
@@ -143,45 +142,43 @@ def try_all(room, crate, jobs, mutants):
     for mutant in (it for it in mutants if not it.bad):
         batch = next((it for it in made if mutant.may_join(it)), None)
         made.append([mutant]) if batch is None else batch.append(mutant)
-    for batch in [[it for it in mutants if it.bad], *made]:
-        if not all(it.bad for it in batch):
-            judge(room, crate, jobs, batch)
+    for batch in made:
+        judge(room, crate, jobs, batch)
         for it in (it for it in batch if len(batch) > 1 and not it.told and not it.bad):
             judge(room, crate, jobs, [it])
-        for it in batch:
-            print(f"{it.name}: " + (f"BAD EDIT: {it.bad}" if it.bad else f"refused: {it.told}" if it.told else "LET THROUGH"), flush=True)
+    for it in mutants:
+        print(f"{it.name}: " + (f"BAD EDIT: {it.bad}" if it.bad else f"refused: {it.told}" if it.told else "LET THROUGH"), flush=True)
 
 
 def main():
-    words = argparse.ArgumentParser(usage=__doc__)
+    words = argparse.ArgumentParser(description=__doc__, formatter_class=argparse.RawDescriptionHelpFormatter)
     words.add_argument("--kept", action="store_true")
     words.add_argument("--jobs", default="1")
     words.add_argument("crates", nargs="*")
     asked = words.parse_args()
-    place = f"{TOP}/crates/%s/must-fail" if asked.kept else f"{TOP}/tests/mutants/%s"
-    crates = [it for it in sorted(os.listdir(f"{TOP}/crates")) if os.path.isdir(place % it)]
-    names = asked.crates or crates
-    mutants = {}
-    for crate in crates:
-        edits = [it for it in sorted(os.listdir(place % crate)) if it.endswith(".edit")]
-        tried = [it for it in edits if crate in names or f"{crate}/{it[: -len('.edit')]}" in names]
-        mutants[crate] = [Mutant(crate, f"{place % crate}/{it}") for it in tried]
+    place, jobs = f"{TOP}/crates/%s/must-fail" if asked.kept else f"{TOP}/tests/mutants/%s", ["--jobs", asked.jobs]
+    edits = {it: sorted(os.listdir(place % it)) for it in sorted(os.listdir(f"{TOP}/crates")) if os.path.isdir(place % it)}
+    all_names = {f"{crate}/{it[: -len('.edit')]}" for crate in edits for it in edits[crate]}
+    if unknown := [it for it in asked.crates if it not in edits and it not in all_names]:
+        words.error(f"no such crate or mutant: {unknown[0]}")
+    mutants = [Mutant(crate, f"{place % crate}/{it}") for crate in edits for it in edits[crate] if it.endswith(".edit")]
+    mutants = [it for it in mutants if not asked.crates or it.name in asked.crates or it.name.split("/")[0] in asked.crates]
     with tempfile.TemporaryDirectory(prefix="mutants-") as room:
         shutil.copytree(TOP, room, ignore=shutil.ignore_patterns(".git", "bench", "incremental"), dirs_exist_ok=True)
-        for crate in (it for it in crates if mutants[it]):
+        for crate in dict.fromkeys(it.name.split("/")[0] for it in mutants):
             os.rename(f"{room}/crates/{crate}", f"{room}/{crate}")
             if os.path.isdir(f"{TOP}/crates/{crate}/out/incremental"):
                 shutil.copytree(f"{TOP}/crates/{crate}/out/incremental", f"{room}/{crate}/out/incremental")
-            said = check(room, crate, ["--jobs", asked.jobs], [])
+            said = check(room, crate, jobs, [])
             if not re.search(r"^logic=proved", said, re.M):
-                sys.exit(f"{said}\n{crate} is not proved as it stands")
-            try_all(room, crate, ["--jobs", asked.jobs], mutants[crate])
+                print(f"{said}\n{crate} is not proved as it stands", file=sys.stderr)
+                sys.exit(2)
+            try_all(room, crate, jobs, [it for it in mutants if it.name.startswith(f"{crate}/")])
             shutil.rmtree(f"{room}/{crate}/out/incremental", ignore_errors=True)
             os.rename(f"{room}/{crate}", f"{room}/crates/{crate}")
-    every = [it for crate in crates for it in mutants[crate]]
-    bad = sum(bool(it.bad) for it in every)
-    through = sum(not it.bad and not it.told for it in every)
-    print(f"{bad} cannot be tried\n" * bool(bad) + f"{len(every) - bad - through} refused, {through} let through")
+    bad = sum(bool(it.bad) for it in mutants)
+    through = sum(not it.bad and not it.told for it in mutants)
+    print(f"{bad} cannot be tried\n" * bool(bad) + f"{len(mutants) - bad - through} refused, {through} let through")
     sys.exit(1 if bad or through else 0)
 
 
