@@ -1,3 +1,10 @@
+pub mod ChainEnds
 pub mod Counts
+pub mod Links
+pub mod Owners
+pub mod QueueSteps
 pub mod QueueWrites
 pub mod Scans
+pub mod TableLinks
+pub mod TableSteps
+pub mod Walks

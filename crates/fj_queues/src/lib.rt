@@ -10,6 +10,8 @@
 //! ```
 #![tactic(auto)]
 
+mod cells;
+mod ends;
 mod numbers;
 mod queues;
 #[cfg(test)]

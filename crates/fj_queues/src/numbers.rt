@@ -1,24 +1,29 @@
 ghost use Rattle.std.specs.Prelude.{◌≡◌, ℕ, List, []};
 ghost use Rattle.std.specs.Iterator.{YieldsFirst, item_count};
 
+use crate::cells::Cell;
 use fj_model::Serial;
 use std::marker::Model;
 
 /// The numbers of one queue that are still to come, oldest first.
 ///
-/// A contract sees the list of them. A queue may lie in memory in two pieces.
+/// A contract sees the list of them. In memory each stands in a cell of its own, linked to the next.
 #[derive(Drop)]
 pub struct Numbers<'a> {
-    pub(crate) older: &'a [Serial],
-    pub(crate) newer: &'a [Serial],
+    pub(crate) table: &'a [Cell],
+    pub(crate) next: Option<usize>,
+    pub(crate) left: usize,
 }
 
 impl<'a> Model for Numbers<'a> {
-    ghost use Rattle.std.specs.Prelude.{ℕ, List, ◌++◌};
+    ghost use Rattle.std.specs.Prelude.{ℕ, List};
+    ghost use Rattle.fj_queues.specs.Tables.{numbers_from, IsWalk};
 
     ghost Value = { List ℕ };
 
-    ghost view = { λ n. n.older.now ++ n.newer.now };
+    ghost view = { λ n. numbers_from n.table.now n.left n.next };
+
+    ghost invariant = { λ n. IsWalk n.table.now n.next n.left };
 }
 
 impl<'a> Numbers<'a> {
@@ -27,8 +32,9 @@ impl<'a> Numbers<'a> {
         ensures { result ≡ [] }
     {
         Numbers {
-            older: &[],
-            newer: &[],
+            table: &[],
+            next: None,
+            left: 0,
         }
     }
 }
@@ -41,12 +47,9 @@ impl<'a> Iterator for Numbers<'a> {
     ghost remaining = { item_count (λ (numbers : List ℕ). numbers) };
 
     fn next(&mut self) -> Option<Serial> {
-        if let Some((first, others)) = self.older.split_first() {
-            self.older = others;
-            return Some(*first);
-        }
-        let (first, others) = self.newer.split_first()?;
-        self.newer = others;
-        Some(*first)
+        let cell = self.table[self.next?];
+        self.next = cell.newer;
+        self.left -= 1;
+        Some(cell.serial)
     }
 }

@@ -2,10 +2,11 @@ ghost use Rattle.std.specs.Prelude.{◌≡◌, ◌+◌, ◌<◌, ◌∷◌, [], 
 ghost use Rattle.fj_queues.specs.Queues.{queue_at, with_queue, total, without_first, without_last, first_filled, places_from};
 ghost use Rattle.fj_model.specs.Lists.{first_of, last_of};
 
+use crate::cells::{Cell, Cells};
+use crate::ends::Ends;
 use crate::numbers::Numbers;
 use fj_model::{OutOfMemory, Serial};
 use std::alloc::Global;
-use std::collections::VecDeque;
 use std::marker::Model;
 
 /// A queue of task numbers for each owner, with room that is taken when they are made.
@@ -13,22 +14,28 @@ use std::marker::Model;
 /// The caller answers for an owner that there is: a number below the number of owners.
 #[derive(Drop)]
 pub struct Queues {
-    queues: Vec<VecDeque<Serial>>,
+    cells: Cells,
+    ends: Vec<Ends>,
     room: usize,
     /// How many numbers stand in all queues, so that nobody has to add their lengths up.
     total: usize,
 }
 
 impl Model for Queues {
-    ghost use Rattle.std.specs.Prelude.{◌≡◌, ◌≤◌, map, All};
-    ghost use Rattle.std.specs.VecDeque.{deque_capacity};
+    ghost use Rattle.std.specs.Prelude.{◌≡◌, ◌≤◌, [], length, vec_capacity};
     ghost use Rattle.fj_queues.specs.Queues.{Lists, all_in};
+    ghost use Rattle.fj_queues.specs.Tables.{lists_of, IsTable};
 
     ghost Value = { Lists };
 
-    ghost view = { λ q. record { lists = map (λ d. d.items) q.queues.items; room = q.room } };
+    ghost view = { λ q. record { lists = lists_of q.cells.table.items q.ends.items; room = q.room } };
 
-    ghost invariant = { λ q. (All (λ d. q.room ≤ deque_capacity d) q.queues.items) × (q.total ≡ all_in (map (λ d. d.items) q.queues.items)) };
+    ghost invariant = { λ q. record {
+      table : IsTable q.cells.table.items q.cells.free q.ends.items [];
+      counted : q.total ≡ all_in (lists_of q.cells.table.items q.ends.items);
+      within : length q.cells.table.items ≤ q.room;
+      reserved : q.room ≤ vec_capacity q.cells.table;
+    } };
 }
 
 impl Queues {
@@ -36,12 +43,14 @@ impl Queues {
     pub fn new(alloc: Global, owners: usize, room: usize) -> Result<Queues, OutOfMemory>
         ensures { IfOk result (λ q. q ≡ record { lists = replicate owners []; room = room }) }
     {
-        let mut queues = Vec::with_capacity(alloc, owners)?;
+        let cells = Cells::with_capacity(alloc, room)?;
+        let mut ends = Vec::with_capacity(alloc, owners)?;
         for _owner in 0..owners {
-            queues.push(VecDeque::with_capacity(alloc, room)?)?;
+            ends.push(Ends::EMPTY)?;
         }
         Ok(Queues {
-            queues,
+            cells,
+            ends,
             room,
             total: 0,
         })
@@ -51,7 +60,7 @@ impl Queues {
     pub fn owners(&self) -> usize
         ensures { result ≡ length self.now.lists }
     {
-        self.queues.len()
+        self.ends.len()
     }
 
     /// How many numbers may stand in all queues together.
@@ -66,7 +75,7 @@ impl Queues {
         requires { o < length self.now.lists }
         ensures { result ≡ length (queue_at self.now o) }
     {
-        self.queues[o].len()
+        self.ends[o].len
     }
 
     /// How many numbers stand in all queues.
@@ -81,8 +90,12 @@ impl Queues {
         requires { o < length self.now.lists }
         ensures { result ≡ queue_at self.now o }
     {
-        let (older, newer) = self.queues[o].as_slices();
-        Numbers { older, newer }
+        let ends = self.ends[o];
+        Numbers {
+            table: self.cells.table.as_slice(),
+            next: ends.oldest,
+            left: ends.len,
+        }
     }
 
     /// Puts a number at the new end of an owner's queue. The caller answers for the room, and no memory is taken.
@@ -92,7 +105,10 @@ impl Queues {
         ensures pushed { self.new ≡ with_queue self.old o (queue_at self.old o ++ serial ∷ []) }
         ensures counted { total self.new ≡ total self.old + 1 }
     {
-        self.queues[o].push_back_reserved(serial);
+        let number = self.cells.fill(Cell::alone(serial));
+        let mut ends = self.ends[o];
+        ends.append(&mut self.cells, number);
+        self.ends[o] = ends;
         self.total += 1;
     }
 
@@ -104,9 +120,11 @@ impl Queues {
         ensures stays { IfNone result (self.new ≡ self.old) }
         ensures counted { MatchOption result (total self.new ≡ total self.old) (λ _. total self.new + 1 ≡ total self.old) }
     {
-        let serial = self.queues[o].pop_front()?;
+        let mut ends = self.ends[o];
+        let number = ends.detach_oldest(&mut self.cells)?;
+        self.ends[o] = ends;
         self.total -= 1;
-        Some(serial)
+        Some(self.cells.give_back(number))
     }
 
     /// Takes the newest number of an owner's queue. None, with nothing changed, if the queue is empty.
@@ -117,9 +135,11 @@ impl Queues {
         ensures stays { IfNone result (self.new ≡ self.old) }
         ensures counted { MatchOption result (total self.new ≡ total self.old) (λ _. total self.new + 1 ≡ total self.old) }
     {
-        let serial = self.queues[o].pop_back()?;
+        let mut ends = self.ends[o];
+        let number = ends.detach_newest(&mut self.cells)?;
+        self.ends[o] = ends;
         self.total -= 1;
-        Some(serial)
+        Some(self.cells.give_back(number))
     }
 
     /// The first owner whose queue is not empty, from place `r` on round past the last owner. None if all queues are empty.
@@ -129,7 +149,7 @@ impl Queues {
         ensures filled { IfSome result (λ o. 0 < length (queue_at self.now o)) }
         ensures none { IfNone result (total self.now ≡ 0) }
     {
-        let owners = self.queues.len();
+        let owners = self.ends.len();
         if owners == 0 {
             return None;
         }
@@ -137,7 +157,7 @@ impl Queues {
         let start = r % owners;
         for i in 0..owners {
             let o = (start + i) % owners;
-            if !self.queues[o].is_empty() {
+            if self.ends[o].len > 0 {
                 return Some(o);
             }
         }

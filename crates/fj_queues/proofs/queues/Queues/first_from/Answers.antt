@@ -1,48 +1,53 @@
 use Rattle.fj_model.specs.Lists.{is_empty}
-use Rattle.std.proofs.Common.{[], ap, ◌<◌, ◌≡◌, ◌≢◌, ◌+◌, ◌%◌, ◌-◌, None, length, arith, get_or, map, sym, ◌∙◌, true, false}
-use Rattle.std.specs.VecDeque.{deque_len}
 use Rattle.fj_queues.specs.Queues.{first_filled, places_from}
-use Rattle.std.proofs.Math.Nat.{mod-add-mod}
-use Rattle.std.proofs.lemmas.Bool.{eqb-true, eqb-false}
-use Rattle.std.proofs.lemmas.List.{length-map}
-use Rattle.fj_queues.proofs.QueueWrites.{queue_read}
+use Rattle.fj_queues.specs.Tables.{no_ends, numbers_from, lists_of}
 use Rattle.fj_queues.proofs.Scans.{all_empty, none_in_empty, scan_step, is_empty_no, is_empty_yes}
+use Rattle.fj_queues.proofs.TableSteps.{len_seen}
+use Rattle.std.proofs.Common.{[], ap, ◌<◌, ◌≡◌, ◌+◌, ◌%◌, ◌-◌, None, length, arith, get_or, sym, ◌∙◌, true, false}
+use Rattle.std.proofs.Math.Nat.{mod-add-mod}
+use Rattle.std.proofs.lemmas.List.{get_or_read, length-map}
 use Rattle.fj_queues.proofs.queues.Queues.first_from.Goals as goal
+use Rattle.fj_queues.proofs.queues.Queues.first_from.Goals.{After-index}
 
-pub returns-then-not-is_empty-clause-scan : goal.returns-then-not-is_empty-clause-scan
-returns-then-not-is_empty-clause-scan c =
-    let vs = c.self.inside.queues.items in
-    let lists = map (λ d. d.items) vs in
+-- how many numbers the queue has that is looked at
+read : (c : After-index) → c.index.result.now.len ≡ length (get_or (lists_of c.self.inside.cells.table.items c.self.inside.ends.items) ((c.args.r + c.loop-i.i) % c.len-owners.result) [])
+read c =
+    let q = c.self.inside in
     let owners = c.len-owners.result in
-    let here : (c.args.r % owners + c.loop-i.i) % owners ≡ (c.args.r + c.loop-i.i) % owners = mod-add-mod c.args.r owners c.loop-i.i in
+    let within : (c.args.r % owners + c.loop-i.i) % owners < length q.ends.items = omega (arith, q.ends.ok.0) in
+    len_seen q.cells.table.items q.cells.free q.ends.items [] c.self.invariant.table _ within _ (get_or_read q.ends.items _ _ within c.index.ensures no_ends)
+    ∙ ap (λ o. length (get_or (lists_of q.cells.table.items q.ends.items) o [])) (mod-add-mod c.args.r owners c.loop-i.i)
+
+pub returns-then-index-gt0-clause-scan : goal.returns-then-index-gt0-clause-scan
+returns-then-index-gt0-clause-scan c =
+    let q = c.self.inside in
+    let lists = lists_of q.cells.table.items q.ends.items in
+    let owners = c.len-owners.result in
     let o = (c.args.r + c.loop-i.i) % owners in
-    let within : o < length vs = omega (arith, c.self.inside.queues.ok.0) in
-    let count : length lists ≡ owners = omega (arith, length-map vs (λ d. d.items), c.self.inside.queues.ok.0) in
-    let read = queue_read (λ d. d.items) vs o c.index.result.now within (rw here at c.index.ensures) in
-    let filled : deque_len c.index.result.now ≢ 0 = eqb-false (deque_len c.index.result.now) 0 (sym c.is_empty.ensures ∙ c.if-not-is_empty.true) in
-    let some : is_empty (get_or lists o []) ≡ false = ap is_empty (sym read) ∙ is_empty_no c.index.result.now.items (omega (arith, c.index.result.now.ok.0)) in
+    let count : length lists ≡ owners = omega (arith, length-map q.ends.items (λ e. numbers_from q.cells.table.items e.len e.oldest), q.ends.ok.0) in
+    let some : is_empty (get_or lists o []) ≡ false = is_empty_no (get_or lists o []) (omega (arith, read (goal.at.returns-then-index-gt0-clause-scan c).After-index)) in
     let step = rw some at (scan_step lists c.args.r owners c.loop-i.i c.loop-i-test.true) in
-    rw (← c.self.view_is, count, here) (sym step ∙ c.loop-i.invariant)
+    rw (← c.self.view_is, count, mod-add-mod c.args.r owners c.loop-i.i) (sym step ∙ c.loop-i.invariant)
+
+pub returns-then-index-gt0-clause-filled : goal.returns-then-index-gt0-clause-filled
+returns-then-index-gt0-clause-filled c =
+    rw (← c.self.view_is, mod-add-mod c.args.r c.len-owners.result c.loop-i.i) (omega (arith, read (goal.at.returns-then-index-gt0-clause-filled c).After-index))
 
 pub loop-i-preserved : goal.loop-i-preserved
 loop-i-preserved c =
-    let vs = c.self.inside.queues.items in
-    let lists = map (λ d. d.items) vs in
+    let q = c.self.inside in
+    let lists = lists_of q.cells.table.items q.ends.items in
     let owners = c.len-owners.result in
-    let here : (c.args.r % owners + c.loop-i.i) % owners ≡ (c.args.r + c.loop-i.i) % owners = mod-add-mod c.args.r owners c.loop-i.i in
     let o = (c.args.r + c.loop-i.i) % owners in
-    let within : o < length vs = omega (arith, c.self.inside.queues.ok.0) in
-    let read = queue_read (λ d. d.items) vs o c.index.result.now within (rw here at c.index.ensures) in
-    let empty : deque_len c.index.result.now ≡ 0 = eqb-true (deque_len c.index.result.now) 0 (sym c.is_empty.ensures ∙ c.if-not-is_empty.false) in
-    let none : is_empty (get_or lists o []) ≡ true = ap is_empty (sym read) ∙ is_empty_yes c.index.result.now.items (omega (arith, c.index.result.now.ok.0)) in
+    let none : is_empty (get_or lists o []) ≡ true = is_empty_yes (get_or lists o []) (omega (arith, read (goal.at.loop-i-preserved c).After-index)) in
     rw none at (sym (scan_step lists c.args.r owners c.loop-i.i c.loop-i-test.true)) ∙ c.loop-i.invariant
 
 pub returns-clause-none : goal.returns-clause-none
 returns-clause-none c =
-    let vs = c.self.inside.queues.items in
-    let lists = map (λ d. d.items) vs in
+    let q = c.self.inside in
+    let lists = lists_of q.cells.table.items q.ends.items in
     let owners = c.len-owners.result in
-    let count : length lists ≡ owners = omega (arith, length-map vs (λ d. d.items), c.self.inside.queues.ok.0) in
+    let count : length lists ≡ owners = omega (arith, length-map q.ends.items (λ e. numbers_from q.cells.table.items e.len e.oldest), q.ends.ok.0) in
     let over : owners - c.loop-i.i ≡ 0 = omega arith in
     let none : first_filled lists (places_from (length lists) c.args.r) ≡ None = rw count (sym (rw over at c.loop-i.invariant)) in
     rw (← c.self.view_is) (none_in_empty lists (all_empty lists c.args.r none))

@@ -1,92 +1,109 @@
-use Rattle.std.proofs.Common.{map, ap, ◌<◌, ◌≡◌, length, arith, List, ℕ, ◌∙◌, ◌-◌, take, sym, slice_get, Some}
-use Rattle.std.proofs.lemmas.Option.{slice_get-get_or}
-use Rattle.std.specs.VecDeque.{deque_capacity}
-use Rattle.std.proofs.lemmas.List.{length-map, length-take}
-use Rattle.fj_queues.specs.Queues.{Lists, queue_at, total, without_last}
-use Rattle.fj_queues.proofs.QueueWrites.{queue_read, queue_written, count_written, room_written, untouched}
+use Rattle.fj_queues.specs.Queues.{Lists, all_in, queue_at, without_last}
+use Rattle.fj_queues.specs.declared.cells.Cells.{Cells}
+use Rattle.fj_queues.specs.Cells.{serial_at}
+use Rattle.fj_queues.specs.Tables.{no_ends, lists_of, IsTable}
+use Rattle.fj_queues.proofs.Owners.{owner_within, list_within}
+use Rattle.fj_queues.proofs.TableSteps.{queue_of, last_moved}
+use Rattle.fj_queues.proofs.QueueSteps.{loose_within, take_new_steps, no_newest, count_without_last}
+use Rattle.fj_queues.proofs.QueueWrites.{untouched}
 use Rattle.fj_queues.proofs.Counts.{one_in_all}
+use Rattle.fj_model.specs.Lists.{last_of}
+use Rattle.std.proofs.Common.{arith, ap, subst, sym, ◌∙◌, ◌≡◌, ◌<◌, ◌+◌, ◌∷◌, [], List, ℕ, Some, None, length, get_or}
+use Rattle.std.proofs.Math.ListN.{set}
+use Rattle.std.proofs.lemmas.List.{get_or_read}
+use Rattle.std.proofs.lemmas.Option.{slice_get_within}
 use Rattle.fj_queues.proofs.queues.Queues.take_new.Goals as goal
-use Rattle.fj_queues.proofs.queues.Queues.take_new.Goals.{After-index_mut}
+use Rattle.fj_queues.proofs.queues.Queues.take_new.Goals.{After-index, After-index_mut, After-give_back}
 
--- there is such a queue
-owned : (c : After-index_mut) → c.args.o < length c.self.inside.queues.items
-owned c = omega (arith, ap (λ (qs : Lists). length qs.lists) c.self.view_is, length-map c.self.inside.queues.items (λ d. d.items), c.requires)
+-- there is such an owner
+owned : (c : After-index) → c.args.o < length c.self.inside.ends.items
+owned c = let q = c.self.inside in owner_within q.cells.table.items q.ends.items q.room c.args.self.now c.args.o c.self.view_is c.requires
 
-pub invariant_of-self : goal.invariant_of-self
-invariant_of-self c =
-    let vs = c.self.inside.queues.items in
-    let within = owned (goal.at.invariant_of-self c).After-index_mut in
-    let old = c.index_mut.result.now in
-    let new = c.pop_back.new.self in
-    let count = count_written (λ d. d.items) vs c.args.o old new within c.index_mut.ensures.value in (
-      room_written deque_capacity c.self.inside.room vs c.args.o old new c.self.invariant.0 within c.index_mut.ensures.value c.pop_back.ensures.capacity,
-      omega (arith, old.ok.0, new.ok.0, c.in_err-serial.ensures.cases, c.self.invariant.1),
-    )
+pub detach_newest-requires : goal.detach_newest-requires
+detach_newest-requires c =
+    let q = c.self.inside in
+    let within = owned (goal.at.detach_newest-requires c).After-index in
+    record { queue = queue_of q.cells.table.items _ _ _ c.self.invariant.table c.args.o within _ (get_or_read q.ends.items _ _ within c.index.ensures no_ends) }
 
-pub returns-in_err-serial-clause-rest : goal.returns-in_err-serial-clause-rest
-returns-in_err-serial-clause-rest c =
-    let vs = c.self.inside.queues.items in
-    let within = owned (goal.at.returns-in_err-serial-clause-rest c).After-index_mut in
-    rw (← c.self.view_is) (ap (λ (lists : List (List ℕ)). let qs : Lists = record { lists = lists; room = c.self.inside.room } in qs)
-    (queue_written (λ d. d.items) without_last vs c.args.o c.index_mut.result.now c.pop_back.new.self within c.index_mut.ensures.value (c.pop_back.ensures.rest ∙ ap (λ n. take (n - 1) c.index_mut.result.now.items) c.index_mut.result.now.ok.0)))
+-- where the queue has no such end, it is empty
+empty : (c : After-index) → c.index.result.now.newest ≡ None → queue_at c.args.self.now c.args.o ≡ []
+empty c none =
+    let q = c.self.inside in
+    let within = owned c in
+    ap (λ (qs : Lists). queue_at qs c.args.o) (sym c.self.view_is)
+    ∙ no_newest q.cells.table.items q.cells.free q.ends.items c.args.o _ c.self.invariant.table within (get_or_read q.ends.items _ _ within c.index.ensures no_ends) none
 
-pub returns-in_err-serial-clause-stays : goal.returns-in_err-serial-clause-stays
-returns-in_err-serial-clause-stays c =
-    let vs = c.self.inside.queues.items in
-    let within = owned (goal.at.returns-in_err-serial-clause-stays c).After-index_mut in
-    let old = c.index_mut.result.now in
-    let queue = queue_at c.args.self.now c.args.o in
-    let read = queue_read (λ d. d.items) vs c.args.o old within c.index_mut.ensures.value in
-    let empty : length queue ≡ 0 = omega (arith, old.ok.0, ap length read, ap (λ (qs : Lists). length (queue_at qs c.args.o)) c.self.view_is, c.in_err-serial.ensures.cases) in
-    rw c.from_residual.ensures (returns-in_err-serial-clause-rest c ∙ untouched c.args.self.now c.args.o (without_last queue) (omega (arith, length-take (length queue - 1) queue)) empty)
+pub returns-in_err-number-clause-taken : goal.returns-in_err-number-clause-taken
+returns-in_err-number-clause-taken c =
+    let none = empty (goal.at.returns-in_err-number-clause-taken c).After-index (sym c.in_err-number.ensures.taken) in
+    c.from_residual.ensures ∙ sym (ap last_of none)
 
-pub returns-in_err-serial-clause-counted : goal.returns-in_err-serial-clause-counted
-returns-in_err-serial-clause-counted c =
-    rw c.from_residual.ensures (omega (arith, (invariant_of-self c).1, c.self.invariant.1, ap total c.self.view_is))
+pub returns-in_err-number-clause-rest : goal.returns-in_err-number-clause-rest
+returns-in_err-number-clause-rest c =
+    let none = empty (goal.at.returns-in_err-number-clause-rest c).After-index (sym c.in_err-number.ensures.taken) in
+    ap (λ (cells : Cells). let qs : Lists = record { lists = lists_of cells.table.items c.self.inside.ends.items; room = c.self.inside.room } in qs) c.in_err-number.ensures.stays.1
+    ∙ c.self.view_is
+    ∙ sym (untouched c.args.self.now c.args.o (without_last (queue_at c.args.self.now c.args.o)) (ap (λ ts. length (without_last ts)) none) (ap length none))
+
+-- the cell that was unlinked is in no chain, and its number is the one at that end
+unlinked : (c : After-index_mut) → IsTable c.detach_newest.new.cells.table.items c.detach_newest.new.cells.free (set c.self.inside.ends.items c.args.o c.detach_newest.new.self) (c.in_ok-number.number ∷ [])
+    × (Some (serial_at c.detach_newest.new.cells.table.items c.in_ok-number.number) ≡ last_of (get_or (lists_of c.self.inside.cells.table.items c.self.inside.ends.items) c.args.o []))
+unlinked c =
+    let q = c.self.inside in
+    let within = owner_within q.cells.table.items q.ends.items q.room c.args.self.now c.args.o c.self.view_is c.requires in
+    let all = last_moved q.cells.table.items c.detach_newest.new.cells.table.items c.detach_newest.new.cells.free
+      q.ends.items c.in_ok-number.number c.args.o c.index.result.now c.detach_newest.new.self
+      (subst (λ free. IsTable q.cells.table.items free q.ends.items []) (sym c.in_ok-number.ensures.free) c.self.invariant.table) within (get_or_read q.ends.items _ _ within c.index.ensures no_ends)
+      c.in_ok-number.ensures.table (sym c.in_ok-number.ensures.taken) c.in_ok-number.ensures.rest in
+    (all.0, all.2)
 
 pub overflow_sub-self : goal.overflow_sub-self
 overflow_sub-self c =
-    let vs = c.self.inside.queues.items in
-    let within = owned (goal.at.overflow_sub-self c).After-index_mut in
-    let old = c.index_mut.result.now in
-    let read = queue_read (λ d. d.items) vs c.args.o old within c.index_mut.ensures.value in
-    let few = one_in_all (map (λ d. d.items) vs) c.args.o (omega (arith, length-map vs (λ d. d.items))) in
-    omega (arith, old.ok.0, ap length read, c.in_ok-serial.ensures.cases, c.self.invariant.1)
+    let q = c.self.inside in
+    let within = owned (goal.at.overflow_sub-self c).After-index in
+    let lists = lists_of q.cells.table.items q.ends.items in
+    omega (arith, slice_get_within (get_or lists c.args.o []) _ _ (sym (unlinked (goal.at.overflow_sub-self c).After-index_mut).1),
+      one_in_all lists c.args.o (list_within q.cells.table.items q.ends.items c.args.o within), c.self.invariant.counted)
+
+pub give_back-requires : goal.give_back-requires
+give_back-requires c = loose_within c.detach_newest.new.cells.table.items _ _ _ (unlinked (goal.at.give_back-requires c).After-index_mut).0
+
+-- the table after both steps, and what is seen of it
+steps : (c : After-give_back) → IsTable c.give_back.new.self.table.items c.give_back.new.self.free (set c.self.inside.ends.items c.args.o c.detach_newest.new.self) []
+    × (lists_of c.give_back.new.self.table.items (set c.self.inside.ends.items c.args.o c.detach_newest.new.self)
+    ≡ set (lists_of c.self.inside.cells.table.items c.self.inside.ends.items) c.args.o (without_last (get_or (lists_of c.self.inside.cells.table.items c.self.inside.ends.items) c.args.o [])))
+    × (Some (serial_at c.detach_newest.new.cells.table.items c.in_ok-number.number) ≡ last_of (get_or (lists_of c.self.inside.cells.table.items c.self.inside.ends.items) c.args.o []))
+steps c =
+    let q = c.self.inside in
+    let within = owner_within q.cells.table.items q.ends.items q.room c.args.self.now c.args.o c.self.view_is c.requires in
+    let all = take_new_steps q.cells.table.items c.detach_newest.new.cells.table.items c.give_back.new.self.table.items c.detach_newest.new.cells.free
+      q.ends.items c.in_ok-number.number c.args.o c.index.result.now c.detach_newest.new.self
+      (subst (λ free. IsTable q.cells.table.items free q.ends.items []) (sym c.in_ok-number.ensures.free) c.self.invariant.table) within (get_or_read q.ends.items _ _ within c.index.ensures no_ends)
+      (sym c.in_ok-number.ensures.taken) c.in_ok-number.ensures.rest c.in_ok-number.ensures.table c.give_back.ensures.written c.give_back.ensures.len in
+    (subst (λ free. IsTable c.give_back.new.self.table.items free (set q.ends.items c.args.o c.detach_newest.new.self) []) (sym c.give_back.ensures.first) all.0, all.1, all.2)
+
+-- how many numbers there are then
+counted : (c : After-give_back) → all_in (lists_of c.give_back.new.self.table.items (set c.self.inside.ends.items c.args.o c.detach_newest.new.self)) + 1 ≡ all_in (lists_of c.self.inside.cells.table.items c.self.inside.ends.items)
+counted c =
+    let q = c.self.inside in
+    let within = owner_within q.cells.table.items q.ends.items q.room c.args.self.now c.args.o c.self.view_is c.requires in
+    count_without_last (lists_of q.cells.table.items q.ends.items) _ c.args.o _ (list_within q.cells.table.items q.ends.items c.args.o within) (steps c).2 (steps c).1
 
 pub invariant_of-self-2 : goal.invariant_of-self-2
 invariant_of-self-2 c =
-    let vs = c.self.inside.queues.items in
-    let within = owned (goal.at.invariant_of-self-2 c).After-index_mut in
-    let old = c.index_mut.result.now in
-    let new = c.pop_back.new.self in
-    let count = count_written (λ d. d.items) vs c.args.o old new within c.index_mut.ensures.value in (
-      room_written deque_capacity c.self.inside.room vs c.args.o old new c.self.invariant.0 within c.index_mut.ensures.value c.pop_back.ensures.capacity,
-      omega (arith, old.ok.0, new.ok.0, c.in_ok-serial.ensures.cases, c.self.invariant.1),
-    )
+    record {
+      table = (steps c).0;
+      counted = omega (arith, counted c, c.self.invariant.counted);
+      within = omega (arith, c.give_back.ensures.len, c.in_ok-number.ensures.table, c.self.invariant.within);
+      reserved = omega (arith, c.give_back.ensures.capacity, c.in_ok-number.ensures.capacity, c.self.invariant.reserved);
+    }
 
 pub returns-clause-taken : goal.returns-clause-taken
-returns-clause-taken c =
-    let vs = c.self.inside.queues.items in
-    let within = owned (goal.at.returns-clause-taken c).After-index_mut in
-    let old = c.index_mut.result.now in
-    let read = queue_read (λ d. d.items) vs c.args.o old within c.index_mut.ensures.value in
-    let some : 0 < length old.items = omega (arith, old.ok.0, c.in_ok-serial.ensures.cases) in
-    let last : Some c.in_ok-serial.serial ≡ slice_get old.items (length old.items - 1) =
-    rw (old.ok.0) at (c.in_ok-serial.ensures.value c.in_ok-serial.serial (omega (arith, old.ok.0))) ∙ sym (slice_get-get_or old.items (length old.items - 1) c.in_ok-serial.serial (omega arith)) in
-    rw (← c.self.view_is, ← read) last
+returns-clause-taken c = rw (← c.self.view_is) (ap Some c.give_back.ensures.serial ∙ (steps c).2)
 
 pub returns-clause-rest : goal.returns-clause-rest
 returns-clause-rest c =
-    let vs = c.self.inside.queues.items in
-    let within = owned (goal.at.returns-clause-rest c).After-index_mut in
-    rw (← c.self.view_is) (ap (λ (lists : List (List ℕ)). let qs : Lists = record { lists = lists; room = c.self.inside.room } in qs)
-    (queue_written (λ d. d.items) without_last vs c.args.o c.index_mut.result.now c.pop_back.new.self within c.index_mut.ensures.value (c.pop_back.ensures.rest ∙ ap (λ n. take (n - 1) c.index_mut.result.now.items) c.index_mut.result.now.ok.0)))
+    rw (← c.self.view_is) (ap (λ (lists : List (List ℕ)). let qs : Lists = record { lists = lists; room = c.self.inside.room } in qs) (steps c).1)
 
 pub returns-clause-counted : goal.returns-clause-counted
-returns-clause-counted c =
-    let vs = c.self.inside.queues.items in
-    let within = owned (goal.at.returns-clause-counted c).After-index_mut in
-    let old = c.index_mut.result.now in
-    let read = queue_read (λ d. d.items) vs c.args.o old within c.index_mut.ensures.value in
-    let few = one_in_all (map (λ d. d.items) vs) c.args.o (omega (arith, length-map vs (λ d. d.items))) in
-    omega (arith, (invariant_of-self-2 c).1, old.ok.0, ap length read, c.in_ok-serial.ensures.cases, c.self.invariant.1, ap total c.self.view_is)
+returns-clause-counted c = rw (← c.self.view_is) (counted c)

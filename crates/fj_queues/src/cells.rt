@@ -1,0 +1,100 @@
+ghost use Rattle.std.specs.Prelude.{◌≡◌, ◌<◌, ◌≤◌, [], Some, None, length, IfOk, IfSome, vec_capacity};
+
+use fj_model::Serial;
+use std::alloc::{AllocError, Global};
+
+/// A number in a queue, and the cells of its neighbours there.
+///
+/// A free cell has the next free one as its newer neighbour.
+#[derive(Clone, Copy)]
+pub(crate) struct Cell {
+    pub(crate) serial: Serial,
+    pub(crate) older: Option<usize>,
+    pub(crate) newer: Option<usize>,
+}
+
+/// The cells of all queues in one table, each named by its place there.
+#[derive(Drop)]
+pub(crate) struct Cells {
+    pub(crate) table: Vec<Cell>,
+    /// The first in the chain of the cells that were given back.
+    pub(crate) free: Option<usize>,
+}
+
+impl Cell {
+    /// A number in a queue of its own.
+    pub(crate) fn alone(serial: Serial) -> Cell
+        ensures { result ≡ record { serial = serial; older = None; newer = None } }
+    {
+        Cell {
+            serial,
+            older: None,
+            newer: None,
+        }
+    }
+}
+
+impl Cells {
+    ghost use Rattle.fj_queues.specs.Cells.{IsWritten, AreJoined, cell_at, serial_at, NextFree};
+
+    /// No cells, with room for so many. Refused only for want of memory.
+    pub(crate) fn with_capacity(alloc: Global, room: usize) -> Result<Cells, AllocError>
+        ensures empty { IfOk result (λ cells. cells.table.items ≡ []) }
+        ensures free { IfOk result (λ cells. cells.free ≡ None) }
+        ensures room { IfOk result (λ cells. room ≤ vec_capacity cells.table) }
+    {
+        Ok(Cells {
+            table: Vec::with_capacity(alloc, room)?,
+            free: None,
+        })
+    }
+
+    /// Writes the first free cell, or where none is free a new one, and names it.
+    pub(crate) fn fill(&mut self, cell: Cell) -> usize
+        requires free { IfSome self.old.free (λ c. c < length self.old.table.items) }
+        requires room { self.old.free ≡ None → length self.old.table.items < vec_capacity self.old.table }
+        ensures written { IsWritten self.old.table.items self.new.table.items result cell }
+        ensures next { NextFree self.old.table.items self.new.table.items self.old.free self.new.free result }
+        ensures capacity { vec_capacity self.new.table ≡ vec_capacity self.old.table }
+    {
+        let Some(number) = self.free else {
+            let number = self.table.len();
+            self.table.push_reserved(cell);
+            return number;
+        };
+        self.free = self.table[number].newer;
+        self.table[number] = cell;
+        number
+    }
+
+    /// Makes a cell the first free one, and answers its number.
+    pub(crate) fn give_back(&mut self, number: usize) -> Serial
+        requires { number < length self.old.table.items }
+        ensures serial { result ≡ serial_at self.old.table.items number }
+        ensures written { IsWritten self.old.table.items self.new.table.items number (record (cell_at self.old.table.items number) { newer = self.old.free }) }
+        ensures len { length self.new.table.items ≡ length self.old.table.items }
+        ensures first { self.new.free ≡ Some number }
+        ensures capacity { vec_capacity self.new.table ≡ vec_capacity self.old.table }
+    {
+        self.table[number].newer = self.free;
+        self.free = Some(number);
+        self.table[number].serial
+    }
+
+    /// Makes two cells neighbours. None stands for the end of a queue, to which the other comes next.
+    pub(crate) fn join(&mut self, older: Option<usize>, newer: Option<usize>)
+        requires older { IfSome older (λ c. c < length self.old.table.items) }
+        requires newer { IfSome newer (λ c. c < length self.old.table.items) }
+        ensures joined { AreJoined self.old.table.items self.new.table.items older newer }
+        ensures len { length self.new.table.items ≡ length self.old.table.items }
+        ensures free { self.new.free ≡ self.old.free }
+        ensures capacity { vec_capacity self.new.table ≡ vec_capacity self.old.table }
+    {
+        if let Some(number) = older {
+            self.table[number].newer = newer;
+        }
+        if let Some(number) = newer {
+            self.table[number].older = older;
+        }
+    }
+}
