@@ -6,11 +6,15 @@ use Rattle.fj_queues.specs.Tables.{numbers_from, IsWalk}
 use Rattle.fj_queues.proofs.Links.{times_here, times_more, split_first, walked}
 use Rattle.fj_model.specs.Lists.{times_in}
 use Rattle.std.proofs.Common.{arith, ◌-◌, ℕ, suc, ◌≡◌, ◌<◌, List, [], ◌∷◌, length, map, Option, Some, None, ap, subst, sym, ◌∙◌, refl}
+use Rattle.std.proofs.lemmas.List.{length-map}
 
 -- the numbers of a walk are those of its chain
 pub shown : (cells : List Cell) (start : Option ℕ) (n : ℕ) (w : IsWalk cells start n) → numbers_from cells n start ≡ map (serial_at cells) w.chain
 shown cells start n w =
     ap (map (serial_at cells)) (ap (λ k. walk (newer_at cells) k start) w.counted ∙ ap (walk (newer_at cells) (length w.chain)) w.first ∙ walked (newer_at cells) w.chain w.leads)
+
+pub len_shown : (cells : List Cell) (start : Option ℕ) (n : ℕ) (w : IsWalk cells start n) → length (numbers_from cells n start) ≡ n
+len_shown cells start n w = ap length (shown cells start n w) ∙ length-map w.chain (serial_at cells) ∙ sym w.counted
 
 pub next_within : (cells : List Cell) (start : Option ℕ) (n c : ℕ) → IsWalk cells start n → start ≡ Some c → c < length cells
 next_within cells start n c w is =

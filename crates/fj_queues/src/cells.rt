@@ -5,7 +5,7 @@ use std::alloc::{AllocError, Global};
 
 /// A number in a queue, and the cells of its neighbours there.
 ///
-/// A free cell has the next free one as its newer neighbour.
+/// A free cell still holds the number that was taken out of it, and has the next free one as its newer neighbour.
 #[derive(Clone, Copy)]
 pub(crate) struct Cell {
     pub(crate) serial: Serial,
@@ -14,10 +14,12 @@ pub(crate) struct Cell {
 }
 
 /// The cells of all queues in one table, each named by its place there.
+///
+/// The table has room for all cells from the start. It grows into that room as cells are first used, so that making it costs no time.
 #[derive(Drop)]
 pub(crate) struct Cells {
     pub(crate) table: Vec<Cell>,
-    /// The first in the chain of the cells that were given back.
+    /// The first in the chain of the cells that were given back, and are filled again before a new one is.
     pub(crate) free: Option<usize>,
 }
 
@@ -37,7 +39,7 @@ impl Cell {
 impl Cells {
     ghost use Rattle.fj_queues.specs.Cells.{IsWritten, AreJoined, cell_at, serial_at, NextFree};
 
-    /// No cells, with room for so many. Refused only for want of memory.
+    /// No cells, with room for so many. Refused only if out of memory.
     pub(crate) fn with_capacity(alloc: Global, room: usize) -> Result<Cells, AllocError>
         ensures empty { IfOk result (λ cells. cells.table.items ≡ []) }
         ensures free { IfOk result (λ cells. cells.free ≡ None) }
@@ -49,7 +51,7 @@ impl Cells {
         })
     }
 
-    /// Writes the first free cell, or where none is free a new one, and names it.
+    /// Writes the first free cell, or where none is free a new one, and names it. No memory is taken.
     pub(crate) fn fill(&mut self, cell: Cell) -> usize
         requires free { IfSome self.old.free (λ c. c < length self.old.table.items) }
         requires room { self.old.free ≡ None → length self.old.table.items < vec_capacity self.old.table }
@@ -81,7 +83,7 @@ impl Cells {
         self.table[number].serial
     }
 
-    /// Makes two cells neighbours. None stands for the end of a queue, to which the other comes next.
+    /// Makes two cells neighbours. Where one of them is none, the other is at that end of its queue.
     pub(crate) fn join(&mut self, older: Option<usize>, newer: Option<usize>)
         requires older { IfSome older (λ c. c < length self.old.table.items) }
         requires newer { IfSome newer (λ c. c < length self.old.table.items) }

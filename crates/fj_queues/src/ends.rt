@@ -21,7 +21,7 @@ impl Ends {
         len: 0,
     };
 
-    /// Links a cell that leads nowhere at the new end.
+    /// Links a cell at the new end. Precondition: the cell is in no queue, and has no newer neighbour.
     pub(crate) fn append(&mut self, cells: &mut Cells, number: usize)
         requires queue { IsQueue cells.old.table.items self.old }
         requires cell { number < length cells.old.table.items }

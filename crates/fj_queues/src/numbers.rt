@@ -11,7 +11,9 @@ use std::marker::Model;
 #[derive(Drop)]
 pub struct Numbers<'a> {
     pub(crate) table: &'a [Cell],
+    /// The cell of the first of them.
     pub(crate) next: Option<usize>,
+    /// How many they are.
     pub(crate) left: usize,
 }
 
@@ -51,5 +53,9 @@ impl<'a> Iterator for Numbers<'a> {
         self.next = cell.newer;
         self.left -= 1;
         Some(cell.serial)
+    }
+
+    fn size_hint(&self) -> (usize, Option<usize>) {
+        (self.left, Some(self.left))
     }
 }
