@@ -56,6 +56,7 @@ first_lost old new before after n newer read joined oldest len empty filled cs c
     last : (cs : List ℕ) → newer ≡ head_or None cs → before.newest ≡ last_or (Some n) cs → after.newest ≡ last_or None cs
     last [] second newest = empty second
     last (d ∷ ds) second newest = filled (λ none. absurd (cc)) ∙ newest
+
     others : (cs : List ℕ) → newer ≡ head_or None cs → Follows (older_at old) (Some n) cs → ((c : ℕ) → times_in c cs ≤ 1) → Follows (older_at new) None cs
     others [] second follows once = tt
     others (d ∷ ds) second follows once = (

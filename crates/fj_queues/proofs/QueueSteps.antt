@@ -37,8 +37,8 @@ push_steps old mid new free later ends n o e after cell t within is written next
     let same = filled_lists old mid free later ends n cell t written next in (
       both.0,
       both.1
-      ∙ ap (λ (lists : List (List ℕ)). set lists o (get_or lists o [] ++ serial_at mid n ∷ [])) same
-      ∙ ap (λ (x : Cell). set (lists_of old ends) o (get_or (lists_of old ends) o [] ++ x.serial ∷ [])) written.here,
+          ∙ ap (λ (lists : List (List ℕ)). set lists o (get_or lists o [] ++ serial_at mid n ∷ [])) same
+          ∙ ap (λ (x : Cell). set (lists_of old ends) o (get_or (lists_of old ends) o [] ++ x.serial ∷ [])) written.here,
     )
 
 pub take_old_steps : (old mid new : List Cell) (free : Option ℕ) (ends : List Ends) (n o : ℕ) (e after : Ends)

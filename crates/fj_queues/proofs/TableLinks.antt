@@ -48,8 +48,8 @@ pub lists_are : (cells : List Cell) (ends : List Ends) (chains : List (List ℕ)
 lists_are cells ends chains owners linked =
     let numbers : Ends → List ℕ = λ e. numbers_from cells e.len e.oldest in
     ext_get_or [] (lists_of cells ends) (map (map (serial_at cells)) chains) (omega (arith, length-map ends numbers, length-map chains (map (serial_at cells)))) (λ o within.
-      let there : o < length ends = omega (arith, length-map ends numbers) in
-      get_or-map numbers ends o no_ends [] there ∙ numbers_are cells _ _ (linked o there) ∙ sym (get_or-map (map (serial_at cells)) chains o [] [] (omega arith)))
+    let there : o < length ends = omega (arith, length-map ends numbers) in
+    get_or-map numbers ends o no_ends [] there ∙ numbers_are cells _ _ (linked o there) ∙ sym (get_or-map (map (serial_at cells)) chains o [] [] (omega arith)))
 
 -- as many numbers are seen as there are cells in the chains
 pub all_numbers : (f : ℕ → ℕ) (chains : List (List ℕ)) → all_in (map (map f) chains) ≡ all_in chains
@@ -73,8 +73,8 @@ linked_anew old new ends chains o e cs touched owners linked within only chain a
         let other : p ≢ o = eqb-false p o is in
         let also : p < length ends = omega (arith, length-set ends o e) in
         let kept = chain_kept old new (get_or ends p no_ends) (get_or chains p [])
-          (λ c some. only.newer_stays c (apart p c (omega arith) other some))
-          (λ c some. only.older_stays c (apart p c (omega arith) other some)) (linked p also) in
+        (λ c some. only.newer_stays c (apart p c (omega arith) other some))
+        (λ c some. only.older_stays c (apart p c (omega arith) other some)) (linked p also) in
         rw (get_or-set_other ends o p e no_ends other, get_or-set_other chains o p cs [] other) kept
 
 -- what is seen then

@@ -89,8 +89,10 @@ filled old new free later ends n cell t written next = go t.spare t.leads t.once
   where
     fresh : sum_by (times_in n) t.chains ≡ 0
     fresh = filled_fresh old new free later ends n t next
+
     still : AreLinked new ends t.chains
     still = linked_still old new ends t.chains n cell t.owners t.linked written fresh
+
     go : (spare : List ℕ) → Leads (newer_at old) spare None → ((c : ℕ) → times_named c t.chains spare [] ≤ 1) → ((c : ℕ) → 0 < times_named c t.chains spare [] → c < length old)
         → all_in t.chains + (length spare + 0) ≡ length old → NextFree old new (head_or None spare) later n → IsTable new later ends (n ∷ [])
     go [] leads once within all next =
@@ -191,7 +193,7 @@ pushed old new free ends n o e later t within is len appended =
     let fresh : times_in n cs ≡ 0 = omega (arith, loose_fresh old free ends n t, chain_in_all n t.chains o (omega (arith, t.owners))) in
     let both = appended cs (chain_of old free ends (n ∷ []) t o within e is) (apart_of old free ends (n ∷ []) t o within) fresh in
     let all = moved old new free ends (n ∷ []) [] t o later (cs ++ n ∷ []) (cs ++ n ∷ []) within len both.1 both.0
-      (λ c touches. omega (arith, times_at_end c n cs)) (λ c. omega (arith, times_at_end c n cs)) (omega (arith, length-append cs (n ∷ []))) in
+    (λ c touches. omega (arith, times_at_end c n cs)) (λ c. omega (arith, times_at_end c n cs)) (omega (arith, length-append cs (n ∷ []))) in
     let shown = map-append (serial_at old) cs (n ∷ []) ∙ ap (λ ts. ts ++ serial_at old n ∷ []) (sym (seen old free ends (n ∷ []) t o within)) in
     (all.0, all.1 ∙ ap (set (lists_of old ends) o) shown)
 
@@ -207,7 +209,7 @@ first_moved old new free ends n o e later t within is len first lost =
     let cs = split.0 in
     let both = lost cs (subst (IsChain old e) split.1 chain) (subst (AreApart old) split.1 (apart_of old free ends [] t o within)) in
     let all = moved old new free ends [] (n ∷ []) t o later cs (n ∷ cs) within len both.1 both.0
-      (λ c touches. omega (arith, ap (times_in c) split.1)) (λ c. omega (arith, ap (times_in c) split.1, times_at_front c n cs)) (omega (arith, ap length split.1)) in
+    (λ c touches. omega (arith, ap (times_in c) split.1)) (λ c. omega (arith, ap (times_in c) split.1, times_at_front c n cs)) (omega (arith, ap length split.1)) in
     let shown : map (serial_at old) (n ∷ cs) ≡ get_or (lists_of old ends) o [] = sym (seen old free ends [] t o within ∙ ap (map (serial_at old)) split.1) in
     (all.0, all.1 ∙ ap (λ ts. set (lists_of old ends) o (without_first ts)) shown, ap Some (both.1.serials_stay n) ∙ ap first_of shown)
 
@@ -223,7 +225,7 @@ last_moved old new free ends n o e later t within is len last lost =
     let cs = split.0 in
     let both = lost cs (subst (IsChain old e) split.1 chain) (subst (AreApart old) split.1 (apart_of old free ends [] t o within)) in
     let all = moved old new free ends [] (n ∷ []) t o later cs (cs ++ n ∷ []) within len both.1 both.0
-      (λ c touches. omega (arith, ap (times_in c) split.1)) (λ c. omega (arith, ap (times_in c) split.1, times_at_end c n cs)) (omega (arith, ap length split.1, length-append cs (n ∷ []))) in
+    (λ c touches. omega (arith, ap (times_in c) split.1)) (λ c. omega (arith, ap (times_in c) split.1, times_at_end c n cs)) (omega (arith, ap length split.1, length-append cs (n ∷ []))) in
     let shown : map (serial_at old) cs ++ serial_at old n ∷ [] ≡ get_or (lists_of old ends) o [] =
     sym (seen old free ends [] t o within ∙ ap (map (serial_at old)) split.1 ∙ map-append (serial_at old) cs (n ∷ [])) in (
       all.0,

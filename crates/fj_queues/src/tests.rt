@@ -89,7 +89,7 @@ fn order_at_both_ends(rt: HostRuntime) -> Result<(), Fail> {
     Ok(())
 }
 
-/// Three times its room goes through a queue, so that it lies in two pieces now and then.
+/// Three times its room goes through a queue, so that each cell is used again.
 #[test]
 fn a_queue_goes_round(rt: HostRuntime) -> Result<(), Fail> {
     let mut queues = Queues::new(rt.alloc(), 2, 3)?;
@@ -109,5 +109,50 @@ fn a_queue_goes_round(rt: HostRuntime) -> Result<(), Fail> {
     assert_eq!(rt; queues.take_new(1), Some(Serial(8)));
     assert_eq!(rt; queues.take_new(1), Some(Serial(7)));
     assert_eq!(rt; queues.total(), 0);
+    Ok(())
+}
+
+/// A cell that one owner gives back is another's next, so that a queue's cells lie in any order.
+#[test]
+fn owners_share_the_cells(rt: HostRuntime) -> Result<(), Fail> {
+    let mut queues = Queues::new(rt.alloc(), 3, 4)?;
+    for (o, n) in [(0, 0), (1, 1), (0, 2), (1, 3)] {
+        assert!(rt; queues.owners() == 3 && queues.total() < queues.room());
+        queues.push(o, Serial(n));
+    }
+    assert!(rt; queues.owners() == 3);
+    assert_eq!(rt; queues.take_old(1), Some(Serial(1)));
+    assert_eq!(rt; queues.take_new(0), Some(Serial(2)));
+    for (o, n) in [(1, 4), (2, 5)] {
+        assert!(rt; queues.owners() == 3 && queues.total() < queues.room());
+        queues.push(o, Serial(n));
+    }
+    assert!(rt; queues.owners() == 3);
+    assert_eq!(rt;
+        listed(rt.alloc(), &queues, 0)?.as_slice(),
+        [Serial(0)].as_slice()
+    );
+    assert_eq!(rt;
+        listed(rt.alloc(), &queues, 1)?.as_slice(),
+        [Serial(3), Serial(4)].as_slice()
+    );
+    assert_eq!(rt;
+        listed(rt.alloc(), &queues, 2)?.as_slice(),
+        [Serial(5)].as_slice()
+    );
+    assert_eq!(rt; queues.numbers(1).size_hint(), (2, Some(2)));
+    Ok(())
+}
+
+/// It allocates only where its queues are made, and `tests/refused_memory/queues.sh` refuses that.
+#[test]
+fn many_owners_share_two_cells(rt: HostRuntime) -> Result<(), Fail> {
+    let mut queues = Queues::new(rt.alloc(), 64, 2)?;
+    queues.push(63, Serial(0));
+    queues.push(0, Serial(1));
+    assert_eq!(rt; queues.take_new(63), Some(Serial(0)));
+    queues.push(63, Serial(2));
+    assert_eq!(rt; queues.first_from(1), Some(63));
+    assert_eq!(rt; (queues.len(0), queues.len(63), queues.total()), (1, 1, 2));
     Ok(())
 }

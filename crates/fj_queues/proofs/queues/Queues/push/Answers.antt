@@ -50,8 +50,8 @@ steps c =
     let q = c.self.inside in
     let within = owner_within q.cells.table.items q.ends.items q.room c.args.self.now c.args.o c.self.view_is c.requires.owner in
     let all = push_steps q.cells.table.items c.fill-number.new.self.table.items c.append.new.cells.table.items q.cells.free c.fill-number.new.self.free
-      q.ends.items c.fill-number.result c.args.o c.index.result.now c.append.new.self c.alone.result
-      c.self.invariant.table within (get_or_read q.ends.items _ _ within c.index.ensures no_ends) c.fill-number.ensures.written c.fill-number.ensures.next c.append.ensures.appended c.append.ensures.table in (
+    q.ends.items c.fill-number.result c.args.o c.index.result.now c.append.new.self c.alone.result
+    c.self.invariant.table within (get_or_read q.ends.items _ _ within c.index.ensures no_ends) c.fill-number.ensures.written c.fill-number.ensures.next c.append.ensures.appended c.append.ensures.table in (
       subst (λ free. IsTable c.append.new.cells.table.items free (set q.ends.items c.args.o c.append.new.self) []) (sym c.append.ensures.free) all.0,
       rw c.alone.ensures at all.1,
     )

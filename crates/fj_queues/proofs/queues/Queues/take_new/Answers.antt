@@ -52,9 +52,9 @@ unlinked c =
     let q = c.self.inside in
     let within = owner_within q.cells.table.items q.ends.items q.room c.args.self.now c.args.o c.self.view_is c.requires in
     let all = last_moved q.cells.table.items c.detach_newest.new.cells.table.items c.detach_newest.new.cells.free
-      q.ends.items c.in_ok-number.number c.args.o c.index.result.now c.detach_newest.new.self
-      (subst (λ free. IsTable q.cells.table.items free q.ends.items []) (sym c.in_ok-number.ensures.free) c.self.invariant.table) within (get_or_read q.ends.items _ _ within c.index.ensures no_ends)
-      c.in_ok-number.ensures.table (sym c.in_ok-number.ensures.taken) c.in_ok-number.ensures.rest in
+    q.ends.items c.in_ok-number.number c.args.o c.index.result.now c.detach_newest.new.self
+    (subst (λ free. IsTable q.cells.table.items free q.ends.items []) (sym c.in_ok-number.ensures.free) c.self.invariant.table) within (get_or_read q.ends.items _ _ within c.index.ensures no_ends)
+    c.in_ok-number.ensures.table (sym c.in_ok-number.ensures.taken) c.in_ok-number.ensures.rest in
     (all.0, all.2)
 
 pub overflow_sub-self : goal.overflow_sub-self
@@ -62,8 +62,12 @@ overflow_sub-self c =
     let q = c.self.inside in
     let within = owned (goal.at.overflow_sub-self c).After-index in
     let lists = lists_of q.cells.table.items q.ends.items in
-    omega (arith, slice_get_within (get_or lists c.args.o []) _ _ (sym (unlinked (goal.at.overflow_sub-self c).After-index_mut).1),
-      one_in_all lists c.args.o (list_within q.cells.table.items q.ends.items c.args.o within), c.self.invariant.counted)
+    omega (
+      arith,
+      slice_get_within (get_or lists c.args.o []) _ _ (sym (unlinked (goal.at.overflow_sub-self c).After-index_mut).1),
+      one_in_all lists c.args.o (list_within q.cells.table.items q.ends.items c.args.o within),
+      c.self.invariant.counted,
+    )
 
 pub give_back-requires : goal.give_back-requires
 give_back-requires c = loose_within c.detach_newest.new.cells.table.items _ _ _ (unlinked (goal.at.give_back-requires c).After-index_mut).0
@@ -77,9 +81,9 @@ steps c =
     let q = c.self.inside in
     let within = owner_within q.cells.table.items q.ends.items q.room c.args.self.now c.args.o c.self.view_is c.requires in
     let all = take_new_steps q.cells.table.items c.detach_newest.new.cells.table.items c.give_back.new.self.table.items c.detach_newest.new.cells.free
-      q.ends.items c.in_ok-number.number c.args.o c.index.result.now c.detach_newest.new.self
-      (subst (λ free. IsTable q.cells.table.items free q.ends.items []) (sym c.in_ok-number.ensures.free) c.self.invariant.table) within (get_or_read q.ends.items _ _ within c.index.ensures no_ends)
-      (sym c.in_ok-number.ensures.taken) c.in_ok-number.ensures.rest c.in_ok-number.ensures.table c.give_back.ensures.written c.give_back.ensures.len in
+    q.ends.items c.in_ok-number.number c.args.o c.index.result.now c.detach_newest.new.self
+    (subst (λ free. IsTable q.cells.table.items free q.ends.items []) (sym c.in_ok-number.ensures.free) c.self.invariant.table) within (get_or_read q.ends.items _ _ within c.index.ensures no_ends)
+    (sym c.in_ok-number.ensures.taken) c.in_ok-number.ensures.rest c.in_ok-number.ensures.table c.give_back.ensures.written c.give_back.ensures.len in
     (subst (λ free. IsTable c.give_back.new.self.table.items free (set q.ends.items c.args.o c.detach_newest.new.self) []) (sym c.give_back.ensures.first) all.0, all.1, all.2)
 
 -- how many numbers there are then
