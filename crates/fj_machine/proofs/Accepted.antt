@@ -109,7 +109,7 @@ fresh_tells pool h e t k p so may new given unfired before placed = record {
   place = placed;
   status = new_undone pool h e t so may new;
   pending = new_count pool h e t k so may new given;
-  spent = fired_same h e t unfired ∙ before;
+  fired = fired_same h e t unfired ∙ before;
 }
 
 -- and no other one is

@@ -51,7 +51,7 @@ arrived_kept pool h c a so completer is other = not-false (is_kept h c) (never (
 
 pub spent_told : (h : List Event) (r : Record) → Tells h r → is_spent h r.serial ≡ record_is.is_spent r
 unfolding is_spent
-spent_told h r tells = rw (tells.spent, tells.status) refl
+spent_told h r tells = rw (tells.fired, tells.status) refl
 
 pub arrival_told : (h : List Event) (r : Record) → Tells h r → as_arrival (arrival_at r) ≡ arrival h r.serial
 arrival_told h r tells =

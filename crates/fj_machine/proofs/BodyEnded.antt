@@ -74,7 +74,7 @@ ended_holds {sealed} pool h t w b p queues stacks hands tree opened gones opened
       place = ap (place (h ++ e ∷ [])) number ∙ ended_place pool h t w so may ∙ rw is (sym placed);
       status = moved_status h e r.serial refl ∙ tells.status;
       pending = pending_same h e r.serial (kind_still h e r.serial (λ said. absurd cc)) refl refl ∙ tells.pending;
-      spent = fired_same h e r.serial refl ∙ tells.spent;
+      fired = fired_same h e r.serial refl ∙ tells.fired;
     } in
     grown_holds pool h e queues queues stacks _ hands hands tree _ opened opened2 gones gones2 holds may fits (λ d none. absurd cc) (record {
       queues_kept = queues_same pool.limits h (h ++ e ∷ []) queues (λ o. queue_same h e o refl refl) holds.queues_kept;

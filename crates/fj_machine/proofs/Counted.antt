@@ -82,7 +82,7 @@ count_tells pool h e r n so may is unfired tells count =
       place = calm_place pool h e r.serial so may is.calm known ∙ tells.place;
       status = calm_status h e r.serial is.calm ∙ tells.status;
       pending = count;
-      spent = fired_same h e r.serial unfired ∙ tells.spent;
+      fired = fired_same h e r.serial unfired ∙ tells.fired;
     }
 
 pub raise_holds : {sealed : List Event} (pool : Pool) (h : List Event) (c n : ℕ) (queues : Waiting) (stacks : Lists) (hands : List (Option InHand)) (tree : Records) (opens gones : List ℕ) (at : Handle)

@@ -111,7 +111,7 @@ made_other old new key other n k p s made differs at = go (record_at old other) 
     go (Some r) some = (r, some, sym (same_Some (f r) s (sym (made.others other differs ∙ ap (option_map f) some) ∙ at)))
 
 with_child_tells : (h : List Event) (b : Bool) (r : Record) → Tells h r → Tells h (cond b (with_child r) r)
-with_child_tells h true r tells = record { kept = tells.kept; kind = tells.kind; place = tells.place; status = tells.status; pending = tells.pending; spent = tells.spent }
+with_child_tells h true r tells = record { kept = tells.kept; kind = tells.kind; place = tells.place; status = tells.status; pending = tells.pending; fired = tells.fired }
 with_child_tells h false r tells = tells
 
 -- a task is accepted, and a record made for it

@@ -114,11 +114,11 @@ released_tells pool h t u b so may other tells = go b
       place = release_place pool h t u.serial so may (kept_known h u.serial tells.kept) ∙ tells.place;
       status = release_status h t u.serial ∙ tells.status;
       pending = release_pending h t u.serial ∙ tells.pending;
-      spent = fired_same h (Rel t) u.serial refl ∙ tells.spent;
+      fired = fired_same h (Rel t) u.serial refl ∙ tells.fired;
     }
 
     go : (b : Bool) → Tells (h ++ Rel t ∷ []) (cond b (without_child u) u)
-    go true = record { kept = same.kept; kind = same.kind; place = same.place; status = same.status; pending = same.pending; spent = same.spent }
+    go true = record { kept = same.kept; kind = same.kind; place = same.place; status = same.status; pending = same.pending; fired = same.fired }
     go false = same
 
 -- a record that is there still

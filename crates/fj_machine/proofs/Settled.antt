@@ -51,7 +51,7 @@ settled_says pool h s r so may tells = let e = Settle r.serial s in record {
   place = refl;
   status = status_settle pool h r.serial s so may.1;
   pending = pending_same h e r.serial (kind_still h e r.serial (λ is. absurd cc)) refl refl ∙ tells.pending;
-  spent = fired_same h e r.serial refl ∙ tells.spent;
+  fired = fired_same h e r.serial refl ∙ tells.fired;
 }
 
 fired_now : (h : List Event) (e : Event) (c : ℕ) → fires_or_passes c e ≡ true → list_any (fires_or_passes c) (h ++ e ∷ []) ≡ true
@@ -65,7 +65,7 @@ fired_says h how r tells = let e = Fire r.serial how in record {
   place = refl;
   status = status_kept h e r.serial refl (λ is. absurd cc) ∙ tells.status;
   pending = pending_same h e r.serial (kind_still h e r.serial (λ is. absurd cc)) refl refl ∙ tells.pending;
-  spent = fired_now h e r.serial (eq-eqb r.serial r.serial refl);
+  fired = fired_now h e r.serial (eq-eqb r.serial r.serial refl);
 }
 
 pub passed_says : (h : List Event) (r : Record) → Tells h r → Respent (h ++ Pass r.serial ∷ []) r (made_spent r)
@@ -75,7 +75,7 @@ passed_says h r tells = let e = Pass r.serial in record {
   place = refl;
   status = status_kept h e r.serial refl (λ is. absurd cc) ∙ tells.status;
   pending = pending_same h e r.serial (kind_still h e r.serial (λ is. absurd cc)) refl refl ∙ tells.pending;
-  spent = fired_now h e r.serial (eq-eqb r.serial r.serial refl);
+  fired = fired_now h e r.serial (eq-eqb r.serial r.serial refl);
 }
 
 -- ---- all that is kept

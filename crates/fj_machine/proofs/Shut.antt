@@ -85,7 +85,7 @@ record IsStoppedRecord (r s : Record) : Type 0 where
   place : s.place ≡ closed r.place
   status : s.status ≡ cancelled r.status
   pending : s.pending ≡ r.pending
-  spent : s.spent ≡ r.spent
+  fired : s.fired ≡ r.fired
 
 open_is : (p : Place) → is_open p ≡ true → p ≡ Open
 open_is Open is = refl
@@ -102,11 +102,11 @@ shut_closed Gone is = refl
 stopped_record : (r : Record) → IsStoppedRecord r (stopped r)
 stopped_record r = cancels (is_undone r.status) refl
   where
-    closes : (s : Record) (b : Bool) → is_open s.place ≡ b → s.serial ≡ r.serial → s.kind ≡ r.kind → s.place ≡ r.place → s.status ≡ cancelled r.status → s.pending ≡ r.pending → s.spent ≡ r.spent → IsStoppedRecord r (cond (is_open s.place) (with_place Gone s) s)
+    closes : (s : Record) (b : Bool) → is_open s.place ≡ b → s.serial ≡ r.serial → s.kind ≡ r.kind → s.place ≡ r.place → s.status ≡ cancelled r.status → s.pending ≡ r.pending → s.fired ≡ r.fired → IsStoppedRecord r (cond (is_open s.place) (with_place Gone s) s)
     closes s true is numbers kinds places statuses counts fires =
-        rw is (record { serial = numbers; kind = kinds; place = sym (ap closed (sym places ∙ open_is s.place is)); status = statuses; pending = counts; spent = fires })
+        rw is (record { serial = numbers; kind = kinds; place = sym (ap closed (sym places ∙ open_is s.place is)); status = statuses; pending = counts; fired = fires })
     closes s false is numbers kinds places statuses counts fires =
-        rw is (record { serial = numbers; kind = kinds; place = sym (ap closed (sym places) ∙ shut_closed s.place is); status = statuses; pending = counts; spent = fires })
+        rw is (record { serial = numbers; kind = kinds; place = sym (ap closed (sym places) ∙ shut_closed s.place is); status = statuses; pending = counts; fired = fires })
 
     cancels : (b : Bool) → is_undone r.status ≡ b → IsStoppedRecord r (if_open_gone (cond (is_undone r.status) (with_status Cancelled r) r))
     cancels true is = rw is (closes (with_status Cancelled r) (is_open r.place) refl refl refl refl (rw is refl) refl refl)
@@ -123,7 +123,7 @@ stopped_tells pool h r s so may tells is =
       place = ap (place h2) is.serial ∙ stop_place pool h t so may known ∙ ap closed tells.place ∙ sym is.place;
       status = ap (status h2) is.serial ∙ stop_cancels pool h t so known ∙ ap cancelled tells.status ∙ sym is.status;
       pending = ap (pending h2) is.serial ∙ stop_pending h t ∙ tells.pending ∙ sym is.pending;
-      spent = ap (λ (u : ℕ). list_any (fires_or_passes u) h2) is.serial ∙ fired_same h Stop t refl ∙ tells.spent ∙ sym is.spent;
+      fired = ap (λ (u : ℕ). list_any (fires_or_passes u) h2) is.serial ∙ fired_same h Stop t refl ∙ tells.fired ∙ sym is.fired;
     }
 
 tree_stopped : (pool : Pool) (h : List Event) (old new : Records) → AllowedFrom pool [] h → Allowed pool h Stop → IsStopped old new → KeepsTree pool.limits h old → KeepsTree pool.limits (h ++ Stop ∷ []) new

@@ -108,7 +108,7 @@ pub record Respent (h : List Event) (r s : Record) : Type 0 where
   pub place : s.place ≡ r.place
   pub status : status h r.serial ≡ s.status
   pub pending : pending h r.serial ≡ s.pending
-  pub spent : list_any (fires_or_passes r.serial) h ≡ s.spent
+  pub fired : list_any (fires_or_passes r.serial) h ≡ s.fired
 
 closed_place : (p : Place) (s : Record) → s.place ≡ p → (if is_open s.place then with_place Gone s else s).place ≡ closed p
 closed_place (Queued o) s is = rw is refl
@@ -136,7 +136,7 @@ spent_tells pool h e r s so may is kept tells re = go (is_open s.place) refl
       place = ap (place (h ++ e ∷ [])) re.serial ∙ (rw is_true at placed);
       status = ap (status (h ++ e ∷ [])) re.serial ∙ re.status;
       pending = ap (pending (h ++ e ∷ [])) re.serial ∙ re.pending;
-      spent = ap (λ (t : ℕ). list_any (fires_or_passes t) (h ++ e ∷ [])) re.serial ∙ re.spent;
+      fired = ap (λ (t : ℕ). list_any (fires_or_passes t) (h ++ e ∷ [])) re.serial ∙ re.fired;
     })
     go false is_false = rw is_false (record {
       kept = ap (is_kept (h ++ e ∷ [])) re.serial ∙ kept;
@@ -144,7 +144,7 @@ spent_tells pool h e r s so may is kept tells re = go (is_open s.place) refl
       place = ap (place (h ++ e ∷ [])) re.serial ∙ (rw is_false at placed);
       status = ap (status (h ++ e ∷ [])) re.serial ∙ re.status;
       pending = ap (pending (h ++ e ∷ [])) re.serial ∙ re.pending;
-      spent = ap (λ (t : ℕ). list_any (fires_or_passes t) (h ++ e ∷ [])) re.serial ∙ re.spent;
+      fired = ap (λ (t : ℕ). list_any (fires_or_passes t) (h ++ e ∷ [])) re.serial ∙ re.fired;
     })
 
 -- ---- the lists

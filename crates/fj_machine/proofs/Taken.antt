@@ -105,7 +105,7 @@ place_tells h e r p is moved none unfired added counted tells placed = record {
   place = placed;
   status = moved_status h e r.serial moved ∙ tells.status;
   pending = pending_same h e r.serial (kind_still h e r.serial (λ said. some_none none said)) added counted ∙ tells.pending;
-  spent = fired_same h e r.serial unfired ∙ tells.spent;
+  fired = fired_same h e r.serial unfired ∙ tells.fired;
 }
   where
     some_none : {t : ℕ} → accepted_by e ≡ None → accepted_by e ≡ Some t → ⊥

@@ -117,5 +117,5 @@ tells_same pool h e r so may is other tells =
       place = place_kept pool h e t so may known (λ said. other (taken_touched e t said)) (λ w said. other (ended_touched w e t said)) spent ∙ tells.place;
       status = status_kept h e t unstopped (λ said. other (settled_touched e t said)) ∙ tells.status;
       pending = pending_same h e t kinds (adds_none e t other) (counts_none e t other) ∙ tells.pending;
-      spent = fired_same h e t (never (fires_or_passes t e) (λ said. other (fired_touched e t said))) ∙ tells.spent;
+      fired = fired_same h e t (never (fires_or_passes t e) (λ said. other (fired_touched e t said))) ∙ tells.fired;
     }

@@ -42,7 +42,7 @@ pub record Tells (h : List Event) (r : Record) : Type 0 where
   pub place : place h r.serial ≡ r.place
   pub status : status h r.serial ≡ r.status
   pub pending : pending h r.serial ≡ r.pending
-  pub spent : list_any (fires_or_passes r.serial) h ≡ r.spent
+  pub fired : list_any (fires_or_passes r.serial) h ≡ r.fired
 
 -- the same of a task of this number
 pub record TellsOf (h : List Event) (t : ℕ) (r : Record) : Type 0 where

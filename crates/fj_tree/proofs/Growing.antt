@@ -228,12 +228,12 @@ grown_below t u key kind place p sound put named is = record {
 
 -- an insert into the slab puts it in
 pub put_in : (old new : Slab Record) (made room key pending : ℕ) (kind : Kind) (place : Place) → get old key ≡ None
-    → Updates old new key (Some (record { serial = made; kind = kind; place = place; status = Undone; pending = pending; spent = false; children = 0 })) → slab_len new ≡ slab_len old + 1 → slab_len old < room
+    → Updates old new key (Some (record { serial = made; kind = kind; place = place; status = Undone; pending = pending; fired = false; children = 0 })) → slab_len new ≡ slab_len old + 1 → slab_len old < room
     → pending ≡ count_in (Some kind) → count_in (Some kind) ≤ 65535
     → IsPutIn (record { slots = old.slots; made = made; room = room }) (record { slots = new.slots; made = made + 1; room = room }) key kind place
 put_in old new made room key pending kind place vacant updates more few counts small = record {
   vacant = vacant;
-  new = updates.changed ∙ ap (λ (n : ℕ). Some (record { serial = made; kind = kind; place = place; status = Undone; pending = n; spent = false; children = 0 })) counts;
+  new = updates.changed ∙ ap (λ (n : ℕ). Some (record { serial = made; kind = kind; place = place; status = Undone; pending = n; fired = false; children = 0 })) counts;
   others = updates.others;
   made = refl;
   room = omega (arith, more, few);

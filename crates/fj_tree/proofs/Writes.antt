@@ -106,12 +106,12 @@ sound_written t key r new sound is good same same_kind same_children = record { 
     room = omega (arith, sound.room, count_written t.slots key r new is)
 
 -- and where its place, its status or its mark is written
-pub sound_marked : (t : Records) (key : ℕ) (r : Record) (p : Place) (s : Status) (spent : Bool) → IsSound t → record_at t key ≡ Some r
-    → IsSound (record t { slots = set t.slots key (Some (record r { place = p; status = s; spent = spent })) })
-sound_marked t key r p s spent sound is =
+pub sound_marked : (t : Records) (key : ℕ) (r : Record) (p : Place) (s : Status) (fired : Bool) → IsSound t → record_at t key ≡ Some r
+    → IsSound (record t { slots = set t.slots key (Some (record r { place = p; status = s; fired = fired })) })
+sound_marked t key r p s fired sound is =
     let old = sound.each key r is in
-    let good : IsSoundRecord t.made (record r { place = p; status = s; spent = spent }) = record { number = old.number; parent = old.parent; pending = old.pending; children = old.children } in
-    sound_written t key r (record r { place = p; status = s; spent = spent }) sound is good refl refl refl
+    let good : IsSoundRecord t.made (record r { place = p; status = s; fired = fired }) = record { number = old.number; parent = old.parent; pending = old.pending; children = old.children } in
+    sound_written t key r (record r { place = p; status = s; fired = fired }) sound is good refl refl refl
 
 -- an arrival keeps the number
 pub arrived_number : (a : Arrived) (r : Record) → (arrived a r).serial ≡ r.serial

@@ -10,7 +10,7 @@ use Rattle.fj_tree.specs.Records.{made_spent}
 
 -- fired, passed or done
 abbrev pub is_spent : Record → Bool
-is_spent r = r.spent || not (is_undone r.status)
+is_spent r = r.fired || not (is_undone r.status)
 
 abbrev pub is_queued_or_held : Place → Bool
 is_queued_or_held (Queued o) = true

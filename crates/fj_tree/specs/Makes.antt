@@ -33,7 +33,7 @@ make_refusal t k = or_else (parent_refusal t (parent_in (Some k))) (or_else (cou
 
 -- a new record
 abbrev pub fresh : ℕ → Kind → Place → Record
-fresh n k p = record { serial = n; kind = k; place = p; status = Undone; pending = count_in (Some k); spent = false; children = 0 }
+fresh n k p = record { serial = n; kind = k; place = p; status = Undone; pending = count_in (Some k); fired = false; children = 0 }
 
 -- the record, with one child more
 abbrev pub with_child : Record → Record

@@ -59,7 +59,7 @@ abbrev pub with_added : ℕ → Record → Record
 with_added n r = record r { pending = r.pending + n }
 
 abbrev pub made_spent : Record → Record
-made_spent r = record r { spent = true }
+made_spent r = record r { fired = true }
 
 -- what is true of each record, where so many were made so far
 pub record IsSoundRecord (made : ℕ) (r : Record) : Type 0 where

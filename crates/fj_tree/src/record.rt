@@ -19,8 +19,8 @@ pub struct Record {
     pub status: Status,
     /// How many arrivals a completer still waits for, at most 65,535. A plain task has 0.
     pub pending: u32,
-    /// Whether the completer was fired or passed. A done one counts as spent too, but need not be marked.
-    pub spent: bool,
+    /// Whether the completer was fired, or passed by a climb. A done one is spent too, fired or not.
+    pub fired: bool,
     /// How many kept tasks name this one as their parent.
     pub children: u64,
 }
@@ -30,7 +30,7 @@ impl Record {
     pub fn is_spent(&self) -> bool
         ensures { result ≡ is_spent self.now }
     {
-        self.spent || !self.status.is_undone()
+        self.fired || !self.status.is_undone()
     }
 
     /// What an arrival at this record would do.
@@ -66,7 +66,7 @@ impl Record {
         let arrived = self.arrival();
         match arrived {
             Arrived::Counted => self.pending -= 1,
-            Arrived::Fire => self.spent = true,
+            Arrived::Fire => self.fired = true,
             Arrived::Spent | Arrived::Early => {}
         }
         arrived

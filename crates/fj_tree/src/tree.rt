@@ -140,7 +140,7 @@ impl Tree {
         requires { IsCompleter self.old h }
         ensures { self.new ≡ changed self.old h.key made_spent }
     {
-        self.records[h.key].spent = true;
+        self.records[h.key].fired = true;
     }
 
     /// What an arrival at a completer would do, which is what [`Tree::arrive`] answers. The caller answers for a good handle of a
@@ -269,7 +269,7 @@ impl Tree {
             place,
             status: Status::Undone,
             pending,
-            spent: false,
+            fired: false,
             children: 0,
         });
         self.kept.push(serial, key);

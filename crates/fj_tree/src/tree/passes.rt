@@ -56,7 +56,7 @@ impl Tree {
         requires { IsGood self.old h }
         ensures { self.new ≡ changed self.old h.key made_spent }
     {
-        self.records[h.key].spent = true;
+        self.records[h.key].fired = true;
     }
 
     /// Lowers a pending count by one.
