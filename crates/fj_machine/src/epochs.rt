@@ -54,7 +54,11 @@ pub fn run_epochs(
     let Ok(mut machine) = Machine::new(alloc, mode, limits) else {
         return Err(OutOfMemory);
     };
-    let mut parts = Vec::with_capacity(alloc, moves.len())?;
+    let seals = moves
+        .iter()
+        .filter(|asked| matches!(asked, Move::Seal))
+        .count();
+    let mut parts = Vec::with_capacity(alloc, seals)?;
     let mut answers = Vec::with_capacity(alloc, moves.len())?;
     for asked in moves {
         answers.push(make_move(alloc, &mut machine, &mut parts, asked)?)?;

@@ -1,4 +1,4 @@
-ghost use Rattle.std.specs.Prelude.{◌≡◌, ◌<◌, ◌≤◌, ◌+◌, ◌∷◌, [], ◌++◌, length, nat_lt, vec_capacity, IfOk};
+ghost use Rattle.std.specs.Prelude.{◌≡◌, ◌<◌, ◌≤◌, ◌+◌, ◌∷◌, [], ◌++◌, length, nat_lt, vec_capacity, IfOk, OnOk, OnErr};
 ghost use Rattle.fj_model.specs.Epochs.{most_events};
 ghost use Rattle.fj_model.specs.Allowed.{is_close, is_stop, is_closed, is_stopped};
 
@@ -98,20 +98,19 @@ impl Log {
         MOST_EVENTS < before || MOST_EVENTS - before < self.events.len() as u64
     }
 
-    /// All events are sealed: those since the last seal are handed out, and the log goes on with this empty list.
-    pub fn seal(&mut self, empty: Vec<Event>) -> Vec<Event>
+    /// All events are sealed: those since the last seal are handed out, and the log goes on without any. An error changes nothing.
+    pub fn seal(&mut self, alloc: Global) -> Result<Vec<Event>, AllocError>
         requires few { length self.old.events + self.old.seals ≤ most_events }
-        requires empty { empty.items ≡ [] }
-        requires room { self.old.room ≤ vec_capacity empty }
-        ensures part { self.old.events ≡ self.old.sealed ++ result.items }
-        ensures sealed { self.new ≡ record { sealed = self.old.events; events = self.old.events; room = self.old.room; seals = self.old.seals + 1 } }
+        ensures part { IfOk result (λ part. self.old.events ≡ self.old.sealed ++ part.items) }
+        ensures sealed { OnOk result (self.new ≡ record { sealed = self.old.events; events = self.old.events; room = self.old.room; seals = self.old.seals + 1 }) }
+        ensures stays { OnErr result (self.new ≡ self.old) }
     {
         let before = Snapshot::of(&*self);
-        let events = mem::replace(&mut self.events, empty);
-        self.sealed += events.len() as u64;
+        let part = take_all(alloc, &mut self.events, self.room)?;
+        self.sealed += part.len() as u64;
         self.seals += 1;
         self.before = Some(before);
-        events
+        Ok(part)
     }
 
     /// Whether there was a shutdown.
@@ -139,6 +138,26 @@ impl Log {
         self.stopped |= is_stop(&event);
         self.events.push_reserved(event);
     }
+}
+
+/// All events of a list, which goes on empty with the same room. An error changes nothing.
+///
+/// More than half of a room goes with its events, and so takes no time; fewer events are copied. So nothing that is handed out holds room
+/// for more than twice of what is in it, and no more than half of a room is ever copied.
+fn take_all(alloc: Global, events: &mut Vec<Event>, room: usize) -> Result<Vec<Event>, AllocError>
+    requires { room ≤ vec_capacity events.old }
+    ensures taken { IfOk result (λ part. part.items ≡ events.old.items) }
+    ensures empty { OnOk result (events.new.items ≡ []) }
+    ensures room { room ≤ vec_capacity events.new }
+    ensures stays { OnErr result (events.new.items ≡ events.old.items) }
+{
+    if room / 2 < events.len() {
+        let empty = Vec::with_capacity(alloc, room)?;
+        return Ok(mem::replace(events, empty));
+    }
+    let part = Vec::from_slice(alloc, events.as_slice())?;
+    events.clear();
+    Ok(part)
 }
 
 /// Whether the event is a shutdown.

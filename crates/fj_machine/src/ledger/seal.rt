@@ -1,12 +1,11 @@
 //! The history is handed out.
-ghost use Rattle.std.specs.Prelude.{◌≡◌, ◌≤◌, ◌+◌, [], None, IfOk, OnOk, OnErr, IfErr, vec_capacity};
+ghost use Rattle.std.specs.Prelude.{◌≡◌, None, IfOk, OnOk, OnErr, IfErr};
 ghost use Rattle.fj_model.specs.Pasts.{present, gone_since, sealed_now};
 ghost use Rattle.fj_model.specs.Epochs.{seal_refusal, RefusesSeal};
 
 use crate::ledger::Ledger;
 use fj_model::{Refusal, Sealed};
-use std::alloc::{AllocError, Global};
-use std::mem;
+use std::alloc::Global;
 
 impl Ledger {
     /// How many seals there were.
@@ -28,9 +27,11 @@ impl Ledger {
         if let Some(refusal) = self.seal_refusal() {
             return Err(refusal);
         }
-        // first the growths, then the exchange
-        let empty = empty_part(alloc, self.limits.events(), self.limits.tasks())?;
-        Ok(self.exchange(empty))
+        // First what can fail, then what changes anything.
+        let gone = Vec::from_slice(alloc, self.gone.as_slice())?;
+        let events = self.log.seal(alloc)?;
+        self.gone.clear();
+        Ok(Sealed { events, gone })
     }
 
     /// Why nothing can be handed out, if it cannot: the ledger is not quiescent, or it is shut, or there were too many events.
@@ -48,34 +49,4 @@ impl Ledger {
         }
         None
     }
-
-    /// The lists of this part are exchanged for empty ones.
-    fn exchange(&mut self, empty: Sealed) -> Sealed
-        requires may { seal_refusal self.old ≡ None }
-        requires events { empty.events.items ≡ [] }
-        requires event_room { self.old.pool.limits.events ≤ vec_capacity empty.events }
-        requires gone { empty.gone.items ≡ [] }
-        requires gone_room { self.old.pool.limits.events + self.old.pool.limits.tasks ≤ vec_capacity empty.gone }
-        ensures events { result.events.items ≡ present self.old }
-        ensures gone { result.gone.items ≡ gone_since self.old }
-        ensures sealed { self.new ≡ sealed_now self.old }
-    {
-        Sealed {
-            events: self.log.seal(empty.events),
-            gone: mem::replace(&mut self.gone, empty.gone),
-        }
-    }
-}
-
-/// A part without events, with room for one more part.
-fn empty_part(alloc: Global, events: u32, tasks: u32) -> Result<Sealed, AllocError>
-    ensures events { IfOk result (λ part. part.events.items ≡ []) }
-    ensures event_room { IfOk result (λ part. events ≤ vec_capacity part.events) }
-    ensures gone { IfOk result (λ part. part.gone.items ≡ []) }
-    ensures gone_room { IfOk result (λ part. events + tasks ≤ vec_capacity part.gone) }
-{
-    Ok(Sealed {
-        events: Vec::with_capacity(alloc, events as usize)?,
-        gone: Vec::with_capacity(alloc, events as usize + tasks as usize)?,
-    })
 }
