@@ -1,158 +1,105 @@
-use fj_machine::run_epochs;
-use fj_model::{
-    Answer, Ending, Kind, Limits, Mode, Move, Refusal, Said, Sealed, Serial, Step, SubId,
-    SubmittedKind, WorkerId,
-};
-use std::alloc::Global;
-use std::fmt::Write;
-use std::test::Fail;
+use crate::test_rows::{wrong, wrong_at_once};
+use fj_machine::Machine;
+use fj_model::{Ending, Limits, Mode, Refusal, Serial, Step, SubId, SubmittedKind, WorkerId};
+use std::test::*;
 
-const W: WorkerId = WorkerId(0);
+const SEALS: &str = "each part has its events and its gone tasks
+async 1 1 2 4; submit 0 > task 0; poll 0 0 > run 0; end 0 ok > done; epoch > 0; seal > sealed 4 events, gone 0;
+seal > sealed 0 events, gone none; submit 0 > task 1; seal > refused 14; poll 0 0 > run 1; end 0 ok > done; release 0 > refused 3;
+epoch > 2; gone > 1; seal > sealed 4 events, gone 1; release 0 > done; state 0 > refused 5; shutdown > done; seal > refused 1;
+gone > none; epoch > 3; events 0 > Rel(Serial(0)) Close
 
-const SUBMIT: Move = Move::Step(Step::Submit {
-    s: SubId(0),
-    kind: SubmittedKind::Plain,
-});
+an open completer outlives a seal, and fires after it
+async 1 1 4 12; submit 0 > task 0; poll 0 0 > run 0; trigger 0 0 > task 1; end 0 ok > done; open > 1; seal > sealed 5 events, gone 0;
+open > 1; state 1 > state open undone; submit 0 > task 2; poll 0 0 > run 2; fork 0 1 0 relay > task 3; end 0 ok > done; poll 0 0 > run 3;
+end 0 try > hook 3; hook 0 > hook 1; hook 0 > root 1; state 1 > state gone normal; gone > 2 3 1; seal > sealed 12 events, gone 2 3 1
 
-const POLL: Move = Move::Step(Step::Poll { w: W, r: 0 });
+a pending count, a status and a code outlive a seal
+async 1 1 4 16; submit 0 2 relay > task 0; submit 0 > task 1; poll 0 0 > run 0; end 0 quiet > done; poll 0 0 > run 1; end 0 fail 7 > done;
+seal > sealed 7 events, gone 1; state 0 > state open undone; state 1 > state gone exceptional 7; submit 0 0 relay > task 2; poll 0 0 > run 2;
+join 0 1 0 > exceptional 7; add 0 0 3 > count 5; cancel 1 > no; end 0 try > hook 2; hook 0 > root 2; seal > sealed 7 events, gone 2
 
-const END: Move = Move::Step(Step::End {
-    w: W,
-    ending: Ending::Ok,
-});
+one event sends more tasks than a part has events
+async 1 1 4 7; submit 0 > task 0; poll 0 0 > run 0; trigger 0 1 > task 1; trigger 0 1 > task 2; trigger 0 1 > task 3; end 0 ok > done;
+seal > sealed 7 events, gone 0; open > 1 2 3; stop > done; events 0 > Stop; gone > 1 2 3; open > none; seal > refused 1
 
-const RELEASE: Move = Move::Step(Step::Release { t: Serial(0) });
+kept tasks stay within their limit over all epochs
+async 1 1 2 4; submit 0 > task 0; poll 0 0 > run 0; end 0 ok > done; seal > sealed 4 events, gone 0; submit 0 > task 1; submit 0 > refused 2;
+poll 0 0 > run 1; end 0 ok > done; seal > sealed 4 events, gone 1; submit 0 > refused 2; release 1 > done; submit 0 > task 2
 
-const STATE: Move = Move::Step(Step::State { t: Serial(0) });
+a queued task, a running one and a hook in hand each hinder a seal
+async 1 1 4 64; submit 0 0 relay > task 0; seal > refused 14; poll 0 0 > run 0; seal > refused 14; end 0 try > hook 0; seal > refused 14;
+hook 0 > root 0; seal > sealed 6 events, gone 0; events 0 > none
 
-const SHUTDOWN: Move = Move::Step(Step::Shutdown);
-
-// One move after the other, and what is answered to it.
-const ROW: [(Move, Answer); 15] = [
-    (SUBMIT, Answer::Said(Said::Task(Serial(0)))),
-    (POLL, Answer::Said(Said::Run(Serial(0)))),
-    (END, Answer::Said(Said::Done)),
-    (Move::Seal, Answer::Sealed),
-    (Move::Seal, Answer::Sealed),
-    (SUBMIT, Answer::Said(Said::Task(Serial(1)))),
-    (Move::Seal, Answer::Refused(Refusal::NotIdle)),
-    (POLL, Answer::Said(Said::Run(Serial(1)))),
-    (END, Answer::Said(Said::Done)),
-    (RELEASE, Answer::Said(Said::Refused(Refusal::LogFull))),
-    (Move::Seal, Answer::Sealed),
-    (RELEASE, Answer::Said(Said::Done)),
-    (STATE, Answer::Said(Said::Refused(Refusal::Unknown))),
-    (SHUTDOWN, Answer::Said(Said::Done)),
-    (Move::Seal, Answer::Refused(Refusal::Closed)),
-];
-
-// How many events each part has, and its gone tasks.
-fn shown(alloc: Global, parts: &[Sealed]) -> Result<String, Fail> {
-    let mut text = String::new(alloc);
-    for part in parts {
-        write!(text, "{} {:?};", part.events.len(), part.gone.as_slice())?;
-    }
-    Ok(text)
-}
+a seal is refused for the first cause
+async 1 1 4 64; submit 0 > task 0; stop > done; seal > refused 14; poll 0 0 > skip 0; seal > refused 1; events 0 > Acc(Serial(0), Sub(SubId(0)), Plain) Stop Skip(Serial(0), WorkerId(0))";
 
 #[test]
-fn each_part_has_its_events_and_its_gone_tasks(rt: HostRuntime) -> Result<(), Fail> {
-    let alloc = rt.alloc();
-    let mut moves = Vec::new(alloc);
-    let mut expected = Vec::new(alloc);
-    for (asked, answer) in ROW {
-        moves.push(asked)?;
-        expected.push(answer)?;
-    }
-    let limits = Limits::new(1, 1, 2, 4)?;
-    let (machine, parts, answers) = run_epochs(alloc, Mode::Async, limits, moves.as_slice())?;
-    assert_eq!(rt; answers.as_slice(), expected.as_slice());
-    assert_eq!(rt;
-        shown(alloc, parts.as_slice())?.as_str(),
-        "4 [Serial(0)];0 [];4 [Serial(1)];"
-    );
-    assert_eq!(rt; machine.epoch(), 3);
-    assert_eq!(rt; machine.gone().len(), 0);
+fn a_seal_hands_out_what_happened_since_the_last(rt: HostRuntime) -> Result<(), Fail> {
+    assert_eq!(rt; wrong(rt.alloc(), SEALS)?.as_str(), "");
     Ok(())
 }
 
-// One event sends more tasks than a part has events: they were opened before the seal.
 #[test]
-fn a_stop_after_a_seal_sends_the_open_tasks(rt: HostRuntime) -> Result<(), Fail> {
-    let alloc = rt.alloc();
-    let trigger = Move::Step(Step::Trigger { w: W, count: 1 });
-    let stop = Move::Step(Step::Stop);
-    let moves = [
-        SUBMIT,
-        POLL,
-        trigger,
-        Move::Seal,
-        trigger,
-        trigger,
-        END,
-        Move::Seal,
-        stop,
-    ];
-    let limits = Limits::new(1, 1, 4, 7)?;
-    let (machine, parts, _) = run_epochs(alloc, Mode::Async, limits, &moves)?;
-    assert_eq!(rt; shown(alloc, parts.as_slice())?.as_str(), "7 [Serial(0)];");
-    assert_eq!(rt; machine.history().len(), 1);
-    assert_eq!(rt; machine.gone().len(), 3);
-    assert_eq!(rt; machine.open().len(), 0);
+fn a_run_with_seals_gives_the_same_answers(rt: HostRuntime) -> Result<(), Fail> {
+    assert_eq!(rt; wrong_at_once(rt.alloc(), SEALS)?.as_str(), "");
     Ok(())
 }
 
-// A trigger that was made before a seal is arrived at after it.
-const OPEN: [(Move, Answer); 14] = [
-    (SUBMIT, Answer::Said(Said::Task(Serial(0)))),
-    (POLL, Answer::Said(Said::Run(Serial(0)))),
-    (TRIGGER, Answer::Said(Said::Task(Serial(1)))),
-    (END, Answer::Said(Said::Done)),
-    (Move::Seal, Answer::Sealed),
-    (SUBMIT, Answer::Said(Said::Task(Serial(2)))),
-    (POLL, Answer::Said(Said::Run(Serial(2)))),
-    (FORK, Answer::Said(Said::Task(Serial(3)))),
-    (END, Answer::Said(Said::Done)),
-    (POLL, Answer::Said(Said::Run(Serial(3)))),
-    (TRY, Answer::Said(Said::Hook(Serial(3)))),
-    (HOOK, Answer::Said(Said::Hook(Serial(1)))),
-    (HOOK, Answer::Said(Said::Root(Serial(1)))),
-    (Move::Seal, Answer::Sealed),
-];
-
-const TRIGGER: Move = Move::Step(Step::Trigger { w: W, count: 0 });
-
-const FORK: Move = Move::Step(Step::Fork {
-    w: W,
-    kind: Kind::Completer {
-        parent: Some(Serial(1)),
-        count: 0,
+// A machine with an open completer and a gone task, both kept: 7 events, 1 open, 1 gone.
+fn made(rt: &HostRuntime) -> Result<Machine, Fail> {
+    let mut machine = Machine::new(rt.alloc(), Mode::Async, Limits::new(1, 1, 4, 7)?)?;
+    let w = WorkerId(0);
+    let s = SubId(0);
+    let completer = SubmittedKind::Completer {
+        count: 1,
         relay: true,
-    },
-});
-
-const TRY: Move = Move::Step(Step::End {
-    w: W,
-    ending: Ending::Try,
-});
-
-const HOOK: Move = Move::Step(Step::HookDone { w: W });
-
-#[test]
-fn an_open_completer_outlives_a_seal(rt: HostRuntime) -> Result<(), Fail> {
-    let alloc = rt.alloc();
-    let mut moves = Vec::new(alloc);
-    let mut expected = Vec::new(alloc);
-    for (asked, answer) in OPEN {
-        moves.push(asked)?;
-        expected.push(answer)?;
+    };
+    let quiet = Step::End {
+        w,
+        ending: Ending::Quiet,
+    };
+    let ok = Step::End {
+        w,
+        ending: Ending::Ok,
+    };
+    let poll = Step::Poll { w, r: 0 };
+    machine.step(&Step::Submit { s, kind: completer });
+    machine.step(&Step::Submit {
+        s,
+        kind: SubmittedKind::Plain,
+    });
+    for step in [poll, quiet, poll, ok] {
+        machine.step(&step);
     }
-    let limits = Limits::new(1, 1, 4, 12)?;
-    let (_machine, parts, answers) = run_epochs(alloc, Mode::Async, limits, moves.as_slice())?;
-    assert_eq!(rt; answers.as_slice(), expected.as_slice());
-    assert_eq!(rt;
-        shown(alloc, parts.as_slice())?.as_str(),
-        "5 [Serial(0)];12 [Serial(2), Serial(3), Serial(1)];"
-    );
+    Ok(machine)
+}
+
+// Whether it is as it was made.
+fn is_as_made(machine: &Machine) -> bool {
+    machine.history().len() == 7
+        && machine.gone() == [Serial(1)].as_slice()
+        && machine.open() == [Serial(0)].as_slice()
+        && machine.epoch() == 0
+}
+
+// `tests/refused_memory/seal.sh` refuses each allocation of this test in turn, and reads what it prints.
+#[test]
+fn a_seal_without_memory_changes_nothing(rt: HostRuntime) -> Result<(), Fail> {
+    let mut machine = made(&rt)?;
+    assert!(rt; is_as_made(&machine));
+    let part = match machine.seal(rt.alloc()) {
+        Ok(part) => part,
+        Err(refusal) => {
+            assert_eq!(rt; refusal, Refusal::OutOfMemory);
+            assert!(rt; is_as_made(&machine));
+            println!(rt; "a seal was refused")?;
+            machine.seal(rt.alloc())?
+        }
+    };
+    assert_eq!(rt; part.events.len(), 7);
+    assert_eq!(rt; part.gone.as_slice(), [Serial(1)].as_slice());
+    assert_eq!(rt; machine.history().len(), 0);
+    assert_eq!(rt; machine.open(), [Serial(0)].as_slice());
     Ok(())
 }

@@ -13,6 +13,8 @@ mod picks;
 #[cfg(test)]
 mod place_tests;
 #[cfg(test)]
+mod random_epoch_tests;
+#[cfg(test)]
 mod run_tests;
 #[cfg(test)]
 mod shut_tests;

@@ -12,9 +12,13 @@ fn below(rng: &mut Pcg32, n: u32) -> u32 {
     rng.next_word().checked_rem(n).unwrap_or(0)
 }
 
-// One of the accepted tasks, mostly, and now and then the number after them.
+// How far back a task is picked.
+const RECENT: u32 = 200;
+
+// One of the tasks accepted last, mostly, and now and then the number after them.
 fn task(rng: &mut Pcg32, accepted: u32) -> Serial {
-    Serial(u64::from(below(rng, accepted.saturating_add(1))))
+    let back = below(rng, accepted.min(RECENT).saturating_add(1));
+    Serial(u64::from(accepted.saturating_sub(back)))
 }
 
 fn worker(rng: &mut Pcg32) -> WorkerId {

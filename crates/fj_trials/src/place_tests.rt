@@ -63,7 +63,7 @@ impl Tally {
 }
 
 // The tasks in all places, one list after another.
-fn placed(alloc: Global, machine: &Machine) -> Result<Vec<u64>, Fail> {
+pub fn placed(alloc: Global, machine: &Machine) -> Result<Vec<u64>, Fail> {
     let mut all = Vec::new(alloc);
     for s in 0..3 {
         for t in machine.queue(Owner::Sub(SubId(s))) {
@@ -89,7 +89,7 @@ fn extend(all: &mut Vec<u64>, more: &[Serial]) -> Result<(), Fail> {
 }
 
 // Whether these are the numbers of so many accepted tasks, each once.
-fn are_each_once(mut numbers: Vec<u64>, accepted: u32) -> bool {
+pub fn are_each_once(mut numbers: Vec<u64>, accepted: u32) -> bool {
     numbers.sort_unstable();
     numbers.iter().copied().eq(0..u64::from(accepted))
 }
