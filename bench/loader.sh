@@ -1,4 +1,4 @@
-# Sourced by admissions.sh and pairs.sh, at the top of the repository. A loader is no crate of the repository: it is proved and built in
+# Sourced by epochs.sh, admissions.sh and pairs.sh, at the top of the repository. A loader is no crate of the repository: it is proved and built in
 # a folder of its own, beside copies of the crates that it uses.
 
 # build_loader NAME CRATE..: proves and builds the loader of bench/NAME/, which stands on CRATE.., and names its program in `loader`.
@@ -14,6 +14,7 @@ build_loader() {
     cp -r "${@/#/crates/}" "$folder/crates"
     cp "bench/$name/main.rt.in" "$loader/src/main.rt"
     for invariants in "bench/$name"/*.antt.in; do
+        [[ -e $invariants ]] || continue
         mkdir -p "$loader/proofs/$(basename "$invariants" .antt.in)"
         cp "$invariants" "$loader/proofs/$(basename "$invariants" .antt.in)/Invariants.antt"
     done
