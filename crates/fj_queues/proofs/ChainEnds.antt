@@ -98,9 +98,6 @@ within_some cells ends queue end named = go end refl
 pub newest_within : (cells : List Cell) (ends : Ends) → IsQueue cells ends → IfSome ends.newest (λ c. c < length cells)
 newest_within cells ends queue = within_some cells ends queue ends.newest (λ c is. last_named c queue.chain (sym queue.linked.newest ∙ is))
 
-pub oldest_within : (cells : List Cell) (ends : Ends) → IsQueue cells ends → IfSome ends.oldest (λ c. c < length cells)
-oldest_within cells ends queue = within_some cells ends queue ends.oldest (λ c is. head_named c queue.chain (sym queue.linked.oldest ∙ is))
-
 pub newest_named : (cells : List Cell) (ends : Ends) (queue : IsQueue cells ends) (n : ℕ) → ends.newest ≡ Some n → n < length cells
 newest_named cells ends queue n is = queue.apart.within n (last_named n queue.chain (sym queue.linked.newest ∙ is))
 

@@ -1,11 +1,11 @@
 -- A walk over the cells of one queue.
 use Rattle.fj_queues.specs.declared.cells.Cell.{Cell}
 use Rattle.fj_queues.specs.Cells.{serial_at, newer_at}
-use Rattle.fj_queues.specs.Chains.{head_or, Leads, walk}
+use Rattle.fj_queues.specs.Chains.{Leads, walk}
 use Rattle.fj_queues.specs.Tables.{numbers_from, IsWalk}
 use Rattle.fj_queues.proofs.Links.{times_here, times_more, split_first, walked}
 use Rattle.fj_model.specs.Lists.{times_in}
-use Rattle.std.proofs.Common.{arith, ◌-◌, ℕ, suc, ◌≡◌, ◌<◌, List, [], ◌∷◌, length, map, Option, Some, None, ap, subst, sym, ◌∙◌, refl}
+use Rattle.std.proofs.Common.{arith, ◌-◌, ℕ, suc, ◌≡◌, ◌<◌, List, ◌∷◌, length, map, Option, Some, None, ap, subst, sym, ◌∙◌}
 use Rattle.std.proofs.lemmas.List.{length-map}
 
 -- the numbers of a walk are those of its chain
@@ -45,10 +45,3 @@ gives_first cells start n c later w is read =
     let some = some_left cells start n c w is in
     let more : n ≡ suc (n - 1) = omega arith in
     ap (λ k. numbers_from cells k start) more ∙ ap (numbers_from cells (suc (n - 1))) is ∙ ap (λ next. serial_at cells c ∷ numbers_from cells (n - 1) next) (sym read)
-
-pub gives_none : (cells : List Cell) (start : Option ℕ) (n : ℕ) → IsWalk cells start n → start ≡ None → numbers_from cells n start ≡ []
-gives_none cells start n w none = shown cells start n w ∙ go w.chain (sym w.first ∙ none)
-  where
-    go : (cs : List ℕ) → head_or None cs ≡ None → map (serial_at cells) cs ≡ []
-    go [] none = refl
-    go (c ∷ cs) none = absurd (cc)
