@@ -20,25 +20,20 @@ use Rattle.fj_model.specs.Stacks.{stack}
 use Rattle.fj_model.specs.Hooks.{hooks, hand, receiver}
 use Rattle.fj_model.specs.Statuses.{status, is_undone}
 use Rattle.fj_model.specs.Completers.{is_spent, pending}
-use Rattle.fj_model.specs.declared.place.Place.TheVariants.{Open, Gone}
-use Rattle.fj_model.specs.Places.{is_open}
-use Rattle.fj_model.specs.Climbs.{Spent, Counted, Early, Fires, arrival}
+use Rattle.fj_model.specs.Climbs.{Spent, Counted, Fires}
 use Rattle.fj_model.specs.Allowed.{Allowed, AllowedFrom}
 use Rattle.fj_model.specs.Answers.{running, first_that_stands, refusals_of, events_of, reply_of, after_end, end_says, arriving, is_misfit, no_such_worker, hook_in_hand, nothing_running}
 use Rattle.fj_model.specs.Runs.{Past, Steps, grown}
 use Rattle.fj_model.proofs.Growth.{hooks_more}
 use Rattle.fj_model.proofs.Members.{get_is_in}
-use Rattle.fj_model.proofs.Lawful.{allowed_more}
 use Rattle.fj_model.proofs.KeptPlaces.{held_kept}
 use Rattle.fj_model.proofs.KindsKept.{completer_same}
-use Rattle.fj_model.proofs.Opening.{ended_place}
-use Rattle.fj_model.proofs.ArrivalPlaces.{arrival_at}
-use Rattle.fj_model.proofs.Arrivals.{pending_untouched}
 use Rattle.fj_model.proofs.Spending.{moved_spent}
 use Rattle.fj_model.proofs.Standing.{all_fail, some_or_none}
 use Rattle.fj_model.proofs.Statuses.{status_same}
-use Rattle.fj_machine.specs.Holds.{IsLawful}
-use Rattle.fj_machine.proofs.HandParts.{hand_same}
+use Rattle.fj_ledger.specs.Holds.{IsLawful}
+use Rattle.fj_ledger.proofs.Lists.HandParts.{hand_same}
+use Rattle.fj_ledger.proofs.Paths.EndedArrivals.{ended_arrival}
 use Rattle.fj_machine.proofs.RoomTests.{grown_twice}
 use Rattle.fj_machine.proofs.Stepping.{steps_full, steps_made, may_step}
 use Rattle.fj_model.proofs.Releasing.{kept_same}
@@ -139,21 +134,6 @@ ended_free h w t free = hand_same h (event.End t w) w refl ∙ free
 
 pub ended_given : (h : List Event) (w t : ℕ) → receiver t (hooks (h ++ event.End t w ∷ [])).just_ended (hooks (h ++ event.End t w ∷ [])).last_worker ≡ Some w
 ended_given h w t = rw (hooks_more h (event.End t w)) (rw (eq-eqb t t refl) refl)
-
--- an arrival is not too early then
-pub ended_arrival : (pool : Pool) (h : List Event) (w t : ℕ) → AllowedFrom pool [] h → Allowed pool h (event.End t w) → is_completer h t ≡ true
-    → arrival (h ++ event.End t w ∷ []) t ≡ (if is_spent h t then Spent else if nat_lt 0 (pending h t) then Counted else Fires)
-ended_arrival pool h w t so may completer =
-    arrival_at pool (h ++ e ∷ []) t (allowed_more pool [] h e so may) (completer_same h e t refl ∙ completer)
-    ∙ rw (moved_spent h e t refl, pending_untouched h e t refl refl, ended_place pool h t w so may, completer) (go (is_spent h t) (nat_lt 0 (pending h t)))
-  where
-    e : Event
-    e = event.End t w
-
-    go : (s p : Bool) → (if s then Spent else if p then Counted else if is_open (if not s then Open else Gone) then Fires else Early) ≡ (if s then Spent else if p then Counted else Fires)
-    go true p = refl
-    go false true = refl
-    go false false = refl
 
 pub try_count : (pool : Pool) (h : List Event) (w t n : ℕ) (b : Bool) → AllowedFrom pool [] h → Allowed pool h (event.End t w) → is_completer h t ≡ true
     → is_spent h t ≡ b → n ≡ (if b then 1 else 2) → 1 + length (after_end (h ++ event.End t w ∷ []) t kind_of.Try) ≡ n

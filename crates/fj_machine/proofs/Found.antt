@@ -15,10 +15,10 @@ use Rattle.fj_model.specs.Allowed.{AllowedFrom}
 use Rattle.fj_model.proofs.OnePlace.{never}
 use Rattle.fj_model.proofs.PlacesKept.{held_of_place, place_held}
 use Rattle.fj_tree.specs.declared.record.Record.{Record}
-use Rattle.fj_machine.specs.Holds.{TellsOf}
+use Rattle.fj_ledger.specs.Holds.{TellsOf}
 use Rattle.std.proofs.lemmas.Option.{MatchOption-at_some}
 use Rattle.fj_tree.specs.Arrivals as record_is
-use Rattle.fj_machine.proofs.ArrivalsTold.{spent_told}
+use Rattle.fj_ledger.proofs.Recorded.ArrivalsTold.{spent_told}
 
 -- ---- whether there is a record
 

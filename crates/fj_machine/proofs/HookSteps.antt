@@ -29,9 +29,9 @@ use Rattle.fj_model.proofs.Statuses.{status_same}
 use Rattle.fj_model.proofs.KindsKept.{completer_same}
 use Rattle.fj_model.proofs.Parents.{parent_smaller, parent_completer}
 use Rattle.fj_model.proofs.Arrivals.{arrival_untouched}
-use Rattle.fj_machine.specs.Holds.{IsLawful, hook_completers}
-use Rattle.fj_machine.proofs.HandParts.{hand_same}
-use Rattle.fj_machine.proofs.HookLists.{completers, hand_emptied, worker_found, but_unlisted}
+use Rattle.fj_ledger.specs.Holds.{IsLawful, hook_completers}
+use Rattle.fj_ledger.proofs.Lists.HandParts.{hand_same}
+use Rattle.fj_ledger.proofs.Lists.HookLists.{completers, hand_emptied, worker_found, but_unlisted}
 use Rattle.fj_machine.proofs.RoomTests.{grown_twice}
 use Rattle.fj_machine.proofs.Stepping.{steps_full, steps_made, may_step}
 

@@ -6,7 +6,7 @@ use Rattle.fj_model.specs.declared.step.Step.{Step}
 use Rattle.fj_model.specs.declared.said.Said.{Said}
 use Rattle.fj_model.specs.Answers.{answer, refusals_of, first_that_stands, events_of, reply_of}
 use Rattle.fj_model.specs.Runs.{Past}
-use Rattle.fj_machine.specs.Holds.{IsLawful}
+use Rattle.fj_ledger.specs.Holds.{IsLawful}
 use Rattle.fj_machine.proofs.Stepping.{allowed, none_stands}
 
 -- the step needs exactly the event e

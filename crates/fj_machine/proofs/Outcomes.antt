@@ -12,7 +12,7 @@ use Rattle.fj_model.specs.Allowed.{Allowed, AllowedFrom}
 use Rattle.fj_model.specs.Answers.{refusals_of, first_that_stands, events_of, reply_of}
 use Rattle.fj_model.specs.Pasts.{limit}
 use Rattle.fj_model.specs.Runs.{Past, Steps, grown}
-use Rattle.fj_machine.specs.Holds.{IsLawful}
+use Rattle.fj_ledger.specs.Holds.{IsLawful}
 use Rattle.fj_machine.specs.Outcomes.{Makes}
 use Rattle.fj_machine.proofs.Stepping.{steps_refused, steps_full, steps_made, may_step}
 use Rattle.fj_machine.proofs.OneEvent.{IsOf}

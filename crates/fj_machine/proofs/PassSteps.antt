@@ -16,8 +16,9 @@ use Rattle.fj_model.proofs.Parents.{path_completers}
 use Rattle.fj_model.proofs.Ways.{rest_on_way}
 use Rattle.fj_tree.specs.declared.pass.PassHow.{PassHow}
 use Rattle.fj_tree.specs.declared.pass.PassHow.TheVariants as how
-use Rattle.fj_machine.specs.declared.ledger.climb.Climb.{Climb}
-use Rattle.fj_machine.specs.Climbing.{IsEnd, EndsAt, Climbs, climb_end, climb_says}
+use Rattle.fj_ledger.specs.declared.ledger.climb.Climb.{Climb}
+use Rattle.fj_ledger.specs.Climbing.{IsEnd, EndsAt, Climbs}
+use Rattle.fj_machine.specs.Climbing.{climb_end, climb_says}
 use Rattle.fj_model.proofs.KeptParents.{path_kept}
 use Rattle.fj_model.proofs.Releasing.{kept_same}
 

@@ -16,7 +16,7 @@ use Rattle.fj_model.specs.Climbs.{relayed}
 use Rattle.fj_model.specs.Answers.{refusals_of, first_that_stands, events_of, reply_of, cancel_says, after_end}
 use Rattle.fj_model.specs.Runs.{Past, Steps}
 use Rattle.fj_model.proofs.Settling.{settles, relayed_same, failing_end}
-use Rattle.fj_machine.specs.Holds.{IsLawful}
+use Rattle.fj_ledger.specs.Holds.{IsLawful}
 use Rattle.fj_machine.proofs.OneEvent.{IsOf, only_tells}
 use Rattle.fj_machine.proofs.Relaying.{failing_settles, none_relayed}
 use Rattle.fj_machine.proofs.Stepping.{told}

@@ -8,7 +8,7 @@ use Rattle.fj_model.specs.declared.step.Step.TheVariants.{Shutdown, Stop, Releas
 use Rattle.fj_model.specs.Allowed.{is_closed, is_stopped}
 use Rattle.fj_model.specs.Answers.{refusals_of, first_that_stands, events_of, reply_of}
 use Rattle.fj_model.specs.Runs.{Past, Steps}
-use Rattle.fj_machine.specs.Holds.{IsLawful}
+use Rattle.fj_ledger.specs.Holds.{IsLawful}
 use Rattle.fj_machine.proofs.OneEvent.{IsOf, only_tells}
 use Rattle.fj_machine.proofs.Stepping.{told}
 

@@ -15,7 +15,7 @@ use Rattle.fj_model.specs.Answers.{answer, refusal_of, refusals_of, first_that_s
 use Rattle.fj_model.specs.Runs.{Past, Steps, grown}
 use Rattle.fj_model.proofs.Standing.{all_fail}
 use Rattle.fj_model.proofs.StepsAllowed.{step_allowed}
-use Rattle.fj_machine.specs.Holds.{IsLawful}
+use Rattle.fj_ledger.specs.Holds.{IsLawful}
 
 -- a step that appends nothing leaves everything as it was
 pub told : (now : Past) (asked : Step) (reply : Said) → answer now asked ≡ (reply, []) → Steps now asked reply now

@@ -1,33 +1,12 @@
--- Where a climb without hooks ends, as the history says it.
-use Rattle.std.specs.Prelude.{ℕ, ◌≡◌, List, [], ◌∷◌, Option, Some, length, drop}
+-- What comes where a climb without hooks ends.
+use Rattle.std.specs.Prelude.{ℕ, List, [], ◌∷◌}
 use Rattle.fj_model.specs.declared.event.Event.{Event}
 use Rattle.fj_model.specs.declared.event.Event.TheVariants as event
 use Rattle.fj_model.specs.declared.status.Status.TheVariants.{Normal}
 use Rattle.fj_model.specs.declared.said.Said.{Said}
 use Rattle.fj_model.specs.declared.said.Said.TheVariants as says
-use Rattle.fj_model.specs.Climbs.{Arrival, arrival, path, passed}
-use Rattle.fj_model.specs.Climbs as climb
-use Rattle.fj_model.specs.Answers.{root_of}
 use Rattle.fj_tree.specs.declared.pass.PassHow.{PassHow}
 use Rattle.fj_tree.specs.declared.pass.PassHow.TheVariants as how
-use Rattle.fj_machine.specs.declared.ledger.climb.Climb.{Climb}
-
--- the completer at which the climb ends is arrived at so
-abbrev pub IsEnd : PassHow → Arrival → Type 0
-IsEnd how.Counted arrival = arrival ≡ climb.Counted
-IsEnd how.Spent arrival = arrival ≡ climb.Spent
-IsEnd how.Early arrival = arrival ≡ climb.Early
-IsEnd how.Root arrival = ⊥
-
--- with this much of the way left, the climb ends at the first of it, and past the root where nothing is left
-abbrev pub EndsAt : List Event → List ℕ → Option ℕ → Climb → Type 0
-EndsAt h (c ∷ above) root end = IsEnd end.how (arrival h c) × (end.at ≡ c)
-EndsAt h [] root end = (end.how ≡ how.Root) × (root ≡ Some end.at)
-
--- the climb from t
-pub record Climbs (h : List Event) (t : ℕ) (end : Climb) : Type 0 where
-  pub count : end.passed ≡ length (passed h t)
-  pub ends : EndsAt h (drop (length (passed h t)) (path h t)) (root_of (path h t)) end
 
 -- what ends the climb appends, and replies
 abbrev pub climb_end : PassHow → ℕ → List Event

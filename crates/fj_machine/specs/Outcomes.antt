@@ -8,10 +8,11 @@ use Rattle.fj_model.specs.declared.step.Step.{Step}
 use Rattle.fj_model.specs.declared.step.Ending.{Ending}
 use Rattle.fj_model.specs.declared.step.Ending.TheVariants as ends
 use Rattle.fj_model.specs.declared.step.Step.TheVariants.{End}
-use Rattle.fj_model.specs.Answers.{first_that_stands, refusals_of, running}
+use Rattle.fj_model.specs.Choices.{choice}
+use Rattle.fj_model.specs.Answers.{first_that_stands, refusals_of, running, taking, taking_says}
 use Rattle.fj_model.specs.Pasts.{limit}
-use Rattle.fj_model.specs.Runs.{Past, Steps}
-use Rattle.fj_machine.specs.Holds.{IsLawful}
+use Rattle.fj_model.specs.Runs.{Past, Steps, grown}
+use Rattle.fj_ledger.specs.Holds.{IsLawful}
 
 -- why it is refused, if it is
 abbrev pub refusal_in : {A : Type 0} → Result A Refusal → Option Refusal
@@ -46,3 +47,9 @@ pub record MayEnd (now : Past) (w : ℕ) (ending : Ending) (t : ℕ) : Type 0 wh
   pub lawful : IsLawful now.pool (limit now) now.events
   pub stands : first_that_stands (refusals_of now.pool now.events (End w ending)) ≡ None
   pub running : running now.events w ≡ Some t
+
+-- the worker took its choice, if it has one; or the history was full, and nothing changed
+pub record TakesChoice (old : Past) (w r : ℕ) (reply : Said) (new : Past) : Type 0 where
+  pub full : limit old < length old.events + length (taking old.events w (choice old.pool old.events w r)) → (reply ≡ says.Refused LogFull) × (new ≡ old)
+  pub fits : length old.events + length (taking old.events w (choice old.pool old.events w r)) ≤ limit old
+      → (reply ≡ taking_says old.events (choice old.pool old.events w r)) × (new ≡ grown old (taking old.events w (choice old.pool old.events w r)))

@@ -13,7 +13,16 @@ ghost use Rattle.fj_machine.specs.Outcomes.{Makes, said_by};
 ghost use Rattle.fj_model.specs.declared.epoch.Sealed.{Sealed as Part};
 ghost use Rattle.fj_model.specs.declared.refusal.Refusal.{Refusal as RefusalCase};
 
-use crate::ledger::Ledger;
+use crate::steps::accept::{fork, submit, trigger};
+use crate::steps::completer::{add, quiet_root};
+use crate::steps::end::end;
+use crate::steps::hook::hook_done;
+use crate::steps::query::{is_quiescent, state};
+use crate::steps::release::release;
+use crate::steps::settle::{cancel, fault};
+use crate::steps::shut::{shutdown, stop};
+use crate::steps::take::{help, join, poll};
+use fj_ledger::Ledger;
 use fj_model::{Event, Limits, Mode, Owner, Refusal, Said, Sealed, Serial, Step, WorkerId};
 use fj_queues::Numbers;
 use std::alloc::Global;
@@ -165,22 +174,22 @@ fn make(ledger: &mut Ledger, asked: &Step) -> Result<Said, Refusal>
     ensures { Makes ledger.old asked.now result ledger.new }
 {
     match *asked {
-        Step::Submit { s, kind } => ledger.submit(s, &kind),
-        Step::Fork { w, kind } => ledger.fork(w, &kind),
-        Step::Trigger { w, count } => ledger.trigger(w, count),
-        Step::Poll { w, r } => ledger.poll(w, r),
-        Step::Help { w, r } => ledger.help(w, r),
-        Step::Join { w, t, r } => ledger.join(w, t, r),
-        Step::End { w, ending } => ledger.end(w, ending),
-        Step::HookDone { w } => ledger.hook_done(w),
-        Step::Add { w, c, n } => ledger.add(w, c, n),
-        Step::QuietRoot { w, t } => ledger.quiet_root(w, t),
-        Step::IsQuiescent => Ok(ledger.is_quiescent()),
-        Step::State { t } => ledger.state(t),
-        Step::Fault { t, code } => ledger.fault(t, code),
-        Step::Cancel { t } => ledger.cancel(t),
-        Step::Shutdown => ledger.shutdown(),
-        Step::Stop => ledger.stop(),
-        Step::Release { t } => ledger.release(t),
+        Step::Submit { s, kind } => submit(ledger, s, &kind),
+        Step::Fork { w, kind } => fork(ledger, w, &kind),
+        Step::Trigger { w, count } => trigger(ledger, w, count),
+        Step::Poll { w, r } => poll(ledger, w, r),
+        Step::Help { w, r } => help(ledger, w, r),
+        Step::Join { w, t, r } => join(ledger, w, t, r),
+        Step::End { w, ending } => end(ledger, w, ending),
+        Step::HookDone { w } => hook_done(ledger, w),
+        Step::Add { w, c, n } => add(ledger, w, c, n),
+        Step::QuietRoot { w, t } => quiet_root(ledger, w, t),
+        Step::IsQuiescent => Ok(is_quiescent(ledger)),
+        Step::State { t } => state(ledger, t),
+        Step::Fault { t, code } => fault(ledger, t, code),
+        Step::Cancel { t } => cancel(ledger, t),
+        Step::Shutdown => shutdown(ledger),
+        Step::Stop => stop(ledger),
+        Step::Release { t } => release(ledger, t),
     }
 }

@@ -6,82 +6,81 @@ ghost use Rattle.fj_model.specs.Tasks.{parent_in};
 ghost use Rattle.fj_model.specs.Answers.{first_that_stands, refusals_of, is_unknown_parent, is_plain_parent};
 ghost use Rattle.fj_machine.specs.Outcomes.{Makes, refusal_in};
 
-use crate::ledger::Ledger;
+use crate::steps::refuse::{known, room_for, running_task, task_room};
+use fj_ledger::Ledger;
 use fj_model::{Kind, Owner, Refusal, Said, SubId, SubmittedKind, WorkerId};
 use fj_tree::Handle;
 
-impl Ledger {
-    /// A submitter hands in a task, which goes to the new end of its queue: `ForkJoinPool.submit`.
-    pub(crate) fn submit(&mut self, s: SubId, kind: &SubmittedKind) -> Result<Said, Refusal>
-        ensures { Makes self.old (Submit s kind.now) result self.new }
-    {
-        self.may_submit(s, kind)?;
-        self.room_for(1)?;
-        Ok(Said::Task(self.accept(&Owner::Sub(s), &kind.to_kind())))
-    }
+/// A submitter hands in a task, which goes to the new end of its queue: `ForkJoinPool.submit`.
+pub(crate) fn submit(ledger: &mut Ledger, s: SubId, kind: &SubmittedKind) -> Result<Said, Refusal>
+    ensures { Makes ledger.old (Submit s kind.now) result ledger.new }
+{
+    may_submit(ledger, s, kind)?;
+    room_for(ledger, 1)?;
+    Ok(Said::Task(ledger.accept(&Owner::Sub(s), &kind.to_kind())))
+}
 
-    /// The running task of a worker forks a task, which goes to the new end of the worker's queue: `ForkJoinTask.fork`.
-    pub(crate) fn fork(&mut self, w: WorkerId, kind: &Kind) -> Result<Said, Refusal>
-        ensures { Makes self.old (Fork w kind.now) result self.new }
-    {
-        self.may_fork(w, kind)?;
-        self.room_for(1)?;
-        Ok(Said::Task(self.accept(&Owner::Work(w), kind)))
-    }
+/// The running task of a worker forks a task, which goes to the new end of the worker's queue: `ForkJoinTask.fork`.
+pub(crate) fn fork(ledger: &mut Ledger, w: WorkerId, kind: &Kind) -> Result<Said, Refusal>
+    ensures { Makes ledger.old (Fork w kind.now) result ledger.new }
+{
+    may_fork(ledger, w, kind)?;
+    room_for(ledger, 1)?;
+    Ok(Said::Task(ledger.accept(&Owner::Work(w), kind)))
+}
 
-    /// The running task of a worker makes a trigger: a completer without a parent that is never queued.
-    pub(crate) fn trigger(&mut self, w: WorkerId, count: u32) -> Result<Said, Refusal>
-        ensures { Makes self.old (Trigger w count) result self.new }
-    {
-        self.may_trigger(w, count)?;
-        self.room_for(1)?;
-        Ok(Said::Task(self.make_trigger(count)))
-    }
+/// The running task of a worker makes a trigger: a completer without a parent that is never queued.
+pub(crate) fn trigger(ledger: &mut Ledger, w: WorkerId, count: u32) -> Result<Said, Refusal>
+    ensures { Makes ledger.old (Trigger w count) result ledger.new }
+{
+    may_trigger(ledger, w, count)?;
+    room_for(ledger, 1)?;
+    Ok(Said::Task(ledger.make_trigger(count)))
+}
 
-    fn may_submit(&self, s: SubId, kind: &SubmittedKind) -> Result<(), Refusal>
-        ensures { refusal_in result ≡ first_that_stands (refusals_of self.now.pool self.now.events (Submit s kind.now)) }
-    {
-        if !self.has_submitter(s) {
-            return Err(Refusal::NoSuch);
-        }
-        if self.is_shut() {
-            return Err(Refusal::Closed);
-        }
-        self.task_room(kind.to_kind().count())
+fn may_submit(ledger: &Ledger, s: SubId, kind: &SubmittedKind) -> Result<(), Refusal>
+    ensures { refusal_in result ≡ first_that_stands (refusals_of ledger.now.pool ledger.now.events (Submit s kind.now)) }
+{
+    if !ledger.has_submitter(s) {
+        return Err(Refusal::NoSuch);
     }
+    if ledger.is_shut() {
+        return Err(Refusal::Closed);
+    }
+    task_room(ledger, kind.to_kind().count())
+}
 
-    fn may_fork(&self, w: WorkerId, kind: &Kind) -> Result<(), Refusal>
-        ensures { refusal_in result ≡ first_that_stands (refusals_of self.now.pool self.now.events (Fork w kind.now)) }
-    {
-        self.running_task(w)?;
-        self.parent_of(kind)?;
-        if self.is_stopped() {
-            return Err(Refusal::Closed);
-        }
-        self.task_room(kind.count())
+fn may_fork(ledger: &Ledger, w: WorkerId, kind: &Kind) -> Result<(), Refusal>
+    ensures { refusal_in result ≡ first_that_stands (refusals_of ledger.now.pool ledger.now.events (Fork w kind.now)) }
+{
+    running_task(ledger, w)?;
+    parent_of(ledger, kind)?;
+    if ledger.is_stopped() {
+        return Err(Refusal::Closed);
     }
+    task_room(ledger, kind.count())
+}
 
-    /// The parent that a kind names, if it names one: a kept completer.
-    fn parent_of(&self, kind: &Kind) -> Result<Option<Handle>, Refusal>
-        ensures { refusal_in result ≡ first_that_stands ((is_unknown_parent self.now.events (parent_in (Some kind.now)), Unknown) ∷ (is_plain_parent self.now.events (parent_in (Some kind.now)), NotCompleter) ∷ []) }
-    {
-        let Some(parent) = kind.parent() else {
-            return Ok(None);
-        };
-        let p = self.known(parent)?;
-        if !self.record(p).kind.is_completer() {
-            return Err(Refusal::NotCompleter);
-        }
-        Ok(Some(p))
+/// The parent that a kind names, if it names one: a kept completer.
+fn parent_of(ledger: &Ledger, kind: &Kind) -> Result<Option<Handle>, Refusal>
+    ensures { refusal_in result ≡ first_that_stands ((is_unknown_parent ledger.now.events (parent_in (Some kind.now)), Unknown) ∷ (is_plain_parent ledger.now.events (parent_in (Some kind.now)), NotCompleter) ∷ []) }
+{
+    let Some(parent) = kind.parent() else {
+        return Ok(None);
+    };
+    let p = known(ledger, parent)?;
+    if !ledger.record(p).kind.is_completer() {
+        return Err(Refusal::NotCompleter);
     }
+    Ok(Some(p))
+}
 
-    fn may_trigger(&self, w: WorkerId, count: u32) -> Result<(), Refusal>
-        ensures { refusal_in result ≡ first_that_stands (refusals_of self.now.pool self.now.events (Trigger w count)) }
-    {
-        self.running_task(w)?;
-        if self.is_stopped() {
-            return Err(Refusal::Closed);
-        }
-        self.task_room(count)
+fn may_trigger(ledger: &Ledger, w: WorkerId, count: u32) -> Result<(), Refusal>
+    ensures { refusal_in result ≡ first_that_stands (refusals_of ledger.now.pool ledger.now.events (Trigger w count)) }
+{
+    running_task(ledger, w)?;
+    if ledger.is_stopped() {
+        return Err(Refusal::Closed);
     }
+    task_room(ledger, count)
 }

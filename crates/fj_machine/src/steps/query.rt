@@ -4,24 +4,26 @@ ghost use Rattle.fj_model.specs.declared.step.Step.TheVariants.{IsQuiescent, Sta
 ghost use Rattle.fj_model.specs.Answers.{answer};
 ghost use Rattle.fj_machine.specs.Outcomes.{said_by};
 
-use crate::ledger::Ledger;
+use fj_ledger::Ledger;
 use fj_model::{Refusal, Said, Serial};
 
-impl Ledger {
-    /// Whether nothing is queued or held and no completion action is in a hand: `ForkJoinPool.isQuiescent`.
-    pub(crate) fn is_quiescent(&self) -> Said
-        ensures { answer self.now IsQuiescent ≡ (result, []) }
-    {
-        if self.is_quiet() { Said::Yes } else { Said::No }
+/// Whether nothing is queued or held and no completion action is in a hand: `ForkJoinPool.isQuiescent`.
+pub(crate) fn is_quiescent(ledger: &Ledger) -> Said
+    ensures { answer ledger.now IsQuiescent ≡ (result, []) }
+{
+    if ledger.is_quiet() {
+        Said::Yes
+    } else {
+        Said::No
     }
+}
 
-    /// Where a task is, and how far it has come.
-    pub(crate) fn state(&self, t: Serial) -> Result<Said, Refusal>
-        ensures { answer self.now (State t) ≡ (said_by result, []) }
-    {
-        match self.find(t) {
-            None => Err(Refusal::Unknown),
-            Some(record) => Ok(Said::State(record.place, record.status)),
-        }
+/// Where a task is, and how far it has come.
+pub(crate) fn state(ledger: &Ledger, t: Serial) -> Result<Said, Refusal>
+    ensures { answer ledger.now (State t) ≡ (said_by result, []) }
+{
+    match ledger.find(t) {
+        None => Err(Refusal::Unknown),
+        Some(record) => Ok(Said::State(record.place, record.status)),
     }
 }

@@ -1,18 +1,43 @@
 //! Tasks are released.
+ghost use Rattle.std.specs.Prelude.{◌≡◌, IfOk};
 ghost use Rattle.fj_model.specs.declared.step.Step.TheVariants.{Release};
-ghost use Rattle.fj_machine.specs.Outcomes.{Makes};
+ghost use Rattle.fj_model.specs.Places.{is_gone};
+ghost use Rattle.fj_model.specs.Answers.{first_that_stands, refusals_of};
+ghost use Rattle.fj_model.specs.Pasts.{limit};
+ghost use Rattle.fj_ledger.specs.Holds.{IsLawful};
+ghost use Rattle.fj_machine.specs.Outcomes.{Makes, refusal_in};
 
-use crate::ledger::Ledger;
-use fj_model::{Refusal, Said, Serial};
+use crate::steps::refuse::{known, room_for};
+use fj_ledger::Ledger;
+use fj_model::{Place, Refusal, Said, Serial};
+use fj_tree::{Handle, Record};
 
-impl Ledger {
-    /// A task that is gone, and that no kept task names as its parent, is forgotten: its number stands for no task any more.
-    pub(crate) fn release(&mut self, t: Serial) -> Result<Said, Refusal>
-        ensures { Makes self.old (Release t) result self.new }
-    {
-        let t = self.releasable(t)?;
-        self.room_for(1)?;
-        self.let_go(t);
-        Ok(Said::Done)
+/// A task that is gone, and that no kept task names as its parent, is forgotten: its number stands for no task any more.
+pub(crate) fn release(ledger: &mut Ledger, t: Serial) -> Result<Said, Refusal>
+    ensures { Makes ledger.old (Release t) result ledger.new }
+{
+    let t = releasable(ledger, t)?;
+    room_for(ledger, 1)?;
+    ledger.let_go(t);
+    Ok(Said::Done)
+}
+
+/// The task of a number, if it can be released: it is kept and gone, and no kept task names it as its parent.
+fn releasable(ledger: &Ledger, t: Serial) -> Result<Handle, Refusal>
+    ensures refusal { refusal_in result ≡ first_that_stands (refusals_of ledger.now.pool ledger.now.events (Release t)) }
+    ensures number { IfOk result (λ h. h.serial ≡ t) }
+    ensures lawful { IsLawful ledger.now.pool (limit ledger.now) ledger.now.events }
+{
+    let h = known(ledger, t)?;
+    if !is_gone(ledger.record(h)) || ledger.has_children(h) {
+        return Err(Refusal::NotDone);
     }
+    Ok(h)
+}
+
+/// Whether the task of a record is gone.
+fn is_gone(kept: &Record) -> bool
+    ensures { result ≡ is_gone kept.now.place }
+{
+    matches!(kept.place, Place::Gone)
 }

@@ -1,0 +1,180 @@
+-- All that is kept, after a task was accepted.
+use Rattle.std.proofs.Common.{ℕ, ◌≡◌, ◌≢◌, ◌+◌, ◌<◌, Bool, true, false, List, [], ◌∷◌, ◌++◌, length, Option, Some, None, refl, ap, sym, ◌∙◌, arith, ⊎_elim}
+use Rattle.std.specs.Prelude.{IsSome, IfSome, Result, Ok, IsOk, IfOk, OnOk, option_map, nat_eq}
+use Rattle.std.specs.List.{list_any}
+use Rattle.std.proofs.Math.ListN.{length-set}
+use Rattle.std.proofs.lemmas.List.{get_or-set_other}
+use Rattle.std.proofs.lemmas.Option.{same_Some}
+use Rattle.std.proofs.lemmas.Bool.{lt-leb, le-ltb, cases_eq}
+use Rattle.fj_model.specs.declared.event.Event.{Event}
+use Rattle.fj_model.specs.declared.event.Event.TheVariants.{Acc, Make}
+use Rattle.fj_model.specs.declared.kind.Kind.{Kind}
+use Rattle.fj_model.specs.declared.owner.Owner.{Owner}
+use Rattle.fj_model.specs.declared.place.Place.{Place}
+use Rattle.fj_model.specs.declared.refusal.Refusal.{Refusal}
+use Rattle.fj_model.specs.declared.place.Place.TheVariants.{Queued, Open}
+use Rattle.fj_model.specs.Bounds.{Bounds, Pool, IsOwner, queue_number, owner_at}
+use Rattle.fj_model.specs.Tasks.{accepted_by, is_kept, is_completer, is_completer_kind, kind, parent_in, count_in}
+use Rattle.fj_model.specs.Queues.{queue, is_same}
+use Rattle.fj_model.specs.Completers.{is_spent, fires_or_passes}
+use Rattle.fj_model.specs.Places.{place}
+use Rattle.fj_model.specs.Allowed.{Allowed, AllowedFrom, MayAccept}
+use Rattle.fj_model.proofs.Growth.{stack_same}
+use Rattle.fj_model.proofs.Lawful.{is_new, same_owner}
+use Rattle.fj_model.proofs.NewTasks.{kind_given, new_kind, new_count, new_undone, submitted_place, submitted_open, submitted_gone, made_place, made_open, made_gone, same_as_itself}
+use Rattle.fj_model.proofs.OnePlace.{never, number_owner}
+use Rattle.fj_model.proofs.Owners.{owners_apart}
+use Rattle.fj_model.proofs.Queues.{queue_same, queue_push}
+use Rattle.fj_model.proofs.Releasing.{new_kept}
+use Rattle.fj_model.proofs.Unfired.{climbs_unfired}
+use Rattle.fj_model.proofs.Unknown.{unknown_unspent}
+use Rattle.fj_queues.specs.Queues.{Lists as Waiting, queue_at, with_queue}
+use Rattle.fj_tree.specs.declared.record.Record.{Record}
+use Rattle.fj_tree.specs.Handles.{Handle}
+use Rattle.fj_tree.specs.Records.{Records, count, record_at, record_of, if_numbered, handle_of}
+use Rattle.fj_tree.specs.Makes.{fresh, with_child_of, make_refusal, parent_refusal}
+use Rattle.fj_tree.proofs.Finds.{parent_found}
+use Rattle.fj_tree.proofs.Numbers.{good_found}
+use Rattle.fj_ledger.specs.Stacks.{Lists}
+use Rattle.fj_ledger.specs.InHands.{InHand}
+use Rattle.fj_ledger.specs.Holds.{Holds, KeepsQueues, KeepsTree, Tells}
+use Rattle.fj_ledger.proofs.Updates.Growing.{grown_holds}
+use Rattle.fj_ledger.proofs.Lists.HandParts.{hands_same}
+use Rattle.fj_ledger.proofs.Recorded.Located.{located}
+use Rattle.fj_ledger.proofs.Updates.Parts.{new_row, queues_same, stacks_same}
+use Rattle.fj_ledger.proofs.Recorded.Records.{IsMade, tree_made}
+use Rattle.fj_ledger.proofs.Recorded.Refused.{of_ok, of_value}
+use Rattle.fj_ledger.proofs.Recorded.Telling.{fired_same}
+
+-- ---- what may be accepted may be made
+
+parent_free : (h : List Event) (tree : Records) (l : Bounds) (p : ℕ) → KeepsTree l h tree → is_kept h p ≡ true → is_completer h p ≡ true → parent_refusal tree (Some p) ≡ None
+unfolding is_completer
+parent_free h tree l p keeps kept completer = go (handle_of tree p) refl (keeps.all p kept)
+  where
+    go : (found : Option Handle) → handle_of tree p ≡ found → IsSome found → parent_refusal tree (Some p) ≡ None
+    go None none there = absurd cc
+    go (Some at) some there =
+        let l = located tree p (Some at) at (sym some) (good_found tree p at some) refl in
+        let tells = keeps.each at.key l.found l.at in
+        let is : is_completer_kind (Some l.found.kind) ≡ true = ap is_completer_kind (sym tells.kind) ∙ ap (λ t. is_completer_kind (kind h t)) (l.serial ∙ l.number) ∙ completer in
+        parent_found tree p at l.found true some l.at is
+
+pub makeable : (pool : Pool) (h : List Event) (t : ℕ) (k : Kind) (tree : Records) → KeepsTree pool.limits h tree → MayAccept pool h t k → make_refusal tree k ≡ None
+makeable pool h t k tree keeps may =
+    let parent : parent_refusal tree (parent_in (Some k)) ≡ None = free (parent_in (Some k)) may.under in
+    rw (parent, le-ltb 65535 (count_in (Some k)) may.count, lt-leb tree.room (count tree) (omega (arith, keeps.live, keeps.room, may.room))) refl
+  where
+    free : (o : Option ℕ) → IfSome o (λ p. (is_kept h p ≡ true) × (is_completer h p ≡ true)) → parent_refusal tree o ≡ None
+    free None under = refl
+    free (Some p) under = parent_free h tree pool.limits p keeps under.0 under.1
+
+record_there : (tree : Records) (h : Handle) (r : Record) → record_of tree h ≡ Some r → record_at tree h.key ≡ Some r
+record_there tree h r is = go (record_at tree h.key) refl
+  where
+    which : (b : Bool) (s : Record) → nat_eq s.serial h.serial ≡ b → if_numbered h.serial s ≡ Some r → s ≡ r
+    which true s e same = same_Some s r (rw e at same)
+    which false s e same = let bad = rw e at same in absurd cc
+
+    go : (o : Option Record) → record_at tree h.key ≡ o → record_at tree h.key ≡ Some r
+    go None none = let bad = rw none at is in absurd cc
+    go (Some s) some = some ∙ ap Some (which (nat_eq s.serial h.serial) s refl (rw some at is))
+
+-- what a make leaves, from what it ensures
+pub made_is : (old new : Records) (r : Result Handle Refusal) (x : Handle) (k : Kind) (p : Place) → r ≡ Ok x
+    → IfOk r (λ h. h.serial ≡ old.made) → OnOk r (new.made ≡ old.made + 1) → new.room ≡ old.room → IfOk r (λ h. record_at old h.key ≡ None) → IfOk r (λ h. record_of new h ≡ Some (fresh old.made k p))
+    → IfOk r (λ h. (key : ℕ) → key ≢ h.key → record_at new key ≡ option_map (with_child_of (parent_in (Some k))) (record_at old key)) → OnOk r (count new ≡ count old + 1)
+    → IsMade old new x.key x.serial k p
+made_is old new r x k p is number made room vacant found others kept =
+    let ok : IsOk r = rw is refl in
+    let same : x.serial ≡ old.made = of_value r (λ h. h.serial ≡ old.made) x number is in
+    record {
+      made = of_ok r (new.made ≡ old.made + 1) made ok;
+      room = room;
+      number = same;
+      vacant = of_value r (λ h. record_at old h.key ≡ None) x vacant is;
+      fresh = record_there new x (fresh x.serial k p) (of_value r (λ h. record_of new h ≡ Some (fresh old.made k p)) x found is ∙ ap (λ (n : ℕ). Some (fresh n k p)) (sym same));
+      others = of_value r (λ h. (key : ℕ) → key ≢ h.key → record_at new key ≡ option_map (with_child_of (parent_in (Some k))) (record_at old key)) x others is;
+      count = of_ok r (count new ≡ count old + 1) kept ok;
+    }
+
+-- ---- the record
+
+-- what the new record says
+fresh_tells : (pool : Pool) (h : List Event) (e : Event) (t : ℕ) (k : Kind) (p : Place) → AllowedFrom pool [] h → Allowed pool h e → accepted_by e ≡ Some t → kind_given e ≡ Some k
+    → fires_or_passes t e ≡ false → list_any (fires_or_passes t) h ≡ false → place (h ++ e ∷ []) t ≡ p → Tells (h ++ e ∷ []) (fresh t k p)
+fresh_tells pool h e t k p so may new given unfired before placed = record {
+  kept = new_kept pool h e t so may new;
+  kind = new_kind pool h e t k so may new given;
+  place = placed;
+  status = new_undone pool h e t so may new;
+  pending = new_count pool h e t k so may new given;
+  fired = fired_same h e t unfired ∙ before;
+}
+
+-- and no other one is
+other_owner : (l : Bounds) (i : ℕ) (o : Owner) → IsOwner l o → i ≢ queue_number l o → is_same (owner_at l i) o ≡ false
+other_owner l i o within other =
+    never (is_same (owner_at l i) o) (λ same. other (owners_apart l i (queue_number l o) (same_owner (owner_at l i) o same ∙ sym ((number_owner l o within).1))))
+
+queues_after_accept : (pool : Pool) (h : List Event) (queues : Waiting) (o : Owner) (t : ℕ) (k : Kind) → AllowedFrom pool [] h → Allowed pool h (Acc t o k) → IsOwner pool.limits o
+    → KeepsQueues pool.limits h queues
+    → KeepsQueues pool.limits (h ++ Acc t o k ∷ []) (with_queue queues (queue_number pool.limits o) (queue_at queues (queue_number pool.limits o) ++ t ∷ []))
+queues_after_accept pool h queues o t k so may within keeps =
+    let e = Acc t o k in
+    let q = queue_number pool.limits o in
+    let at = number_owner pool.limits o within in
+    let new = queue_at queues q ++ t ∷ [] in
+    let inside : q < length queues.lists = omega (arith, keeps.count, at.0) in
+    record {
+      count = length-set queues.lists q new ∙ keeps.count;
+      room = keeps.room;
+      each = λ i below. ⊎_elim
+          (λ here. new_row queues.lists i q new inside here
+          ∙ ap (λ ts. ts ++ t ∷ []) (keeps.each q at.0 ∙ ap (queue h) at.1)
+          ∙ sym (queue_push pool h e o t so may (rw (same_as_itself o) refl) refl)
+          ∙ ap (queue (h ++ e ∷ [])) (sym at.1 ∙ ap (owner_at pool.limits) (sym here)))
+          (λ other. get_or-set_other queues.lists q i new [] other ∙ keeps.each i below
+          ∙ sym (queue_same h e (owner_at pool.limits i) (rw (other_owner pool.limits i o within other) refl) refl))
+          (cases_eq i q);
+    }
+
+-- ---- all
+
+unspent_new : {sealed : List Event} (pool : Pool) (h : List Event) (e : Event) (t : ℕ) (queues : Waiting) (stacks : Lists) (hands : List (Option InHand)) (tree : Records) (opens gones : List ℕ)
+    → Holds pool sealed h queues stacks hands tree opens gones → Allowed pool h e → accepted_by e ≡ Some t → list_any (fires_or_passes t) h ≡ false
+unspent_new pool h e t queues stacks hands tree opens gones holds may new = climbs_unfired h holds.climbs t (is_new pool h e t holds.lawful may new)
+
+pub accept_holds : {sealed : List Event} (pool : Pool) (h : List Event) (t : ℕ) (o : Owner) (k : Kind) (queues : Waiting) (stacks : Lists) (hands : List (Option InHand)) (tree new : Records) (opens gones : List ℕ) (key : ℕ)
+    → Holds pool sealed h queues stacks hands tree opens gones → Allowed pool h (Acc t o k) → length h < length sealed + pool.limits.events → IsMade tree new key t k (Queued o)
+    → Holds pool sealed (h ++ Acc t o k ∷ []) (with_queue queues (queue_number pool.limits o) (queue_at queues (queue_number pool.limits o) ++ t ∷ [])) stacks hands new opens gones
+accept_holds pool h t o k queues stacks hands tree new opens gones key holds may fits made =
+    let e = Acc t o k in
+    let so = holds.lawful in
+    let tells = fresh_tells pool h e t k (Queued o) so may refl refl refl (unspent_new pool h e t queues stacks hands tree opens gones holds may refl) (submitted_place pool h t o k so may) in
+    grown_holds pool h e queues _ stacks stacks hands hands tree new opens opens gones gones holds may fits (λ d none. absurd cc) (record {
+      queues_kept = queues_after_accept pool h queues o t k so may may.1 holds.queues_kept;
+      stacks_kept = stacks_same pool.limits h (h ++ e ∷ []) stacks (λ w. stack_same h w e refl refl) holds.stacks_kept;
+      hands_kept = hands_same pool h e hands so may refl refl (λ c said there. absurd cc) holds.hands_kept;
+      tree_kept = tree_made pool h e tree new key t k (Queued o) so may refl refl refl made tells holds.tree_kept;
+      open_kept = holds.open_kept ∙ sym (submitted_open pool h t o k so may);
+      gone_kept = holds.gone_kept ∙ sym (submitted_gone pool h t o k so may);
+    })
+
+pub trigger_holds : {sealed : List Event} (pool : Pool) (h : List Event) (t : ℕ) (k : Kind) (queues : Waiting) (stacks : Lists) (hands : List (Option InHand)) (tree new : Records) (opens gones : List ℕ) (key : ℕ)
+    → Holds pool sealed h queues stacks hands tree opens gones → Allowed pool h (Make t k) → length h < length sealed + pool.limits.events → IsMade tree new key t k Open
+    → Holds pool sealed (h ++ Make t k ∷ []) queues stacks hands new (opens ++ t ∷ []) gones
+trigger_holds pool h t k queues stacks hands tree new opens gones key holds may fits made =
+    let e = Make t k in
+    let so = holds.lawful in
+    let absent = is_new pool h e t so may refl in
+    let unspent : is_spent h t ≡ false = unknown_unspent pool h t so (climbs_unfired h holds.climbs) absent in
+    let tells = fresh_tells pool h e t k Open so may refl refl refl (climbs_unfired h holds.climbs t absent) (made_place pool h t k so may unspent) in
+    grown_holds pool h e queues queues stacks stacks hands hands tree new opens (opens ++ t ∷ []) gones gones holds may fits (λ d none. absurd cc) (record {
+      queues_kept = queues_same pool.limits h (h ++ e ∷ []) queues (λ o. queue_same h e o refl refl) holds.queues_kept;
+      stacks_kept = stacks_same pool.limits h (h ++ e ∷ []) stacks (λ w. stack_same h w e refl refl) holds.stacks_kept;
+      hands_kept = hands_same pool h e hands so may refl refl (λ c said there. absurd cc) holds.hands_kept;
+      tree_kept = tree_made pool h e tree new key t k Open so may refl refl refl made tells holds.tree_kept;
+      open_kept = ap (λ (ts : List ℕ). ts ++ t ∷ []) holds.open_kept ∙ sym (made_open pool h t k so may unspent);
+      gone_kept = holds.gone_kept ∙ sym (made_gone pool h t k so may unspent);
+    })

@@ -1,0 +1,34 @@
+use Rattle.std.proofs.Common.{◌+◌, ◌≡◌, ◌<◌, length, true, ap, sym, subst}
+use Rattle.fj_model.specs.Pasts.{limit}
+use Rattle.fj_model.specs.declared.event.Event.TheVariants.{Dec}
+use Rattle.fj_model.specs.Bounds.{Pool}
+use Rattle.fj_model.specs.Tasks.{is_completer}
+use Rattle.fj_model.specs.Allowed.{Allowed}
+use Rattle.fj_model.specs.Runs.{Past}
+use Rattle.fj_tree.specs.declared.arrive.Arrived.TheVariants.{Counted}
+use Rattle.fj_ledger.proofs.Updates.Counted.{count_down_holds, counted_at}
+use Rattle.fj_ledger.proofs.Recorded.Located.{located, completer_at}
+use Rattle.fj_tree.specs.Handles.{Handle}
+use Rattle.fj_ledger.proofs.ledger.Ledger.count_down.Goals as goal
+
+pub arrive-requires : goal.arrive-requires
+arrive-requires c =
+    let h = c.self.inside.log.events in
+    let is : is_completer h c.args.c.serial ≡ true = subst (λ (p : Past). is_completer p.events c.args.c.serial ≡ true) (sym c.self.view_is) c.requires.completer in
+    let l = located c.self.inside.tree c.args.c.serial c.renew.result c.unwrap-h.result c.renew.ensures.found c.renew.ensures.good c.unwrap-h.ensures in
+    completer_at h c.self.inside.tree c.args.c.serial c.unwrap-h.result l (c.self.invariant.0.tree_kept.each c.unwrap-h.result.key l.found l.at) is
+
+pub invariant_of-self : goal.invariant_of-self
+invariant_of-self c =
+    let pool : Pool = record { mode = c.self.inside.mode; limits = c.self.inside.limits } in
+    let h = c.self.inside.log.events in
+    let fits : length h < length c.self.inside.log.sealed + c.self.inside.limits.events = subst (λ (p : Past). length p.events < limit p) (sym c.self.view_is) c.requires.fits in
+    let may : Allowed pool h (Dec c.args.c.serial) = subst (λ (p : Past). Allowed p.pool p.events (Dec c.args.c.serial)) (sym c.self.view_is) c.requires.may in
+    let is : is_completer h c.args.c.serial ≡ true = subst (λ (p : Past). is_completer p.events c.args.c.serial ≡ true) (sym c.self.view_is) c.requires.completer in
+    let l = located c.self.inside.tree c.args.c.serial c.renew.result c.unwrap-h.result c.renew.ensures.found c.renew.ensures.good c.unwrap-h.ensures in
+    let counted : c.arrive.result ≡ Counted = counted_at pool h c.args.c.serial _ _ _ _ _ _ c.unwrap-h.result c.arrive.result c.self.invariant.0 l may c.arrive.ensures.answer in (
+      rw (c.push.ensures, c.arrive.ensures.arrived, counted, ap (λ (x : Handle). x.serial) c.c.view_is) (count_down_holds pool h c.args.c.serial _ _ _ _ _ _ c.unwrap-h.result c.self.invariant.0 c.renew.ensures.sound l may is fits),
+      rw c.push.ensures (c.self.invariant.1),
+      c.self.invariant.2,
+      c.self.invariant.3,
+    )

@@ -1,0 +1,12 @@
+use Rattle.std.proofs.Common.{subst}
+use Rattle.fj_model.specs.Pasts.{limit}
+use Rattle.fj_model.specs.Runs.{Past}
+use Rattle.fj_ledger.specs.Holds.{IsLawful}
+use Rattle.fj_ledger.proofs.Histories.Lawfuls.{lawful}
+use Rattle.fj_ledger.proofs.ledger.Ledger.is_shut.Goals as goal
+
+pub returns-then-is_closed-clause-lawful : goal.returns-then-is_closed-clause-lawful
+returns-then-is_closed-clause-lawful c = subst (λ (p : Past). IsLawful p.pool (limit p) p.events) c.self.view_is (lawful _ _ _ _ _ _ _ _ c.self.invariant.0)
+
+pub returns-else-is_closed-clause-lawful : goal.returns-else-is_closed-clause-lawful
+returns-else-is_closed-clause-lawful c = subst (λ (p : Past). IsLawful p.pool (limit p) p.events) c.self.view_is (lawful _ _ _ _ _ _ _ _ c.self.invariant.0)

@@ -1,0 +1,18 @@
+use Rattle.std.proofs.Common.{ℕ, ◌≡◌, Some, ap, sym, ◌∙◌}
+use Rattle.fj_model.specs.Bounds.{Pool}
+use Rattle.fj_model.specs.Climbs.{path}
+use Rattle.fj_model.specs.Answers.{root_of}
+use Rattle.fj_tree.specs.Handles.{Handle}
+use Rattle.fj_ledger.proofs.Recorded.Located.{located, good_at}
+use Rattle.fj_ledger.proofs.Paths.WaysTold.{root_told}
+use Rattle.fj_ledger.proofs.ledger.Ledger.root.Goals as goal
+
+pub returns-clause-root : goal.returns-clause-root
+returns-clause-root c =
+    let pool : Pool = record { mode = c.self.inside.mode; limits = c.self.inside.limits } in
+    let h = c.self.inside.log.events in
+    let holds = c.self.invariant.0 in
+    let l = located c.self.inside.tree c.args.t c.find.result c.unwrap.result c.find.ensures.found c.find.ensures.good c.unwrap.ensures in
+    let told = root_told pool.limits pool h c.self.inside.tree c.unwrap.result (record { so = holds.lawful; keeps = holds.tree_kept }) (good_at c.self.inside.tree c.args.t c.unwrap.result l) in
+    let there : root_of (path h c.args.t) ≡ Some c.root.result.serial = ap (λ (u : ℕ). root_of (path h u)) (sym l.number) ∙ told ∙ ap (λ (x : Handle). Some x.serial) (sym c.root.ensures.root) in
+    rw (← c.self.view_is) (there ∙ ap (λ (x : Handle). Some x.serial) (sym c.result.view_is))

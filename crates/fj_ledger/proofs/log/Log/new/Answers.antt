@@ -1,0 +1,14 @@
+use Rattle.std.proofs.Common.{arith, refl}
+use Rattle.fj_model.specs.Allowed.{is_closed, is_stopped}
+use Rattle.fj_ledger.proofs.log.Log.new.Goals as goal
+
+pub invariant_of-result : goal.invariant_of-result
+unfolding is_closed is_stopped
+invariant_of-result c = (
+  omega (arith, c.in_ok-with_capacity.ensures.capacity),
+  rw c.in_ok-with_capacity.ensures.items refl,
+  rw c.in_ok-with_capacity.ensures.items refl,
+  refl,
+  refl,
+  omega arith,
+)

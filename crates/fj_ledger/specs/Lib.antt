@@ -1,0 +1,8 @@
+pub mod Arriving
+pub mod Climbing
+pub mod Closing
+pub mod Holds
+pub mod InHands
+pub mod Logs
+pub mod Sources
+pub mod Stacks

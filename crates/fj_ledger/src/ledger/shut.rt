@@ -1,0 +1,65 @@
+//! The pool is shut.
+ghost use Rattle.std.specs.Prelude.{◌≡◌, ◌≤◌, ◌<◌, ◌+◌, ◌∷◌, [], ◌++◌, List, ℕ, length, vec_capacity, IsPermutation};
+ghost use Rattle.std.specs.List.Sorted.{IsNonDecreasing};
+ghost use Rattle.fj_model.specs.declared.event.Event.TheVariants.{Close, Stop};
+ghost use Rattle.fj_model.specs.Allowed.{Allowed};
+ghost use Rattle.fj_model.specs.Pasts.{limit};
+ghost use Rattle.fj_model.specs.Runs.{grown};
+
+use crate::ledger::Ledger;
+use crate::ledger::hook::cancel_left;
+use fj_model::{Event, Serial};
+
+impl Ledger {
+    /// No submission is accepted from now on: the event `Close`.
+    ///
+    /// Precondition: the event may follow the history, and there is room for it.
+    pub fn close_pool(&mut self)
+        requires may { Allowed self.old.pool self.old.events Close }
+        requires fits { length self.old.events < limit self.old }
+        ensures { self.new ≡ grown self.old (Close ∷ []) }
+    {
+        self.log.push(Event::Close);
+    }
+
+    /// Each undone task is cancelled, the open ones go, and no task is accepted from now on: the event `Stop`. Queues and stacks stay as
+    /// they are.
+    ///
+    /// Precondition: the event may follow the history, and there is room for it.
+    pub fn stop_pool(&mut self)
+        requires may { Allowed self.old.pool self.old.events Stop }
+        requires fits { length self.old.events < limit self.old }
+        ensures { self.new ≡ grown self.old (Stop ∷ []) }
+    {
+        self.log.push(Event::Stop);
+        self.tree.cancel_undone();
+        self.tree.close_open();
+        cancel_left(self.hands.as_mut_slice());
+        move_sorted(&mut self.open_tasks, &mut self.gone);
+    }
+}
+
+/// Moves all numbers of a list to the end of another, by rising number, as one event sends them there.
+fn move_sorted(from: &mut Vec<Serial>, to: &mut Vec<Serial>)
+    requires room { length to.old.items + length from.old.items ≤ vec_capacity to.old }
+    ensures moved { (sorted : List ℕ) × IsPermutation from.old.items sorted × IsNonDecreasing sorted × (to.new.items ≡ to.old.items ++ sorted) }
+    ensures left { from.new.items ≡ [] }
+    ensures from_room { vec_capacity from.new ≡ vec_capacity from.old }
+    ensures to_room { vec_capacity to.new ≡ vec_capacity to.old }
+{
+    // without allocating
+    from.sort_unstable_by_key(|t| t.0);
+    append(to, from.as_slice());
+    from.clear();
+}
+
+/// Puts all numbers at the end of a list.
+fn append(to: &mut Vec<Serial>, more: &[Serial])
+    requires room { length to.old.items + length more.now ≤ vec_capacity to.old }
+    ensures items { to.new.items ≡ to.old.items ++ more.now }
+    ensures room { vec_capacity to.new ≡ vec_capacity to.old }
+{
+    for t in more {
+        to.push_reserved(*t);
+    }
+}

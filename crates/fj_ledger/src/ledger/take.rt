@@ -1,0 +1,60 @@
+//! A task is taken from its queue.
+ghost use Rattle.std.specs.Prelude.{◌≡◌, ◌<◌, None, MatchOption, length};
+ghost use Rattle.fj_model.specs.Bounds.{queues_in};
+ghost use Rattle.fj_model.specs.Choices.{choice};
+ghost use Rattle.fj_model.specs.Allowed.{AllowedFrom};
+ghost use Rattle.fj_model.specs.Answers.{taking, taking_says};
+ghost use Rattle.fj_model.specs.Pasts.{limit};
+ghost use Rattle.fj_model.specs.Runs.{grown};
+ghost use Rattle.fj_ledger.specs.Sources.{IsChosenFrom, queue_of, task_at, tasks_there};
+
+use crate::ledger::Ledger;
+use crate::source::{Source, take_from};
+use fj_model::{Event, Mode, Owner, Place, Said, WorkerId};
+
+impl Ledger {
+    /// Where the worker's next task stands: at the mode's end of its own queue, or at the old end of the first queue that the scan meets.
+    /// None if all queues are empty. Precondition: there is such a worker.
+    pub fn chosen(&self, w: WorkerId, r: u32) -> Option<Source>
+        requires { w < self.now.pool.limits.workers }
+        ensures { MatchOption result (choice self.now.pool self.now.events w r ≡ None) (IsChosenFrom self.now w r) }
+    {
+        let own = self.limits.queue_number(Owner::Work(w));
+        if self.queues.len(own) > 0 {
+            return match self.mode {
+                Mode::Async => Some(Source::Oldest(own)),
+                Mode::Joining => Some(Source::Newest(own)),
+            };
+        }
+        match self.queues.first_from(r as usize) {
+            None => None,
+            Some(q) => Some(Source::Oldest(q)),
+        }
+    }
+
+    /// Takes a queued task: it is handed out if it is undone, the event `Out`, and else skipped, the event `Skip`.
+    ///
+    /// Precondition: there is such a worker, a task stands there, the event may follow the history, and there is room for it.
+    pub fn take(&mut self, w: WorkerId, source: Source) -> Said
+        requires worker { w < self.old.pool.limits.workers }
+        requires fits { length self.old.events < limit self.old }
+        requires queue { queue_of source < queues_in self.old.pool.limits }
+        requires filled { 0 < length (tasks_there self.old source) }
+        requires may { AllowedFrom self.old.pool self.old.events (taking self.old.events w (task_at self.old source)) }
+        ensures said { result ≡ taking_says self.old.events (task_at self.old source) }
+        ensures events { self.new ≡ grown self.old (taking self.old.events w (task_at self.old source)) }
+    {
+        let t = take_from(&mut self.queues, source);
+        let h = self.tree.find(t).unwrap();
+        if !self.tree.get(h).unwrap().status.is_undone() {
+            self.log.push(Event::Skip(t, w));
+            self.tree.set_place(h, Place::Gone);
+            self.gone.push_reserved(t);
+            return Said::Skip(t);
+        }
+        self.log.push(Event::Out(t, w));
+        self.tree.set_place(h, Place::Held(w));
+        self.stacks.push(w.0 as usize, t);
+        Said::Run(t)
+    }
+}

@@ -1,0 +1,175 @@
+ghost use Rattle.std.specs.Prelude.{◌≡◌, ◌<◌, ◌≤◌, ◌+◌, ◌∷◌, [], ◌++◌, length, nat_lt, vec_capacity, IfOk, OnOk, OnErr};
+ghost use Rattle.fj_model.specs.Epochs.{most_events};
+ghost use Rattle.fj_model.specs.Allowed.{is_close, is_stop, is_closed, is_stopped};
+
+use fj_model::{Event, How, Kind, Owner, Serial, Status, SubId, WorkerId};
+use std::alloc::{AllocError, Global};
+use std::marker::Model;
+use std::mem;
+use std::snapshot::Snapshot;
+
+/// The greatest number to which the events and the seals may add up at a seal.
+const MOST_EVENTS: u64 = 4_611_686_018_427_387_904;
+
+/// A history, of which the part since the last seal is kept, with room for so many events since then.
+///
+/// What was sealed was handed out. Only proofs read it, so nothing of it is kept when the program runs.
+#[derive(Drop)]
+pub struct Log {
+    // the log as it was when it was sealed last: a value without bytes
+    before: Option<Snapshot<Log>>,
+    events: Vec<Event>,
+    room: usize,
+    closed: bool,
+    stopped: bool,
+    // how many events were sealed, and how often
+    sealed: u64,
+    seals: u64,
+}
+
+impl Model for Log {
+    ghost use Rattle.std.specs.Prelude.{◌≡◌, ◌≤◌, ◌+◌, ◌++◌, length, vec_capacity, option_map};
+    ghost use Rattle.fj_model.specs.Allowed.{is_closed, is_stopped};
+    ghost use Rattle.fj_ledger.specs.Logs.{Logged, sealed_in, seals_in};
+
+    ghost Value = { Logged };
+
+    ghost view = { λ l. record {
+      sealed = sealed_in (option_map (λ s. s.value) l.before);
+      events = sealed_in (option_map (λ s. s.value) l.before) ++ l.events.items;
+      room = l.room;
+      seals = l.seals;
+    } };
+
+    ghost invariant = { λ l.
+        (l.room ≤ vec_capacity l.events)
+        × (l.closed ≡ is_closed (sealed_in (option_map (λ s. s.value) l.before) ++ l.events.items))
+        × (l.stopped ≡ is_stopped (sealed_in (option_map (λ s. s.value) l.before) ++ l.events.items))
+        × (l.sealed ≡ length (sealed_in (option_map (λ s. s.value) l.before)))
+        × (l.seals ≡ seals_in (option_map (λ s. s.value) l.before))
+        × (l.sealed + l.seals ≤ 4611686018427387905) };
+
+    // a log that was sealed had fewer seals
+    ghost size = { λ v. v.seals };
+}
+
+impl Log {
+    /// A log without events, with room for so many.
+    pub fn new(alloc: Global, room: usize) -> Result<Log, AllocError>
+        ensures { IfOk result (λ l. l ≡ record { sealed = []; events = []; room = room; seals = 0 }) }
+    {
+        Ok(Log {
+            before: None,
+            events: Vec::with_capacity(alloc, room)?,
+            room,
+            closed: false,
+            stopped: false,
+            sealed: 0,
+            seals: 0,
+        })
+    }
+
+    /// How many events there were since the last seal.
+    pub fn len(&self) -> usize
+        ensures { length self.now.events ≡ length self.now.sealed + result }
+    {
+        self.events.len()
+    }
+
+    /// The events since the last seal, the first one first.
+    pub fn events(&self) -> &[Event]
+        ensures { self.now.events ≡ self.now.sealed ++ result.now }
+    {
+        self.events.as_slice()
+    }
+
+    /// How many seals there were.
+    pub fn seals(&self) -> u64
+        ensures { result ≡ self.now.seals }
+    {
+        self.seals
+    }
+
+    /// Whether the events and the seals are too many for one seal more.
+    pub fn is_worn(&self) -> bool
+        ensures { result ≡ nat_lt most_events (length self.now.events + self.now.seals) }
+    {
+        let before = self.sealed + self.seals;
+        MOST_EVENTS < before || MOST_EVENTS - before < self.events.len() as u64
+    }
+
+    /// All events are sealed: those since the last seal are handed out, and the log goes on without any. An error changes nothing.
+    pub fn seal(&mut self, alloc: Global) -> Result<Vec<Event>, AllocError>
+        requires few { length self.old.events + self.old.seals ≤ most_events }
+        ensures part { IfOk result (λ part. self.old.events ≡ self.old.sealed ++ part.items) }
+        ensures sealed { OnOk result (self.new ≡ record { sealed = self.old.events; events = self.old.events; room = self.old.room; seals = self.old.seals + 1 }) }
+        ensures stays { OnErr result (self.new ≡ self.old) }
+    {
+        let before = Snapshot::of(&*self);
+        let part = take_all(alloc, &mut self.events, self.room)?;
+        self.sealed += part.len() as u64;
+        self.seals += 1;
+        self.before = Some(before);
+        Ok(part)
+    }
+
+    /// Whether there was a shutdown.
+    pub fn is_closed(&self) -> bool
+        ensures { result ≡ is_closed self.now.events }
+    {
+        self.closed
+    }
+
+    /// Whether there was a stop.
+    pub fn is_stopped(&self) -> bool
+        ensures { result ≡ is_stopped self.now.events }
+    {
+        self.stopped
+    }
+
+    /// One event more. Precondition: there is room for it.
+    pub fn push(&mut self, event: Event)
+        requires { length self.old.events < length self.old.sealed + self.old.room }
+        ensures { self.new ≡ record { sealed = self.old.sealed; events = self.old.events ++ event ∷ []; room = self.old.room; seals = self.old.seals } }
+    {
+        // The check wants each type inside an event to be named where one is moved.
+        let _inside: Option<(Owner, Kind, Status, How, Serial, SubId, WorkerId)> = None;
+        self.closed |= is_close(&event);
+        self.stopped |= is_stop(&event);
+        self.events.push_reserved(event);
+    }
+}
+
+/// All events of a list, which goes on empty with the same room. An error changes nothing.
+///
+/// More than half of a room goes with its events, and so takes no time; fewer events are copied. So nothing that is handed out holds room
+/// for more than twice of what is in it, and no more than half of a room is ever copied.
+fn take_all(alloc: Global, events: &mut Vec<Event>, room: usize) -> Result<Vec<Event>, AllocError>
+    requires { room ≤ vec_capacity events.old }
+    ensures taken { IfOk result (λ part. part.items ≡ events.old.items) }
+    ensures empty { OnOk result (events.new.items ≡ []) }
+    ensures room { room ≤ vec_capacity events.new }
+    ensures stays { OnErr result (events.new.items ≡ events.old.items) }
+{
+    if room / 2 < events.len() {
+        let empty = Vec::with_capacity(alloc, room)?;
+        return Ok(mem::replace(events, empty));
+    }
+    let part = Vec::from_slice(alloc, events.as_slice())?;
+    events.clear();
+    Ok(part)
+}
+
+/// Whether the event is a shutdown.
+fn is_close(event: &Event) -> bool
+    ensures { result ≡ is_close event.now }
+{
+    matches!(event, Event::Close)
+}
+
+/// Whether the event is a stop.
+fn is_stop(event: &Event) -> bool
+    ensures { result ≡ is_stop event.now }
+{
+    matches!(event, Event::Stop)
+}

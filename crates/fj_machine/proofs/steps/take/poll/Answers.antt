@@ -1,0 +1,21 @@
+use Rattle.std.proofs.Common.{sym}
+use Rattle.fj_model.specs.declared.step.Step.TheVariants.{Poll}
+use Rattle.fj_machine.specs.Outcomes.{said_by}
+use Rattle.fj_machine.proofs.TakeSteps.{choice_may, choice_steps}
+use Rattle.fj_machine.proofs.Outcomes.{exits}
+use Rattle.fj_machine.proofs.TakeSteps.{poll_takes}
+use Rattle.fj_machine.proofs.steps.take.poll.Goals as goal
+
+pub returns-in_err-idle_worker : goal.returns-in_err-idle_worker
+returns-in_err-idle_worker c = exits c.args.ledger.now (Poll c.args.w c.args.r) c.from_residual.result _ c.from_residual.ensures.1 (sym c.in_err-idle_worker.ensures.refusal)
+
+pub take_choice-requires-clause-may : goal.take_choice-requires-clause-may
+take_choice-requires-clause-may c =
+    let now = c.args.ledger.now in
+    choice_may now (Poll c.args.w c.args.r) c.args.w c.args.r c.in_ok-idle_worker.ensures.lawful (sym c.in_ok-idle_worker.ensures.refusal) (poll_takes now.pool now.events c.args.w c.args.r).0
+
+pub returns : goal.returns
+returns c =
+    let now = c.args.ledger.now in
+    let takes = poll_takes now.pool now.events c.args.w c.args.r in
+    choice_steps now c.take_choice.new.ledger (Poll c.args.w c.args.r) c.args.w c.args.r (said_by c.take_choice.result) c.take_choice.ensures (sym c.in_ok-idle_worker.ensures.refusal) takes.0 takes.1
