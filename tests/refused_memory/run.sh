@@ -2,11 +2,8 @@
 # Refuses each allocation of `fj replay` in turn. Each run must end with status 4 and `out of memory`, its output a beginning
 # of the replies, or have all replies and status 0. Needs a C compiler, and the built program: cd crates/fj && rt run -- replay < stdin
 set -euo pipefail
-here=$(cd "$(dirname "${BASH_SOURCE[0]}")" && pwd)
-crate=$here/../../crates/fj
-folder=$(mktemp -d)
-trap 'rm -rf "$folder"' EXIT
-cc -O1 -shared -fPIC -o "$folder/refuse.so" "$here/refuse.c" -ldl
+. "$(dirname "${BASH_SOURCE[0]}")/trial.bash"
+crate=$crates/fj
 
 for ((number = 1; ; number++)); do
     rm -f "$folder/count"
