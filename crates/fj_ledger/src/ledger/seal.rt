@@ -16,6 +16,10 @@ impl Ledger {
     }
 
     /// What has happened since the last seal is handed out, and the ledger goes on without events. What is kept stays.
+    ///
+    /// It is refused by `NotIdle` where the ledger is not quiescent, else by `Closed` after a shutdown or a stop, else by `LogFull` where
+    /// the events, the sealed ones too, and the seals are more than 2^62, else by `OutOfMemory` where an allocation failed, and then
+    /// changes nothing.
     pub fn seal(&mut self, alloc: Global) -> Result<Sealed, Refusal>
         ensures events { IfOk result (λ part. part.events.items ≡ present self.old) }
         ensures gone { IfOk result (λ part. part.gone.items ≡ gone_since self.old) }
