@@ -12,7 +12,6 @@
 #![tactic(auto)]
 
 mod arrive;
-mod climb;
 mod handle;
 mod hints;
 mod kept;

@@ -47,7 +47,24 @@ pub(crate) fn take_out(kept: &mut Kept, serial: Serial)
     ensures fewer { (key : ℕ) → IsListed kept.old.pairs serial key → length kept.new.pairs + 1 ≡ length kept.old.pairs }
     ensures room { kept.new.room ≡ kept.old.room }
 {
-    if let Some(i) = place(kept, serial, &mut Probes::new()) {
+    if let Some(i) = place_newest_first(kept, serial) {
         kept.remove(i);
     }
+}
+
+/// The place at which a number stands, the newest looked at first: a worker that runs its own forks asks for it most.
+fn place_newest_first(kept: &Kept, serial: Serial) -> Option<usize>
+    ensures found { IfSome result (IsAt kept.now.pairs serial) }
+    ensures absent { IfNone result (IsAbsent kept.now.pairs serial) }
+    ensures rising { IsRising kept.now.pairs }
+{
+    let probes = &mut Probes::new();
+    let count = kept.len();
+    if count > 0 {
+        let newest = count - 1;
+        if let Ordering::Equal = kept.probe(newest, serial, probes) {
+            return Some(newest);
+        }
+    }
+    place(kept, serial, probes)
 }

@@ -6,9 +6,10 @@ ghost use Rattle.fj_tree.specs.Arrivals.{arrival_at, arrived};
 ghost use Rattle.fj_tree.specs.declared.arrive.Arrived.TheVariants.{Spent, Early};
 
 mod cancels;
-mod climbs;
 mod closes;
-mod passes;
+mod pass_look;
+mod pass_up;
+mod paths;
 mod relays;
 mod releases;
 
@@ -246,8 +247,8 @@ impl Tree {
         }
     }
 
-    /// Puts a new record into the room, with the next number, and counts it as a child of its parent.
-    fn insert(&mut self, kind: Kind, place: Place, parent: Option<Handle>) -> Handle
+    /// Makes a task under a parent that was found before, with the next number. What [`Tree::make`] refuses, the caller has excluded.
+    pub fn insert(&mut self, kind: Kind, place: Place, parent: Option<Handle>) -> Handle
         requires made { self.old.made < 2 ^ 63 }
         requires room { count self.old < self.old.room }
         requires pending { count_in (Some kind) ≤ 65535 }

@@ -1,4 +1,4 @@
-//! Where climbs without hooks end.
+//! Where a climb without hooks would end.
 ghost use Rattle.std.specs.Prelude.{◌≡◌, IfNone, IsTrue, length};
 ghost use Rattle.fj_tree.specs.Passes.{EndsAs, is_passed, passed, stop_at};
 ghost use Rattle.fj_tree.specs.Records.{IsCompleter, IsGood};
