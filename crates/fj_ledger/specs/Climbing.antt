@@ -6,7 +6,7 @@ use Rattle.fj_model.specs.Climbs as climb
 use Rattle.fj_model.specs.Answers.{root_of}
 use Rattle.fj_tree.specs.declared.pass.PassHow.{PassHow}
 use Rattle.fj_tree.specs.declared.pass.PassHow.TheVariants as how
-use Rattle.fj_ledger.specs.declared.ledger.climb.Climb.{Climb}
+use Rattle.fj_tree.specs.Passes.{PassEnd}
 
 -- the completer at which the climb ends is arrived at so
 abbrev pub IsEnd : PassHow → Arrival → Type 0
@@ -16,11 +16,11 @@ IsEnd how.Early arrival = arrival ≡ climb.Early
 IsEnd how.Root arrival = ⊥
 
 -- with this much of the way left, the climb ends at the first of it, and past the root where nothing is left
-abbrev pub EndsAt : List Event → List ℕ → Option ℕ → Climb → Type 0
-EndsAt h (c ∷ above) root end = IsEnd end.how (arrival h c) × (end.at ≡ c)
-EndsAt h [] root end = (end.how ≡ how.Root) × (root ≡ Some end.at)
+abbrev pub EndsAt : List Event → List ℕ → Option ℕ → PassEnd → Type 0
+EndsAt h (c ∷ above) root end = IsEnd end.how (arrival h c) × (end.at.serial ≡ c)
+EndsAt h [] root end = (end.how ≡ how.Root) × (root ≡ Some end.at.serial)
 
 -- the climb from t
-pub record Climbs (h : List Event) (t : ℕ) (end : Climb) : Type 0 where
+pub record Climbs (h : List Event) (t : ℕ) (end : PassEnd) : Type 0 where
   pub count : end.passed ≡ length (passed h t)
   pub ends : EndsAt h (drop (length (passed h t)) (path h t)) (root_of (path h t)) end

@@ -62,16 +62,16 @@ is_complete Zero = false
 is_complete Complete = true
 
 -- the completer is kept, or it was released and has this status
-abbrev pub TellsLeft : List Event → ℕ → Option Status → Type 0
-TellsLeft h c None = is_kept h c ≡ true
-TellsLeft h c (Some s) = (is_kept h c ≡ false) × (status h c ≡ s)
+abbrev pub TellsReleased : List Event → ℕ → Option Status → Type 0
+TellsReleased h c None = is_kept h c ≡ true
+TellsReleased h c (Some s) = (is_kept h c ≡ false) × (status h c ≡ s)
 
 -- what is kept with a hook is what the history says of its completer
 pub record TellsHook (h : List Event) (hook : InHand) : Type 0 where
   pub known : is_in hook.completer (tasks h) ≡ true
   pub parent : parent h hook.completer ≡ hook.parent
   pub how : is_fired_by_complete h hook.completer ≡ is_complete hook.how
-  pub left : TellsLeft h hook.completer hook.left
+  pub released : TellsReleased h hook.completer hook.released
 
 -- the workers, and the completers, of the hooks in hand
 abbrev pub hook_workers : List Event → List ℕ

@@ -4,7 +4,7 @@ ghost use Rattle.std.specs.List.{list_all};
 ghost use Rattle.fj_model.specs.Queues.{queue};
 ghost use Rattle.fj_model.specs.Stacks.{stack};
 ghost use Rattle.fj_model.specs.Places.{open_tasks};
-ghost use Rattle.fj_model.specs.Tasks.{is_kept, live};
+ghost use Rattle.fj_model.specs.Tasks.{is_kept, live, parent};
 ghost use Rattle.fj_model.specs.Climbs.{path};
 ghost use Rattle.fj_model.specs.Hooks.{hand};
 ghost use Rattle.fj_model.specs.Answers.{running, is_quiet, root_of};
@@ -13,11 +13,11 @@ ghost use Rattle.fj_model.specs.Pasts.{fresh, limit, present, gone_since};
 ghost use Rattle.fj_ledger.specs.Holds.{IsLawful, TellsOf, TellsHook};
 
 mod accept;
-mod climb;
 mod close;
 mod complete;
 mod end;
 mod hook;
+mod pass;
 mod relay;
 mod release;
 mod seal;
@@ -25,7 +25,6 @@ mod settle;
 mod shut;
 mod take;
 
-pub use crate::ledger::climb::Climb;
 pub use crate::ledger::hook::Hook;
 use crate::log::Log;
 use crate::stacks::Stacks;
@@ -246,13 +245,22 @@ impl Ledger {
         self.stacks.are_empty() && are_free(&self.hands)
     }
 
-    /// The last on the path from a task over its parents. Precondition: the task is kept.
-    pub fn root(&self, t: Serial) -> Serial
-        requires kept { is_kept self.now.events t ≡ true }
-        ensures root { root_of (path self.now.events t) ≡ Some result }
-        ensures kept { is_kept self.now.events result ≡ true }
+    /// The parent that a kept task names, if it names one. None for a task that is not kept.
+    pub fn parent(&self, t: Handle) -> Option<Handle>
+        ensures parent { is_kept self.now.events t.serial ≡ true → option_map (λ p. p.serial) result ≡ parent self.now.events t.serial }
+        ensures lawful { IsLawful self.now.pool (limit self.now) self.now.events }
     {
-        self.tree.root(self.tree.find(t).unwrap()).serial
+        let p = self.look(t)?.kind.parent()?;
+        Some(self.named(p))
+    }
+
+    /// The last on the path from a task over its parents. Precondition: the task is kept.
+    pub fn root(&self, t: Handle) -> Handle
+        requires kept { is_kept self.now.events t.serial ≡ true }
+        ensures root { root_of (path self.now.events t.serial) ≡ Some result.serial }
+        ensures kept { is_kept self.now.events result.serial ≡ true }
+    {
+        self.tree.root(self.tree.renew(t).unwrap())
     }
 
     /// Whether there is room for so many events more before the next seal.

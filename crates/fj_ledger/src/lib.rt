@@ -10,5 +10,5 @@ mod log;
 mod source;
 mod stacks;
 
-pub use ledger::{Climb, Hook, Ledger};
+pub use ledger::{Hook, Ledger};
 pub use source::Source;

@@ -26,7 +26,7 @@ use Rattle.fj_model.proofs.OnePlace.{never}
 use Rattle.fj_model.proofs.KeptParents.{kept_before}
 use Rattle.fj_model.proofs.Spending.{settled_by, status_kept}
 use Rattle.fj_ledger.specs.InHands.{InHand}
-use Rattle.fj_ledger.specs.Holds.{KeepsHands, TellsHook, TellsLeft, hook_completers, is_complete}
+use Rattle.fj_ledger.specs.Holds.{KeepsHands, TellsHook, TellsReleased, hook_completers, is_complete}
 use Rattle.fj_ledger.proofs.Lists.HookLists.{completers, workers_of, but, hand_after, hand_before, hand_listed, no_worker, hand_emptied, hand_stays, fewer_times, fewer_listed}
 use Rattle.fj_ledger.proofs.Recorded.Telling.{is_of_one, no_stop, kept_more}
 use Rattle.fj_model.proofs.KindsKept.{parent_still, kept_known}
@@ -68,7 +68,7 @@ left_out pool h e c so may known none =
     never (is_kept (h ++ e ∷ []) c) (λ kept. ⊎_elim (λ before. true≢false (sym before ∙ none)) (λ new. not_new pool h e c so may known new) (kept_before h e c kept))
 
 left_more : (pool : Pool) (h : List Event) (e : Event) (c : ℕ) (left : Option Status) → AllowedFrom pool [] h → Allowed pool h e → is_of_one e ≡ true
-    → (settled_by e ≡ Some c → is_kept h c ≡ true) → is_in c (tasks h) ≡ true → TellsLeft h c left → TellsLeft (h ++ e ∷ []) c left
+    → (settled_by e ≡ Some c → is_kept h c ≡ true) → is_in c (tasks h) ≡ true → TellsReleased h c left → TellsReleased (h ++ e ∷ []) c left
 left_more pool h e c None so may one settles known tells = kept_more h e c one tells
 left_more pool h e c (Some s) so may one settles known tells =
     (left_out pool h e c so may known tells.0, status_kept h e c (no_stop e one) (λ said. true≢false (sym (settles said) ∙ tells.0)) ∙ tells.1)
@@ -80,7 +80,7 @@ tells_hook pool h e hook so may one other settles tells = record {
   known = known_more h e hook.completer tells.known;
   parent = parent_still h e hook.completer (not_new pool h e hook.completer so may tells.known) ∙ tells.parent;
   how = any_same (fires_by_complete hook.completer) h e other ∙ tells.how;
-  left = left_more pool h e hook.completer hook.left so may one settles tells.known tells.left;
+  released = left_more pool h e hook.completer hook.released so may one settles tells.known tells.released;
 }
 
 -- whose hook is in a hand is listed
@@ -170,7 +170,7 @@ never_complete c (e ∷ h) none = go (fires_or_passes c e) refl none (never_comp
 -- a hook is handed to a worker without one
 pub hands_fired : (pool : Pool) (h : List Event) (c w : ℕ) (how : How) (hands : List (Option InHand)) (hook : InHand) → AllowedFrom pool [] h → Allowed pool h (Fire c how) → w < pool.limits.workers
     → hand h w ≡ None → receiver c (hooks h).just_ended (hooks h).last_worker ≡ Some w → list_any (fires_or_passes c) h ≡ false → is_kept h c ≡ true
-    → hook.completer ≡ c → parent h c ≡ hook.parent → hook.how ≡ how → hook.left ≡ None
+    → hook.completer ≡ c → parent h c ≡ hook.parent → hook.how ≡ how → hook.released ≡ None
     → KeepsHands pool.limits h hands → KeepsHands pool.limits (h ++ Fire c how ∷ []) (set hands w (Some hook))
 unfolding hand is_fired_by_complete
 hands_fired pool h c w how hands hook so may within free given unfired kept is_c is_parent is_how is_left keeps = record {
@@ -224,7 +224,7 @@ hands_fired pool h c w how hands hook so may within free given unfired kept is_c
       known = known_more h e hook.completer (ap (λ d. is_in d (tasks h)) is_c ∙ known);
       parent = parent_still h e hook.completer (not_new pool h e hook.completer so may (ap (λ d. is_in d (tasks h)) is_c ∙ known)) ∙ ap (parent h) is_c ∙ is_parent;
       how = ap (λ d. list_any (fires_by_complete d) h2) is_c ∙ any_last (fires_by_complete c) h e (never_complete c h unfired) ∙ own_fires c how ∙ ap is_complete (sym is_how);
-      left = subst (TellsLeft h2 hook.completer) (sym is_left) (ap (is_kept h2) is_c ∙ kept_more h e c refl kept);
+      released = subst (TellsReleased h2 hook.completer) (sym is_left) (ap (is_kept h2) is_c ∙ kept_more h e c refl kept);
     }
 
     once_more : (of : Hook → ℕ) (v : ℕ) → times_in v (map of old) ≤ 1 → (v ≡ of new → times_in v (map of old) ≡ 0) → times_in v (map of (old ++ new ∷ [])) ≤ 1

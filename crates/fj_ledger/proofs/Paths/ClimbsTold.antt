@@ -31,7 +31,6 @@ use Rattle.fj_tree.specs.Passes as passes
 use Rattle.fj_tree.proofs.Children.{changed_here, changed_other}
 use Rattle.fj_tree.proofs.Finds.{named_record}
 use Rattle.fj_ledger.specs.Arriving.{as_arrival}
-use Rattle.fj_ledger.specs.declared.ledger.climb.Climb.{Climb}
 use Rattle.fj_ledger.specs.Climbing.{IsEnd, EndsAt, Climbs}
 use Rattle.fj_ledger.specs.Holds.{Tells}
 use Rattle.fj_ledger.proofs.Recorded.ArrivalsTold.{spent_told, arrival_told}
@@ -127,14 +126,10 @@ ends_so arrive.Spent b _ is ends = absurd cc
 ends_so arrive.Early b _ is ends = absurd cc
 ends_so arrive.Fire b _ is ends = absurd cc
 
--- the end of the climb, by the number of the task
-abbrev pub climb_of : PassEnd → Climb
-climb_of end = record { passed = end.passed; at = end.at.serial; how = end.how }
-
 -- the way from the first that is not passed
 ends_list : (l : Bounds) (pool : Pool) (h : List Event) (tree : Records) (at : Handle) (w : ℕ) (root : Option ℕ) (end : PassEnd) (hs : List Handle) → Knows l pool h tree → IsSound tree → IsGood tree at
     → Allowed pool h (End at.serial w) → is_completer h at.serial ≡ true → root ≡ Some (ways.root_of tree at).serial → AllGood tree hs
-    → EndsBefore tree at hs end → EndsAt (h ++ End at.serial w ∷ []) (numbers hs) root (climb_of end)
+    → EndsBefore tree at hs end → EndsAt (h ++ End at.serial w ∷ []) (numbers hs) root end
 ends_list l pool h tree at w root end [] k sound good_at may completer is good ends = (ends.0, is ∙ ap (λ (x : Handle). Some x.serial) (sym ends.1))
 ends_list l pool h tree at w root end (x ∷ hs) k sound good_at may completer is good ends =
     let t = arrival_of_way l pool h tree at x w k sound good_at good.0 may completer in
@@ -143,7 +138,7 @@ ends_list l pool h tree at w root end (x ∷ hs) k sound good_at may completer i
 
 pub climbs_told : (l : Bounds) (pool : Pool) (h : List Event) (tree : Records) (at : Handle) (w : ℕ) (end : PassEnd) → Knows l pool h tree → IsSound tree → IsGood tree at
     → Allowed pool h (End at.serial w) → is_completer h at.serial ≡ true → end.passed ≡ length (passes.passed tree at) → EndsAs tree at end
-    → Climbs (h ++ End at.serial w ∷ []) at.serial (climb_of end)
+    → Climbs (h ++ End at.serial w ∷ []) at.serial end
 unfolding passed passes.passed passes.not_passed
 climbs_told l pool h tree at w end k sound good_at may completer count ends = record { count = count ∙ many; ends = there }
   where
@@ -179,8 +174,8 @@ climbs_told l pool h tree at w end k sound good_at may completer count ends = re
     rest_is : numbers rest ≡ drop (length (take_while q (path h1 at.serial))) (path h1 at.serial)
     rest_is = sym (drop_numbers (length (take_while (is_passed tree at) hs)) hs) ∙ ap (λ (n : ℕ). drop n (numbers hs)) many ∙ ap (drop (length (take_while q (path h1 at.serial)))) same_way
 
-    there : EndsAt h1 (drop (length (take_while q (path h1 at.serial))) (path h1 at.serial)) (root_of (path h1 at.serial)) (climb_of end)
-    there = subst (λ (ts : List ℕ). EndsAt h1 ts (root_of (path h1 at.serial)) (climb_of end)) rest_is
+    there : EndsAt h1 (drop (length (take_while q (path h1 at.serial))) (path h1 at.serial)) (root_of (path h1 at.serial)) end
+    there = subst (λ (ts : List ℕ). EndsAt h1 ts (root_of (path h1 at.serial)) end) rest_is
         (ends_list l pool h tree at w (root_of (path h1 at.serial)) end rest k sound good_at may completer root (drop_good tree (length (take_while (is_passed tree at) hs)) hs way.good) ends)
 
 -- a way is no longer than its first number and one

@@ -1,24 +1,22 @@
 -- All that is kept, after a task was accepted.
-use Rattle.std.proofs.Common.{ℕ, ◌≡◌, ◌≢◌, ◌+◌, ◌<◌, Bool, true, false, List, [], ◌∷◌, ◌++◌, length, Option, Some, None, refl, ap, sym, ◌∙◌, arith, ⊎_elim}
-use Rattle.std.specs.Prelude.{IsSome, IfSome, Result, Ok, IsOk, IfOk, OnOk, option_map, nat_eq}
+use Rattle.std.proofs.Common.{ℕ, ◌≡◌, ◌≢◌, ◌+◌, ◌<◌, Bool, true, false, List, [], ◌∷◌, ◌++◌, length, Option, Some, None, refl, ap, sym, ◌∙◌, arith, subst, ⊎_elim}
+use Rattle.std.specs.Prelude.{IsSome, IfSome, option_map}
 use Rattle.std.specs.List.{list_any}
 use Rattle.std.proofs.Math.ListN.{length-set}
 use Rattle.std.proofs.lemmas.List.{get_or-set_other}
-use Rattle.std.proofs.lemmas.Option.{same_Some}
-use Rattle.std.proofs.lemmas.Bool.{lt-leb, le-ltb, cases_eq}
+use Rattle.std.proofs.lemmas.Bool.{cases_eq}
 use Rattle.fj_model.specs.declared.event.Event.{Event}
 use Rattle.fj_model.specs.declared.event.Event.TheVariants.{Acc, Make}
 use Rattle.fj_model.specs.declared.kind.Kind.{Kind}
 use Rattle.fj_model.specs.declared.owner.Owner.{Owner}
 use Rattle.fj_model.specs.declared.place.Place.{Place}
-use Rattle.fj_model.specs.declared.refusal.Refusal.{Refusal}
 use Rattle.fj_model.specs.declared.place.Place.TheVariants.{Queued, Open}
 use Rattle.fj_model.specs.Bounds.{Bounds, Pool, IsOwner, queue_number, owner_at}
-use Rattle.fj_model.specs.Tasks.{accepted_by, is_kept, is_completer, is_completer_kind, kind, parent_in, count_in}
+use Rattle.fj_model.specs.Tasks.{accepted_by, is_kept, is_completer, parent_in}
 use Rattle.fj_model.specs.Queues.{queue, is_same}
 use Rattle.fj_model.specs.Completers.{is_spent, fires_or_passes}
 use Rattle.fj_model.specs.Places.{place}
-use Rattle.fj_model.specs.Allowed.{Allowed, AllowedFrom, MayAccept}
+use Rattle.fj_model.specs.Allowed.{Allowed, AllowedFrom}
 use Rattle.fj_model.proofs.Growth.{stack_same}
 use Rattle.fj_model.proofs.Lawful.{is_new, same_owner}
 use Rattle.fj_model.proofs.NewTasks.{kind_given, new_kind, new_count, new_undone, submitted_place, submitted_open, submitted_gone, made_place, made_open, made_gone, same_as_itself}
@@ -31,72 +29,50 @@ use Rattle.fj_model.proofs.Unknown.{unknown_unspent}
 use Rattle.fj_queues.specs.Queues.{Lists as Waiting, queue_at, with_queue}
 use Rattle.fj_tree.specs.declared.record.Record.{Record}
 use Rattle.fj_tree.specs.Handles.{Handle}
-use Rattle.fj_tree.specs.Records.{Records, count, record_at, record_of, if_numbered, handle_of}
-use Rattle.fj_tree.specs.Makes.{fresh, with_child_of, make_refusal, parent_refusal}
-use Rattle.fj_tree.proofs.Finds.{parent_found}
+use Rattle.fj_tree.specs.Records.{Records, IsCompleter, count, record_at, handle_of}
+use Rattle.fj_tree.specs.Makes.{fresh, with_child_of}
 use Rattle.fj_tree.proofs.Numbers.{good_found}
 use Rattle.fj_ledger.specs.Stacks.{Lists}
 use Rattle.fj_ledger.specs.InHands.{InHand}
 use Rattle.fj_ledger.specs.Holds.{Holds, KeepsQueues, KeepsTree, Tells}
 use Rattle.fj_ledger.proofs.Updates.Growing.{grown_holds}
 use Rattle.fj_ledger.proofs.Lists.HandParts.{hands_same}
-use Rattle.fj_ledger.proofs.Recorded.Located.{located}
+use Rattle.fj_ledger.proofs.Recorded.Located.{located, completer_at}
 use Rattle.fj_ledger.proofs.Updates.Parts.{new_row, queues_same, stacks_same}
 use Rattle.fj_ledger.proofs.Recorded.Records.{IsMade, tree_made}
-use Rattle.fj_ledger.proofs.Recorded.Refused.{of_ok, of_value}
 use Rattle.fj_ledger.proofs.Recorded.Telling.{fired_same}
 
--- ---- what may be accepted may be made
+-- ---- the record is put in
 
-parent_free : (h : List Event) (tree : Records) (l : Bounds) (p : ℕ) → KeepsTree l h tree → is_kept h p ≡ true → is_completer h p ≡ true → parent_refusal tree (Some p) ≡ None
-unfolding is_completer
-parent_free h tree l p keeps kept completer = go (handle_of tree p) refl (keeps.all p kept)
-  where
-    go : (found : Option Handle) → handle_of tree p ≡ found → IsSome found → parent_refusal tree (Some p) ≡ None
-    go None none there = absurd cc
-    go (Some at) some there =
-        let l = located tree p (Some at) at (sym some) (good_found tree p at some) refl in
-        let tells = keeps.each at.key l.found l.at in
-        let is : is_completer_kind (Some l.found.kind) ≡ true = ap is_completer_kind (sym tells.kind) ∙ ap (λ t. is_completer_kind (kind h t)) (l.serial ∙ l.number) ∙ completer in
-        parent_found tree p at l.found true some l.at is
+-- the parent is there
+pub parent_there : (h : List Event) (tree : Records) (l : Bounds) (named : Option ℕ) (p : Option Handle) → KeepsTree l h tree
+    → IfSome named (λ n. (is_kept h n ≡ true) × (is_completer h n ≡ true)) → option_map (λ (x : Handle). x.serial) p ≡ named → IfSome p (λ (x : Handle). IsSome (handle_of tree x.serial))
+parent_there h tree l named None keeps under is = tt
+parent_there h tree l named (Some x) keeps under is = keeps.all x.serial (subst (λ (o : Option ℕ). IfSome o (λ n. (is_kept h n ≡ true) × (is_completer h n ≡ true))) (sym is) under).0
 
-pub makeable : (pool : Pool) (h : List Event) (t : ℕ) (k : Kind) (tree : Records) → KeepsTree pool.limits h tree → MayAccept pool h t k → make_refusal tree k ≡ None
-makeable pool h t k tree keeps may =
-    let parent : parent_refusal tree (parent_in (Some k)) ≡ None = free (parent_in (Some k)) may.under in
-    rw (parent, le-ltb 65535 (count_in (Some k)) may.count, lt-leb tree.room (count tree) (omega (arith, keeps.live, keeps.room, may.room))) refl
-  where
-    free : (o : Option ℕ) → IfSome o (λ p. (is_kept h p ≡ true) × (is_completer h p ≡ true)) → parent_refusal tree o ≡ None
-    free None under = refl
-    free (Some p) under = parent_free h tree pool.limits p keeps under.0 under.1
+-- and it is a completer
+pub parent_is : (h : List Event) (tree : Records) (l : Bounds) (named : Option ℕ) (p : Option Handle) → KeepsTree l h tree
+    → IfSome named (λ n. (is_kept h n ≡ true) × (is_completer h n ≡ true)) → option_map (λ (x : Handle). x.serial) p ≡ named
+    → IfSome p (λ (x : Handle). handle_of tree x.serial ≡ Some x) → IfSome p (IsCompleter tree)
+parent_is h tree l named None keeps under is found = tt
+parent_is h tree l named (Some x) keeps under is found =
+    let at = located tree x.serial (Some x) x (sym found) (good_found tree x.serial x found) refl in
+    completer_at h tree x.serial x at (keeps.each x.key at.found at.at) (subst (λ (o : Option ℕ). IfSome o (λ n. (is_kept h n ≡ true) × (is_completer h n ≡ true))) (sym is) under).1
 
-record_there : (tree : Records) (h : Handle) (r : Record) → record_of tree h ≡ Some r → record_at tree h.key ≡ Some r
-record_there tree h r is = go (record_at tree h.key) refl
-  where
-    which : (b : Bool) (s : Record) → nat_eq s.serial h.serial ≡ b → if_numbered h.serial s ≡ Some r → s ≡ r
-    which true s e same = same_Some s r (rw e at same)
-    which false s e same = let bad = rw e at same in absurd cc
-
-    go : (o : Option Record) → record_at tree h.key ≡ o → record_at tree h.key ≡ Some r
-    go None none = let bad = rw none at is in absurd cc
-    go (Some s) some = some ∙ ap Some (which (nat_eq s.serial h.serial) s refl (rw some at is))
-
--- what a make leaves, from what it ensures
-pub made_is : (old new : Records) (r : Result Handle Refusal) (x : Handle) (k : Kind) (p : Place) → r ≡ Ok x
-    → IfOk r (λ h. h.serial ≡ old.made) → OnOk r (new.made ≡ old.made + 1) → new.room ≡ old.room → IfOk r (λ h. record_at old h.key ≡ None) → IfOk r (λ h. record_of new h ≡ Some (fresh old.made k p))
-    → IfOk r (λ h. (key : ℕ) → key ≢ h.key → record_at new key ≡ option_map (with_child_of (parent_in (Some k))) (record_at old key)) → OnOk r (count new ≡ count old + 1)
+-- what it leaves
+pub made_is : (old new : Records) (x : Handle) (k : Kind) (p : Place) → x.serial ≡ old.made → new.made ≡ old.made + 1 → new.room ≡ old.room
+    → record_at old x.key ≡ None → record_at new x.key ≡ Some (fresh old.made k p)
+    → ((key : ℕ) → key ≢ x.key → record_at new key ≡ option_map (with_child_of (parent_in (Some k))) (record_at old key)) → count new ≡ count old + 1
     → IsMade old new x.key x.serial k p
-made_is old new r x k p is number made room vacant found others kept =
-    let ok : IsOk r = rw is refl in
-    let same : x.serial ≡ old.made = of_value r (λ h. h.serial ≡ old.made) x number is in
-    record {
-      made = of_ok r (new.made ≡ old.made + 1) made ok;
-      room = room;
-      number = same;
-      vacant = of_value r (λ h. record_at old h.key ≡ None) x vacant is;
-      fresh = record_there new x (fresh x.serial k p) (of_value r (λ h. record_of new h ≡ Some (fresh old.made k p)) x found is ∙ ap (λ (n : ℕ). Some (fresh n k p)) (sym same));
-      others = of_value r (λ h. (key : ℕ) → key ≢ h.key → record_at new key ≡ option_map (with_child_of (parent_in (Some k))) (record_at old key)) x others is;
-      count = of_ok r (count new ≡ count old + 1) kept ok;
-    }
+made_is old new x k p number made room vacant found others kept = record {
+  made = made;
+  room = room;
+  number = number;
+  vacant = vacant;
+  fresh = found ∙ ap (λ (n : ℕ). Some (fresh n k p)) (sym number);
+  others = others;
+  count = kept;
+}
 
 -- ---- the record
 

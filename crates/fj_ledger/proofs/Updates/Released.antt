@@ -23,8 +23,8 @@ use Rattle.fj_tree.specs.Releases.{without_child, without_child_of}
 use Rattle.fj_tree.specs.Releases as record_is
 use Rattle.fj_tree.proofs.Numbers.{there, at_found}
 use Rattle.fj_ledger.specs.Stacks.{Lists}
-use Rattle.fj_ledger.specs.InHands.{InHand, left_by}
-use Rattle.fj_ledger.specs.Holds.{Holds, Tells, TellsHook, TellsLeft, KeepsTree, KeepsHands}
+use Rattle.fj_ledger.specs.InHands.{InHand, released_with}
+use Rattle.fj_ledger.specs.Holds.{Holds, Tells, TellsHook, TellsReleased, KeepsTree, KeepsHands}
 use Rattle.fj_ledger.proofs.Updates.Growing.{grown_holds}
 use Rattle.fj_ledger.proofs.Lists.HandParts.{any_same, left_out, hands_mapped}
 use Rattle.fj_ledger.proofs.Recorded.KeptChildren.{children_told}
@@ -137,39 +137,39 @@ tree_released pool h t old new key r so may sound released number keeps = record
 
 -- ---- the hooks
 
-released_hook : (pool : Pool) (h : List Event) (t : ℕ) (s : Status) (k : InHand) → AllowedFrom pool [] h → Allowed pool h (Rel t) → status h t ≡ s → TellsHook h k → TellsHook (h ++ Rel t ∷ []) (left_by t s k)
+released_hook : (pool : Pool) (h : List Event) (t : ℕ) (s : Status) (k : InHand) → AllowedFrom pool [] h → Allowed pool h (Rel t) → status h t ≡ s → TellsHook h k → TellsHook (h ++ Rel t ∷ []) (released_with t s k)
 unfolding is_fired_by_complete
 released_hook pool h t s k so may is tells = go (k.completer == t) refl
   where
     h2 : List Event
     h2 = h ++ Rel t ∷ []
 
-    stays : (left : Option Status) → k.completer ≢ t → TellsLeft h k.completer left → TellsLeft h2 k.completer left
+    stays : (left : Option Status) → k.completer ≢ t → TellsReleased h k.completer left → TellsReleased h2 k.completer left
     stays None other left = release_keeps h t k.completer other ∙ left
     stays (Some u) other left = (left_out pool h (Rel t) k.completer so may tells.known left.0, release_status h t k.completer ∙ left.1)
 
-    go : (b : Bool) → (k.completer == t) ≡ b → TellsHook h2 (cond (k.completer == t) (record k { left = Some s }) k)
+    go : (b : Bool) → (k.completer == t) ≡ b → TellsHook h2 (cond (k.completer == t) (record k { released = Some s }) k)
     go true same = rw same (record {
       known = ap (λ (ts : List ℕ). is_in k.completer ts) (release_tasks h t) ∙ tells.known;
       parent = release_parent h t k.completer ∙ tells.parent;
       how = any_same (fires_by_complete k.completer) h (Rel t) refl ∙ tells.how;
-      left = (ap (is_kept h2) (eqb-true k.completer t same) ∙ release_forgets h t, release_status h t k.completer ∙ ap (status h) (eqb-true k.completer t same) ∙ is);
+      released = (ap (is_kept h2) (eqb-true k.completer t same) ∙ release_forgets h t, release_status h t k.completer ∙ ap (status h) (eqb-true k.completer t same) ∙ is);
     })
     go false differs = rw differs (record {
       known = ap (λ (ts : List ℕ). is_in k.completer ts) (release_tasks h t) ∙ tells.known;
       parent = release_parent h t k.completer ∙ tells.parent;
       how = any_same (fires_by_complete k.completer) h (Rel t) refl ∙ tells.how;
-      left = stays k.left (λ same. true≢false (sym (eq-eqb k.completer t same) ∙ differs)) tells.left;
+      released = stays k.released (λ same. true≢false (sym (eq-eqb k.completer t same) ∙ differs)) tells.released;
     })
 
 hands_released : (pool : Pool) (h : List Event) (t : ℕ) (s : Status) (hands : List (Option InHand)) → AllowedFrom pool [] h → Allowed pool h (Rel t) → status h t ≡ s
-    → KeepsHands pool.limits h hands → KeepsHands pool.limits (h ++ Rel t ∷ []) (map (option_map (left_by t s)) hands)
-hands_released pool h t s hands so may is = hands_mapped pool.limits h (Rel t) (left_by t s) hands refl whose (λ k tells. released_hook pool h t s k so may is tells)
+    → KeepsHands pool.limits h hands → KeepsHands pool.limits (h ++ Rel t ∷ []) (map (option_map (released_with t s)) hands)
+hands_released pool h t s hands so may is = hands_mapped pool.limits h (Rel t) (released_with t s) hands refl whose (λ k tells. released_hook pool h t s k so may is tells)
   where
-    whose : (k : InHand) → (left_by t s k).completer ≡ k.completer
+    whose : (k : InHand) → (released_with t s k).completer ≡ k.completer
     whose k = go (k.completer == t)
       where
-        go : (b : Bool) → (cond b (record k { left = Some s }) k).completer ≡ k.completer
+        go : (b : Bool) → (cond b (record k { released = Some s }) k).completer ≡ k.completer
         go true = refl
         go false = refl
 
@@ -177,7 +177,7 @@ hands_released pool h t s hands so may is = hands_mapped pool.limits h (Rel t) (
 
 pub release_holds : {sealed : List Event} (pool : Pool) (h : List Event) (t : ℕ) (s : Status) (queues : Waiting) (stacks : Lists) (hands : List (Option InHand)) (old new : Records) (opens gones : List ℕ) (key : ℕ) (r : Record)
     → Holds pool sealed h queues stacks hands old opens gones → IsSound old → IsReleased old new key r → r.serial ≡ t → Allowed pool h (Rel t) → length h < length sealed + pool.limits.events → status h t ≡ s
-    → Holds pool sealed (h ++ Rel t ∷ []) queues stacks (map (option_map (left_by t s)) hands) new opens gones
+    → Holds pool sealed (h ++ Rel t ∷ []) queues stacks (map (option_map (released_with t s)) hands) new opens gones
 release_holds pool h t s queues stacks hands old new opens gones key r holds sound released number may fits is =
     let e = Rel t in
     let so = holds.lawful in

@@ -142,7 +142,7 @@ unfired pool h c Complete may = unspent_unfired h c may.0
 
 pub fire_holds : {sealed : List Event} (pool : Pool) (h : List Event) (c w : ℕ) (how : How) (queues : Waiting) (stacks : Lists) (hands : List (Option InHand)) (hook : InHand) (tree : Records) (opens gones : List ℕ) (at : Handle)
     → Holds pool sealed h queues stacks hands tree opens gones → IsSound tree → (l : IsLocated tree c at) → Allowed pool h (Fire c how) → is_completer h c ≡ true → length h < length sealed + pool.limits.events
-    → w < pool.limits.workers → hand h w ≡ None → receiver c (hooks h).just_ended (hooks h).last_worker ≡ Some w → hook.completer ≡ c → hook.parent ≡ parent_in (Some l.found.kind) → hook.how ≡ how → hook.left ≡ None
+    → w < pool.limits.workers → hand h w ≡ None → receiver c (hooks h).just_ended (hooks h).last_worker ≡ Some w → hook.completer ≡ c → hook.parent ≡ parent_in (Some l.found.kind) → hook.how ≡ how → hook.released ≡ None
     → let mid = changed tree at.key made_spent in
     Holds pool sealed (h ++ Fire c how ∷ []) queues stacks (set hands w (Some hook)) (closed mid at) (if is_open_at mid at then without opens (at.serial ∷ []) else opens) (if is_open_at mid at then gones ++ at.serial ∷ [] else gones)
 unfolding parent

@@ -28,7 +28,7 @@ use Rattle.fj_tree.specs.Closes.{if_open_gone}
 use Rattle.fj_tree.proofs.Numbers.{there, at_found}
 use Rattle.fj_ledger.specs.Stacks.{Lists}
 use Rattle.fj_ledger.specs.InHands.{InHand, if_cancelled, cancelled}
-use Rattle.fj_ledger.specs.Holds.{Holds, Tells, TellsHook, TellsLeft, KeepsTree}
+use Rattle.fj_ledger.specs.Holds.{Holds, Tells, TellsHook, TellsReleased, KeepsTree}
 use Rattle.fj_ledger.proofs.Updates.Growing.{grown_holds}
 use Rattle.fj_ledger.proofs.Lists.HandParts.{any_same, hands_same, hands_mapped}
 use Rattle.fj_ledger.proofs.Updates.Parts.{queues_same, stacks_same}
@@ -149,10 +149,10 @@ stopped_hook pool h k so tells = record {
   known = ap (is_in k.completer) (stop_tasks h) ∙ tells.known;
   parent = stop_parent h k.completer ∙ tells.parent;
   how = any_same (fires_by_complete k.completer) h Stop refl ∙ tells.how;
-  left = go k.left tells.left;
+  released = go k.released tells.released;
 }
   where
-    go : (left : Option Status) → TellsLeft h k.completer left → TellsLeft (h ++ Stop ∷ []) k.completer (option_map cancelled left)
+    go : (left : Option Status) → TellsReleased h k.completer left → TellsReleased (h ++ Stop ∷ []) k.completer (option_map cancelled left)
     go None left = stop_kept h k.completer ∙ left
     go (Some s) left = (stop_kept h k.completer ∙ left.0, stop_cancels pool h k.completer so tells.known ∙ ap cancelled left.1)
 

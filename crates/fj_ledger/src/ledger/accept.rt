@@ -1,26 +1,33 @@
 //! Tasks are accepted.
-ghost use Rattle.std.specs.Prelude.{◌≡◌, ◌<◌, ◌∷◌, [], None, true, length};
+ghost use Rattle.std.specs.Prelude.{◌≡◌, ◌<◌, ◌∷◌, [], None, Some, IfSome, IsSome, true, length, option_map};
 ghost use Rattle.fj_model.specs.declared.event.Event.TheVariants.{Acc, Make};
 ghost use Rattle.fj_model.specs.declared.kind.Kind.TheVariants.{Completer};
-ghost use Rattle.fj_model.specs.Tasks.{accepted};
+ghost use Rattle.fj_model.specs.Tasks.{accepted, parent_in};
 ghost use Rattle.fj_model.specs.Allowed.{Allowed};
 ghost use Rattle.fj_model.specs.Pasts.{limit};
 ghost use Rattle.fj_model.specs.Runs.{grown};
+ghost use Rattle.fj_tree.specs.Records.{handle_of};
 
 use crate::ledger::Ledger;
 use fj_model::{Event, Kind, Owner, Place, Serial};
+use fj_tree::{Handle, Tree};
 
 impl Ledger {
     /// Accepts a task into an owner's queue, with the next number: the event `Acc`.
     ///
-    /// Precondition: the event may follow the history, and there is room for it.
-    pub fn accept(&mut self, owner: &Owner, kind: &Kind) -> Serial
+    /// Precondition: the parent is the one that the kind names, the event may follow the history, and there is room for it.
+    pub fn accept(&mut self, owner: &Owner, kind: &Kind, parent: Option<Handle>) -> Serial
+        requires parent { option_map (λ p. p.serial) parent ≡ parent_in (Some kind.now) }
         requires may { Allowed self.old.pool self.old.events (Acc (accepted self.old.events) owner.now kind.now) }
         requires fits { length self.old.events < limit self.old }
         ensures number { result ≡ accepted self.old.events }
         ensures events { self.new ≡ grown self.old (Acc (accepted self.old.events) owner.now kind.now ∷ []) }
     {
-        let t = self.tree.make(*kind, Place::Queued(*owner)).unwrap().serial;
+        let parent = renewed(&self.tree, parent);
+        let t = self
+            .tree
+            .insert(*kind, Place::Queued(*owner), parent)
+            .serial;
         self.log.push(Event::Acc(t, *owner, *kind));
         self.queues.push(self.limits.queue_number(*owner), t);
         t
@@ -35,10 +42,22 @@ impl Ledger {
         ensures number { result ≡ accepted self.old.events }
         ensures events { self.new ≡ grown self.old (Make (accepted self.old.events) (Completer None count true) ∷ []) }
     {
-        let t = self.tree.make(trigger(count), Place::Open).unwrap().serial;
+        let t = self.tree.insert(trigger(count), Place::Open, None).serial;
         self.log.push(Event::Make(t, trigger(count)));
         self.open_tasks.push_reserved(t);
         t
+    }
+}
+
+/// The good handle of a parent. Precondition: it is kept.
+fn renewed(tree: &Tree, parent: Option<Handle>) -> Option<Handle>
+    requires { IfSome parent (λ p. IsSome (handle_of tree.now p.serial)) }
+    ensures number { option_map (λ p. p.serial) result ≡ option_map (λ p. p.serial) parent }
+    ensures found { IfSome result (λ p. handle_of tree.now p.serial ≡ Some p) }
+{
+    match parent {
+        None => None,
+        Some(p) => Some(tree.renew(p).unwrap()),
     }
 }
 

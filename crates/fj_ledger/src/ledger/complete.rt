@@ -1,29 +1,30 @@
 //! Pending counts change, and completers are fired and passed.
 ghost use Rattle.std.specs.Prelude.{◌≡◌, ◌<◌, ◌∷◌, [], None, Some, true, length};
 ghost use Rattle.fj_model.specs.declared.event.Event.TheVariants.{Add, Dec, Fire, Pass};
-ghost use Rattle.fj_model.specs.Hooks.{hooks, hand, receiver};
+ghost use Rattle.fj_model.specs.Hooks.{hand};
 ghost use Rattle.fj_model.specs.Tasks.{is_kept, is_completer};
 ghost use Rattle.fj_model.specs.Allowed.{Allowed};
 ghost use Rattle.fj_model.specs.Pasts.{limit};
 ghost use Rattle.fj_model.specs.Runs.{grown};
+ghost use Rattle.fj_ledger.specs.InHands.{goes_to};
 
 use crate::ledger::Ledger;
 use crate::ledger::close::close;
 use crate::ledger::hook::Hook;
-use fj_model::{Event, How, Serial, WorkerId};
+use fj_model::{Event, How, WorkerId};
 use fj_tree::Handle;
 
 impl Ledger {
     /// Raises the pending count of a completer: the event `Add`.
     ///
     /// Precondition: the event may follow the history, and there is room for it.
-    pub fn raise(&mut self, c: Serial, n: u32)
-        requires may { Allowed self.old.pool self.old.events (Add c n) }
+    pub fn raise(&mut self, c: Handle, n: u32)
+        requires may { Allowed self.old.pool self.old.events (Add c.serial n) }
         requires fits { length self.old.events < limit self.old }
-        ensures { self.new ≡ grown self.old (Add c n ∷ []) }
+        ensures { self.new ≡ grown self.old (Add c.serial n ∷ []) }
     {
-        let h = self.tree.find(c).unwrap();
-        self.log.push(Event::Add(c, n));
+        let h = self.tree.renew(c).unwrap();
+        self.log.push(Event::Add(c.serial, n));
         self.tree.add(h, n).unwrap();
     }
 
@@ -50,7 +51,7 @@ impl Ledger {
         requires kept { is_kept self.old.events c.serial ≡ true }
         requires completer { is_completer self.old.events c.serial ≡ true }
         requires free { hand self.old.events w ≡ None }
-        requires given { receiver c.serial (hooks self.old.events).just_ended (hooks self.old.events).last_worker ≡ Some w }
+        requires given { goes_to self.old.events c.serial ≡ Some w }
         requires may { Allowed self.old.pool self.old.events (Fire c.serial how) }
         requires fits { length self.old.events < limit self.old }
         ensures { self.new ≡ grown self.old (Fire c.serial how ∷ []) }
@@ -64,22 +65,22 @@ impl Ledger {
             completer: c.serial,
             parent,
             how,
-            left: None,
+            released: None,
         });
     }
 
     /// Passes a completer, which is spent without its completion action: the event `Pass`.
     ///
     /// Precondition: it is a kept completer, the event may follow the history, and there is room for it.
-    pub fn pass(&mut self, c: Serial)
-        requires kept { is_kept self.old.events c ≡ true }
-        requires completer { is_completer self.old.events c ≡ true }
-        requires may { Allowed self.old.pool self.old.events (Pass c) }
+    pub fn pass(&mut self, c: Handle)
+        requires kept { is_kept self.old.events c.serial ≡ true }
+        requires completer { is_completer self.old.events c.serial ≡ true }
+        requires may { Allowed self.old.pool self.old.events (Pass c.serial) }
         requires fits { length self.old.events < limit self.old }
-        ensures { self.new ≡ grown self.old (Pass c ∷ []) }
+        ensures { self.new ≡ grown self.old (Pass c.serial ∷ []) }
     {
-        let h = self.tree.find(c).unwrap();
-        self.log.push(Event::Pass(c));
+        let h = self.tree.renew(c).unwrap();
+        self.log.push(Event::Pass(c.serial));
         self.tree.fire(h);
         close(&mut self.tree, &mut self.open_tasks, &mut self.gone, h);
     }

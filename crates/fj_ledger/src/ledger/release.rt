@@ -7,7 +7,7 @@ ghost use Rattle.fj_model.specs.Pasts.{limit};
 ghost use Rattle.fj_model.specs.Runs.{grown};
 
 use crate::ledger::Ledger;
-use crate::ledger::hook::leave;
+use crate::ledger::hook::keep_status;
 use fj_model::Event;
 use fj_tree::Handle;
 
@@ -24,7 +24,7 @@ impl Ledger {
     /// A task is released: the event `Rel`. If its completion action is in a hand, what the end of that needs stays there.
     ///
     /// Precondition: the event may follow the history, and there is room for it.
-    pub fn let_go(&mut self, t: Handle)
+    pub fn release(&mut self, t: Handle)
         requires may { Allowed self.old.pool self.old.events (Rel t.serial) }
         requires fits { length self.old.events < limit self.old }
         ensures { self.new ≡ grown self.old (Rel t.serial ∷ []) }
@@ -33,6 +33,6 @@ impl Ledger {
         let status = self.tree.get(h).unwrap().status;
         self.log.push(Event::Rel(t.serial));
         self.tree.release(h).unwrap();
-        leave(self.hands.as_mut_slice(), t.serial, status);
+        keep_status(self.hands.as_mut_slice(), t.serial, status);
     }
 }

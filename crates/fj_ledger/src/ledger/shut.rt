@@ -7,7 +7,7 @@ ghost use Rattle.fj_model.specs.Pasts.{limit};
 ghost use Rattle.fj_model.specs.Runs.{grown};
 
 use crate::ledger::Ledger;
-use crate::ledger::hook::cancel_left;
+use crate::ledger::hook::cancel_released;
 use fj_model::{Event, Serial};
 
 impl Ledger {
@@ -34,7 +34,7 @@ impl Ledger {
         self.log.push(Event::Stop);
         self.tree.cancel_undone();
         self.tree.close_open();
-        cancel_left(self.hands.as_mut_slice());
+        cancel_released(self.hands.as_mut_slice());
         move_sorted(&mut self.open_tasks, &mut self.gone);
     }
 }

@@ -1,5 +1,5 @@
 //! Tasks are submitted, forked and made as triggers.
-ghost use Rattle.std.specs.Prelude.{◌≡◌, ◌∷◌, [], Some};
+ghost use Rattle.std.specs.Prelude.{◌≡◌, ◌∷◌, [], Some, IfOk, option_map};
 ghost use Rattle.fj_model.specs.declared.refusal.Refusal.TheVariants.{Unknown, NotCompleter};
 ghost use Rattle.fj_model.specs.declared.step.Step.TheVariants.{Fork, Submit, Trigger};
 ghost use Rattle.fj_model.specs.Tasks.{parent_in};
@@ -17,16 +17,16 @@ pub(crate) fn submit(ledger: &mut Ledger, s: SubId, kind: &SubmittedKind) -> Res
 {
     may_submit(ledger, s, kind)?;
     room_for(ledger, 1)?;
-    Ok(Said::Task(ledger.accept(&Owner::Sub(s), &kind.to_kind())))
+    Ok(Said::Task(ledger.accept(&Owner::Sub(s), &kind.to_kind(), None)))
 }
 
 /// The running task of a worker forks a task, which goes to the new end of the worker's queue: `ForkJoinTask.fork`.
 pub(crate) fn fork(ledger: &mut Ledger, w: WorkerId, kind: &Kind) -> Result<Said, Refusal>
     ensures { Makes ledger.old (Fork w kind.now) result ledger.new }
 {
-    may_fork(ledger, w, kind)?;
+    let parent = may_fork(ledger, w, kind)?;
     room_for(ledger, 1)?;
-    Ok(Said::Task(ledger.accept(&Owner::Work(w), kind)))
+    Ok(Said::Task(ledger.accept(&Owner::Work(w), kind, parent)))
 }
 
 /// The running task of a worker makes a trigger: a completer without a parent that is never queued.
@@ -50,20 +50,24 @@ fn may_submit(ledger: &Ledger, s: SubId, kind: &SubmittedKind) -> Result<(), Ref
     task_room(ledger, kind.to_kind().count())
 }
 
-fn may_fork(ledger: &Ledger, w: WorkerId, kind: &Kind) -> Result<(), Refusal>
-    ensures { refusal_in result ≡ first_that_stands (refusals_of ledger.now.pool ledger.now.events (Fork w kind.now)) }
+/// The parent of the task that a worker may fork.
+fn may_fork(ledger: &Ledger, w: WorkerId, kind: &Kind) -> Result<Option<Handle>, Refusal>
+    ensures refusal { refusal_in result ≡ first_that_stands (refusals_of ledger.now.pool ledger.now.events (Fork w kind.now)) }
+    ensures named { IfOk result (λ parent. option_map (λ p. p.serial) parent ≡ parent_in (Some kind.now)) }
 {
     running_task(ledger, w)?;
-    parent_of(ledger, kind)?;
+    let parent = parent_of(ledger, kind)?;
     if ledger.is_stopped() {
         return Err(Refusal::Closed);
     }
-    task_room(ledger, kind.count())
+    task_room(ledger, kind.count())?;
+    Ok(parent)
 }
 
 /// The parent that a kind names, if it names one: a kept completer.
 fn parent_of(ledger: &Ledger, kind: &Kind) -> Result<Option<Handle>, Refusal>
-    ensures { refusal_in result ≡ first_that_stands ((is_unknown_parent ledger.now.events (parent_in (Some kind.now)), Unknown) ∷ (is_plain_parent ledger.now.events (parent_in (Some kind.now)), NotCompleter) ∷ []) }
+    ensures refusal { refusal_in result ≡ first_that_stands ((is_unknown_parent ledger.now.events (parent_in (Some kind.now)), Unknown) ∷ (is_plain_parent ledger.now.events (parent_in (Some kind.now)), NotCompleter) ∷ []) }
+    ensures named { IfOk result (λ parent. option_map (λ p. p.serial) parent ≡ parent_in (Some kind.now)) }
 {
     let Some(parent) = kind.parent() else {
         return Ok(None);

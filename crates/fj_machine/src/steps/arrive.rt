@@ -1,7 +1,7 @@
 //! Arrivals at completers.
 ghost use Rattle.std.specs.Prelude.{◌≡◌, ◌<◌, ◌≤◌, ◌+◌, None, Some, true, length};
 ghost use Rattle.fj_model.specs.Tasks.{is_completer};
-ghost use Rattle.fj_model.specs.Hooks.{hooks, hand, receiver};
+ghost use Rattle.fj_model.specs.Hooks.{hand};
 ghost use Rattle.fj_model.specs.Climbs.{arrival};
 ghost use Rattle.fj_model.specs.Allowed.{AllowedFrom};
 ghost use Rattle.fj_model.specs.Answers.{arriving, arriving_says};
@@ -9,6 +9,7 @@ ghost use Rattle.fj_model.specs.Pasts.{limit};
 ghost use Rattle.fj_model.specs.Runs.{grown};
 ghost use Rattle.fj_ledger.specs.Arriving.{as_arrival};
 ghost use Rattle.fj_ledger.specs.Holds.{IsLawful};
+ghost use Rattle.fj_ledger.specs.InHands.{goes_to};
 
 use fj_ledger::Ledger;
 use fj_model::{How, Said, WorkerId};
@@ -31,7 +32,7 @@ pub(super) fn arrive(ledger: &mut Ledger, c: Handle, w: WorkerId) -> Said
     requires worker { w < ledger.old.pool.limits.workers }
     requires completer { is_completer ledger.old.events c.serial ≡ true }
     requires free { hand ledger.old.events w ≡ None }
-    requires given { receiver c.serial (hooks ledger.old.events).just_ended (hooks ledger.old.events).last_worker ≡ Some w }
+    requires given { goes_to ledger.old.events c.serial ≡ Some w }
     requires may { AllowedFrom ledger.old.pool ledger.old.events (arriving c.serial (arrival ledger.old.events c.serial)) }
     requires fits { length ledger.old.events + length (arriving c.serial (arrival ledger.old.events c.serial)) ≤ limit ledger.old }
     ensures said { result ≡ arriving_says c.serial (arrival ledger.old.events c.serial) }

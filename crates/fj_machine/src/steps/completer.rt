@@ -21,7 +21,7 @@ pub(crate) fn add(ledger: &mut Ledger, w: WorkerId, c: Serial, n: u32) -> Result
         return Err(Refusal::CountTooLarge);
     }
     room_for(ledger, 1)?;
-    ledger.raise(c, n);
+    ledger.raise(h, n);
     Ok(Said::Count(count as u32))
 }
 
@@ -29,15 +29,14 @@ pub(crate) fn add(ledger: &mut Ledger, w: WorkerId, c: Serial, n: u32) -> Result
 pub(crate) fn quiet_root(ledger: &mut Ledger, w: WorkerId, t: Serial) -> Result<Said, Refusal>
     ensures { Makes ledger.old (QuietRoot w t) result ledger.new }
 {
-    kept_completer(ledger, w, t)?;
-    let root = ledger.root(t);
-    let h = ledger.named(root);
-    if !ledger.record(h).status.is_undone() {
-        return Ok(Said::Spent(root));
+    let h = kept_completer(ledger, w, t)?;
+    let root = ledger.root(h);
+    if !ledger.record(root).status.is_undone() {
+        return Ok(Said::Spent(root.serial));
     }
     room_for(ledger, 1)?;
-    ledger.settle(h, Status::Normal);
-    Ok(Said::Root(root))
+    ledger.settle(root, Status::Normal);
+    Ok(Said::Root(root.serial))
 }
 
 /// The kept completer of a number, for which a running task asks.

@@ -31,7 +31,7 @@ pub(crate) fn end(ledger: &mut Ledger, w: WorkerId, ending: Ending) -> Result<Sa
 fn ending_task(ledger: &Ledger, w: WorkerId, ending: Ending) -> Result<Handle, Refusal>
     ensures { MatchResult result (λ t. MayEnd ledger.now w ending t.serial) (λ r. first_that_stands (refusals_of ledger.now.pool ledger.now.events (End w ending)) ≡ Some r) }
 {
-    let t = running_task(ledger, w)?;
+    let t = ledger.named(running_task(ledger, w)?);
     if !suits(ending, ledger.record(t).kind.is_completer()) {
         return Err(Refusal::NotCompleter);
     }

@@ -56,7 +56,7 @@ fn hooked_status(ledger: &Ledger, c: Handle, hook: &Hook) -> Status
     requires tells { TellsHook ledger.now.events hook.now }
     ensures { result ≡ status ledger.now.events hook.now.completer }
 {
-    match hook.left {
+    match hook.released {
         Some(status) => status,
         None => ledger.record(c).status,
     }

@@ -12,7 +12,7 @@ ghost use Rattle.fj_machine.specs.Climbing.{climb_end, climb_says};
 
 use crate::steps::refuse::room_for;
 use fj_ledger::Ledger;
-use fj_model::{Ending, Refusal, Said, Serial, Status, WorkerId};
+use fj_model::{Ending, Refusal, Said, Status, WorkerId};
 use fj_tree::{Handle, PassHow};
 
 /// The end of a completer's body, after which a climb passes each completer that would fire, up to the first that would not:
@@ -29,24 +29,24 @@ pub(super) fn end_pass(ledger: &mut Ledger, t: Handle, w: WorkerId) -> Result<Sa
 }
 
 /// What comes where a climb ends: a count falls, or the root that was passed becomes normal, or nothing.
-fn end_climb(ledger: &mut Ledger, c: Serial, how: PassHow) -> Said
-    requires kept { is_kept ledger.old.events c ≡ true }
-    requires completer { is_completer ledger.old.events c ≡ true }
-    requires may { AllowedFrom ledger.old.pool ledger.old.events (climb_end how c) }
-    requires fits { length ledger.old.events + length (climb_end how c) ≤ limit ledger.old }
-    ensures said { result ≡ climb_says how c }
-    ensures events { ledger.new ≡ grown ledger.old (climb_end how c) }
+fn end_climb(ledger: &mut Ledger, c: Handle, how: PassHow) -> Said
+    requires kept { is_kept ledger.old.events c.serial ≡ true }
+    requires completer { is_completer ledger.old.events c.serial ≡ true }
+    requires may { AllowedFrom ledger.old.pool ledger.old.events (climb_end how c.serial) }
+    requires fits { length ledger.old.events + length (climb_end how c.serial) ≤ limit ledger.old }
+    ensures said { result ≡ climb_says how c.serial }
+    ensures events { ledger.new ≡ grown ledger.old (climb_end how c.serial) }
 {
     match how {
         PassHow::Counted => {
-            ledger.count_down(ledger.named(c));
-            Said::Counted(c)
+            ledger.count_down(c);
+            Said::Counted(c.serial)
         }
-        PassHow::Spent => Said::Spent(c),
-        PassHow::Early => Said::Early(c),
+        PassHow::Spent => Said::Spent(c.serial),
+        PassHow::Early => Said::Early(c.serial),
         PassHow::Root => {
-            ledger.settle(ledger.named(c), Status::Normal);
-            Said::Root(c)
+            ledger.settle(c, Status::Normal);
+            Said::Root(c.serial)
         }
     }
 }
@@ -60,10 +60,10 @@ fn pass_all(ledger: &mut Ledger, t: Handle, count: u64)
     requires fits { length ledger.old.events + count ≤ limit ledger.old }
     ensures { ledger.new ≡ grown ledger.old (map event.Pass (passed ledger.old.events t.serial)) }
 {
-    let mut at = Some(t.serial);
+    let mut at = Some(t);
     for _ in 0..count {
         let c = at.unwrap();
-        at = ledger.find(c).unwrap().kind.parent();
+        at = ledger.parent(c);
         ledger.pass(c);
     }
 }

@@ -24,16 +24,16 @@ pub(super) fn free_worker(ledger: &Ledger, w: WorkerId) -> Result<(), Refusal>
 }
 
 /// The running task of a worker that can make a step.
-pub(super) fn running_task(ledger: &Ledger, w: WorkerId) -> Result<Handle, Refusal>
+pub(super) fn running_task(ledger: &Ledger, w: WorkerId) -> Result<Serial, Refusal>
     ensures refusal { refusal_in result ≡ first_that_stands (no_such_worker ledger.now.pool w ∷ hook_in_hand ledger.now.events w ∷ nothing_running ledger.now.events w ∷ []) }
-    ensures running { IfOk result (λ t. running ledger.now.events w ≡ Some t.serial) }
+    ensures running { IfOk result (λ t. running ledger.now.events w ≡ Some t) }
     ensures lawful { IsLawful ledger.now.pool (limit ledger.now) ledger.now.events }
 {
     free_worker(ledger, w)?;
-    let Some(t) = ledger.running(w) else {
-        return Err(Refusal::NotRunning);
-    };
-    Ok(ledger.named(t))
+    match ledger.running(w) {
+        Some(t) => Ok(t),
+        None => Err(Refusal::NotRunning),
+    }
 }
 
 /// Room for one task more, with this pending count.

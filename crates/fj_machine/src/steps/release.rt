@@ -18,7 +18,7 @@ pub(crate) fn release(ledger: &mut Ledger, t: Serial) -> Result<Said, Refusal>
 {
     let t = releasable(ledger, t)?;
     room_for(ledger, 1)?;
-    ledger.let_go(t);
+    ledger.release(t);
     Ok(Said::Done)
 }
 

@@ -52,10 +52,10 @@ pub(super) fn relay(ledger: &mut Ledger, t: Handle, count: u64, code: u32)
     requires fits { length ledger.old.events + count ≤ limit ledger.old }
     ensures { ledger.new ≡ grown ledger.old (map (λ u. event.Settle u (Exceptional code)) (relayed ledger.old.events t.serial)) }
 {
-    let mut at = Some(t.serial);
+    let mut at = Some(t);
     for _ in 0..count {
         let c = at.unwrap();
-        at = ledger.find(c).unwrap().kind.parent();
-        ledger.settle(ledger.named(c), Status::Exceptional(code));
+        at = ledger.parent(c);
+        ledger.settle(c, Status::Exceptional(code));
     }
 }

@@ -7,42 +7,61 @@ use Rattle.fj_model.specs.Tasks.{accepted}
 use Rattle.fj_model.specs.Allowed.{Allowed}
 use Rattle.fj_model.specs.Runs.{Past}
 use Rattle.fj_tree.specs.Handles.{Handle}
-use Rattle.fj_ledger.proofs.Updates.Accepted.{makeable, made_is, accept_holds}
+use Rattle.fj_ledger.proofs.Updates.Accepted.{parent_there, parent_is, made_is, accept_holds}
 use Rattle.fj_ledger.proofs.Recorded.Records.{IsMade}
-use Rattle.fj_ledger.proofs.Recorded.Refused.{unrefused, of_value}
 use Rattle.fj_ledger.proofs.Histories.Rooms.{queues_are_short}
 use Rattle.fj_ledger.proofs.Updates.Spent.{few_accepted}
 use Rattle.fj_ledger.proofs.ledger.Ledger.accept.Goals as goal
 use Rattle.fj_ledger.proofs.ledger.Ledger.accept.Goals.{After-self, After-queue_number}
 
+may : (c : After-self) → Allowed (record { mode = c.self.inside.mode; limits = c.self.inside.limits }) c.self.inside.log.events (Acc (accepted c.self.inside.log.events) c.args.owner.now c.args.kind.now)
+may c = subst (λ (p : Past). Allowed p.pool p.events (Acc (accepted p.events) c.args.owner.now c.args.kind.now)) (sym c.self.view_is) c.requires.may
+
 fits : (c : After-self) → length c.self.inside.log.events < length c.self.inside.log.sealed + c.self.inside.limits.events
 fits c = subst (λ (p : Past). length p.events < limit p) (sym c.self.view_is) c.requires.fits
 
-pub make-requires : goal.make-requires
-make-requires c =
-    let at = (goal.at.make-requires c).After-self in
+pub renewed-parent-requires : goal.renewed-parent-requires
+renewed-parent-requires c =
+    let at = (goal.at.renewed-parent-requires c).After-self in
+    let limits = c.self.inside.limits in
+    parent_there c.self.inside.log.events c.self.inside.tree limits _ c.args.parent c.self.invariant.0.tree_kept (may at).0.under c.requires.parent
+
+pub insert-requires-clause-made : goal.insert-requires-clause-made
+insert-requires-clause-made c =
+    let at = (goal.at.insert-requires-clause-made c).After-self in
     let h = c.self.inside.log.events in
     omega (arith, c.self.invariant.0.tree_kept.made, few_accepted h, fits at, c.self.invariant.0.within.few_events)
 
-pub unwrap-requires : goal.unwrap-requires
-unwrap-requires c =
-    let pool : Pool = record { mode = c.self.inside.mode; limits = c.self.inside.limits } in
-    let h = c.self.inside.log.events in
-    let may : Allowed pool h (Acc (accepted h) c.args.owner.now c.args.kind.now) = subst (λ (p : Past). Allowed p.pool p.events (Acc (accepted p.events) c.args.owner.now c.args.kind.now)) (sym c.self.view_is) c.requires.may in
-    unrefused c.make.result _ c.make.ensures.refused (makeable pool h (accepted h) _ c.self.inside.tree c.self.invariant.0.tree_kept may.0)
+pub insert-requires-clause-room : goal.insert-requires-clause-room
+insert-requires-clause-room c =
+    let at = (goal.at.insert-requires-clause-room c).After-self in
+    let keeps = c.self.invariant.0.tree_kept in
+    omega (arith, keeps.live, keeps.room, (may at).0.room)
+
+pub insert-requires-clause-pending : goal.insert-requires-clause-pending
+insert-requires-clause-pending c = (may (goal.at.insert-requires-clause-pending c).After-self).0.count
+
+pub insert-requires-clause-named : goal.insert-requires-clause-named
+insert-requires-clause-named c = c.renewed-parent.ensures.number ∙ c.requires.parent
+
+pub insert-requires-clause-completer : goal.insert-requires-clause-completer
+insert-requires-clause-completer c =
+    let at = (goal.at.insert-requires-clause-completer c).After-self in
+    let limits = c.self.inside.limits in
+    parent_is c.self.inside.log.events c.self.inside.tree limits _ c.renewed-parent.result c.self.invariant.0.tree_kept (may at).0.under
+    (c.renewed-parent.ensures.number ∙ c.requires.parent) c.renewed-parent.ensures.found
 
 pub push-requires-2-clause-room : goal.push-requires-2-clause-room
 push-requires-2-clause-room c =
+    let at = (goal.at.push-requires-2-clause-room c).After-self in
     let pool : Pool = record { mode = c.self.inside.mode; limits = c.self.inside.limits } in
     let h = c.self.inside.log.events in
     let holds = c.self.invariant.0 in
-    let may : Allowed pool h (Acc (accepted h) c.args.owner.now c.args.kind.now) = subst (λ (p : Past). Allowed p.pool p.events (Acc (accepted p.events) c.args.owner.now c.args.kind.now)) (sym c.self.view_is) c.requires.may in
-    omega (arith, queues_are_short pool h c.self.inside.queues holds.lawful holds.queues_kept, holds.queues_kept.room, may.0.room)
+    omega (arith, queues_are_short pool h c.self.inside.queues holds.lawful holds.queues_kept, holds.queues_kept.room, (may at).0.room)
 
--- what the make left
-made : (c : After-queue_number) → IsMade c.self.inside.tree c.make.new.self c.unwrap.result.key c.unwrap.result.serial c.args.kind.now (Queued c.args.owner.now)
-made c =
-    made_is _ _ c.make.result c.unwrap.result _ _ c.unwrap.ensures c.make.ensures.number c.make.ensures.made c.make.ensures.room c.make.ensures.vacant c.make.ensures.record c.make.ensures.others c.make.ensures.kept
+-- what the insertion left
+made : (c : After-queue_number) → IsMade c.self.inside.tree c.insert.new.self c.insert.result.key c.insert.result.serial c.args.kind.now (Queued c.args.owner.now)
+made c = made_is _ _ c.insert.result _ _ c.insert.ensures.number c.insert.ensures.made c.insert.ensures.room c.insert.ensures.vacant c.insert.ensures.record c.insert.ensures.others c.insert.ensures.kept
 
 pub invariant_of-self : goal.invariant_of-self
 invariant_of-self c =
@@ -50,11 +69,10 @@ invariant_of-self c =
     let pool : Pool = record { mode = c.self.inside.mode; limits = c.self.inside.limits } in
     let h = c.self.inside.log.events in
     let holds = c.self.invariant.0 in
-    let number : c.unwrap.result.serial ≡ accepted h = of_value c.make.result (λ x. x.serial ≡ c.self.inside.tree.made) c.unwrap.result c.make.ensures.number c.unwrap.ensures ∙ holds.tree_kept.made in
-    let read : c.t.inside.serial ≡ c.unwrap.result.serial = ap (λ (x : Handle). x.serial) c.t.view_is in
-    let may : Allowed pool h (Acc (accepted h) c.args.owner.now c.args.kind.now) = subst (λ (p : Past). Allowed p.pool p.events (Acc (accepted p.events) c.args.owner.now c.args.kind.now)) (sym c.self.view_is) c.requires.may in (
+    let number : c.insert.result.serial ≡ accepted h = c.insert.ensures.number ∙ holds.tree_kept.made in
+    let read : c.t.inside.serial ≡ c.insert.result.serial = ap (λ (x : Handle). x.serial) c.t.view_is in (
       rw (c.push.ensures, c.push-2.ensures.pushed, c.queue_number.ensures, read, number)
-          (accept_holds pool h (accepted h) c.args.owner.now c.args.kind.now _ _ _ _ _ _ _ c.unwrap.result.key holds may (fits at.After-self) (rw number at (made at.After-queue_number))),
+          (accept_holds pool h (accepted h) c.args.owner.now c.args.kind.now _ _ _ _ _ _ _ c.insert.result.key holds (may at.After-self) (fits at.After-self) (rw number at (made at.After-queue_number))),
       rw c.push.ensures (c.self.invariant.1),
       c.self.invariant.2,
       c.self.invariant.3,

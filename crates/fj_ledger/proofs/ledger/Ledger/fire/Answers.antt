@@ -43,7 +43,7 @@ invariant_of-self c =
     let given : receiver t (hooks h).just_ended (hooks h).last_worker ≡ Some w = subst (λ (p : Past). receiver t (hooks p.events).just_ended (hooks p.events).last_worker ≡ Some w) (sym c.self.view_is) c.requires.given in
     let l = located c.self.inside.tree t c.renew.result c.unwrap-h.result c.renew.ensures.found c.renew.ensures.good c.unwrap-h.ensures in
     let read = read_at c.self.inside.tree t c.unwrap-h.result l c.unwrap.result.now (rw c.unwrap.ensures at c.get.ensures) in
-    let hook : InHand = record { completer = t; parent = c.parent-parent.result; how = c.args.how; left = None } in (
+    let hook : InHand = record { completer = t; parent = c.parent-parent.result; how = c.args.how; released = None } in (
       rw (c.push.ensures, c.close.ensures.tree, c.close.ensures.open, c.close.ensures.gone, c.fire.ensures, c.w.view_is, ap (λ (x : Handle). x.serial) c.c.view_is)
           (fire_holds pool h t w c.args.how _ _ _ hook _ _ _ c.unwrap-h.result c.self.invariant.0 c.renew.ensures.sound l may is fits within free given refl (c.parent-parent.ensures ∙ ap (λ (r : Record). parent_in (Some r.kind)) read) refl refl),
       rw c.push.ensures (c.self.invariant.1),

@@ -1,10 +1,11 @@
-use Rattle.std.proofs.Common.{◌+◌, ◌≡◌, ◌<◌, length, true, sym, subst, arith}
+use Rattle.std.proofs.Common.{◌+◌, ◌≡◌, ◌<◌, length, true, ap, sym, subst, arith}
 use Rattle.fj_model.specs.Pasts.{limit}
 use Rattle.fj_model.specs.declared.event.Event.TheVariants.{Pass}
 use Rattle.fj_model.specs.Bounds.{Pool}
 use Rattle.fj_model.specs.Tasks.{is_completer}
 use Rattle.fj_model.specs.Allowed.{Allowed}
 use Rattle.fj_model.specs.Runs.{Past}
+use Rattle.fj_tree.specs.Handles.{Handle}
 use Rattle.fj_ledger.proofs.Recorded.Located.{located, completer_at}
 use Rattle.fj_ledger.proofs.Updates.Settled.{pass_holds}
 use Rattle.fj_ledger.proofs.Updates.Spent.{gone_room, open_once}
@@ -13,9 +14,9 @@ use Rattle.fj_ledger.proofs.ledger.Ledger.pass.Goals as goal
 pub fire-requires : goal.fire-requires
 fire-requires c =
     let h = c.self.inside.log.events in
-    let is : is_completer h c.args.c ≡ true = subst (λ (p : Past). is_completer p.events c.args.c ≡ true) (sym c.self.view_is) c.requires.completer in
-    let l = located c.self.inside.tree c.args.c c.find.result c.unwrap-h.result c.find.ensures.found c.find.ensures.good c.unwrap-h.ensures in
-    completer_at h c.self.inside.tree c.args.c c.unwrap-h.result l (c.self.invariant.0.tree_kept.each c.unwrap-h.result.key l.found l.at) is
+    let is : is_completer h c.args.c.serial ≡ true = subst (λ (p : Past). is_completer p.events c.args.c.serial ≡ true) (sym c.self.view_is) c.requires.completer in
+    let l = located c.self.inside.tree c.args.c.serial c.renew.result c.unwrap-h.result c.renew.ensures.found c.renew.ensures.good c.unwrap-h.ensures in
+    completer_at h c.self.inside.tree c.args.c.serial c.unwrap-h.result l (c.self.invariant.0.tree_kept.each c.unwrap-h.result.key l.found l.at) is
 
 pub close-requires-clause-once : goal.close-requires-clause-once
 close-requires-clause-once c = open_once _ _ _ _ _ _ _ _ c.self.invariant.0
@@ -30,11 +31,11 @@ invariant_of-self c =
     let pool : Pool = record { mode = c.self.inside.mode; limits = c.self.inside.limits } in
     let h = c.self.inside.log.events in
     let fits : length h < length c.self.inside.log.sealed + c.self.inside.limits.events = subst (λ (p : Past). length p.events < limit p) (sym c.self.view_is) c.requires.fits in
-    let may : Allowed pool h (Pass c.args.c) = subst (λ (p : Past). Allowed p.pool p.events (Pass c.args.c)) (sym c.self.view_is) c.requires.may in
-    let is : is_completer h c.args.c ≡ true = subst (λ (p : Past). is_completer p.events c.args.c ≡ true) (sym c.self.view_is) c.requires.completer in
-    let l = located c.self.inside.tree c.args.c c.find.result c.unwrap-h.result c.find.ensures.found c.find.ensures.good c.unwrap-h.ensures in (
-      rw (c.push.ensures, c.close.ensures.tree, c.close.ensures.open, c.close.ensures.gone, c.fire.ensures)
-          (pass_holds pool h c.args.c _ _ _ _ _ _ c.unwrap-h.result c.self.invariant.0 c.find.ensures.sound l may is fits),
+    let may : Allowed pool h (Pass c.args.c.serial) = subst (λ (p : Past). Allowed p.pool p.events (Pass c.args.c.serial)) (sym c.self.view_is) c.requires.may in
+    let is : is_completer h c.args.c.serial ≡ true = subst (λ (p : Past). is_completer p.events c.args.c.serial ≡ true) (sym c.self.view_is) c.requires.completer in
+    let l = located c.self.inside.tree c.args.c.serial c.renew.result c.unwrap-h.result c.renew.ensures.found c.renew.ensures.good c.unwrap-h.ensures in (
+      rw (c.push.ensures, c.close.ensures.tree, c.close.ensures.open, c.close.ensures.gone, c.fire.ensures, ap (λ (x : Handle). x.serial) c.c.view_is)
+          (pass_holds pool h c.args.c.serial _ _ _ _ _ _ c.unwrap-h.result c.self.invariant.0 c.renew.ensures.sound l may is fits),
       rw c.push.ensures (c.self.invariant.1),
       omega (arith, c.close.ensures.open_room, c.self.invariant.2),
       omega (arith, c.close.ensures.gone_room, c.self.invariant.3),

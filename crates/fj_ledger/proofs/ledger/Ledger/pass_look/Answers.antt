@@ -11,7 +11,7 @@ use Rattle.fj_model.proofs.KeptPlaces.{held_kept}
 use Rattle.fj_model.proofs.Members.{get_is_in}
 use Rattle.fj_model.proofs.Opening.{ended_accepted}
 use Rattle.fj_ledger.specs.Climbing.{Climbs}
-use Rattle.fj_ledger.proofs.Paths.ClimbsTold.{climb_of, climbs_told, few_passed}
+use Rattle.fj_ledger.proofs.Paths.ClimbsTold.{climbs_told, few_passed}
 use Rattle.fj_ledger.proofs.Recorded.Located.{located, good_at, completer_at}
 use Rattle.fj_ledger.proofs.Updates.Spent.{few_accepted}
 use Rattle.fj_ledger.proofs.ledger.Ledger.pass_look.Goals as goal
@@ -48,7 +48,7 @@ returns-clause-climbs c =
     let ends : Allowed pool h (End c.unwrap.result.serial c.args.w) = subst (λ (u : ℕ). Allowed pool h (End u c.args.w)) (sym l.number) (may at) in
     let told = climbs_told pool.limits pool h c.self.inside.tree c.unwrap.result c.args.w c.pass_look.result (record { so = holds.lawful; keeps = holds.tree_kept })
     c.renew.ensures.sound (good_at c.self.inside.tree c.args.t.serial c.unwrap.result l) ends (ap (is_completer h) l.number ∙ completer at) c.pass_look.ensures.passed c.pass_look.ensures.ends in
-    rw (c.by_number.ensures, ← c.self.view_is) (subst (λ (u : ℕ). Climbs (h ++ End u c.args.w ∷ []) u (climb_of c.pass_look.result)) l.number told)
+    rw (← c.self.view_is) (subst (λ (u : ℕ). Climbs (h ++ End u c.args.w ∷ []) u c.pass_look.result) l.number told)
 
 pub returns-clause-few : goal.returns-clause-few
 returns-clause-few c =
@@ -63,4 +63,4 @@ returns-clause-few c =
     c.renew.ensures.sound (good_at c.self.inside.tree t c.unwrap.result l) ends (ap (is_completer h) l.number ∙ completer at) c.pass_look.ensures.passed c.pass_look.ensures.ends in
     let there : t < accepted h = ltb-true t (accepted h) (sym (is_numbered pool h holds.lawful t) ∙ ended_accepted pool h t c.args.w holds.lawful (may at)) in
     let few = few_passed (h ++ End c.unwrap.result.serial c.args.w ∷ []) c.unwrap.result.serial in
-    rw c.by_number.ensures (omega (arith, told.count, few, l.number, there, few_accepted h, holds.fits, holds.sealed_part.few, holds.within.few_events))
+    omega (arith, told.count, few, l.number, there, few_accepted h, holds.fits, holds.sealed_part.few, holds.within.few_events)

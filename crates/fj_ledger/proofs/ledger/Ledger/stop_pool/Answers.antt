@@ -32,8 +32,8 @@ invariant_of-self c =
     let is = stopped_twice _ _ _ sweep.records sweep.kept sweep.made sweep.room close.records close.kept close.made close.room in
     let hands = c.self.inside.hands.items in
     let value = c.as_mut_slice.ensures.value in
-    let swept : c.cancel_left.new.hands ≡ map (option_map if_cancelled) hands = c.cancel_left.ensures ∙ ap (map (option_map if_cancelled)) value in
-    let back = written_back c.self.inside.hands.len c.cancel_left.new.hands hands (ap (λ ks. length ks) c.cancel_left.ensures ∙ length-map c.as_mut_slice.result.now (option_map if_cancelled) ∙ c.as_mut_slice.ensures.len) ∙ swept in
+    let swept : c.cancel_released.new.hands ≡ map (option_map if_cancelled) hands = c.cancel_released.ensures ∙ ap (map (option_map if_cancelled)) value in
+    let back = written_back c.self.inside.hands.len c.cancel_released.new.hands hands (ap (λ ks. length ks) c.cancel_released.ensures ∙ length-map c.as_mut_slice.result.now (option_map if_cancelled) ∙ c.as_mut_slice.ensures.len) ∙ swept in
     let moved = c.move_sorted.ensures.moved in (
       rw (c.push.ensures, back, c.move_sorted.ensures.left, moved.3)
           (stop_holds pool h _ _ _ _ _ _ _ moved.0 c.self.invariant.0 may (fits at) is moved.1 moved.2),

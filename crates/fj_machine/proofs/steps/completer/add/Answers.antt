@@ -60,4 +60,4 @@ returns c =
     let now = c.args.ledger.now in
     let is = adds now c.args.w c.args.c c.args.n (stands at c.if-count-gt-MAX_PENDING.false c.from.ensures c.from-2.ensures) in
     let sum : c.from.result + c.from-2.result ≡ pending now.events c.args.c + c.args.n = omega (arith, c.from.ensures, c.from-2.ensures, read at) in
-    made_one now c.raise.new.self (Add c.args.w c.args.c c.args.n) _ _ is c.in_ok-room_for.ensures.room (ap says.Count sum ∙ add_says now c.args.w c.args.c c.args.n) c.raise.ensures
+    made_one now c.raise.new.self (Add c.args.w c.args.c c.args.n) _ _ is c.in_ok-room_for.ensures.room (ap says.Count sum ∙ add_says now c.args.w c.args.c c.args.n) (rw c.in_ok-h.ensures.number at c.raise.ensures)

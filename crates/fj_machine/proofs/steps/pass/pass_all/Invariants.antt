@@ -1,5 +1,6 @@
 use Rattle.std.proofs.Common.{◌≡◌, ◌<◌, map, take}
-use Rattle.std.specs.Prelude.{slice_get}
+use Rattle.std.specs.Prelude.{option_map, slice_get}
+use Rattle.fj_tree.specs.Handles.{Handle}
 use Rattle.fj_model.specs.declared.event.Event.TheVariants.{Pass}
 use Rattle.fj_model.specs.Climbs.{passed, path}
 use Rattle.fj_model.specs.Runs.{grown}
@@ -9,5 +10,5 @@ use Rattle.fj_machine.proofs.steps.pass.pass_all.Given as goal
 abbrev pub invariant-loop : goal.invariant-loop
 invariant-loop l = record {
   past : l.ledger ≡ grown l.fn.ledger (map Pass (take l.counter (passed l.fn.ledger.events l.fn.t.serial)));
-  next : l.counter < l.count → l.at ≡ slice_get (path l.fn.ledger.events l.fn.t.serial) l.counter;
+  next : l.counter < l.count → option_map (λ (x : Handle). x.serial) l.at ≡ slice_get (path l.fn.ledger.events l.fn.t.serial) l.counter;
 }

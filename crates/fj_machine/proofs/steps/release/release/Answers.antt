@@ -11,8 +11,8 @@ pub returns-in_err-room_for : goal.returns-in_err-room_for
 returns-in_err-room_for c =
     full_of_one c.args.ledger.now (Release c.args.t) _ c.from_residual-in_err-room_for.result _ c.from_residual-in_err-room_for.ensures.1 (releases c.args.ledger.now c.args.t (sym c.in_ok-t.ensures.refusal)) c.in_err-room_for.ensures.room
 
-pub let_go-requires-clause-may : goal.let_go-requires-clause-may
-let_go-requires-clause-may c = rw c.in_ok-t.ensures.number (may_one c.args.ledger.now (Release c.args.t) _ c.in_ok-room_for.ensures.lawful (releases c.args.ledger.now c.args.t (sym c.in_ok-t.ensures.refusal)))
+pub release-requires-clause-may : goal.release-requires-clause-may
+release-requires-clause-may c = rw c.in_ok-t.ensures.number (may_one c.args.ledger.now (Release c.args.t) _ c.in_ok-room_for.ensures.lawful (releases c.args.ledger.now c.args.t (sym c.in_ok-t.ensures.refusal)))
 
 pub returns : goal.returns
-returns c = made_one c.args.ledger.now c.let_go.new.self (Release c.args.t) _ _ (releases c.args.ledger.now c.args.t (sym c.in_ok-t.ensures.refusal)) c.in_ok-room_for.ensures.room ((done_says c.args.ledger.now c.args.t).2) (rw c.in_ok-t.ensures.number at c.let_go.ensures)
+returns c = made_one c.args.ledger.now c.release.new.self (Release c.args.t) _ _ (releases c.args.ledger.now c.args.t (sym c.in_ok-t.ensures.refusal)) c.in_ok-room_for.ensures.room ((done_says c.args.ledger.now c.args.t).2) (rw c.in_ok-t.ensures.number at c.release.ensures)

@@ -1,5 +1,6 @@
 use Rattle.std.proofs.Common.{◌≡◌, ◌<◌, take}
-use Rattle.std.specs.Prelude.{slice_get}
+use Rattle.std.specs.Prelude.{option_map, slice_get}
+use Rattle.fj_tree.specs.Handles.{Handle}
 use Rattle.fj_model.specs.Climbs.{relayed, path}
 use Rattle.fj_model.specs.Runs.{grown}
 use Rattle.fj_model.proofs.Settling.{settles}
@@ -9,5 +10,5 @@ use Rattle.fj_machine.proofs.steps.settle.relay.Given as goal
 abbrev pub invariant-loop : goal.invariant-loop
 invariant-loop l = record {
   past : l.ledger ≡ grown l.fn.ledger (settles l.fn.code (take l.counter (relayed l.fn.ledger.events l.fn.t.serial)));
-  next : l.counter < l.count → l.at ≡ slice_get (path l.fn.ledger.events l.fn.t.serial) l.counter;
+  next : l.counter < l.count → option_map (λ (x : Handle). x.serial) l.at ≡ slice_get (path l.fn.ledger.events l.fn.t.serial) l.counter;
 }

@@ -8,14 +8,14 @@ use Rattle.fj_model.specs.Statuses.{status}
 use Rattle.fj_model.specs.Allowed.{Allowed}
 use Rattle.fj_model.specs.Runs.{Past}
 use Rattle.fj_tree.specs.declared.record.Record.{Record}
-use Rattle.fj_ledger.specs.InHands.{left_by}
+use Rattle.fj_ledger.specs.InHands.{released_with}
 use Rattle.fj_ledger.proofs.Lists.HandParts.{written_back}
 use Rattle.fj_ledger.proofs.Recorded.Located.{IsLocated, located, read_at}
 use Rattle.fj_ledger.proofs.Recorded.Refused.{unrefused}
 use Rattle.fj_ledger.proofs.Updates.Released.{released_is, releasable, release_holds}
 use Rattle.fj_tree.specs.Handles.{Handle}
-use Rattle.fj_ledger.proofs.ledger.Ledger.let_go.Goals as goal
-use Rattle.fj_ledger.proofs.ledger.Ledger.let_go.Goals.{After-self, After-unwrap-h}
+use Rattle.fj_ledger.proofs.ledger.Ledger.release.Goals as goal
+use Rattle.fj_ledger.proofs.ledger.Ledger.release.Goals.{After-self, After-unwrap-h}
 
 fits : (c : After-self) → length c.self.inside.log.events < length c.self.inside.log.sealed + c.self.inside.limits.events
 fits c = subst (λ (p : Past). length p.events < limit p) (sym c.self.view_is) c.requires.fits
@@ -47,10 +47,10 @@ invariant_of-self c =
     let read = read_at tree t c.unwrap-h.result l c.unwrap.result.now (rw c.unwrap.ensures at c.get.ensures) in
     let number : r.serial ≡ t = l.serial ∙ l.number in
     let told : status h t ≡ c.unwrap.result.now.status = ap (status h) (sym number) ∙ (c.self.invariant.0.tree_kept.each c.unwrap-h.result.key r l.at).status ∙ ap (λ (x : Record). x.status) (sym read) in
-    let f = option_map (left_by t c.unwrap.result.now.status) in
-    let put = rw (ap (λ (x : Handle). x.serial) c.t.view_is) at c.leave.ensures in
+    let f = option_map (released_with t c.unwrap.result.now.status) in
+    let put = rw (ap (λ (x : Handle). x.serial) c.t.view_is) at c.keep_status.ensures in
     let left = put ∙ ap (map f) c.as_mut_slice.ensures.value in
-    let back = written_back c.self.inside.hands.len c.leave.new.hands c.self.inside.hands.items (ap (λ ks. length ks) put ∙ length-map c.as_mut_slice.result.now f ∙ c.as_mut_slice.ensures.len) ∙ left in (
+    let back = written_back c.self.inside.hands.len c.keep_status.new.hands c.self.inside.hands.items (ap (λ ks. length ks) put ∙ length-map c.as_mut_slice.result.now f ∙ c.as_mut_slice.ensures.len) ∙ left in (
       rw (c.push.ensures, back, ap (λ (x : Handle). x.serial) c.t.view_is)
           (release_holds pool h t c.unwrap.result.now.status _ _ _ tree c.release.new.self _ _ c.unwrap-h.result.key r c.self.invariant.0 c.renew.ensures.sound is number (may at.After-self) (fits at.After-self) told),
       rw c.push.ensures (c.self.invariant.1),
