@@ -16,7 +16,7 @@ ghost use Rattle.fj_model.specs.declared.refusal.Refusal.{Refusal as RefusalCase
 use crate::steps::accept::{fork, submit, trigger};
 use crate::steps::completer::{add, quiet_root};
 use crate::steps::end::end;
-use crate::steps::hook::hook_done;
+use crate::steps::end::hook::hook_done;
 use crate::steps::query::{is_quiescent, state};
 use crate::steps::release::release;
 use crate::steps::settle::{cancel, fault};
@@ -141,10 +141,10 @@ impl Machine {
     /// | Add | `NoSuch`, `NotIdle`, `NotRunning`, `Unknown`, `NotCompleter`, `CountTooLarge`, `LogFull` |
     /// | QuietRoot | `NoSuch`, `NotIdle`, `NotRunning`, `Unknown`, `NotCompleter`, `LogFull` |
     /// | Fault, Cancel | `Unknown`, `LogFull` |
-    /// | State | `Unknown` |
-    /// | Release | `Unknown`, `NotDone`, `LogFull` |
     /// | Shutdown, Stop | `LogFull` |
     /// | IsQuiescent | none |
+    /// | State | `Unknown` |
+    /// | Release | `Unknown`, `NotDone`, `LogFull` |
     pub fn step(&mut self, asked: &Step) -> Said
         ensures step { Steps self.old asked.now result self.new }
         // Each event may follow those before it.
@@ -184,12 +184,12 @@ fn make(ledger: &mut Ledger, asked: &Step) -> Result<Said, Refusal>
         Step::HookDone { w } => hook_done(ledger, w),
         Step::Add { w, c, n } => add(ledger, w, c, n),
         Step::QuietRoot { w, t } => quiet_root(ledger, w, t),
-        Step::IsQuiescent => Ok(is_quiescent(ledger)),
-        Step::State { t } => state(ledger, t),
         Step::Fault { t, code } => fault(ledger, t, code),
         Step::Cancel { t } => cancel(ledger, t),
         Step::Shutdown => shutdown(ledger),
         Step::Stop => stop(ledger),
+        Step::IsQuiescent => Ok(is_quiescent(ledger)),
+        Step::State { t } => state(ledger, t),
         Step::Release { t } => release(ledger, t),
     }
 }

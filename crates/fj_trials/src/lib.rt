@@ -3,23 +3,33 @@
 #![tactic(auto)]
 
 #[cfg(test)]
+mod accept_tests;
+#[cfg(test)]
 mod completer_tests;
 #[cfg(test)]
-mod epoch_tests;
+mod end_tests;
 #[cfg(test)]
-mod failure_tests;
+mod epoch_tests;
 #[cfg(test)]
 mod picks;
 #[cfg(test)]
 mod place_tests;
 #[cfg(test)]
+mod query_tests;
+#[cfg(test)]
 mod random_epoch_tests;
+#[cfg(test)]
+mod refusal_tests;
+#[cfg(test)]
+mod release_tests;
 #[cfg(test)]
 mod run_tests;
 #[cfg(test)]
+mod settle_tests;
+#[cfg(test)]
 mod shut_tests;
 #[cfg(test)]
-mod task_tests;
+mod take_tests;
 #[cfg(test)]
 mod test_rows;
 #[cfg(test)]

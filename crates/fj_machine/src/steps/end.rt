@@ -1,11 +1,15 @@
-//! Bodies end.
+//! Bodies end, and completion actions in `hook`.
 ghost use Rattle.std.specs.Prelude.{◌≡◌, MatchResult, Some};
 ghost use Rattle.fj_model.specs.declared.step.Step.TheVariants.{End};
 ghost use Rattle.fj_model.specs.Answers.{first_that_stands, refusals_of};
 ghost use Rattle.fj_machine.specs.Outcomes.{Makes, MayEnd, suits};
 
-use crate::steps::arrive::arrive;
-use crate::steps::pass::end_pass;
+mod arrive;
+pub(crate) mod hook;
+mod pass;
+
+use crate::steps::end::arrive::arrive;
+use crate::steps::end::pass::end_pass;
 use crate::steps::refuse::{room_for, running_task};
 use crate::steps::settle::relay;
 use fj_ledger::Ledger;

@@ -16,8 +16,8 @@ use Rattle.fj_machine.proofs.Passing.{passed_at, next_up, path_begins, may_next,
 use Rattle.fj_model.proofs.KeptParents.{path_kept}
 use Rattle.fj_machine.proofs.PassSteps.{kept_past}
 use Rattle.fj_tree.specs.Handles.{Handle}
-use Rattle.fj_machine.proofs.steps.pass.pass_all.Goals as goal
-use Rattle.fj_machine.proofs.steps.pass.pass_all.Goals.{In-loop, After-unwrap-c, After-parent-at}
+use Rattle.fj_machine.proofs.steps.end.pass.pass_all.Goals as goal
+use Rattle.fj_machine.proofs.steps.end.pass.pass_all.Goals.{In-loop, After-unwrap-c, After-parent-at}
 
 pub loop-init : goal.loop-init
 loop-init c = record {

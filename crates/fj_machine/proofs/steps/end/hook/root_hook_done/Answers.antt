@@ -12,8 +12,8 @@ use Rattle.fj_machine.proofs.HookSteps.{own, own_count, hook_full, hook_made, ma
 use Rattle.fj_machine.proofs.RoomTests.{either_way, grown_none}
 use Rattle.fj_machine.proofs.Outcomes.{exits_full}
 use Rattle.fj_tree.specs.Handles.{Handle}
-use Rattle.fj_machine.proofs.steps.hook.root_hook_done.Goals as goal
-use Rattle.fj_machine.proofs.steps.hook.root_hook_done.Goals.{After-room_for, then-undone, else-undone}
+use Rattle.fj_machine.proofs.steps.end.hook.root_hook_done.Goals as goal
+use Rattle.fj_machine.proofs.steps.end.hook.root_hook_done.Goals.{After-room_for, then-undone, else-undone}
 
 -- the events, and how many they are
 events : (c : After-room_for) → hook_events c.args.ledger.now.events (Some c.args.c.serial) ≡ Hooked c.args.c.serial ∷ own c.args.c.serial c.args.undone

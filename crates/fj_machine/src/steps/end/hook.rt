@@ -10,7 +10,7 @@ ghost use Rattle.fj_model.specs.declared.step.Step.TheVariants.{HookDone};
 ghost use Rattle.fj_model.specs.Answers.{first_that_stands, refusals_of};
 ghost use Rattle.fj_machine.specs.Outcomes.{Makes, refusal_in};
 
-use crate::steps::arrive::{arrival, arrival_events, arrive};
+use crate::steps::end::arrive::{arrival, arrival_events, arrive};
 use crate::steps::refuse::room_for;
 use fj_ledger::{Hook, Ledger};
 use fj_model::{How, Refusal, Said, Status, WorkerId};

@@ -133,73 +133,8 @@ a parent that says stop takes the code and passes nothing on
 async 1 1 4 64; submit 0 1 relay > task 0; poll 0 0 > run 0; fork 0 0 1 stop > task 1; fork 0 1 0 relay > task 2; fault 2 2 > yes;
 state 2 > state queued 1 exceptional 2; state 1 > state queued 1 exceptional 2; state 0 > state held 0 undone";
 
-// A failing end ends the body first, and is then a fault of its task.
-const FAILS: &str = "a plain task fails
-async 1 1 4 64; submit 0 > task 0; poll 0 0 > run 0; end 0 fail 7 > done; state 0 > state gone exceptional 7; gone > 0; quiet > yes;
-events 2 > End(Serial(0), WorkerId(0)) Settle(Serial(0), Exceptional(7))
-
-a completer fails whatever its count, and is not open
-async 1 1 4 64; submit 0 3 relay > task 0; poll 0 0 > run 0; end 0 fail 0 > done; state 0 > state gone exceptional 0; open > none;
-gone > 0; hook 0 > refused 6
-
-a body that is done already ends, and its code is lost
-async 1 1 4 64; submit 0 1 relay > task 0; poll 0 0 > run 0; fork 0 0 0 relay > task 1; end 0 quiet > done; poll 0 0 > run 1;
-cancel 1 > yes; end 0 fail 7 > done; state 1 > state gone cancelled; state 0 > state open undone; gone > 1;
-events 6 > End(Serial(1), WorkerId(0))
-
-the code goes up to the parent that says stop
-async 1 1 4 64; submit 0 0 relay > task 0; poll 0 0 > run 0; fork 0 0 0 stop > task 1; end 0 quiet > done; poll 0 0 > run 1;
-fork 0 1 0 relay > task 2; end 0 quiet > done; poll 0 0 > run 2; fork 0 2 0 relay > task 3; end 0 quiet > done; poll 0 0 > run 3;
-end 0 fail 7 > done; state 3 > state gone exceptional 7; state 2 > state gone exceptional 7; state 1 > state gone exceptional 7;
-state 0 > state open undone; open > 0; gone > 3 2 1
-
-the task goes first, then its open parents upward
-async 1 1 4 64; submit 0 1 relay > task 0; poll 0 0 > run 0; fork 0 0 1 relay > task 1; end 0 quiet > done; poll 0 0 > run 1;
-fork 0 1 0 relay > task 2; end 0 quiet > done; poll 0 0 > run 2; open > 0 1; end 0 fail 5 > done; open > none; gone > 2 1 0;
-events 8 > End(Serial(2), WorkerId(0)) Settle(Serial(2), Exceptional(5)) Settle(Serial(1), Exceptional(5)) Settle(Serial(0), Exceptional(5))
-
-a parent whose hook is in hand takes the code
-async 2 1 4 64; submit 0 0 relay > task 0; poll 0 0 > run 0; fork 0 0 0 relay > task 1; end 0 try > hook 0; poll 1 0 > run 1;
-end 1 fail 7 > done; state 1 > state gone exceptional 7; state 0 > state gone exceptional 7; gone > 0 1; hook 0 > spent 0
-
-a parent that failed is spent for its other child
-async 1 1 4 64; submit 0 2 relay > task 0; poll 0 0 > run 0; fork 0 0 0 relay > task 1; fork 0 0 0 relay > task 2;
-end 0 try > counted 0; poll 0 0 > run 1; end 0 fail 7 > done; state 0 > state gone exceptional 7; poll 0 0 > run 2;
-end 0 try > hook 2; hook 0 > spent 0; gone > 1 0 2
-
-a join tells the code
-async 1 1 4 64; submit 0 > task 0; poll 0 0 > run 0; fork 0 > task 1; join 0 1 0 > run 1; end 0 fail 11 > done; stack 0 > 0;
-join 0 1 0 > exceptional 11; end 0 ok > done
-
-no such worker, a hook in hand, an idle worker
-async 1 1 4 64; end 1 fail 7 > refused 4; end 0 fail 7 > refused 6; submit 0 0 relay > task 0; poll 0 0 > run 0; end 0 try > hook 0;
-end 0 fail 7 > refused 14; hook 0 > root 0";
-
 // A step whose events do not all fit appends none of them.
-const LAST: &str = "a failing end of one task, where it does not fit
-async 1 1 4 3; submit 0 > task 0; poll 0 0 > run 0; end 0 fail 7 > refused 3; state 0 > state held 0 undone; stack 0 > 0;
-gone > none; events 2 > none
-
-a failing end of one task, where it just fits
-async 1 1 4 4; submit 0 > task 0; poll 0 0 > run 0; end 0 fail 7 > done; state 0 > state gone exceptional 7; stack 0 > none
-
-a failing end that is relayed, where it does not fit
-async 1 1 4 6; submit 0 1 relay > task 0; poll 0 0 > run 0; fork 0 0 0 relay > task 1; help 0 0 > run 1; end 0 fail 7 > refused 3;
-state 1 > state held 0 undone; state 0 > state held 0 undone; stack 0 > 0 1; gone > none; events 4 > none
-
-a failing end that is relayed, where it just fits
-async 1 1 4 7; submit 0 1 relay > task 0; poll 0 0 > run 0; fork 0 0 0 relay > task 1; help 0 0 > run 1; end 0 fail 7 > done;
-state 1 > state gone exceptional 7; state 0 > state held 0 exceptional 7; stack 0 > 0; gone > 1
-
-a failing end of a body that is done, where it does not fit
-async 1 1 4 3; submit 0 > task 0; poll 0 0 > run 0; cancel 0 > yes; end 0 fail 7 > refused 3; state 0 > state held 0 cancelled;
-stack 0 > 0; events 3 > none
-
-a failing end of a body that is done, where it just fits
-async 1 1 4 4; submit 0 > task 0; poll 0 0 > run 0; cancel 0 > yes; end 0 fail 7 > done; state 0 > state gone cancelled;
-stack 0 > none
-
-a fault of one task, where it does not fit
+const LAST: &str = "a fault of one task, where it does not fit
 async 1 1 4 1; submit 0 > task 0; fault 0 7 > refused 3; state 0 > state queued 0 undone; events 1 > none
 
 a fault of one task, where it just fits
@@ -242,14 +177,7 @@ fn a_fault_is_relayed_upward(rt: HostRuntime) -> Result<(), Fail> {
 }
 
 #[test]
-fn a_failing_end_is_a_fault(rt: HostRuntime) -> Result<(), Fail> {
-    let given = wrong(rt.alloc(), FAILS)?;
-    assert_eq!(rt; given.as_str(), "");
-    Ok(())
-}
-
-#[test]
-fn a_full_log_stops_each_failing_step(rt: HostRuntime) -> Result<(), Fail> {
+fn a_full_log_stops_a_cancel_and_a_fault(rt: HostRuntime) -> Result<(), Fail> {
     let given = wrong(rt.alloc(), LAST)?;
     assert_eq!(rt; given.as_str(), "");
     Ok(())

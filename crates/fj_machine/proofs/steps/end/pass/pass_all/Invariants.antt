@@ -4,7 +4,7 @@ use Rattle.fj_tree.specs.Handles.{Handle}
 use Rattle.fj_model.specs.declared.event.Event.TheVariants.{Pass}
 use Rattle.fj_model.specs.Climbs.{passed, path}
 use Rattle.fj_model.specs.Runs.{grown}
-use Rattle.fj_machine.proofs.steps.pass.pass_all.Given as goal
+use Rattle.fj_machine.proofs.steps.end.pass.pass_all.Given as goal
 
 -- so many were passed, and the next one stands at that place of the way
 abbrev pub invariant-loop : goal.invariant-loop

@@ -1,7 +1,7 @@
 use Rattle.std.proofs.Common.{sym, ap, ◌∙◌}
 use Rattle.fj_ledger.specs.Arriving.{as_arrival}
 use Rattle.fj_ledger.proofs.Recorded.ArrivalsTold.{arrived_kept}
-use Rattle.fj_machine.proofs.steps.arrive.arrive.Goals as goal
+use Rattle.fj_machine.proofs.steps.end.arrive.arrive.Goals as goal
 
 pub count_down-requires-clause-kept : goal.count_down-requires-clause-kept
 count_down-requires-clause-kept c =

@@ -19,8 +19,8 @@ use Rattle.fj_machine.proofs.RoomTests.{grown_twice}
 use Rattle.fj_machine.proofs.BodyEnds.{ended_kept}
 use Rattle.fj_machine.proofs.PassSteps.{climb_kept}
 use Rattle.fj_machine.proofs.Outcomes.{exits_full}
-use Rattle.fj_machine.proofs.steps.pass.end_pass.Goals as goal
-use Rattle.fj_machine.proofs.steps.pass.end_pass.Goals.{After-room_for, After-pass_all}
+use Rattle.fj_machine.proofs.steps.end.pass.end_pass.Goals as goal
+use Rattle.fj_machine.proofs.steps.end.pass.end_pass.Goals.{After-room_for, After-pass_all}
 
 -- the history once the body has ended
 abbrev ended : After-room_for → List Event
