@@ -1,4 +1,4 @@
-ghost use Rattle.std.specs.Prelude.{◌≡◌, ◌≢◌, ◌⊎◌, ◌<◌, ◌≤◌, ◌+◌, ◌^◌, ℕ, [], Some, None, IfOk, IfSome, IfNone, OnOk, OnErr, IsSomeAnd, IsTrue, ◌↔◌, MatchResult, option_copied, option_map};
+ghost use Rattle.std.specs.Prelude.{◌≡◌, ◌≢◌, ◌⊎◌, ◌<◌, ◌≤◌, ◌+◌, ◌^◌, ℕ, [], Some, None, IfOk, IfSome, IfNone, OnOk, OnErr, IsSomeAnd, IsTrue, ◌↔◌, MatchResult, option_copied, option_and_then, option_map};
 ghost use Rattle.fj_tree.specs.Records.{count, record_at, record_of, handle_of, IsSound, IsGood, IsCompleter, changed, with_status, with_place, with_added, made_spent};
 ghost use Rattle.fj_tree.specs.Makes.{add_refusal, make_refusal, parent_refusal, fresh, with_child_of};
 ghost use Rattle.fj_model.specs.Tasks.{parent_in, count_in};
@@ -134,6 +134,19 @@ impl Tree {
         } else {
             self.find(h.serial)
         }
+    }
+
+    /// The record of a handle's number. None if that number is not kept.
+    pub fn look(&self, h: Handle) -> Option<&Record>
+        ensures found { option_copied result ≡ option_and_then (record_of self.now) (handle_of self.now h.serial) }
+        ensures sound { IsSound self.now }
+    {
+        let _ = &self.records;
+        if let Some(record) = self.get(h) {
+            return Some(record);
+        }
+        let found = self.find(h.serial)?;
+        self.get(found)
     }
 
     /// Makes a completer spent. The caller answers for a good handle of a completer.

@@ -1,12 +1,19 @@
 use Rattle.std.proofs.Common.{subst}
+use Rattle.std.specs.Prelude.{MatchOption}
 use Rattle.fj_model.specs.Pasts.{limit}
 use Rattle.fj_model.specs.Runs.{Past}
-use Rattle.fj_ledger.specs.Holds.{IsLawful}
+use Rattle.fj_model.specs.Tasks.{is_kept}
+use Rattle.fj_tree.specs.declared.record.Record.{Record}
+use Rattle.fj_ledger.specs.Holds.{IsLawful, TellsOf}
 use Rattle.fj_ledger.proofs.Histories.Lawfuls.{lawful}
+use Rattle.fj_ledger.proofs.Recorded.Located.{looked}
 use Rattle.fj_ledger.proofs.ledger.Ledger.look.Goals as goal
 
-pub returns-in_err-h-clause-lawful : goal.returns-in_err-h-clause-lawful
-returns-in_err-h-clause-lawful c = subst (λ (p : Past). IsLawful p.pool (limit p) p.events) c.self.view_is (lawful _ _ _ _ _ _ _ _ c.self.invariant.0)
+pub returns-clause-record : goal.returns-clause-record
+returns-clause-record c =
+    let h = c.self.inside.log.events in
+    let limits = c.self.inside.limits in
+    rw (c.look.ensures.found, ← c.self.view_is) (looked limits h c.self.inside.tree c.args.t.serial c.self.invariant.0.tree_kept)
 
 pub returns-clause-lawful : goal.returns-clause-lawful
 returns-clause-lawful c = subst (λ (p : Past). IsLawful p.pool (limit p) p.events) c.self.view_is (lawful _ _ _ _ _ _ _ _ c.self.invariant.0)

@@ -10,5 +10,5 @@ loop-hand-preserved c =
     let f = option_map (released_with c.args.c c.args.status) in
     let hands = c.loop-hand.hands in
     let i = c.loop-hand.hand-index in record {
-      changed = ap (set hands i) (c.each_released_with.ensures ∙ ap f (sym c.hand-item.is)) ∙ map_over_more f c.args.hands.now hands i c.hand-item.result c.loop-hand-test.true c.loop-hand.invariant.changed c.hand-item.is;
+      changed = ap (set hands i) (c.keep_in.ensures ∙ ap f (sym c.hand-item.is)) ∙ map_over_more f c.args.hands.now hands i c.hand-item.result c.loop-hand-test.true c.loop-hand.invariant.changed c.hand-item.is;
     }
