@@ -12,6 +12,7 @@ pub mod QuerySteps
 pub mod RefusedSteps
 pub mod Refusing
 pub mod Relaying
+pub mod ReleaseSteps
 pub mod RoomTests
 pub mod Running
 pub mod SettleSteps

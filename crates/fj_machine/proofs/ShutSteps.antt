@@ -1,12 +1,12 @@
--- Steps that shut the pool, and that release tasks.
-use Rattle.std.proofs.Common.{ℕ, ◌≡◌, true, false, None, refl}
+-- Steps that shut the pool.
+use Rattle.std.proofs.Common.{◌≡◌, true, false, refl}
 use Rattle.std.specs.Prelude.{◌||◌}
 use Rattle.fj_model.specs.Pasts.{limit}
 use Rattle.fj_model.specs.declared.event.Event.TheVariants as event
 use Rattle.fj_model.specs.declared.said.Said.TheVariants as says
-use Rattle.fj_model.specs.declared.step.Step.TheVariants.{Shutdown, Stop, Release}
+use Rattle.fj_model.specs.declared.step.Step.TheVariants.{Shutdown, Stop}
 use Rattle.fj_model.specs.Allowed.{is_closed, is_stopped}
-use Rattle.fj_model.specs.Answers.{refusals_of, first_that_stands, events_of, reply_of}
+use Rattle.fj_model.specs.Answers.{events_of, reply_of}
 use Rattle.fj_model.specs.Runs.{Past, Steps}
 use Rattle.fj_ledger.specs.Holds.{IsLawful}
 use Rattle.fj_machine.proofs.OneEvent.{IsOf, only_tells}
@@ -29,10 +29,6 @@ pub stopped_tells : (now : Past) → IsLawful now.pool (limit now) now.events �
 unfolding events_of reply_of
 stopped_tells now law stopped = told now Stop says.Done (only_tells now Stop says.Done law refl (rw stopped refl) refl)
 
-pub releases : (now : Past) (t : ℕ) → first_that_stands (refusals_of now.pool now.events (Release t)) ≡ None → IsOf now (Release t) (event.Rel t)
-unfolding events_of
-releases now t stands = record { stands = stands; event = refl }
-
-pub done_says : (now : Past) (t : ℕ) → (says.Done ≡ reply_of now.pool now.events Shutdown) × (says.Done ≡ reply_of now.pool now.events Stop) × (says.Done ≡ reply_of now.pool now.events (Release t))
+pub done_says : (now : Past) → (says.Done ≡ reply_of now.pool now.events Shutdown) × (says.Done ≡ reply_of now.pool now.events Stop)
 unfolding reply_of
-done_says now t = (refl, refl, refl)
+done_says now = (refl, refl)

@@ -1,6 +1,6 @@
 use Rattle.std.proofs.Common.{sym}
 use Rattle.fj_model.specs.declared.step.Step.TheVariants.{Release}
-use Rattle.fj_machine.proofs.ShutSteps.{releases, done_says}
+use Rattle.fj_machine.proofs.ReleaseSteps.{releases, release_says}
 use Rattle.fj_machine.proofs.Outcomes.{exits, full_of_one, may_one, made_one}
 use Rattle.fj_machine.proofs.steps.release.release.Goals as goal
 
@@ -15,4 +15,4 @@ pub release-requires-clause-may : goal.release-requires-clause-may
 release-requires-clause-may c = rw c.in_ok-t.ensures.number (may_one c.args.ledger.now (Release c.args.t) _ c.in_ok-room_for.ensures.lawful (releases c.args.ledger.now c.args.t (sym c.in_ok-t.ensures.refusal)))
 
 pub returns : goal.returns
-returns c = made_one c.args.ledger.now c.release.new.self (Release c.args.t) _ _ (releases c.args.ledger.now c.args.t (sym c.in_ok-t.ensures.refusal)) c.in_ok-room_for.ensures.room ((done_says c.args.ledger.now c.args.t).2) (rw c.in_ok-t.ensures.number at c.release.ensures)
+returns c = made_one c.args.ledger.now c.release.new.self (Release c.args.t) _ _ (releases c.args.ledger.now c.args.t (sym c.in_ok-t.ensures.refusal)) c.in_ok-room_for.ensures.room (release_says c.args.ledger.now c.args.t) (rw c.in_ok-t.ensures.number at c.release.ensures)

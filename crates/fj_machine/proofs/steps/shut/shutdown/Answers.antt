@@ -14,4 +14,4 @@ pub close_pool-requires-clause-may : goal.close_pool-requires-clause-may
 close_pool-requires-clause-may c = may_one c.args.ledger.now Shutdown _ c.in_ok-room_for.ensures.lawful (closes c.args.ledger.now (sym c.is_shut.ensures.closed ∙ c.if-is_shut.false))
 
 pub returns : goal.returns
-returns c = made_one c.args.ledger.now c.close_pool.new.self Shutdown _ _ (closes c.args.ledger.now (sym c.is_shut.ensures.closed ∙ c.if-is_shut.false)) c.in_ok-room_for.ensures.room (done_says c.args.ledger.now 0).0 c.close_pool.ensures
+returns c = made_one c.args.ledger.now c.close_pool.new.self Shutdown _ _ (closes c.args.ledger.now (sym c.is_shut.ensures.closed ∙ c.if-is_shut.false)) c.in_ok-room_for.ensures.room (done_says c.args.ledger.now).0 c.close_pool.ensures

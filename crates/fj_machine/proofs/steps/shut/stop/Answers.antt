@@ -14,4 +14,4 @@ pub stop_pool-requires-clause-may : goal.stop_pool-requires-clause-may
 stop_pool-requires-clause-may c = may_one c.args.ledger.now Stop _ c.in_ok-room_for.ensures.lawful (stops c.args.ledger.now (sym c.is_stopped.ensures.stopped ∙ c.if-is_stopped.false))
 
 pub returns : goal.returns
-returns c = made_one c.args.ledger.now c.stop_pool.new.self Stop _ _ (stops c.args.ledger.now (sym c.is_stopped.ensures.stopped ∙ c.if-is_stopped.false)) c.in_ok-room_for.ensures.room (done_says c.args.ledger.now 0).1 c.stop_pool.ensures
+returns c = made_one c.args.ledger.now c.stop_pool.new.self Stop _ _ (stops c.args.ledger.now (sym c.is_stopped.ensures.stopped ∙ c.if-is_stopped.false)) c.in_ok-room_for.ensures.room (done_says c.args.ledger.now).1 c.stop_pool.ensures
