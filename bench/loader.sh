@@ -1,5 +1,5 @@
-# Sourced by epochs.sh, admissions.sh and pairs.sh, at the top of the repository. A loader is no crate of the repository: it is proved and built in
-# a folder of its own, beside copies of the crates that it uses.
+# Sourced by epochs.sh, steps.sh, admissions.sh and pairs.sh, at the top of the repository. A loader is no crate of the repository: it is proved
+# and built in a folder of its own, beside copies of the crates that it uses.
 
 # build_loader NAME CRATE..: proves and builds the loader of bench/NAME/, which stands on CRATE.., and names its program in `loader`.
 build_loader() {
