@@ -32,7 +32,7 @@ may_accept pool h k so room count under =
 
 submitted_under : (h : List Event) (k : SubmittedKind) → IsUnder h (parent_in (Some (submitted_kind k)))
 submitted_under h submitted.Plain = tt
-submitted_under h (submitted.Completer count relay) = tt
+submitted_under h (submitted.Completer relay count) = tt
 
 pub submit_allowed : (pool : Pool) (h : List Event) (s : ℕ) (k : SubmittedKind) → AllowedFrom pool [] h → Stands pool h (Submit s k) → AllowedFrom pool h (events_of pool h (Submit s k))
 unfolding events_of
@@ -55,4 +55,4 @@ pub trigger_allowed : (pool : Pool) (h : List Event) (w count : ℕ) → Allowed
 unfolding events_of
 trigger_allowed pool h w count so st =
     let later = st.tests.1.1.1 in
-    ((may_accept pool h (Completer None count true) so later.1.1.0 later.1.0 tt, refl, refl, later.0), tt)
+    ((may_accept pool h (Completer true count None) so later.1.1.0 later.1.0 tt, refl, refl, later.0), tt)

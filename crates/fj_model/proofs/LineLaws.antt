@@ -36,11 +36,11 @@ parent_len (Some t) fits = number_len t fits
 
 submitted_short : (k : SubmittedKind) → HasSmallSubmitted k → lengths (submitted_words k) ≤ 17
 submitted_short submitted.Plain fits = omega arith
-submitted_short (submitted.Completer count relay) fits = omega (arith, number_len count fits, relay_len relay)
+submitted_short (submitted.Completer relay count) fits = omega (arith, number_len count fits, relay_len relay)
 
 kind_short : (k : Kind) → HasSmallKind k → lengths (kind_words k) ≤ 28
 kind_short kind.Plain fits = omega arith
-kind_short (kind.Completer parent count relay) fits = omega (arith, parent_len parent fits.0, number_len count fits.1, relay_len relay)
+kind_short (kind.Completer relay count parent) fits = omega (arith, parent_len parent fits.0, number_len count fits.1, relay_len relay)
 
 ending_short : (how : Ending) → HasSmallEnding how → lengths (ending_words how) ≤ 16
 ending_short ending.Ok fits = omega arith

@@ -112,43 +112,43 @@ pub cancels_and_too_many_tasks_sound : is_sound (pool_of Async 1 1 2 16) (histor
 unfolding accepted tasks released is_kept live kind is_completer parent pushed taken left queue ended stack hooks hand status_from status pending is_spent queued_in held_by opened place path_up path relayed_along relayed arrival passed owners workers first_queued choice is_closed is_stopped has_kept_child is_fired_by_complete is_quiet events_of reply_of refusal_of open_tasks newly_gone gone_from gone all_places
 cancels_and_too_many_tasks_sound = refl
 
-pub a_trigger_with_two_children : replies_after (pool_of Async 1 1 4 64) [] (ask.Submit 0 submitted.Plain ∷ ask.Poll 0 0 ∷ ask.Trigger 0 1 ∷ ask.Fork 0 (Completer (Some 1) 0 true) ∷ ask.Fork 0 (Completer (Some 1) 0 true) ∷ ask.End 0 ending.Ok ∷ ask.Poll 0 0 ∷ ask.End 0 ending.Try ∷ ask.HookDone 0 ∷ ask.Poll 0 0 ∷ ask.End 0 ending.Try ∷ ask.HookDone 0 ∷ ask.HookDone 0 ∷ ask.State 1 ∷ ask.State 2 ∷ []) ≡ says.Task 0 ∷ says.Run 0 ∷ says.Task 1 ∷ says.Task 2 ∷ says.Task 3 ∷ says.Done ∷ says.Run 2 ∷ says.Hook 2 ∷ says.Counted 1 ∷ says.Run 3 ∷ says.Hook 3 ∷ says.Hook 1 ∷ says.Root 1 ∷ says.State at.Gone status_is.Normal ∷ says.State at.Gone status_is.Undone ∷ []
+pub a_trigger_with_two_children : replies_after (pool_of Async 1 1 4 64) [] (ask.Submit 0 submitted.Plain ∷ ask.Poll 0 0 ∷ ask.Trigger 0 1 ∷ ask.Fork 0 (Completer true 0 (Some 1)) ∷ ask.Fork 0 (Completer true 0 (Some 1)) ∷ ask.End 0 ending.Ok ∷ ask.Poll 0 0 ∷ ask.End 0 ending.Try ∷ ask.HookDone 0 ∷ ask.Poll 0 0 ∷ ask.End 0 ending.Try ∷ ask.HookDone 0 ∷ ask.HookDone 0 ∷ ask.State 1 ∷ ask.State 2 ∷ []) ≡ says.Task 0 ∷ says.Run 0 ∷ says.Task 1 ∷ says.Task 2 ∷ says.Task 3 ∷ says.Done ∷ says.Run 2 ∷ says.Hook 2 ∷ says.Counted 1 ∷ says.Run 3 ∷ says.Hook 3 ∷ says.Hook 1 ∷ says.Root 1 ∷ says.State at.Gone status_is.Normal ∷ says.State at.Gone status_is.Undone ∷ []
 unfolding accepted tasks released is_kept live kind is_completer parent pushed taken left queue ended stack hooks hand status_from status pending is_spent queued_in held_by opened place path_up path relayed_along relayed arrival passed owners workers first_queued choice is_closed is_stopped has_kept_child is_fired_by_complete is_quiet events_of reply_of refusal_of
 a_trigger_with_two_children = refl
 
-pub a_trigger_with_two_children_sound : is_sound (pool_of Async 1 1 4 64) (history_after (pool_of Async 1 1 4 64) [] (ask.Submit 0 submitted.Plain ∷ ask.Poll 0 0 ∷ ask.Trigger 0 1 ∷ ask.Fork 0 (Completer (Some 1) 0 true) ∷ ask.Fork 0 (Completer (Some 1) 0 true) ∷ ask.End 0 ending.Ok ∷ ask.Poll 0 0 ∷ ask.End 0 ending.Try ∷ ask.HookDone 0 ∷ ask.Poll 0 0 ∷ ask.End 0 ending.Try ∷ ask.HookDone 0 ∷ ask.HookDone 0 ∷ ask.State 1 ∷ ask.State 2 ∷ [])) ≡ true
+pub a_trigger_with_two_children_sound : is_sound (pool_of Async 1 1 4 64) (history_after (pool_of Async 1 1 4 64) [] (ask.Submit 0 submitted.Plain ∷ ask.Poll 0 0 ∷ ask.Trigger 0 1 ∷ ask.Fork 0 (Completer true 0 (Some 1)) ∷ ask.Fork 0 (Completer true 0 (Some 1)) ∷ ask.End 0 ending.Ok ∷ ask.Poll 0 0 ∷ ask.End 0 ending.Try ∷ ask.HookDone 0 ∷ ask.Poll 0 0 ∷ ask.End 0 ending.Try ∷ ask.HookDone 0 ∷ ask.HookDone 0 ∷ ask.State 1 ∷ ask.State 2 ∷ [])) ≡ true
 unfolding accepted tasks released is_kept live kind is_completer parent pushed taken left queue ended stack hooks hand status_from status pending is_spent queued_in held_by opened place path_up path relayed_along relayed arrival passed owners workers first_queued choice is_closed is_stopped has_kept_child is_fired_by_complete is_quiet events_of reply_of refusal_of open_tasks newly_gone gone_from gone all_places
 a_trigger_with_two_children_sound = refl
 
-pub a_trigger_with_three_children : replies_after (pool_of Async 1 1 5 64) [] (ask.Submit 0 submitted.Plain ∷ ask.Poll 0 0 ∷ ask.Trigger 0 1 ∷ ask.Fork 0 (Completer (Some 1) 0 true) ∷ ask.Fork 0 (Completer (Some 1) 0 true) ∷ ask.Fork 0 (Completer (Some 1) 0 true) ∷ ask.End 0 ending.Ok ∷ ask.Poll 0 0 ∷ ask.End 0 ending.Try ∷ ask.HookDone 0 ∷ ask.Poll 0 0 ∷ ask.End 0 ending.Try ∷ ask.HookDone 0 ∷ ask.HookDone 0 ∷ ask.State 1 ∷ ask.State 2 ∷ ask.Poll 0 0 ∷ ask.End 0 ending.Try ∷ ask.HookDone 0 ∷ []) ≡ says.Task 0 ∷ says.Run 0 ∷ says.Task 1 ∷ says.Task 2 ∷ says.Task 3 ∷ says.Task 4 ∷ says.Done ∷ says.Run 2 ∷ says.Hook 2 ∷ says.Counted 1 ∷ says.Run 3 ∷ says.Hook 3 ∷ says.Hook 1 ∷ says.Root 1 ∷ says.State at.Gone status_is.Normal ∷ says.State at.Gone status_is.Undone ∷ says.Run 4 ∷ says.Hook 4 ∷ says.Spent 1 ∷ []
+pub a_trigger_with_three_children : replies_after (pool_of Async 1 1 5 64) [] (ask.Submit 0 submitted.Plain ∷ ask.Poll 0 0 ∷ ask.Trigger 0 1 ∷ ask.Fork 0 (Completer true 0 (Some 1)) ∷ ask.Fork 0 (Completer true 0 (Some 1)) ∷ ask.Fork 0 (Completer true 0 (Some 1)) ∷ ask.End 0 ending.Ok ∷ ask.Poll 0 0 ∷ ask.End 0 ending.Try ∷ ask.HookDone 0 ∷ ask.Poll 0 0 ∷ ask.End 0 ending.Try ∷ ask.HookDone 0 ∷ ask.HookDone 0 ∷ ask.State 1 ∷ ask.State 2 ∷ ask.Poll 0 0 ∷ ask.End 0 ending.Try ∷ ask.HookDone 0 ∷ []) ≡ says.Task 0 ∷ says.Run 0 ∷ says.Task 1 ∷ says.Task 2 ∷ says.Task 3 ∷ says.Task 4 ∷ says.Done ∷ says.Run 2 ∷ says.Hook 2 ∷ says.Counted 1 ∷ says.Run 3 ∷ says.Hook 3 ∷ says.Hook 1 ∷ says.Root 1 ∷ says.State at.Gone status_is.Normal ∷ says.State at.Gone status_is.Undone ∷ says.Run 4 ∷ says.Hook 4 ∷ says.Spent 1 ∷ []
 unfolding accepted tasks released is_kept live kind is_completer parent pushed taken left queue ended stack hooks hand status_from status pending is_spent queued_in held_by opened place path_up path relayed_along relayed arrival passed owners workers first_queued choice is_closed is_stopped has_kept_child is_fired_by_complete is_quiet events_of reply_of refusal_of
 a_trigger_with_three_children = refl
 
-pub a_trigger_with_three_children_sound : is_sound (pool_of Async 1 1 5 64) (history_after (pool_of Async 1 1 5 64) [] (ask.Submit 0 submitted.Plain ∷ ask.Poll 0 0 ∷ ask.Trigger 0 1 ∷ ask.Fork 0 (Completer (Some 1) 0 true) ∷ ask.Fork 0 (Completer (Some 1) 0 true) ∷ ask.Fork 0 (Completer (Some 1) 0 true) ∷ ask.End 0 ending.Ok ∷ ask.Poll 0 0 ∷ ask.End 0 ending.Try ∷ ask.HookDone 0 ∷ ask.Poll 0 0 ∷ ask.End 0 ending.Try ∷ ask.HookDone 0 ∷ ask.HookDone 0 ∷ ask.State 1 ∷ ask.State 2 ∷ ask.Poll 0 0 ∷ ask.End 0 ending.Try ∷ ask.HookDone 0 ∷ [])) ≡ true
+pub a_trigger_with_three_children_sound : is_sound (pool_of Async 1 1 5 64) (history_after (pool_of Async 1 1 5 64) [] (ask.Submit 0 submitted.Plain ∷ ask.Poll 0 0 ∷ ask.Trigger 0 1 ∷ ask.Fork 0 (Completer true 0 (Some 1)) ∷ ask.Fork 0 (Completer true 0 (Some 1)) ∷ ask.Fork 0 (Completer true 0 (Some 1)) ∷ ask.End 0 ending.Ok ∷ ask.Poll 0 0 ∷ ask.End 0 ending.Try ∷ ask.HookDone 0 ∷ ask.Poll 0 0 ∷ ask.End 0 ending.Try ∷ ask.HookDone 0 ∷ ask.HookDone 0 ∷ ask.State 1 ∷ ask.State 2 ∷ ask.Poll 0 0 ∷ ask.End 0 ending.Try ∷ ask.HookDone 0 ∷ [])) ≡ true
 unfolding accepted tasks released is_kept live kind is_completer parent pushed taken left queue ended stack hooks hand status_from status pending is_spent queued_in held_by opened place path_up path relayed_along relayed arrival passed owners workers first_queued choice is_closed is_stopped has_kept_child is_fired_by_complete is_quiet events_of reply_of refusal_of open_tasks newly_gone gone_from gone all_places
 a_trigger_with_three_children_sound = refl
 
-pub a_child_arrives_early : replies_after (pool_of Async 2 1 4 64) [] (ask.Submit 0 (submitted.Completer 0 true) ∷ ask.Poll 0 0 ∷ ask.Fork 0 (Completer (Some 0) 0 true) ∷ ask.Poll 1 1 ∷ ask.End 1 ending.Try ∷ ask.HookDone 1 ∷ ask.End 0 ending.Try ∷ ask.HookDone 0 ∷ []) ≡ says.Task 0 ∷ says.Run 0 ∷ says.Task 1 ∷ says.Run 1 ∷ says.Hook 1 ∷ says.Early 0 ∷ says.Hook 0 ∷ says.Root 0 ∷ []
+pub a_child_arrives_early : replies_after (pool_of Async 2 1 4 64) [] (ask.Submit 0 (submitted.Completer true 0) ∷ ask.Poll 0 0 ∷ ask.Fork 0 (Completer true 0 (Some 0)) ∷ ask.Poll 1 1 ∷ ask.End 1 ending.Try ∷ ask.HookDone 1 ∷ ask.End 0 ending.Try ∷ ask.HookDone 0 ∷ []) ≡ says.Task 0 ∷ says.Run 0 ∷ says.Task 1 ∷ says.Run 1 ∷ says.Hook 1 ∷ says.Early 0 ∷ says.Hook 0 ∷ says.Root 0 ∷ []
 unfolding accepted tasks released is_kept live kind is_completer parent pushed taken left queue ended stack hooks hand status_from status pending is_spent queued_in held_by opened place path_up path relayed_along relayed arrival passed owners workers first_queued choice is_closed is_stopped has_kept_child is_fired_by_complete is_quiet events_of reply_of refusal_of
 a_child_arrives_early = refl
 
-pub a_child_arrives_early_sound : is_sound (pool_of Async 2 1 4 64) (history_after (pool_of Async 2 1 4 64) [] (ask.Submit 0 (submitted.Completer 0 true) ∷ ask.Poll 0 0 ∷ ask.Fork 0 (Completer (Some 0) 0 true) ∷ ask.Poll 1 1 ∷ ask.End 1 ending.Try ∷ ask.HookDone 1 ∷ ask.End 0 ending.Try ∷ ask.HookDone 0 ∷ [])) ≡ true
+pub a_child_arrives_early_sound : is_sound (pool_of Async 2 1 4 64) (history_after (pool_of Async 2 1 4 64) [] (ask.Submit 0 (submitted.Completer true 0) ∷ ask.Poll 0 0 ∷ ask.Fork 0 (Completer true 0 (Some 0)) ∷ ask.Poll 1 1 ∷ ask.End 1 ending.Try ∷ ask.HookDone 1 ∷ ask.End 0 ending.Try ∷ ask.HookDone 0 ∷ [])) ≡ true
 unfolding accepted tasks released is_kept live kind is_completer parent pushed taken left queue ended stack hooks hand status_from status pending is_spent queued_in held_by opened place path_up path relayed_along relayed arrival passed owners workers first_queued choice is_closed is_stopped has_kept_child is_fired_by_complete is_quiet events_of reply_of refusal_of open_tasks newly_gone gone_from gone all_places
 a_child_arrives_early_sound = refl
 
-pub a_propagated_completion : replies_after (pool_of Async 1 1 4 64) [] (ask.Submit 0 (submitted.Completer 0 true) ∷ ask.Poll 0 0 ∷ ask.Fork 0 (Completer (Some 0) 0 true) ∷ ask.End 0 ending.Quiet ∷ ask.Poll 0 0 ∷ ask.Fork 0 (Completer (Some 1) 0 true) ∷ ask.End 0 ending.Quiet ∷ ask.Poll 0 0 ∷ ask.End 0 ending.Pass ∷ ask.State 0 ∷ ask.State 1 ∷ []) ≡ says.Task 0 ∷ says.Run 0 ∷ says.Task 1 ∷ says.Done ∷ says.Run 1 ∷ says.Task 2 ∷ says.Done ∷ says.Run 2 ∷ says.Root 0 ∷ says.State at.Gone status_is.Normal ∷ says.State at.Gone status_is.Undone ∷ []
+pub a_propagated_completion : replies_after (pool_of Async 1 1 4 64) [] (ask.Submit 0 (submitted.Completer true 0) ∷ ask.Poll 0 0 ∷ ask.Fork 0 (Completer true 0 (Some 0)) ∷ ask.End 0 ending.Quiet ∷ ask.Poll 0 0 ∷ ask.Fork 0 (Completer true 0 (Some 1)) ∷ ask.End 0 ending.Quiet ∷ ask.Poll 0 0 ∷ ask.End 0 ending.Pass ∷ ask.State 0 ∷ ask.State 1 ∷ []) ≡ says.Task 0 ∷ says.Run 0 ∷ says.Task 1 ∷ says.Done ∷ says.Run 1 ∷ says.Task 2 ∷ says.Done ∷ says.Run 2 ∷ says.Root 0 ∷ says.State at.Gone status_is.Normal ∷ says.State at.Gone status_is.Undone ∷ []
 unfolding accepted tasks released is_kept live kind is_completer parent pushed taken left queue ended stack hooks hand status_from status pending is_spent queued_in held_by opened place path_up path relayed_along relayed arrival passed owners workers first_queued choice is_closed is_stopped has_kept_child is_fired_by_complete is_quiet events_of reply_of refusal_of
 a_propagated_completion = refl
 
-pub a_propagated_completion_sound : is_sound (pool_of Async 1 1 4 64) (history_after (pool_of Async 1 1 4 64) [] (ask.Submit 0 (submitted.Completer 0 true) ∷ ask.Poll 0 0 ∷ ask.Fork 0 (Completer (Some 0) 0 true) ∷ ask.End 0 ending.Quiet ∷ ask.Poll 0 0 ∷ ask.Fork 0 (Completer (Some 1) 0 true) ∷ ask.End 0 ending.Quiet ∷ ask.Poll 0 0 ∷ ask.End 0 ending.Pass ∷ ask.State 0 ∷ ask.State 1 ∷ [])) ≡ true
+pub a_propagated_completion_sound : is_sound (pool_of Async 1 1 4 64) (history_after (pool_of Async 1 1 4 64) [] (ask.Submit 0 (submitted.Completer true 0) ∷ ask.Poll 0 0 ∷ ask.Fork 0 (Completer true 0 (Some 0)) ∷ ask.End 0 ending.Quiet ∷ ask.Poll 0 0 ∷ ask.Fork 0 (Completer true 0 (Some 1)) ∷ ask.End 0 ending.Quiet ∷ ask.Poll 0 0 ∷ ask.End 0 ending.Pass ∷ ask.State 0 ∷ ask.State 1 ∷ [])) ≡ true
 unfolding accepted tasks released is_kept live kind is_completer parent pushed taken left queue ended stack hooks hand status_from status pending is_spent queued_in held_by opened place path_up path relayed_along relayed arrival passed owners workers first_queued choice is_closed is_stopped has_kept_child is_fired_by_complete is_quiet events_of reply_of refusal_of open_tasks newly_gone gone_from gone all_places
 a_propagated_completion_sound = refl
 
-pub a_relayed_code : replies_after (pool_of Async 1 1 4 64) [] (ask.Submit 0 (submitted.Completer 0 true) ∷ ask.Poll 0 0 ∷ ask.Fork 0 (Completer (Some 0) 0 false) ∷ ask.End 0 ending.Quiet ∷ ask.Poll 0 0 ∷ ask.Fork 0 (Completer (Some 1) 0 true) ∷ ask.End 0 ending.Quiet ∷ ask.Poll 0 0 ∷ ask.Fork 0 (Completer (Some 2) 0 true) ∷ ask.End 0 ending.Quiet ∷ ask.Poll 0 0 ∷ ask.End 0 (ending.Fail 7) ∷ ask.State 3 ∷ ask.State 2 ∷ ask.State 1 ∷ ask.State 0 ∷ []) ≡ says.Task 0 ∷ says.Run 0 ∷ says.Task 1 ∷ says.Done ∷ says.Run 1 ∷ says.Task 2 ∷ says.Done ∷ says.Run 2 ∷ says.Task 3 ∷ says.Done ∷ says.Run 3 ∷ says.Done ∷ says.State at.Gone (status_is.Exceptional 7) ∷ says.State at.Gone (status_is.Exceptional 7) ∷ says.State at.Gone (status_is.Exceptional 7) ∷ says.State at.Open status_is.Undone ∷ []
+pub a_relayed_code : replies_after (pool_of Async 1 1 4 64) [] (ask.Submit 0 (submitted.Completer true 0) ∷ ask.Poll 0 0 ∷ ask.Fork 0 (Completer false 0 (Some 0)) ∷ ask.End 0 ending.Quiet ∷ ask.Poll 0 0 ∷ ask.Fork 0 (Completer true 0 (Some 1)) ∷ ask.End 0 ending.Quiet ∷ ask.Poll 0 0 ∷ ask.Fork 0 (Completer true 0 (Some 2)) ∷ ask.End 0 ending.Quiet ∷ ask.Poll 0 0 ∷ ask.End 0 (ending.Fail 7) ∷ ask.State 3 ∷ ask.State 2 ∷ ask.State 1 ∷ ask.State 0 ∷ []) ≡ says.Task 0 ∷ says.Run 0 ∷ says.Task 1 ∷ says.Done ∷ says.Run 1 ∷ says.Task 2 ∷ says.Done ∷ says.Run 2 ∷ says.Task 3 ∷ says.Done ∷ says.Run 3 ∷ says.Done ∷ says.State at.Gone (status_is.Exceptional 7) ∷ says.State at.Gone (status_is.Exceptional 7) ∷ says.State at.Gone (status_is.Exceptional 7) ∷ says.State at.Open status_is.Undone ∷ []
 unfolding accepted tasks released is_kept live kind is_completer parent pushed taken left queue ended stack hooks hand status_from status pending is_spent queued_in held_by opened place path_up path relayed_along relayed arrival passed owners workers first_queued choice is_closed is_stopped has_kept_child is_fired_by_complete is_quiet events_of reply_of refusal_of
 a_relayed_code = refl
 
-pub a_relayed_code_sound : is_sound (pool_of Async 1 1 4 64) (history_after (pool_of Async 1 1 4 64) [] (ask.Submit 0 (submitted.Completer 0 true) ∷ ask.Poll 0 0 ∷ ask.Fork 0 (Completer (Some 0) 0 false) ∷ ask.End 0 ending.Quiet ∷ ask.Poll 0 0 ∷ ask.Fork 0 (Completer (Some 1) 0 true) ∷ ask.End 0 ending.Quiet ∷ ask.Poll 0 0 ∷ ask.Fork 0 (Completer (Some 2) 0 true) ∷ ask.End 0 ending.Quiet ∷ ask.Poll 0 0 ∷ ask.End 0 (ending.Fail 7) ∷ ask.State 3 ∷ ask.State 2 ∷ ask.State 1 ∷ ask.State 0 ∷ [])) ≡ true
+pub a_relayed_code_sound : is_sound (pool_of Async 1 1 4 64) (history_after (pool_of Async 1 1 4 64) [] (ask.Submit 0 (submitted.Completer true 0) ∷ ask.Poll 0 0 ∷ ask.Fork 0 (Completer false 0 (Some 0)) ∷ ask.End 0 ending.Quiet ∷ ask.Poll 0 0 ∷ ask.Fork 0 (Completer true 0 (Some 1)) ∷ ask.End 0 ending.Quiet ∷ ask.Poll 0 0 ∷ ask.Fork 0 (Completer true 0 (Some 2)) ∷ ask.End 0 ending.Quiet ∷ ask.Poll 0 0 ∷ ask.End 0 (ending.Fail 7) ∷ ask.State 3 ∷ ask.State 2 ∷ ask.State 1 ∷ ask.State 0 ∷ [])) ≡ true
 unfolding accepted tasks released is_kept live kind is_completer parent pushed taken left queue ended stack hooks hand status_from status pending is_spent queued_in held_by opened place path_up path relayed_along relayed arrival passed owners workers first_queued choice is_closed is_stopped has_kept_child is_fired_by_complete is_quiet events_of reply_of refusal_of open_tasks newly_gone gone_from gone all_places
 a_relayed_code_sound = refl
 
@@ -176,34 +176,34 @@ pub joins_joining_sound : is_sound (pool_of Joining 1 1 4 64) (history_after (po
 unfolding accepted tasks released is_kept live kind is_completer parent pushed taken left queue ended stack hooks hand status_from status pending is_spent queued_in held_by opened place path_up path relayed_along relayed arrival passed owners workers first_queued choice is_closed is_stopped has_kept_child is_fired_by_complete is_quiet events_of reply_of refusal_of open_tasks newly_gone gone_from gone all_places
 joins_joining_sound = refl
 
-pub counts_and_complete : replies_after (pool_of Async 1 1 1 64) [] (ask.Submit 0 (submitted.Completer 5 true) ∷ ask.Poll 0 0 ∷ ask.Add 0 0 2 ∷ ask.Add 0 0 65535 ∷ ask.End 0 ending.Ok ∷ ask.End 0 ending.Complete ∷ ask.Poll 0 0 ∷ ask.HookDone 0 ∷ ask.HookDone 0 ∷ []) ≡ says.Task 0 ∷ says.Run 0 ∷ says.Count 7 ∷ says.Refused refused.CountTooLarge ∷ says.Refused refused.NotCompleter ∷ says.Hook 0 ∷ says.Refused refused.NotIdle ∷ says.Root 0 ∷ says.Refused refused.NotRunning ∷ []
+pub counts_and_complete : replies_after (pool_of Async 1 1 1 64) [] (ask.Submit 0 (submitted.Completer true 5) ∷ ask.Poll 0 0 ∷ ask.Add 0 0 2 ∷ ask.Add 0 0 65535 ∷ ask.End 0 ending.Ok ∷ ask.End 0 ending.Complete ∷ ask.Poll 0 0 ∷ ask.HookDone 0 ∷ ask.HookDone 0 ∷ []) ≡ says.Task 0 ∷ says.Run 0 ∷ says.Count 7 ∷ says.Refused refused.CountTooLarge ∷ says.Refused refused.NotCompleter ∷ says.Hook 0 ∷ says.Refused refused.NotIdle ∷ says.Root 0 ∷ says.Refused refused.NotRunning ∷ []
 unfolding accepted tasks released is_kept live kind is_completer parent pushed taken left queue ended stack hooks hand status_from status pending is_spent queued_in held_by opened place path_up path relayed_along relayed arrival passed owners workers first_queued choice is_closed is_stopped has_kept_child is_fired_by_complete is_quiet events_of reply_of refusal_of
 counts_and_complete = refl
 
-pub counts_and_complete_sound : is_sound (pool_of Async 1 1 1 64) (history_after (pool_of Async 1 1 1 64) [] (ask.Submit 0 (submitted.Completer 5 true) ∷ ask.Poll 0 0 ∷ ask.Add 0 0 2 ∷ ask.Add 0 0 65535 ∷ ask.End 0 ending.Ok ∷ ask.End 0 ending.Complete ∷ ask.Poll 0 0 ∷ ask.HookDone 0 ∷ ask.HookDone 0 ∷ [])) ≡ true
+pub counts_and_complete_sound : is_sound (pool_of Async 1 1 1 64) (history_after (pool_of Async 1 1 1 64) [] (ask.Submit 0 (submitted.Completer true 5) ∷ ask.Poll 0 0 ∷ ask.Add 0 0 2 ∷ ask.Add 0 0 65535 ∷ ask.End 0 ending.Ok ∷ ask.End 0 ending.Complete ∷ ask.Poll 0 0 ∷ ask.HookDone 0 ∷ ask.HookDone 0 ∷ [])) ≡ true
 unfolding accepted tasks released is_kept live kind is_completer parent pushed taken left queue ended stack hooks hand status_from status pending is_spent queued_in held_by opened place path_up path relayed_along relayed arrival passed owners workers first_queued choice is_closed is_stopped has_kept_child is_fired_by_complete is_quiet events_of reply_of refusal_of open_tasks newly_gone gone_from gone all_places
 counts_and_complete_sound = refl
 
-pub releases : replies_after (pool_of Async 1 1 3 64) [] (ask.Submit 0 (submitted.Completer 0 true) ∷ ask.Poll 0 0 ∷ ask.Fork 0 (Completer (Some 0) 0 true) ∷ ask.End 0 ending.Try ∷ ask.HookDone 0 ∷ ask.Release 0 ∷ ask.Cancel 1 ∷ ask.Poll 0 0 ∷ ask.Release 1 ∷ ask.Release 0 ∷ ask.State 0 ∷ ask.Submit 0 submitted.Plain ∷ []) ≡ says.Task 0 ∷ says.Run 0 ∷ says.Task 1 ∷ says.Hook 0 ∷ says.Root 0 ∷ says.Refused refused.NotDone ∷ says.Yes ∷ says.Skip 1 ∷ says.Done ∷ says.Done ∷ says.Refused refused.Unknown ∷ says.Task 2 ∷ []
+pub releases : replies_after (pool_of Async 1 1 3 64) [] (ask.Submit 0 (submitted.Completer true 0) ∷ ask.Poll 0 0 ∷ ask.Fork 0 (Completer true 0 (Some 0)) ∷ ask.End 0 ending.Try ∷ ask.HookDone 0 ∷ ask.Release 0 ∷ ask.Cancel 1 ∷ ask.Poll 0 0 ∷ ask.Release 1 ∷ ask.Release 0 ∷ ask.State 0 ∷ ask.Submit 0 submitted.Plain ∷ []) ≡ says.Task 0 ∷ says.Run 0 ∷ says.Task 1 ∷ says.Hook 0 ∷ says.Root 0 ∷ says.Refused refused.NotDone ∷ says.Yes ∷ says.Skip 1 ∷ says.Done ∷ says.Done ∷ says.Refused refused.Unknown ∷ says.Task 2 ∷ []
 unfolding accepted tasks released is_kept live kind is_completer parent pushed taken left queue ended stack hooks hand status_from status pending is_spent queued_in held_by opened place path_up path relayed_along relayed arrival passed owners workers first_queued choice is_closed is_stopped has_kept_child is_fired_by_complete is_quiet events_of reply_of refusal_of
 releases = refl
 
-pub releases_sound : is_sound (pool_of Async 1 1 3 64) (history_after (pool_of Async 1 1 3 64) [] (ask.Submit 0 (submitted.Completer 0 true) ∷ ask.Poll 0 0 ∷ ask.Fork 0 (Completer (Some 0) 0 true) ∷ ask.End 0 ending.Try ∷ ask.HookDone 0 ∷ ask.Release 0 ∷ ask.Cancel 1 ∷ ask.Poll 0 0 ∷ ask.Release 1 ∷ ask.Release 0 ∷ ask.State 0 ∷ ask.Submit 0 submitted.Plain ∷ [])) ≡ true
+pub releases_sound : is_sound (pool_of Async 1 1 3 64) (history_after (pool_of Async 1 1 3 64) [] (ask.Submit 0 (submitted.Completer true 0) ∷ ask.Poll 0 0 ∷ ask.Fork 0 (Completer true 0 (Some 0)) ∷ ask.End 0 ending.Try ∷ ask.HookDone 0 ∷ ask.Release 0 ∷ ask.Cancel 1 ∷ ask.Poll 0 0 ∷ ask.Release 1 ∷ ask.Release 0 ∷ ask.State 0 ∷ ask.Submit 0 submitted.Plain ∷ [])) ≡ true
 unfolding accepted tasks released is_kept live kind is_completer parent pushed taken left queue ended stack hooks hand status_from status pending is_spent queued_in held_by opened place path_up path relayed_along relayed arrival passed owners workers first_queued choice is_closed is_stopped has_kept_child is_fired_by_complete is_quiet events_of reply_of refusal_of open_tasks newly_gone gone_from gone all_places
 releases_sound = refl
 
-pub a_stop_cancels_all : replies_after (pool_of Async 1 1 4 64) [] (ask.Submit 0 (submitted.Completer 1 true) ∷ ask.Poll 0 0 ∷ ask.End 0 ending.Quiet ∷ ask.State 0 ∷ ask.Submit 0 submitted.Plain ∷ ask.Stop ∷ ask.State 0 ∷ ask.State 1 ∷ ask.Poll 0 0 ∷ ask.IsQuiescent ∷ ask.Stop ∷ ask.Shutdown ∷ ask.Submit 0 submitted.Plain ∷ []) ≡ says.Task 0 ∷ says.Run 0 ∷ says.Done ∷ says.State at.Open status_is.Undone ∷ says.Task 1 ∷ says.Done ∷ says.State at.Gone status_is.Cancelled ∷ says.State (at.Queued (Sub 0)) status_is.Cancelled ∷ says.Skip 1 ∷ says.Yes ∷ says.Done ∷ says.Done ∷ says.Refused refused.Closed ∷ []
+pub a_stop_cancels_all : replies_after (pool_of Async 1 1 4 64) [] (ask.Submit 0 (submitted.Completer true 1) ∷ ask.Poll 0 0 ∷ ask.End 0 ending.Quiet ∷ ask.State 0 ∷ ask.Submit 0 submitted.Plain ∷ ask.Stop ∷ ask.State 0 ∷ ask.State 1 ∷ ask.Poll 0 0 ∷ ask.IsQuiescent ∷ ask.Stop ∷ ask.Shutdown ∷ ask.Submit 0 submitted.Plain ∷ []) ≡ says.Task 0 ∷ says.Run 0 ∷ says.Done ∷ says.State at.Open status_is.Undone ∷ says.Task 1 ∷ says.Done ∷ says.State at.Gone status_is.Cancelled ∷ says.State (at.Queued (Sub 0)) status_is.Cancelled ∷ says.Skip 1 ∷ says.Yes ∷ says.Done ∷ says.Done ∷ says.Refused refused.Closed ∷ []
 unfolding accepted tasks released is_kept live kind is_completer parent pushed taken left queue ended stack hooks hand status_from status pending is_spent queued_in held_by opened place path_up path relayed_along relayed arrival passed owners workers first_queued choice is_closed is_stopped has_kept_child is_fired_by_complete is_quiet events_of reply_of refusal_of
 a_stop_cancels_all = refl
 
-pub a_stop_cancels_all_sound : is_sound (pool_of Async 1 1 4 64) (history_after (pool_of Async 1 1 4 64) [] (ask.Submit 0 (submitted.Completer 1 true) ∷ ask.Poll 0 0 ∷ ask.End 0 ending.Quiet ∷ ask.State 0 ∷ ask.Submit 0 submitted.Plain ∷ ask.Stop ∷ ask.State 0 ∷ ask.State 1 ∷ ask.Poll 0 0 ∷ ask.IsQuiescent ∷ ask.Stop ∷ ask.Shutdown ∷ ask.Submit 0 submitted.Plain ∷ [])) ≡ true
+pub a_stop_cancels_all_sound : is_sound (pool_of Async 1 1 4 64) (history_after (pool_of Async 1 1 4 64) [] (ask.Submit 0 (submitted.Completer true 1) ∷ ask.Poll 0 0 ∷ ask.End 0 ending.Quiet ∷ ask.State 0 ∷ ask.Submit 0 submitted.Plain ∷ ask.Stop ∷ ask.State 0 ∷ ask.State 1 ∷ ask.Poll 0 0 ∷ ask.IsQuiescent ∷ ask.Stop ∷ ask.Shutdown ∷ ask.Submit 0 submitted.Plain ∷ [])) ≡ true
 unfolding accepted tasks released is_kept live kind is_completer parent pushed taken left queue ended stack hooks hand status_from status pending is_spent queued_in held_by opened place path_up path relayed_along relayed arrival passed owners workers first_queued choice is_closed is_stopped has_kept_child is_fired_by_complete is_quiet events_of reply_of refusal_of open_tasks newly_gone gone_from gone all_places
 a_stop_cancels_all_sound = refl
 
-pub a_release_under_a_hook : replies_after (pool_of Async 1 1 2 64) [] (ask.Submit 0 (submitted.Completer 0 true) ∷ ask.Poll 0 0 ∷ ask.End 0 ending.Try ∷ ask.Release 0 ∷ ask.Submit 0 submitted.Plain ∷ ask.Stop ∷ ask.HookDone 0 ∷ ask.State 0 ∷ ask.State 1 ∷ []) ≡ says.Task 0 ∷ says.Run 0 ∷ says.Hook 0 ∷ says.Done ∷ says.Task 1 ∷ says.Done ∷ says.Spent 0 ∷ says.Refused refused.Unknown ∷ says.State (at.Queued (Sub 0)) status_is.Cancelled ∷ []
+pub a_release_under_a_hook : replies_after (pool_of Async 1 1 2 64) [] (ask.Submit 0 (submitted.Completer true 0) ∷ ask.Poll 0 0 ∷ ask.End 0 ending.Try ∷ ask.Release 0 ∷ ask.Submit 0 submitted.Plain ∷ ask.Stop ∷ ask.HookDone 0 ∷ ask.State 0 ∷ ask.State 1 ∷ []) ≡ says.Task 0 ∷ says.Run 0 ∷ says.Hook 0 ∷ says.Done ∷ says.Task 1 ∷ says.Done ∷ says.Spent 0 ∷ says.Refused refused.Unknown ∷ says.State (at.Queued (Sub 0)) status_is.Cancelled ∷ []
 unfolding accepted tasks released is_kept live kind is_completer parent pushed taken left queue ended stack hooks hand status_from status pending is_spent queued_in held_by opened place path_up path relayed_along relayed arrival passed owners workers first_queued choice is_closed is_stopped has_kept_child is_fired_by_complete is_quiet events_of reply_of refusal_of
 a_release_under_a_hook = refl
 
-pub a_release_under_a_hook_sound : is_sound (pool_of Async 1 1 2 64) (history_after (pool_of Async 1 1 2 64) [] (ask.Submit 0 (submitted.Completer 0 true) ∷ ask.Poll 0 0 ∷ ask.End 0 ending.Try ∷ ask.Release 0 ∷ ask.Submit 0 submitted.Plain ∷ ask.Stop ∷ ask.HookDone 0 ∷ ask.State 0 ∷ ask.State 1 ∷ [])) ≡ true
+pub a_release_under_a_hook_sound : is_sound (pool_of Async 1 1 2 64) (history_after (pool_of Async 1 1 2 64) [] (ask.Submit 0 (submitted.Completer true 0) ∷ ask.Poll 0 0 ∷ ask.End 0 ending.Try ∷ ask.Release 0 ∷ ask.Submit 0 submitted.Plain ∷ ask.Stop ∷ ask.HookDone 0 ∷ ask.State 0 ∷ ask.State 1 ∷ [])) ≡ true
 unfolding accepted tasks released is_kept live kind is_completer parent pushed taken left queue ended stack hooks hand status_from status pending is_spent queued_in held_by opened place path_up path relayed_along relayed arrival passed owners workers first_queued choice is_closed is_stopped has_kept_child is_fired_by_complete is_quiet events_of reply_of refusal_of open_tasks newly_gone gone_from gone all_places
 a_release_under_a_hook_sound = refl

@@ -123,7 +123,7 @@ root_events h (Some root) = settling h root status_is.Normal
 unfoldable pub events_of : Pool → List Event → Step → List Event
 events_of pool h (Submit s k) = event.Acc (accepted h) (Sub s) (submitted_kind k) ∷ []
 events_of pool h (Fork w k) = event.Acc (accepted h) (Work w) k ∷ []
-events_of pool h (Trigger w count) = event.Make (accepted h) (Completer None count true) ∷ []
+events_of pool h (Trigger w count) = event.Make (accepted h) (Completer true count None) ∷ []
 events_of pool h (Poll w r) = taking h w (choice pool h w r)
 events_of pool h (Help w r) = taking h w (choice pool h w r)
 events_of pool h (Join w t r) = if is_undone (status h t) then taking h w (choice pool h w r) else []

@@ -30,12 +30,12 @@ parent_word (Some t) = decimal t
 -- what stands behind the submitter
 abbrev pub submitted_words : SubmittedKind → List (List ℕ)
 submitted_words submitted.Plain = []
-submitted_words (submitted.Completer count relay) = decimal count ∷ relay_word relay ∷ []
+submitted_words (submitted.Completer relay count) = decimal count ∷ relay_word relay ∷ []
 
 -- what stands behind the worker that forks
 abbrev pub kind_words : Kind → List (List ℕ)
 kind_words kind.Plain = []
-kind_words (kind.Completer parent count relay) = parent_word parent ∷ decimal count ∷ relay_word relay ∷ []
+kind_words (kind.Completer relay count parent) = parent_word parent ∷ decimal count ∷ relay_word relay ∷ []
 
 abbrev pub ending_words : Ending → List (List ℕ)
 ending_words ending.Ok = codes "ok" ∷ []
@@ -75,11 +75,11 @@ IsSmall n = n < 2 ^ 32
 
 abbrev pub HasSmallSubmitted : SubmittedKind → Type 0
 HasSmallSubmitted submitted.Plain = Unit {0}
-HasSmallSubmitted (submitted.Completer count relay) = IsSmall count
+HasSmallSubmitted (submitted.Completer relay count) = IsSmall count
 
 abbrev pub HasSmallKind : Kind → Type 0
 HasSmallKind kind.Plain = Unit {0}
-HasSmallKind (kind.Completer parent count relay) = IfSome parent IsSmall × IsSmall count
+HasSmallKind (kind.Completer relay count parent) = IfSome parent IsSmall × IsSmall count
 
 abbrev pub HasSmallEnding : Ending → Type 0
 HasSmallEnding (ending.Fail code) = IsSmall code

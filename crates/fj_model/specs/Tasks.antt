@@ -50,25 +50,25 @@ kind h t = first_said (kind_by t) h
 -- a submitted task has no parent
 abbrev pub submitted_kind : SubmittedKind → Kind
 submitted_kind submitted.Plain = Plain
-submitted_kind (submitted.Completer count relay) = Completer None count relay
+submitted_kind (submitted.Completer relay count) = Completer relay count None
 
 abbrev pub is_completer_kind : Option Kind → Bool
-is_completer_kind (Some (Completer parent count relay)) = true
+is_completer_kind (Some (Completer relay count parent)) = true
 is_completer_kind (Some Plain) = false
 is_completer_kind None = false
 
 abbrev pub count_in : Option Kind → ℕ
-count_in (Some (Completer parent count relay)) = count
+count_in (Some (Completer relay count parent)) = count
 count_in (Some Plain) = 0
 count_in None = 0
 
 abbrev pub relay_in : Option Kind → Bool
-relay_in (Some (Completer parent count relay)) = relay
+relay_in (Some (Completer relay count parent)) = relay
 relay_in (Some Plain) = false
 relay_in None = false
 
 abbrev pub parent_in : Option Kind → Option ℕ
-parent_in (Some (Completer parent count relay)) = parent
+parent_in (Some (Completer relay count parent)) = parent
 parent_in (Some Plain) = None
 parent_in None = None
 

@@ -5,14 +5,14 @@ use crate::ids::Serial;
 pub enum Kind {
     /// A task with a result, as a `RecursiveTask`.
     Plain,
-    /// A task with a completion action, as a `CountedCompleter`.
+    /// A task with a completion action, as a `CountedCompleter`. Fields lie in memory as they stand here: in this order an event has 48 bytes.
     Completer {
-        /// The completer that is arrived at when the completion action of this one has ended, or that a climb goes on to.
-        parent: Option<Serial>,
-        /// The pending count that it is made with, 0 to 65,535.
-        count: u32,
         /// Whether a code with which it fails is passed on to its parent.
         relay: bool,
+        /// The pending count that it is made with, 0 to 65,535.
+        count: u32,
+        /// The completer that is arrived at when the completion action of this one has ended, or that a climb goes on to.
+        parent: Option<Serial>,
     },
 }
 
@@ -68,10 +68,10 @@ pub enum SubmittedKind {
     Plain,
     /// A task with a completion action, which is the root of its tree.
     Completer {
-        /// The pending count that it is made with, 0 to 65,535.
-        count: u32,
         /// The relay word, which a root never uses.
         relay: bool,
+        /// The pending count that it is made with, 0 to 65,535.
+        count: u32,
     },
 }
 
@@ -85,10 +85,10 @@ impl SubmittedKind {
     {
         match *self {
             SubmittedKind::Plain => Kind::Plain,
-            SubmittedKind::Completer { count, relay } => Kind::Completer {
-                parent: None,
-                count,
+            SubmittedKind::Completer { relay, count } => Kind::Completer {
                 relay,
+                count,
+                parent: None,
             },
         }
     }

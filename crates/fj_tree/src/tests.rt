@@ -10,7 +10,7 @@ use std::test::Fail;
 // Records, handles, and what is written.
 const MAKES: &str = "each make has the next number
 3; len > 0; make - 1 stop open > 0:0; make 0 65535 stop submitted > 1:1; len > 2;
-get 1 > Record { serial: Serial(1), kind: Completer { parent: Some(Serial(0)), count: 65535, relay: false }, place: Queued(Sub(SubId(2))), status: Undone, pending: 65535, fired: false, children: 0 };
+get 1 > Record { serial: Serial(1), kind: Completer { relay: false, count: 65535, parent: Some(Serial(0)) }, place: Queued(Sub(SubId(2))), status: Undone, pending: 65535, fired: false, children: 0 };
 state 0 > Open undone 1 unspent 1
 
 a make is refused by the first cause

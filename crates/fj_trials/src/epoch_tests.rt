@@ -52,8 +52,8 @@ fn made(rt: &HostRuntime) -> Result<Machine, Fail> {
     let w = WorkerId(0);
     let s = SubId(0);
     let completer = SubmittedKind::Completer {
-        count: 1,
         relay: true,
+        count: 1,
     };
     let quiet = Step::End {
         w,

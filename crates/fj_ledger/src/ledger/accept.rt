@@ -37,10 +37,10 @@ impl Ledger {
     ///
     /// Precondition: the event may follow the history, and there is room for it.
     pub fn make_trigger(&mut self, count: u32) -> Serial
-        requires may { Allowed self.old.pool self.old.events (Make (accepted self.old.events) (Completer None count true)) }
+        requires may { Allowed self.old.pool self.old.events (Make (accepted self.old.events) (Completer true count None)) }
         requires fits { length self.old.events < limit self.old }
         ensures number { result ≡ accepted self.old.events }
-        ensures events { self.new ≡ grown self.old (Make (accepted self.old.events) (Completer None count true) ∷ []) }
+        ensures events { self.new ≡ grown self.old (Make (accepted self.old.events) (Completer true count None) ∷ []) }
     {
         let t = self.tree.insert(trigger(count), Place::Open, None).serial;
         self.log.push(Event::Make(t, trigger(count)));
@@ -63,11 +63,11 @@ fn renewed(tree: &Tree, parent: Option<Handle>) -> Option<Handle>
 
 /// The kind of a trigger.
 fn trigger(count: u32) -> Kind
-    ensures { result ≡ Completer None count true }
+    ensures { result ≡ Completer true count None }
 {
     Kind::Completer {
-        parent: None,
-        count,
         relay: true,
+        count,
+        parent: None,
     }
 }

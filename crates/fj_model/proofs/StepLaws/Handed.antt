@@ -97,17 +97,17 @@ unfolding submitted_said submitted_completer
 submitted_found ws k e =
     chosen (is_last ws) (Some submitted.Plain) (submitted_completer ws) (Some k) e
     (λ last is. subst (λ (j : SubmittedKind). AreSubmitted j ws) (some_is submitted.Plain k is) (tt, none_left ws last))
-    (λ said. count_then ws (λ p. Some (submitted.Completer p.0 p.1)) k said (λ count relay small all is.
-    subst (λ (j : SubmittedKind). AreSubmitted j ws) (some_is (submitted.Completer count relay) k is) (small, all)))
+    (λ said. count_then ws (λ p. Some (submitted.Completer p.1 p.0)) k said (λ count relay small all is.
+    subst (λ (j : SubmittedKind). AreSubmitted j ws) (some_is (submitted.Completer relay count) k is) (small, all)))
 
 pub submitted_again : (k : SubmittedKind) → HasSmallSubmitted k → submitted_said (submitted_words k) ≡ Some k
 unfolding submitted_said submitted_completer
 submitted_again submitted.Plain fits = refl
-submitted_again (submitted.Completer count relay) fits = rw (count_again count relay fits) refl
+submitted_again (submitted.Completer relay count) fits = rw (count_again count relay fits) refl
 
 submitted_are_words : (k : SubmittedKind) → HasSmallSubmitted k → list_all is_word (submitted_words k) ≡ true
 submitted_are_words submitted.Plain fits = refl
-submitted_are_words (submitted.Completer count relay) fits = count_are_words count relay fits
+submitted_are_words (submitted.Completer relay count) fits = count_are_words count relay fits
 
 abbrev AreKind : Kind → List (List ℕ) → Type 0
 AreKind k ws = HasSmallKind k × (ws ≡ kind_words k)
@@ -117,22 +117,22 @@ unfolding kind_said forked_completer
 kind_found ws k e =
     chosen (is_last ws) (Some kind.Plain) (forked_completer ws) (Some k) e
     (λ last is. subst (λ (j : Kind). AreKind j ws) (some_is kind.Plain k is) (tt, none_left ws last))
-    (λ said. word_then ws (λ word. parent_said word.0 >>= λ parent. count_and_relay word.1 >>= λ p. Some (kind.Completer parent p.0 p.1)) k said (λ word rest first said1.
-    some_then (parent_said word) (λ parent. count_and_relay rest >>= λ p. Some (kind.Completer parent p.0 p.1)) k said1 (λ parent read said2.
-    count_then rest (λ p. Some (kind.Completer parent p.0 p.1)) k said2 (λ count relay small all is.
+    (λ said. word_then ws (λ word. parent_said word.0 >>= λ parent. count_and_relay word.1 >>= λ p. Some (kind.Completer p.1 p.0 parent)) k said (λ word rest first said1.
+    some_then (parent_said word) (λ parent. count_and_relay rest >>= λ p. Some (kind.Completer p.1 p.0 parent)) k said1 (λ parent read said2.
+    count_then rest (λ p. Some (kind.Completer p.1 p.0 parent)) k said2 (λ count relay small all is.
     let known = parent_found word parent read in
     let text = known.1 in
     let whole : ws ≡ parent_word parent ∷ decimal count ∷ relay_word relay ∷ [] = cc in
-    subst (λ (j : Kind). AreKind j ws) (some_is (kind.Completer parent count relay) k is) ((known.0, small), whole)))))
+    subst (λ (j : Kind). AreKind j ws) (some_is (kind.Completer relay count parent) k is) ((known.0, small), whole)))))
 
 pub kind_again : (k : Kind) → HasSmallKind k → kind_said (kind_words k) ≡ Some k
 unfolding kind_said forked_completer
 kind_again kind.Plain fits = refl
-kind_again (kind.Completer parent count relay) fits = rw (parent_again parent fits.0, count_again count relay fits.1) refl
+kind_again (kind.Completer relay count parent) fits = rw (parent_again parent fits.0, count_again count relay fits.1) refl
 
 kind_are_words : (k : Kind) → HasSmallKind k → list_all is_word (kind_words k) ≡ true
 kind_are_words kind.Plain fits = refl
-kind_are_words (kind.Completer parent count relay) fits =
+kind_are_words (kind.Completer relay count parent) fits =
     let first = parent_is_word parent fits.0 in
     rw (first, count_are_words count relay fits.1) refl
 

@@ -29,7 +29,7 @@ count_and_relay ws = do
 unfoldable pub submitted_completer : List (List ℕ) → Option SubmittedKind
 submitted_completer ws = do
   said ← count_and_relay ws
-  Some (submitted.Completer said.0 said.1)
+  Some (submitted.Completer said.1 said.0)
 
 unfoldable pub submitted_said : List (List ℕ) → Option SubmittedKind
 submitted_said ws = if is_last ws then Some submitted.Plain else submitted_completer ws
@@ -39,7 +39,7 @@ forked_completer ws = do
   word ← word_first ws
   parent ← parent_said word.0
   said ← count_and_relay word.1
-  Some (kind.Completer parent said.0 said.1)
+  Some (kind.Completer said.1 said.0 parent)
 
 unfoldable pub kind_said : List (List ℕ) → Option Kind
 kind_said ws = if is_last ws then Some kind.Plain else forked_completer ws

@@ -223,9 +223,9 @@ fn completer(parent: &str, count: &str, word: &str) -> Option<Kind> {
         Some(Serial(parent.parse().ok()?))
     };
     Some(Kind::Completer {
-        parent,
-        count: count.parse().ok()?,
         relay: word == "relay",
+        count: count.parse().ok()?,
+        parent,
     })
 }
 

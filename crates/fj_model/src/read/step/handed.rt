@@ -61,7 +61,7 @@ fn submitted_completer(behind: &[u8]) -> Result<SubmittedKind, LineFault>
     ensures { MatchResult result (λ kind. submitted_completer (words_behind behind.now) ≡ Some kind) (λ _. submitted_completer (words_behind behind.now) ≡ None) }
 {
     let (count, relay) = count_and_relay(behind)?;
-    Ok(SubmittedKind::Completer { count, relay })
+    Ok(SubmittedKind::Completer { relay, count })
 }
 
 #[tactic(auto, unfolding(crate::specs::Readings::Handed::kind_said))]
@@ -83,9 +83,9 @@ fn forked_completer(behind: &[u8]) -> Result<Kind, LineFault>
     let parent = parent(word)?;
     let (count, relay) = count_and_relay(behind)?;
     Ok(Kind::Completer {
-        parent,
-        count,
         relay,
+        count,
+        parent,
     })
 }
 

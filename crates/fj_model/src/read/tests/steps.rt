@@ -11,7 +11,7 @@ fn submit(s: u32) -> Step {
 fn submit_completer(s: u32, count: u32, relay: bool) -> Step {
     Step::Submit {
         s: SubId(s),
-        kind: SubmittedKind::Completer { count, relay },
+        kind: SubmittedKind::Completer { relay, count },
     }
 }
 
@@ -26,9 +26,9 @@ fn fork_completer(w: u32, parent: Option<Serial>, count: u32, relay: bool) -> St
     Step::Fork {
         w: WorkerId(w),
         kind: Kind::Completer {
-            parent,
-            count,
             relay,
+            count,
+            parent,
         },
     }
 }

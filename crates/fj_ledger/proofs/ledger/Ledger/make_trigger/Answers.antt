@@ -18,8 +18,8 @@ use Rattle.fj_ledger.proofs.ledger.Ledger.make_trigger.Goals.{After-self, After-
 fits : (c : After-self) → length c.self.inside.log.events < length c.self.inside.log.sealed + c.self.inside.limits.events
 fits c = subst (λ (p : Past). length p.events < limit p) (sym c.self.view_is) c.requires.fits
 
-may : (c : After-self) → Allowed (record { mode = c.self.inside.mode; limits = c.self.inside.limits }) c.self.inside.log.events (Make (accepted c.self.inside.log.events) (Completer None c.args.count true))
-may c = subst (λ (p : Past). Allowed p.pool p.events (Make (accepted p.events) (Completer None c.args.count true))) (sym c.self.view_is) c.requires.may
+may : (c : After-self) → Allowed (record { mode = c.self.inside.mode; limits = c.self.inside.limits }) c.self.inside.log.events (Make (accepted c.self.inside.log.events) (Completer true c.args.count None))
+may c = subst (λ (p : Past). Allowed p.pool p.events (Make (accepted p.events) (Completer true c.args.count None))) (sym c.self.view_is) c.requires.may
 
 pub insert-requires-clause-made : goal.insert-requires-clause-made
 insert-requires-clause-made c =
@@ -59,7 +59,7 @@ invariant_of-self c =
     let number : c.insert.result.serial ≡ accepted h = c.insert.ensures.number ∙ holds.tree_kept.made in
     let read : c.t.inside.serial ≡ c.insert.result.serial = ap (λ (x : Handle). x.serial) c.t.view_is in (
       rw (c.push.ensures, c.push_reserved.ensures.items, c.trigger-2.ensures, read, number)
-          (trigger_holds pool h (accepted h) (Completer None c.args.count true) _ _ _ _ _ _ _ c.insert.result.key holds (may at.After-self) (fits at.After-self) (rw (number, c.trigger.ensures) at (made at.After-push_reserved))),
+          (trigger_holds pool h (accepted h) (Completer true c.args.count None) _ _ _ _ _ _ _ c.insert.result.key holds (may at.After-self) (fits at.After-self) (rw (number, c.trigger.ensures) at (made at.After-push_reserved))),
       rw c.push.ensures (c.self.invariant.1),
       omega (arith, c.push_reserved.ensures.capacity, c.self.invariant.2),
       c.self.invariant.3,
