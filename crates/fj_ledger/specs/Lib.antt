@@ -6,3 +6,4 @@ pub mod InHands
 pub mod Logs
 pub mod Sources
 pub mod Stacks
+pub mod Windows

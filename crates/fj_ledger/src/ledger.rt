@@ -27,6 +27,7 @@ mod take;
 
 pub use crate::ledger::hook::Hook;
 use crate::log::Log;
+use crate::open::OpenTasks;
 use crate::stacks::Stacks;
 use fj_model::{Event, Limits, Mode, OutOfMemory, Owner, Serial, SubId, WorkerId};
 use fj_queues::{Numbers, Queues};
@@ -44,7 +45,7 @@ pub struct Ledger {
     stacks: Stacks,
     hands: Vec<Option<Hook>>,
     tree: Tree,
-    open_tasks: Vec<Serial>,
+    open_tasks: OpenTasks,
     gone: Vec<Serial>,
 }
 
@@ -64,9 +65,9 @@ impl Model for Ledger {
     } };
 
     ghost invariant = { λ m.
-        Holds (record { mode = m.mode; limits = m.limits }) m.log.sealed m.log.events m.queues m.stacks m.hands.items m.tree m.open_tasks.items m.gone.items
+        Holds (record { mode = m.mode; limits = m.limits }) m.log.sealed m.log.events m.queues m.stacks m.hands.items m.tree m.open_tasks.list m.gone.items
         × (m.log.room ≡ m.limits.events)
-        × (m.limits.tasks ≤ vec_capacity m.open_tasks)
+        × (m.open_tasks.room ≡ m.limits.tasks)
         × (m.limits.events + m.limits.tasks ≤ vec_capacity m.gone) };
 }
 
@@ -87,7 +88,7 @@ impl Ledger {
             stacks: Stacks::new(alloc, workers, tasks)?,
             hands: Vec::from_elem(alloc, None, workers)?,
             tree: Tree::new(alloc, tasks)?,
-            open_tasks: Vec::with_capacity(alloc, tasks)?,
+            open_tasks: OpenTasks::new(alloc, tasks)?,
             // A stop may send tasks that were opened before the last seal.
             gone: Vec::with_capacity(alloc, events + tasks)?,
         })

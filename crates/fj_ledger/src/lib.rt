@@ -7,8 +7,11 @@
 
 mod ledger;
 mod log;
+mod open;
 mod source;
 mod stacks;
+mod stamps;
+mod window;
 
 pub use ledger::{Hook, Ledger};
 pub use source::Source;

@@ -42,10 +42,10 @@ impl Ledger {
         ensures number { result ≡ accepted self.old.events }
         ensures events { self.new ≡ grown self.old (Make (accepted self.old.events) (Completer true count None) ∷ []) }
     {
-        let t = self.tree.insert(trigger(count), Place::Open, None).serial;
-        self.log.push(Event::Make(t, trigger(count)));
-        self.open_tasks.push_reserved(t);
-        t
+        let h = self.tree.insert(trigger(count), Place::Open, None);
+        self.log.push(Event::Make(h.serial, trigger(count)));
+        self.open_tasks.push(h.serial, h.key);
+        h.serial
     }
 }
 

@@ -28,7 +28,7 @@ impl Ledger {
         self.stacks.take_last(w.0 as usize);
         if stays {
             self.tree.set_place(h, Place::Open);
-            self.open_tasks.push_reserved(t.serial);
+            self.open_tasks.push(t.serial, h.key);
         } else {
             self.tree.set_place(h, Place::Gone);
             self.gone.push_reserved(t.serial);

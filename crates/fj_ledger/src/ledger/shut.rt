@@ -8,6 +8,7 @@ ghost use Rattle.fj_model.specs.Runs.{grown};
 
 use crate::ledger::Ledger;
 use crate::ledger::hook::cancel_released;
+use crate::open::OpenTasks;
 use fj_model::{Event, Serial};
 
 impl Ledger {
@@ -39,18 +40,19 @@ impl Ledger {
     }
 }
 
-/// Moves all numbers of a list to the end of another, by rising number, as one event sends them there.
-fn move_sorted(from: &mut Vec<Serial>, to: &mut Vec<Serial>)
-    requires room { length to.old.items + length from.old.items ≤ vec_capacity to.old }
-    ensures moved { (sorted : List ℕ) × IsPermutation from.old.items sorted × IsNonDecreasing sorted × (to.new.items ≡ to.old.items ++ sorted) }
-    ensures left { from.new.items ≡ [] }
-    ensures from_room { vec_capacity from.new ≡ vec_capacity from.old }
+/// Moves all open tasks to the end of a list, by rising number, as one event sends them there.
+fn move_sorted(from: &mut OpenTasks, to: &mut Vec<Serial>)
+    requires room { length to.old.items + length from.old.list ≤ vec_capacity to.old }
+    ensures moved { (sorted : List ℕ) × IsPermutation from.old.list sorted × IsNonDecreasing sorted × (to.new.items ≡ to.old.items ++ sorted) }
+    ensures left { from.new.list ≡ [] }
+    ensures from_room { from.new.room ≡ from.old.room }
     ensures to_room { vec_capacity to.new ≡ vec_capacity to.old }
 {
-    // without allocating
-    from.sort_unstable_by_key(|t| t.0);
+    let before = to.len();
     append(to, from.as_slice());
     from.clear();
+    // without allocating
+    to.slice_mut(before..).sort_unstable_by_key(|t| t.0);
 }
 
 /// Puts all numbers at the end of a list.

@@ -57,14 +57,14 @@ some_last : (ts : List ℕ) (t : ℕ) → last_of ts ≡ Some t → 0 < length t
 some_last [] t last = absurd cc
 some_last (u ∷ ts) t last = omega arith
 
-pub push_reserved-requires : goal.push_reserved-requires
-push_reserved-requires c =
-    let at = (goal.at.push_reserved-requires c).After-self in
+pub push-requires-then-stays : goal.push-requires-then-stays
+push-requires-then-stays c =
+    let at = (goal.at.push-requires-then-stays c).After-self in
     let pool : Pool = record { mode = c.self.inside.mode; limits = c.self.inside.limits } in
     let h = c.self.inside.log.events in
     let holds = c.self.invariant.0 in
     let short = open_is_short pool h c.args.w holds.lawful (within at) (some_last (stack h c.args.w) c.args.t.serial (may at).0) in
-    omega (arith, short, few_live pool h holds.lawful, ap (λ (ts : List ℕ). length ts) holds.open_kept, c.self.inside.open_tasks.ok.0, c.self.invariant.2)
+    omega (arith, short, few_live pool h holds.lawful, ap (λ (ts : List ℕ). length ts) holds.open_kept, c.self.invariant.2)
 
 pub invariant_of-self : goal.invariant_of-self
 invariant_of-self c =
@@ -73,16 +73,16 @@ invariant_of-self c =
     let h = c.self.inside.log.events in
     let l = found at.After-unwrap-h in
     let is = sym (read at.After-stays_open-stays l) ∙ c.if-stays.true in (
-      rw (c.push.ensures, c.take_last.ensures, c.set_place.ensures, c.push_reserved.ensures.items, c.w.view_is, ap (λ (x : Handle). x.serial) c.t.view_is)
+      rw (c.push.ensures, c.take_last.ensures, c.set_place.ensures, c.push-then-stays.ensures, c.w.view_is, ap (λ (x : Handle). x.serial) c.t.view_is)
           (ended_holds pool h c.args.t.serial c.args.w true _ _ _ _ _ _ _ _ _ c.unwrap-h.result c.self.invariant.0 c.renew.ensures.sound l (may at.After-self) (within at.After-self) (fits at.After-self) is refl refl (sym (append-nil c.self.inside.gone.items))),
       rw c.push.ensures (c.self.invariant.1),
-      omega (arith, c.push_reserved.ensures.capacity, c.self.invariant.2),
+      rw c.push-then-stays.ensures (c.self.invariant.2),
       c.self.invariant.3,
     )
 
-pub push_reserved-requires-else-stays : goal.push_reserved-requires-else-stays
-push_reserved-requires-else-stays c =
-    let at = (goal.at.push_reserved-requires-else-stays c).After-self in
+pub push_reserved-requires : goal.push_reserved-requires
+push_reserved-requires c =
+    let at = (goal.at.push_reserved-requires c).After-self in
     omega (arith, gone_room _ _ _ _ _ _ _ _ c.self.invariant.0, fits at, c.self.inside.gone.ok.0, c.self.invariant.3)
 
 pub invariant_of-self-else-stays : goal.invariant_of-self-else-stays
@@ -92,9 +92,9 @@ invariant_of-self-else-stays c =
     let h = c.self.inside.log.events in
     let l = found at.After-unwrap-h in
     let is = sym (read at.After-stays_open-stays l) ∙ c.if-stays.false in (
-      rw (c.push.ensures, c.take_last.ensures, c.set_place-else-stays.ensures, c.push_reserved-else-stays.ensures.items, c.w.view_is, ap (λ (x : Handle). x.serial) c.t.view_is)
-          (ended_holds pool h c.args.t.serial c.args.w false _ _ _ _ _ _ _ _ _ c.unwrap-h.result c.self.invariant.0 c.renew.ensures.sound l (may at.After-self) (within at.After-self) (fits at.After-self) is refl (sym (append-nil c.self.inside.open_tasks.items)) refl),
+      rw (c.push.ensures, c.take_last.ensures, c.set_place-else-stays.ensures, c.push_reserved.ensures.items, c.w.view_is, ap (λ (x : Handle). x.serial) c.t.view_is)
+          (ended_holds pool h c.args.t.serial c.args.w false _ _ _ _ _ _ _ _ _ c.unwrap-h.result c.self.invariant.0 c.renew.ensures.sound l (may at.After-self) (within at.After-self) (fits at.After-self) is refl (sym (append-nil c.self.inside.open_tasks.list)) refl),
       rw c.push.ensures (c.self.invariant.1),
       c.self.invariant.2,
-      omega (arith, c.push_reserved-else-stays.ensures.capacity, c.self.invariant.3),
+      omega (arith, c.push_reserved.ensures.capacity, c.self.invariant.3),
     )

@@ -13,7 +13,7 @@ use Rattle.fj_ledger.proofs.Recorded.Records.{IsMade}
 use Rattle.fj_model.proofs.KeptPlaces.{few_open}
 use Rattle.fj_ledger.proofs.Updates.Spent.{few_accepted}
 use Rattle.fj_ledger.proofs.ledger.Ledger.make_trigger.Goals as goal
-use Rattle.fj_ledger.proofs.ledger.Ledger.make_trigger.Goals.{After-self, After-push_reserved}
+use Rattle.fj_ledger.proofs.ledger.Ledger.make_trigger.Goals.{After-self, After-insert-h}
 
 fits : (c : After-self) → length c.self.inside.log.events < length c.self.inside.log.sealed + c.self.inside.limits.events
 fits c = subst (λ (p : Past). length p.events < limit p) (sym c.self.view_is) c.requires.fits
@@ -21,34 +21,34 @@ fits c = subst (λ (p : Past). length p.events < limit p) (sym c.self.view_is) c
 may : (c : After-self) → Allowed (record { mode = c.self.inside.mode; limits = c.self.inside.limits }) c.self.inside.log.events (Make (accepted c.self.inside.log.events) (Completer true c.args.count None))
 may c = subst (λ (p : Past). Allowed p.pool p.events (Make (accepted p.events) (Completer true c.args.count None))) (sym c.self.view_is) c.requires.may
 
-pub insert-requires-clause-made : goal.insert-requires-clause-made
-insert-requires-clause-made c =
-    let at = (goal.at.insert-requires-clause-made c).After-self in
+pub insert-h-requires-clause-made : goal.insert-h-requires-clause-made
+insert-h-requires-clause-made c =
+    let at = (goal.at.insert-h-requires-clause-made c).After-self in
     let h = c.self.inside.log.events in
     omega (arith, c.self.invariant.0.tree_kept.made, few_accepted h, fits at, c.self.invariant.0.within.few_events)
 
-pub insert-requires-clause-room : goal.insert-requires-clause-room
-insert-requires-clause-room c =
-    let at = (goal.at.insert-requires-clause-room c).After-self in
+pub insert-h-requires-clause-room : goal.insert-h-requires-clause-room
+insert-h-requires-clause-room c =
+    let at = (goal.at.insert-h-requires-clause-room c).After-self in
     let keeps = c.self.invariant.0.tree_kept in
     omega (arith, keeps.live, keeps.room, (may at).0.room)
 
-pub insert-requires-clause-pending : goal.insert-requires-clause-pending
-insert-requires-clause-pending c =
-    let at = (goal.at.insert-requires-clause-pending c).After-self in
+pub insert-h-requires-clause-pending : goal.insert-h-requires-clause-pending
+insert-h-requires-clause-pending c =
+    let at = (goal.at.insert-h-requires-clause-pending c).After-self in
     rw c.trigger.ensures (may at).0.count
 
-pub push_reserved-requires : goal.push_reserved-requires
-push_reserved-requires c =
+pub push-requires-2 : goal.push-requires-2
+push-requires-2 c =
     let pool : Pool = record { mode = c.self.inside.mode; limits = c.self.inside.limits } in
     let h = c.self.inside.log.events in
     let holds = c.self.invariant.0 in
-    let at = (goal.at.push_reserved-requires c).After-self in
-    omega (arith, few_open pool h holds.lawful, (may at).0.room, ap (λ (ts : List ℕ). length ts) holds.open_kept, c.self.inside.open_tasks.ok.0, c.self.invariant.2)
+    let at = (goal.at.push-requires-2 c).After-self in
+    omega (arith, few_open pool h holds.lawful, (may at).0.room, ap (λ (ts : List ℕ). length ts) holds.open_kept, c.self.invariant.2)
 
 -- what the insertion left
-made : (c : After-push_reserved) → IsMade c.self.inside.tree c.insert.new.self c.insert.result.key c.insert.result.serial c.trigger.result Open
-made c = made_is _ _ c.insert.result _ _ c.insert.ensures.number c.insert.ensures.made c.insert.ensures.room c.insert.ensures.vacant c.insert.ensures.record c.insert.ensures.others c.insert.ensures.kept
+made : (c : After-insert-h) → IsMade c.self.inside.tree c.insert-h.new.self c.insert-h.result.key c.insert-h.result.serial c.trigger.result Open
+made c = made_is _ _ c.insert-h.result _ _ c.insert-h.ensures.number c.insert-h.ensures.made c.insert-h.ensures.room c.insert-h.ensures.vacant c.insert-h.ensures.record c.insert-h.ensures.others c.insert-h.ensures.kept
 
 pub invariant_of-self : goal.invariant_of-self
 invariant_of-self c =
@@ -56,11 +56,11 @@ invariant_of-self c =
     let pool : Pool = record { mode = c.self.inside.mode; limits = c.self.inside.limits } in
     let h = c.self.inside.log.events in
     let holds = c.self.invariant.0 in
-    let number : c.insert.result.serial ≡ accepted h = c.insert.ensures.number ∙ holds.tree_kept.made in
-    let read : c.t.inside.serial ≡ c.insert.result.serial = ap (λ (x : Handle). x.serial) c.t.view_is in (
-      rw (c.push.ensures, c.push_reserved.ensures.items, c.trigger-2.ensures, read, number)
-          (trigger_holds pool h (accepted h) (Completer true c.args.count None) _ _ _ _ _ _ _ c.insert.result.key holds (may at.After-self) (fits at.After-self) (rw (number, c.trigger.ensures) at (made at.After-push_reserved))),
+    let number : c.insert-h.result.serial ≡ accepted h = c.insert-h.ensures.number ∙ holds.tree_kept.made in
+    let read : c.h.inside.serial ≡ c.insert-h.result.serial = ap (λ (x : Handle). x.serial) c.h.view_is in (
+      rw (c.push.ensures, c.push-2.ensures, c.trigger-2.ensures, read, number)
+          (trigger_holds pool h (accepted h) (Completer true c.args.count None) _ _ _ _ _ _ _ c.insert-h.result.key holds (may at.After-self) (fits at.After-self) (rw (number, c.trigger.ensures) at (made at.After-insert-h))),
       rw c.push.ensures (c.self.invariant.1),
-      omega (arith, c.push_reserved.ensures.capacity, c.self.invariant.2),
+      rw c.push-2.ensures (c.self.invariant.2),
       c.self.invariant.3,
     )
