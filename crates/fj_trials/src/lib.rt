@@ -11,6 +11,8 @@ mod end_tests;
 #[cfg(test)]
 mod epoch_tests;
 #[cfg(test)]
+mod open_tests;
+#[cfg(test)]
 mod picks;
 #[cfg(test)]
 mod place_tests;
