@@ -10,32 +10,45 @@ use Rattle.fj_model.specs.declared.step.Step.TheVariants as step
 use Rattle.fj_model.specs.Words.{joined, words, ◌>>=◌, word_first}
 use Rattle.fj_model.specs.Lines.{step_words, step_line, HasLine, step_in, submitted_words, kind_words, ending_words}
 use Rattle.fj_model.specs.Readings.{step_said, worker_said, task_said, pool_said}
-use Rattle.fj_model.specs.Readings.Handed.{submit_in, fork_in, trigger_in}
-use Rattle.fj_model.specs.Readings.Taken.{poll_in, help_in, join_in, end_in, hook_in}
-use Rattle.fj_model.specs.Readings.Changed.{add_in, root_in, fault_in, cancel_in, release_in}
-use Rattle.fj_model.specs.Readings.Asked.{shutdown_in, stop_in, quiet_in, state_in}
+use Rattle.fj_model.specs.Readings.Accept.{submit_in, fork_in, trigger_in}
+use Rattle.fj_model.specs.Readings.Take.{poll_in, help_in, join_in}
+use Rattle.fj_model.specs.Readings.End.{end_in, hook_in}
+use Rattle.fj_model.specs.Readings.Completer.{add_in, root_in}
+use Rattle.fj_model.specs.Readings.Settle.{fault_in, cancel_in}
+use Rattle.fj_model.specs.Readings.Shut.{shutdown_in, stop_in}
+use Rattle.fj_model.specs.Readings.Query.{quiet_in, state_in}
+use Rattle.fj_model.specs.Readings.Release.{release_in}
 use Rattle.fj_model.proofs.WordLaws.{is_word, words_again, joined_words, one_is_words, two_are_words, three_are_words}
 use Rattle.fj_model.proofs.PartLaws.{word_then, chosen, Tells, told}
 use Rattle.fj_model.proofs.FormLaws.{AreWordsOf, with_verb}
-use Rattle.fj_model.proofs.StepLaws.Handed.{submit_found, submit_again, submit_are_words, fork_found, fork_again, fork_are_words, trigger_found, trigger_again}
-use Rattle.fj_model.proofs.StepLaws.Taken.{poll_found, poll_again, help_found, help_again, join_found, join_again, hook_found, hook_again, end_found, end_again, end_are_words}
-use Rattle.fj_model.proofs.StepLaws.Changed.{add_found, add_again, root_found, root_again, fault_found, fault_again, cancel_found, cancel_again, release_found, release_again}
-use Rattle.fj_model.proofs.StepLaws.Asked.{shutdown_found, stop_found, quiet_found, state_found, state_again}
-pub mod Handed
-pub mod Taken
-pub mod Changed
-pub mod Asked
+use Rattle.fj_model.proofs.StepLaws.Accept.{submit_found, submit_again, submit_are_words, fork_found, fork_again, fork_are_words, trigger_found, trigger_again}
+use Rattle.fj_model.proofs.StepLaws.Take.{poll_found, poll_again, help_found, help_again, join_found, join_again}
+use Rattle.fj_model.proofs.StepLaws.End.{end_found, end_again, end_are_words, hook_found, hook_again}
+use Rattle.fj_model.proofs.StepLaws.Completer.{add_found, add_again, root_found, root_again}
+use Rattle.fj_model.proofs.StepLaws.Settle.{fault_found, fault_again, cancel_found, cancel_again}
+use Rattle.fj_model.proofs.StepLaws.Shut.{shutdown_found, stop_found}
+use Rattle.fj_model.proofs.StepLaws.Query.{quiet_found, state_found, state_again}
+use Rattle.fj_model.proofs.StepLaws.Release.{release_found, release_again}
+pub mod Accept
+pub mod Take
+pub mod End
+pub mod Completer
+pub mod Settle
+pub mod Shut
+pub mod Query
+pub mod Release
 
 -- ---- what is said is written so
 
 pool_said_found : (verb : List ℕ) (ws : List (List ℕ)) (s : Step) → pool_said verb ws ≡ Some s → AreWordsOf s (verb ∷ ws)
 unfolding pool_said
 pool_said_found verb ws s e =
-    chosen (bytes_eq verb (codes "state")) (state_in ws) _ (Some s) e (λ is said. with_verb verb (codes "state") ws s is (state_found ws s said)) (λ e1.
-    chosen (bytes_eq verb (codes "quiet")) (quiet_in ws) _ (Some s) e1 (λ is said. with_verb verb (codes "quiet") ws s is (quiet_found ws s said)) (λ e2.
-    chosen (bytes_eq verb (codes "shutdown")) (shutdown_in ws) _ (Some s) e2 (λ is said. with_verb verb (codes "shutdown") ws s is (shutdown_found ws s said)) (λ e3.
-    chosen (bytes_eq verb (codes "stop")) (stop_in ws) _ (Some s) e3 (λ is said. with_verb verb (codes "stop") ws s is (stop_found ws s said)) (λ e4.
-    absurd cc))))
+    chosen (bytes_eq verb (codes "shutdown")) (shutdown_in ws) _ (Some s) e (λ is said. with_verb verb (codes "shutdown") ws s is (shutdown_found ws s said)) (λ e1.
+    chosen (bytes_eq verb (codes "stop")) (stop_in ws) _ (Some s) e1 (λ is said. with_verb verb (codes "stop") ws s is (stop_found ws s said)) (λ e2.
+    chosen (bytes_eq verb (codes "quiet")) (quiet_in ws) _ (Some s) e2 (λ is said. with_verb verb (codes "quiet") ws s is (quiet_found ws s said)) (λ e3.
+    chosen (bytes_eq verb (codes "state")) (state_in ws) _ (Some s) e3 (λ is said. with_verb verb (codes "state") ws s is (state_found ws s said)) (λ e4.
+    chosen (bytes_eq verb (codes "release")) (release_in ws) _ (Some s) e4 (λ is said. with_verb verb (codes "release") ws s is (release_found ws s said)) (λ e5.
+    absurd cc)))))
 
 task_said_found : (verb : List ℕ) (ws : List (List ℕ)) (s : Step) → task_said verb ws ≡ Some s → AreWordsOf s (verb ∷ ws)
 unfolding task_said
@@ -44,24 +57,23 @@ task_said_found verb ws s e =
     chosen (bytes_eq verb (codes "root")) (root_in ws) _ (Some s) e1 (λ is said. with_verb verb (codes "root") ws s is (root_found ws s said)) (λ e2.
     chosen (bytes_eq verb (codes "fault")) (fault_in ws) _ (Some s) e2 (λ is said. with_verb verb (codes "fault") ws s is (fault_found ws s said)) (λ e3.
     chosen (bytes_eq verb (codes "cancel")) (cancel_in ws) _ (Some s) e3 (λ is said. with_verb verb (codes "cancel") ws s is (cancel_found ws s said)) (λ e4.
-    chosen (bytes_eq verb (codes "release")) (release_in ws) _ (Some s) e4 (λ is said. with_verb verb (codes "release") ws s is (release_found ws s said)) (λ e5.
-    pool_said_found verb ws s e5)))))
+    pool_said_found verb ws s e4))))
 
 worker_said_found : (verb : List ℕ) (ws : List (List ℕ)) (s : Step) → worker_said verb ws ≡ Some s → AreWordsOf s (verb ∷ ws)
 unfolding worker_said
 worker_said_found verb ws s e =
     chosen (bytes_eq verb (codes "fork")) (fork_in ws) _ (Some s) e (λ is said. with_verb verb (codes "fork") ws s is (fork_found ws s said)) (λ e1.
-    chosen (bytes_eq verb (codes "join")) (join_in ws) _ (Some s) e1 (λ is said. with_verb verb (codes "join") ws s is (join_found ws s said)) (λ e2.
-    chosen (bytes_eq verb (codes "hook")) (hook_in ws) _ (Some s) e2 (λ is said. with_verb verb (codes "hook") ws s is (hook_found ws s said)) (λ e3.
-    chosen (bytes_eq verb (codes "help")) (help_in ws) _ (Some s) e3 (λ is said. with_verb verb (codes "help") ws s is (help_found ws s said)) (λ e4.
-    chosen (bytes_eq verb (codes "trigger")) (trigger_in ws) _ (Some s) e4 (λ is said. with_verb verb (codes "trigger") ws s is (trigger_found ws s said)) (λ e5.
+    chosen (bytes_eq verb (codes "trigger")) (trigger_in ws) _ (Some s) e1 (λ is said. with_verb verb (codes "trigger") ws s is (trigger_found ws s said)) (λ e2.
+    chosen (bytes_eq verb (codes "help")) (help_in ws) _ (Some s) e2 (λ is said. with_verb verb (codes "help") ws s is (help_found ws s said)) (λ e3.
+    chosen (bytes_eq verb (codes "join")) (join_in ws) _ (Some s) e3 (λ is said. with_verb verb (codes "join") ws s is (join_found ws s said)) (λ e4.
+    chosen (bytes_eq verb (codes "hook")) (hook_in ws) _ (Some s) e4 (λ is said. with_verb verb (codes "hook") ws s is (hook_found ws s said)) (λ e5.
     task_said_found verb ws s e5)))))
 
 step_said_found : (verb : List ℕ) (ws : List (List ℕ)) (s : Step) → step_said verb ws ≡ Some s → AreWordsOf s (verb ∷ ws)
 unfolding step_said
 step_said_found verb ws s e =
-    chosen (bytes_eq verb (codes "poll")) (poll_in ws) _ (Some s) e (λ is said. with_verb verb (codes "poll") ws s is (poll_found ws s said)) (λ e1.
-    chosen (bytes_eq verb (codes "submit")) (submit_in ws) _ (Some s) e1 (λ is said. with_verb verb (codes "submit") ws s is (submit_found ws s said)) (λ e2.
+    chosen (bytes_eq verb (codes "submit")) (submit_in ws) _ (Some s) e (λ is said. with_verb verb (codes "submit") ws s is (submit_found ws s said)) (λ e1.
+    chosen (bytes_eq verb (codes "poll")) (poll_in ws) _ (Some s) e1 (λ is said. with_verb verb (codes "poll") ws s is (poll_found ws s said)) (λ e2.
     chosen (bytes_eq verb (codes "end")) (end_in ws) _ (Some s) e2 (λ is said. with_verb verb (codes "end") ws s is (end_found ws s said)) (λ e3.
     worker_said_found verb ws s e3)))
 

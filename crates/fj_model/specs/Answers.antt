@@ -121,22 +121,30 @@ root_events h (Some root) = settling h root status_is.Normal
 
 -- the events of a step that is not refused
 unfoldable pub events_of : Pool → List Event → Step → List Event
+-- accept
 events_of pool h (Submit s k) = event.Acc (accepted h) (Sub s) (submitted_kind k) ∷ []
 events_of pool h (Fork w k) = event.Acc (accepted h) (Work w) k ∷ []
 events_of pool h (Trigger w count) = event.Make (accepted h) (Completer true count None) ∷ []
+-- take
 events_of pool h (Poll w r) = taking h w (choice pool h w r)
 events_of pool h (Help w r) = taking h w (choice pool h w r)
 events_of pool h (Join w t r) = if is_undone (status h t) then taking h w (choice pool h w r) else []
+-- end
 events_of pool h (End w ending) = ending_events h w ending (running h w)
 events_of pool h (HookDone w) = hook_events h (hand h w)
+-- completer
 events_of pool h (Add w c n) = event.Add c n ∷ []
 events_of pool h (QuietRoot w t) = root_events h (root_of (path h t))
+-- settle
 events_of pool h (Fault t code) = failing h t code
 events_of pool h (Cancel t) = settling h t status_is.Cancelled
+-- shut
 events_of pool h Shutdown = if is_closed h || is_stopped h then [] else event.Close ∷ []
 events_of pool h Stop = if is_stopped h then [] else event.Stop ∷ []
+-- query
 events_of pool h IsQuiescent = []
 events_of pool h (State t) = []
+-- release
 events_of pool h (Release t) = event.Rel t ∷ []
 
 -- ---- replies. Where a step is refused, what stands here is never given
@@ -199,22 +207,30 @@ cancel_says status_is.Cancelled = says.Yes
 
 -- the reply to a step that is not refused
 unfoldable pub reply_of : Pool → List Event → Step → Said
+-- accept
 reply_of pool h (Submit s k) = says.Task (accepted h)
 reply_of pool h (Fork w k) = says.Task (accepted h)
 reply_of pool h (Trigger w count) = says.Task (accepted h)
+-- take
 reply_of pool h (Poll w r) = taking_says h (choice pool h w r)
 reply_of pool h (Help w r) = taking_says h (choice pool h w r)
 reply_of pool h (Join w t r) = if is_undone (status h t) then taking_says h (choice pool h w r) else status_says (status h t)
+-- end
 reply_of pool h (End w ending) = ending_says h w ending (running h w)
 reply_of pool h (HookDone w) = hook_done_says h (hand h w)
+-- completer
 reply_of pool h (Add w c n) = says.Count (pending h c + n)
 reply_of pool h (QuietRoot w t) = quiet_root_says h (root_of (path h t))
+-- settle
 reply_of pool h (Fault t code) = if is_undone (status h t) then says.Yes else says.No
 reply_of pool h (Cancel t) = cancel_says (status h t)
+-- shut
 reply_of pool h Shutdown = says.Done
 reply_of pool h Stop = says.Done
+-- query
 reply_of pool h IsQuiescent = if is_quiet pool.limits h then says.Yes else says.No
 reply_of pool h (State t) = says.State (place h t) (status h t)
+-- release
 reply_of pool h (Release t) = says.Done
 
 -- ---- refusals
@@ -265,6 +281,7 @@ too_many_tasks pool h = (live h == pool.limits.tasks, TooManyTasks)
 
 -- each refusal that the step can meet but LogFull, with whether it stands, in the order in which they are tested
 abbrev pub refusals_of : Pool → List Event → Step → List (Bool × Refusal)
+-- accept
 refusals_of pool h (Submit s k) =
     (nat_le pool.limits.submitters s, NoSuch) ∷ (is_shut h (Sub s), Closed) ∷ count_too_large (count_in (Some (submitted_kind k))) ∷ too_many_tasks pool h ∷ []
 refusals_of pool h (Fork w k) =
@@ -272,22 +289,29 @@ refusals_of pool h (Fork w k) =
     ∷ (is_stopped h, Closed) ∷ count_too_large (count_in (Some k)) ∷ too_many_tasks pool h ∷ []
 refusals_of pool h (Trigger w count) =
     no_such_worker pool w ∷ hook_in_hand h w ∷ nothing_running h w ∷ (is_stopped h, Closed) ∷ count_too_large count ∷ too_many_tasks pool h ∷ []
+-- take
 refusals_of pool h (Poll w r) = no_such_worker pool w ∷ hook_in_hand h w ∷ (not (is_empty (stack h w)), NotIdle) ∷ []
 refusals_of pool h (Help w r) = no_such_worker pool w ∷ hook_in_hand h w ∷ nothing_running h w ∷ []
 refusals_of pool h (Join w t r) =
     no_such_worker pool w ∷ hook_in_hand h w ∷ nothing_running h w ∷ unknown_task h t ∷ (is_undone (status h t) && is_in t (stack h w), OwnStack) ∷ []
+-- end
 refusals_of pool h (End w ending) =
     no_such_worker pool w ∷ hook_in_hand h w ∷ nothing_running h w ∷ (is_misfit h ending (running h w), NotCompleter) ∷ []
 refusals_of pool h (HookDone w) = no_such_worker pool w ∷ (is_none (hand h w), NotRunning) ∷ []
+-- completer
 refusals_of pool h (Add w c n) =
     no_such_worker pool w ∷ hook_in_hand h w ∷ nothing_running h w ∷ unknown_task h c ∷ not_a_completer h c ∷ count_too_large (pending h c + n) ∷ []
 refusals_of pool h (QuietRoot w t) = no_such_worker pool w ∷ hook_in_hand h w ∷ nothing_running h w ∷ unknown_task h t ∷ not_a_completer h t ∷ []
+-- settle
 refusals_of pool h (Fault t code) = unknown_task h t ∷ []
 refusals_of pool h (Cancel t) = unknown_task h t ∷ []
+-- shut
 refusals_of pool h Shutdown = []
 refusals_of pool h Stop = []
+-- query
 refusals_of pool h IsQuiescent = []
 refusals_of pool h (State t) = unknown_task h t ∷ []
+-- release
 refusals_of pool h (Release t) = unknown_task h t ∷ (not (is_gone (place h t)) || has_kept_child h t, NotDone) ∷ []
 
 -- whether the events since the last seal would be more than the limit by those of the step

@@ -47,22 +47,30 @@ ending_words (ending.Fail code) = codes "fail" ∷ decimal code ∷ []
 
 -- the words of a step
 abbrev pub step_words : Step → List (List ℕ)
+-- accept
 step_words (Submit s kind) = codes "submit" ∷ decimal s ∷ submitted_words kind
 step_words (Fork w kind) = codes "fork" ∷ decimal w ∷ kind_words kind
 step_words (Trigger w count) = codes "trigger" ∷ decimal w ∷ decimal count ∷ []
+-- take
 step_words (Poll w r) = codes "poll" ∷ decimal w ∷ decimal r ∷ []
 step_words (Help w r) = codes "help" ∷ decimal w ∷ decimal r ∷ []
 step_words (Join w t r) = codes "join" ∷ decimal w ∷ decimal t ∷ decimal r ∷ []
+-- end
 step_words (End w how) = codes "end" ∷ decimal w ∷ ending_words how
 step_words (HookDone w) = codes "hook" ∷ decimal w ∷ []
+-- completer
 step_words (Add w t n) = codes "add" ∷ decimal w ∷ decimal t ∷ decimal n ∷ []
 step_words (QuietRoot w t) = codes "root" ∷ decimal w ∷ decimal t ∷ []
+-- settle
 step_words (Fault t code) = codes "fault" ∷ decimal t ∷ decimal code ∷ []
 step_words (Cancel t) = codes "cancel" ∷ decimal t ∷ []
+-- shut
 step_words Shutdown = codes "shutdown" ∷ []
 step_words Stop = codes "stop" ∷ []
+-- query
 step_words IsQuiescent = codes "quiet" ∷ []
 step_words (State t) = codes "state" ∷ decimal t ∷ []
+-- release
 step_words (Release t) = codes "release" ∷ decimal t ∷ []
 
 -- the line of a step, without its line feed
@@ -87,22 +95,30 @@ HasSmallEnding _ = Unit {0}
 
 -- the step has a line: its numbers have 32 bits at most
 abbrev pub HasLine : Step → Type 0
+-- accept
 HasLine (Submit s kind) = IsSmall s × HasSmallSubmitted kind
 HasLine (Fork w kind) = IsSmall w × HasSmallKind kind
 HasLine (Trigger w count) = IsSmall w × IsSmall count
+-- take
 HasLine (Poll w r) = IsSmall w × IsSmall r
 HasLine (Help w r) = IsSmall w × IsSmall r
 HasLine (Join w t r) = IsSmall w × IsSmall t × IsSmall r
+-- end
 HasLine (End w how) = IsSmall w × HasSmallEnding how
 HasLine (HookDone w) = IsSmall w
+-- completer
 HasLine (Add w t n) = IsSmall w × IsSmall t × IsSmall n
 HasLine (QuietRoot w t) = IsSmall w × IsSmall t
+-- settle
 HasLine (Fault t code) = IsSmall t × IsSmall code
 HasLine (Cancel t) = IsSmall t
+-- shut
 HasLine Shutdown = Unit {0}
 HasLine Stop = Unit {0}
+-- query
 HasLine IsQuiescent = Unit {0}
 HasLine (State t) = IsSmall t
+-- release
 HasLine (Release t) = IsSmall t
 
 -- the step of a line, if it has one

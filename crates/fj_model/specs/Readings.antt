@@ -5,51 +5,59 @@ use Rattle.fj_model.specs.declared.mode.Mode.{Mode}
 use Rattle.fj_model.specs.declared.mode.Mode.TheVariants.{Async, Joining}
 use Rattle.fj_model.specs.declared.step.Step.{Step}
 use Rattle.fj_model.specs.Words.{◌>>=◌, number_first, if_last}
-use Rattle.fj_model.specs.Readings.Handed.{submit_in, fork_in, trigger_in}
-use Rattle.fj_model.specs.Readings.Taken.{poll_in, help_in, join_in, end_in, hook_in}
-use Rattle.fj_model.specs.Readings.Changed.{add_in, root_in, fault_in, cancel_in, release_in}
-use Rattle.fj_model.specs.Readings.Asked.{shutdown_in, stop_in, quiet_in, state_in}
-pub mod Handed
-pub mod Taken
-pub mod Changed
-pub mod Asked
+use Rattle.fj_model.specs.Readings.Accept.{submit_in, fork_in, trigger_in}
+use Rattle.fj_model.specs.Readings.Take.{poll_in, help_in, join_in}
+use Rattle.fj_model.specs.Readings.End.{end_in, hook_in}
+use Rattle.fj_model.specs.Readings.Completer.{add_in, root_in}
+use Rattle.fj_model.specs.Readings.Settle.{fault_in, cancel_in}
+use Rattle.fj_model.specs.Readings.Shut.{shutdown_in, stop_in}
+use Rattle.fj_model.specs.Readings.Query.{quiet_in, state_in}
+use Rattle.fj_model.specs.Readings.Release.{release_in}
+pub mod Accept
+pub mod Take
+pub mod End
+pub mod Completer
+pub mod Settle
+pub mod Shut
+pub mod Query
+pub mod Release
 
 -- ---- steps, by the first word and those behind it
 
--- the words by which the pool is asked and told something
+-- those of shut, query and release
 unfoldable pub pool_said : List ℕ → List (List ℕ) → Option Step
 pool_said verb ws =
-    if bytes_eq verb (codes "state") then state_in ws
-    else if bytes_eq verb (codes "quiet") then quiet_in ws
-    else if bytes_eq verb (codes "shutdown") then shutdown_in ws
+    if bytes_eq verb (codes "shutdown") then shutdown_in ws
     else if bytes_eq verb (codes "stop") then stop_in ws
+    else if bytes_eq verb (codes "quiet") then quiet_in ws
+    else if bytes_eq verb (codes "state") then state_in ws
+    else if bytes_eq verb (codes "release") then release_in ws
     else None
 
--- those that change a task, and where it is none of them, those above
+-- those of completer and settle, and where it is none of them, those above
 unfoldable pub task_said : List ℕ → List (List ℕ) → Option Step
 task_said verb ws =
     if bytes_eq verb (codes "add") then add_in ws
     else if bytes_eq verb (codes "root") then root_in ws
     else if bytes_eq verb (codes "fault") then fault_in ws
     else if bytes_eq verb (codes "cancel") then cancel_in ws
-    else if bytes_eq verb (codes "release") then release_in ws
     else pool_said verb ws
 
--- those of what else a worker does, and where it is none of them, those above
+-- the others of accept, take and end, and where it is none of them, those above
 unfoldable pub worker_said : List ℕ → List (List ℕ) → Option Step
 worker_said verb ws =
     if bytes_eq verb (codes "fork") then fork_in ws
+    else if bytes_eq verb (codes "trigger") then trigger_in ws
+    else if bytes_eq verb (codes "help") then help_in ws
     else if bytes_eq verb (codes "join") then join_in ws
     else if bytes_eq verb (codes "hook") then hook_in ws
-    else if bytes_eq verb (codes "help") then help_in ws
-    else if bytes_eq verb (codes "trigger") then trigger_in ws
     else task_said verb ws
 
--- the step that a first word and those behind it say, if they say one
+-- the step that a first word and those behind it say, if they say one. What most lines say comes first: one each of accept, take and end
 unfoldable pub step_said : List ℕ → List (List ℕ) → Option Step
 step_said verb ws =
-    if bytes_eq verb (codes "poll") then poll_in ws
-    else if bytes_eq verb (codes "submit") then submit_in ws
+    if bytes_eq verb (codes "submit") then submit_in ws
+    else if bytes_eq verb (codes "poll") then poll_in ws
     else if bytes_eq verb (codes "end") then end_in ws
     else worker_said verb ws
 

@@ -19,40 +19,50 @@ pub enum Ending {
 }
 
 /// What the machine is asked to do.
+///
+/// The steps stand in eight groups. What reads, defines, makes or tests the steps of a group is named for it.
 #[derive(Clone, Copy, Debug, PartialEq, Eq)]
 pub enum Step {
+    // accept: a task comes into the pool
     /// A submitter hands in a task of this kind: `ForkJoinPool.submit`.
     Submit { s: SubId, kind: SubmittedKind },
     /// The running task of a worker forks a task: `ForkJoinTask.fork`.
     Fork { w: WorkerId, kind: Kind },
     /// The running task of a worker makes a completer with this count and no parent, which is never queued.
     Trigger { w: WorkerId, count: u32 },
+    // take: a worker takes a task from a queue
     /// An idle worker asks for its next task. `r` is where its scan of the queues begins.
     Poll { w: WorkerId, r: u32 },
     /// A running task helps: one turn of `ForkJoinTask.helpQuiesce`.
     Help { w: WorkerId, r: u32 },
     /// A running task joins another one: the status if it is done, else its worker takes its choice. One turn of `ForkJoinTask.join`.
     Join { w: WorkerId, t: Serial, r: u32 },
+    // end: a body or a completion action ends
     /// The body of a worker's running task ends.
     End { w: WorkerId, ending: Ending },
     /// The completion action in a worker's hand ends.
     HookDone { w: WorkerId },
+    // completer: a count is raised, or a root made normal
     /// `CountedCompleter.addToPendingCount`.
     Add { w: WorkerId, c: Serial, n: u32 },
     /// `CountedCompleter.quietlyCompleteRoot`.
     QuietRoot { w: WorkerId, t: Serial },
+    // settle: a task gets a status
     /// `ForkJoinTask.completeExceptionally`, with a code.
     Fault { t: Serial, code: u32 },
     /// `ForkJoinTask.cancel`.
     Cancel { t: Serial },
+    // shut: no more is accepted
     /// `ForkJoinPool.shutdown`.
     Shutdown,
     /// `ForkJoinPool.shutdownNow`.
     Stop,
+    // query: nothing changes
     /// `ForkJoinPool.isQuiescent`.
     IsQuiescent,
     /// Where a task is and how far it has come.
     State { t: Serial },
+    // release: a task is forgotten
     /// Forgets a task that is gone.
     Release { t: Serial },
 }

@@ -5,17 +5,17 @@ ghost use Rattle.fj_model.specs.Readings.{step_said, worker_said, task_said, poo
 ghost use Rattle.fj_model.specs.declared.step.Step.{Step};
 
 use crate::read::fault::LineFault;
-use crate::read::step::asked::{quiet, shutdown, state, stop};
-use crate::read::step::changed::{add, cancel, fault, release, root};
-use crate::read::step::handed::{fork, submit, trigger};
-use crate::read::step::taken::{end, help, hook, join, poll};
 use crate::read::words::first_word;
 use crate::step::Step;
 
-mod asked;
-mod changed;
-mod handed;
-mod taken;
+mod accept;
+mod completer;
+mod end;
+mod query;
+mod release;
+mod settle;
+mod shut;
+mod take;
 
 /// Reads the line of a step, without its line feed. A fault where no step has this line.
 /// Whether the numbers lie in the pool's limits is not looked at.
@@ -33,25 +33,25 @@ pub fn read_step(line: &[u8]) -> Result<Step, LineFault>
     step_said(verb, behind)
 }
 
-// The step that a first word and what stands behind it say.
+/// The step that a first word and what stands behind it say. What most lines say comes first: one each of accept, take and end.
 #[tactic(auto, unfolding(crate::specs::Readings::step_said))]
 fn step_said(verb: &[u8], behind: &[u8]) -> Result<Step, LineFault>
     ensures { MatchResult result
         (λ step. step_said verb.now (words_behind behind.now) ≡ Some step)
         (λ _. step_said verb.now (words_behind behind.now) ≡ None) }
 {
-    if verb == b"poll".as_slice() {
-        poll(behind)
-    } else if verb == b"submit".as_slice() {
-        submit(behind)
+    if verb == b"submit".as_slice() {
+        accept::submit(behind)
+    } else if verb == b"poll".as_slice() {
+        take::poll(behind)
     } else if verb == b"end".as_slice() {
-        end(behind)
+        end::end(behind)
     } else {
         worker_said(verb, behind)
     }
 }
 
-// What else a worker does, and the steps below. Kept out of line, so that `step_said` stays small.
+/// The others of accept, take and end, and what is below. Kept out of line, so that `step_said` stays small.
 #[tactic(auto, unfolding(crate::specs::Readings::worker_said))]
 #[inline(never)]
 fn worker_said(verb: &[u8], behind: &[u8]) -> Result<Step, LineFault>
@@ -60,21 +60,21 @@ fn worker_said(verb: &[u8], behind: &[u8]) -> Result<Step, LineFault>
         (λ _. worker_said verb.now (words_behind behind.now) ≡ None) }
 {
     if verb == b"fork".as_slice() {
-        fork(behind)
-    } else if verb == b"join".as_slice() {
-        join(behind)
-    } else if verb == b"hook".as_slice() {
-        hook(behind)
-    } else if verb == b"help".as_slice() {
-        help(behind)
+        accept::fork(behind)
     } else if verb == b"trigger".as_slice() {
-        trigger(behind)
+        accept::trigger(behind)
+    } else if verb == b"help".as_slice() {
+        take::help(behind)
+    } else if verb == b"join".as_slice() {
+        take::join(behind)
+    } else if verb == b"hook".as_slice() {
+        end::hook(behind)
     } else {
         task_said(verb, behind)
     }
 }
 
-// What changes a task, and the steps below.
+/// Completer and settle, and what is below.
 #[tactic(auto, unfolding(crate::specs::Readings::task_said))]
 fn task_said(verb: &[u8], behind: &[u8]) -> Result<Step, LineFault>
     ensures { MatchResult result
@@ -82,35 +82,35 @@ fn task_said(verb: &[u8], behind: &[u8]) -> Result<Step, LineFault>
         (λ _. task_said verb.now (words_behind behind.now) ≡ None) }
 {
     if verb == b"add".as_slice() {
-        add(behind)
+        completer::add(behind)
     } else if verb == b"root".as_slice() {
-        root(behind)
+        completer::root(behind)
     } else if verb == b"fault".as_slice() {
-        fault(behind)
+        settle::fault(behind)
     } else if verb == b"cancel".as_slice() {
-        cancel(behind)
-    } else if verb == b"release".as_slice() {
-        release(behind)
+        settle::cancel(behind)
     } else {
         pool_said(verb, behind)
     }
 }
 
-// What the pool is asked and told.
+/// Shut, query and release.
 #[tactic(auto, unfolding(crate::specs::Readings::pool_said))]
 fn pool_said(verb: &[u8], behind: &[u8]) -> Result<Step, LineFault>
     ensures { MatchResult result
         (λ step. pool_said verb.now (words_behind behind.now) ≡ Some step)
         (λ _. pool_said verb.now (words_behind behind.now) ≡ None) }
 {
-    if verb == b"state".as_slice() {
-        state(behind)
-    } else if verb == b"quiet".as_slice() {
-        quiet(behind)
-    } else if verb == b"shutdown".as_slice() {
-        shutdown(behind)
+    if verb == b"shutdown".as_slice() {
+        shut::shutdown(behind)
     } else if verb == b"stop".as_slice() {
-        stop(behind)
+        shut::stop(behind)
+    } else if verb == b"quiet".as_slice() {
+        query::quiet(behind)
+    } else if verb == b"state".as_slice() {
+        query::state(behind)
+    } else if verb == b"release".as_slice() {
+        release::release(behind)
     } else {
         Err(LineFault)
     }

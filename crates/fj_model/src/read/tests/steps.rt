@@ -64,7 +64,7 @@ fn end(w: u32, ending: Ending) -> Step {
 }
 
 #[test]
-fn submissions_are_read(rt: HostRuntime) {
+fn accept_reads_submissions(rt: HostRuntime) {
     let rows = [
         ("submit 0", submit(0)),
         ("submit 31", submit(31)),
@@ -83,7 +83,7 @@ fn submissions_are_read(rt: HostRuntime) {
 }
 
 #[test]
-fn forks_and_triggers_are_read(rt: HostRuntime) {
+fn accept_reads_forks_and_triggers(rt: HostRuntime) {
     let rows = [
         ("fork 0", fork(0)),
         ("fork 4294967295", fork(4_294_967_295)),
@@ -118,7 +118,7 @@ fn forks_and_triggers_are_read(rt: HostRuntime) {
 }
 
 #[test]
-fn tasks_taken_are_read(rt: HostRuntime) {
+fn take_is_read(rt: HostRuntime) {
     let rows = [
         ("poll 0 0", poll(0, 0)),
         ("poll 40 7", poll(40, 7)),
@@ -144,7 +144,7 @@ fn tasks_taken_are_read(rt: HostRuntime) {
 }
 
 #[test]
-fn ends_are_read(rt: HostRuntime) {
+fn end_is_read(rt: HostRuntime) {
     let rows = [
         ("end 0 ok", end(0, Ending::Ok)),
         ("end 4000000000 ok", end(4_000_000_000, Ending::Ok)),
@@ -171,7 +171,7 @@ fn ends_are_read(rt: HostRuntime) {
 }
 
 #[test]
-fn changes_of_tasks_are_read(rt: HostRuntime) {
+fn completer_is_read(rt: HostRuntime) {
     let add = |w, c, n| Step::Add {
         w: WorkerId(w),
         c: Serial(c),
@@ -181,9 +181,6 @@ fn changes_of_tasks_are_read(rt: HostRuntime) {
         w: WorkerId(w),
         t: Serial(t),
     };
-    let fault = |t, code| Step::Fault { t: Serial(t), code };
-    let cancel = |t| Step::Cancel { t: Serial(t) };
-    let release = |t| Step::Release { t: Serial(t) };
     let rows = [
         ("add 0 1 2", add(0, 1, 2)),
         ("add 1 0 0", add(1, 0, 0)),
@@ -196,15 +193,6 @@ fn changes_of_tasks_are_read(rt: HostRuntime) {
             "root 4294967295 4294967294",
             root(4_294_967_295, 4_294_967_294),
         ),
-        ("fault 0 12", fault(0, 12)),
-        (
-            "fault 4294967295 4294967294",
-            fault(4_294_967_295, 4_294_967_294),
-        ),
-        ("cancel 0", cancel(0)),
-        ("cancel 4294967295", cancel(4_294_967_295)),
-        ("release 0", release(0)),
-        ("release 4294967295", release(4_294_967_295)),
     ];
     for (line, step) in rows {
         assert_eq!(rt; read_step(line.as_bytes()), Ok(step), "{line}");
@@ -212,18 +200,48 @@ fn changes_of_tasks_are_read(rt: HostRuntime) {
 }
 
 #[test]
-fn what_the_pool_is_asked_and_told_is_read(rt: HostRuntime) {
+fn settle_is_read(rt: HostRuntime) {
+    let fault = |t, code| Step::Fault { t: Serial(t), code };
+    let cancel = |t| Step::Cancel { t: Serial(t) };
     let rows = [
-        ("shutdown", Step::Shutdown),
-        ("stop", Step::Stop),
-        ("quiet", Step::IsQuiescent),
-        ("state 0", Step::State { t: Serial(0) }),
+        ("fault 0 12", fault(0, 12)),
         (
-            "state 4294967295",
-            Step::State {
-                t: Serial(4_294_967_295),
-            },
+            "fault 4294967295 4294967294",
+            fault(4_294_967_295, 4_294_967_294),
         ),
+        ("cancel 0", cancel(0)),
+        ("cancel 4294967295", cancel(4_294_967_295)),
+    ];
+    for (line, step) in rows {
+        assert_eq!(rt; read_step(line.as_bytes()), Ok(step), "{line}");
+    }
+}
+
+#[test]
+fn shut_is_read(rt: HostRuntime) {
+    assert_eq!(rt; read_step(b"shutdown"), Ok(Step::Shutdown));
+    assert_eq!(rt; read_step(b"stop"), Ok(Step::Stop));
+}
+
+#[test]
+fn query_is_read(rt: HostRuntime) {
+    let state = |t| Step::State { t: Serial(t) };
+    let rows = [
+        ("quiet", Step::IsQuiescent),
+        ("state 0", state(0)),
+        ("state 4294967295", state(4_294_967_295)),
+    ];
+    for (line, step) in rows {
+        assert_eq!(rt; read_step(line.as_bytes()), Ok(step), "{line}");
+    }
+}
+
+#[test]
+fn release_is_read(rt: HostRuntime) {
+    let release = |t| Step::Release { t: Serial(t) };
+    let rows = [
+        ("release 0", release(0)),
+        ("release 4294967295", release(4_294_967_295)),
     ];
     for (line, step) in rows {
         assert_eq!(rt; read_step(line.as_bytes()), Ok(step), "{line}");

@@ -1,17 +1,11 @@
--- The lines of what the pool is asked and told.
+-- The lines of the steps of query.
 use Rattle.std.proofs.Common.{◌≡◌, ℕ, ◌^◌, ◌<◌, List, [], ◌∷◌, Some, refl}
 use Rattle.std.specs.Prelude.{codes}
 use Rattle.std.specs.Fmt.{decimal}
 use Rattle.fj_model.specs.declared.step.Step.{Step}
 use Rattle.fj_model.specs.declared.step.Step.TheVariants as step
-use Rattle.fj_model.specs.Readings.Asked.{shutdown_in, stop_in, quiet_in, state_in}
+use Rattle.fj_model.specs.Readings.Query.{quiet_in, state_in}
 use Rattle.fj_model.proofs.FormLaws.{AreWordsOf, none_found, one_found, one_again}
-
-pub shutdown_found : (ws : List (List ℕ)) (s : Step) → shutdown_in ws ≡ Some s → AreWordsOf s (codes "shutdown" ∷ ws)
-shutdown_found ws s e = none_found (codes "shutdown") ws step.Shutdown s e (tt, refl)
-
-pub stop_found : (ws : List (List ℕ)) (s : Step) → stop_in ws ≡ Some s → AreWordsOf s (codes "stop" ∷ ws)
-stop_found ws s e = none_found (codes "stop") ws step.Stop s e (tt, refl)
 
 pub quiet_found : (ws : List (List ℕ)) (s : Step) → quiet_in ws ≡ Some s → AreWordsOf s (codes "quiet" ∷ ws)
 quiet_found ws s e = none_found (codes "quiet") ws step.IsQuiescent s e (tt, refl)

@@ -1,4 +1,4 @@
--- What the words behind the first say, where a task is handed in.
+-- What the words behind the first say, of the steps of accept: a task comes into the pool.
 use Rattle.std.specs.Prelude.{ℕ, Bool, true, false, if◌then◌else◌, List, Option, Some, None, codes}
 use Rattle.std.specs.Str.{bytes_eq}
 use Rattle.fj_model.specs.declared.kind.Kind.{Kind}

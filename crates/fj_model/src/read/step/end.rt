@@ -1,55 +1,15 @@
 ghost use Rattle.std.specs.Prelude.{◌≡◌, Some, None, MatchResult};
 ghost use Rattle.fj_model.specs.Words.{words_behind};
-ghost use Rattle.fj_model.specs.Readings.Taken.{poll_in, help_in, join_in, end_in, hook_in, ending_said, failure_said, word_alone_said, ending_word_said};
+ghost use Rattle.fj_model.specs.Readings.End.{end_in, hook_in, ending_said, failure_said, word_alone_said, ending_word_said};
 
-use crate::ids::{Serial, WorkerId};
+use crate::ids::WorkerId;
 use crate::read::fault::LineFault;
-use crate::read::numbers::{one_number, three_numbers, two_numbers};
+use crate::read::numbers::one_number;
 use crate::read::words::{next_number, next_word, no_more};
 use crate::step::{Ending, Step};
 
-/// Reads what stands behind `poll`: the worker and the scan word.
-#[tactic(auto, unfolding(crate::specs::Readings::Taken::poll_in))]
-pub fn poll(behind: &[u8]) -> Result<Step, LineFault>
-    ensures { MatchResult result (λ step. poll_in (words_behind behind.now) ≡ Some step) (λ _. poll_in (words_behind behind.now) ≡ None) }
-{
-    let (w, r) = two_numbers(behind)?;
-    Ok(Step::Poll { w: WorkerId(w), r })
-}
-
-/// Reads what stands behind `help`: the worker and the scan word.
-#[tactic(auto, unfolding(crate::specs::Readings::Taken::help_in))]
-pub fn help(behind: &[u8]) -> Result<Step, LineFault>
-    ensures { MatchResult result (λ step. help_in (words_behind behind.now) ≡ Some step) (λ _. help_in (words_behind behind.now) ≡ None) }
-{
-    let (w, r) = two_numbers(behind)?;
-    Ok(Step::Help { w: WorkerId(w), r })
-}
-
-/// Reads what stands behind `join`: the worker, the task and the scan word.
-#[tactic(auto, unfolding(crate::specs::Readings::Taken::join_in))]
-pub fn join(behind: &[u8]) -> Result<Step, LineFault>
-    ensures { MatchResult result (λ step. join_in (words_behind behind.now) ≡ Some step) (λ _. join_in (words_behind behind.now) ≡ None) }
-{
-    let (w, t, r) = three_numbers(behind)?;
-    Ok(Step::Join {
-        w: WorkerId(w),
-        t: Serial(u64::from(t)),
-        r,
-    })
-}
-
-/// Reads what stands behind `hook`: the worker.
-#[tactic(auto, unfolding(crate::specs::Readings::Taken::hook_in))]
-pub fn hook(behind: &[u8]) -> Result<Step, LineFault>
-    ensures { MatchResult result (λ step. hook_in (words_behind behind.now) ≡ Some step) (λ _. hook_in (words_behind behind.now) ≡ None) }
-{
-    let w = one_number(behind)?;
-    Ok(Step::HookDone { w: WorkerId(w) })
-}
-
 /// Reads what stands behind `end`: the worker and the ending, which is one word or `fail` and a code.
-#[tactic(auto, unfolding(crate::specs::Readings::Taken::end_in))]
+#[tactic(auto, unfolding(crate::specs::Readings::End::end_in))]
 pub fn end(behind: &[u8]) -> Result<Step, LineFault>
     ensures { MatchResult result (λ step. end_in (words_behind behind.now) ≡ Some step) (λ _. end_in (words_behind behind.now) ≡ None) }
 {
@@ -61,7 +21,7 @@ pub fn end(behind: &[u8]) -> Result<Step, LineFault>
     })
 }
 
-#[tactic(auto, unfolding(crate::specs::Readings::Taken::ending_said))]
+#[tactic(auto, unfolding(crate::specs::Readings::End::ending_said))]
 fn ending(behind: &[u8]) -> Result<Ending, LineFault>
     ensures { MatchResult result (λ ending. ending_said (words_behind behind.now) ≡ Some ending) (λ _. ending_said (words_behind behind.now) ≡ None) }
 {
@@ -73,7 +33,7 @@ fn ending(behind: &[u8]) -> Result<Ending, LineFault>
     }
 }
 
-#[tactic(auto, unfolding(crate::specs::Readings::Taken::failure_said))]
+#[tactic(auto, unfolding(crate::specs::Readings::End::failure_said))]
 fn failure(behind: &[u8]) -> Result<Ending, LineFault>
     ensures { MatchResult result (λ ending. failure_said (words_behind behind.now) ≡ Some ending) (λ _. failure_said (words_behind behind.now) ≡ None) }
 {
@@ -81,7 +41,7 @@ fn failure(behind: &[u8]) -> Result<Ending, LineFault>
     Ok(Ending::Fail(code))
 }
 
-#[tactic(auto, unfolding(crate::specs::Readings::Taken::word_alone_said))]
+#[tactic(auto, unfolding(crate::specs::Readings::End::word_alone_said))]
 fn word_alone(word: &[u8], behind: &[u8]) -> Result<Ending, LineFault>
     ensures { MatchResult result
         (λ ending. word_alone_said word.now (words_behind behind.now) ≡ Some ending)
@@ -108,4 +68,13 @@ fn ending_word(word: &[u8]) -> Result<Ending, LineFault>
     } else {
         Err(LineFault)
     }
+}
+
+/// Reads what stands behind `hook`: the worker.
+#[tactic(auto, unfolding(crate::specs::Readings::End::hook_in))]
+pub fn hook(behind: &[u8]) -> Result<Step, LineFault>
+    ensures { MatchResult result (λ step. hook_in (words_behind behind.now) ≡ Some step) (λ _. hook_in (words_behind behind.now) ≡ None) }
+{
+    let w = one_number(behind)?;
+    Ok(Step::HookDone { w: WorkerId(w) })
 }

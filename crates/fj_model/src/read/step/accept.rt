@@ -1,6 +1,6 @@
 ghost use Rattle.std.specs.Prelude.{◌≡◌, Some, None, MatchResult};
 ghost use Rattle.fj_model.specs.Words.{words_behind};
-ghost use Rattle.fj_model.specs.Readings.Handed.{submit_in, fork_in, trigger_in, submitted_said, submitted_completer, kind_said, forked_completer, count_and_relay, parent_said, relay_said};
+ghost use Rattle.fj_model.specs.Readings.Accept.{submit_in, fork_in, trigger_in, submitted_said, submitted_completer, kind_said, forked_completer, count_and_relay, parent_said, relay_said};
 
 use crate::ids::{Serial, SubId, WorkerId};
 use crate::kind::{Kind, SubmittedKind};
@@ -11,7 +11,7 @@ use crate::read::words::{at_end, next_number, next_word, no_more};
 use crate::step::Step;
 
 /// Reads what stands behind `submit`: the submitter, and of a completer its count and relay word.
-#[tactic(auto, unfolding(crate::specs::Readings::Handed::submit_in))]
+#[tactic(auto, unfolding(crate::specs::Readings::Accept::submit_in))]
 pub fn submit(behind: &[u8]) -> Result<Step, LineFault>
     ensures { MatchResult result (λ step. submit_in (words_behind behind.now) ≡ Some step) (λ _. submit_in (words_behind behind.now) ≡ None) }
 {
@@ -21,7 +21,7 @@ pub fn submit(behind: &[u8]) -> Result<Step, LineFault>
 }
 
 /// Reads what stands behind `fork`: the worker, and of a completer its parent or `-`, its count and its relay word.
-#[tactic(auto, unfolding(crate::specs::Readings::Handed::fork_in))]
+#[tactic(auto, unfolding(crate::specs::Readings::Accept::fork_in))]
 pub fn fork(behind: &[u8]) -> Result<Step, LineFault>
     ensures { MatchResult result (λ step. fork_in (words_behind behind.now) ≡ Some step) (λ _. fork_in (words_behind behind.now) ≡ None) }
 {
@@ -34,7 +34,7 @@ pub fn fork(behind: &[u8]) -> Result<Step, LineFault>
 }
 
 /// Reads what stands behind `trigger`: the worker and the count.
-#[tactic(auto, unfolding(crate::specs::Readings::Handed::trigger_in))]
+#[tactic(auto, unfolding(crate::specs::Readings::Accept::trigger_in))]
 pub fn trigger(behind: &[u8]) -> Result<Step, LineFault>
     ensures { MatchResult result (λ step. trigger_in (words_behind behind.now) ≡ Some step) (λ _. trigger_in (words_behind behind.now) ≡ None) }
 {
@@ -45,7 +45,7 @@ pub fn trigger(behind: &[u8]) -> Result<Step, LineFault>
     })
 }
 
-#[tactic(auto, unfolding(crate::specs::Readings::Handed::submitted_said))]
+#[tactic(auto, unfolding(crate::specs::Readings::Accept::submitted_said))]
 fn submitted_kind(behind: &[u8]) -> Result<SubmittedKind, LineFault>
     ensures { MatchResult result (λ kind. submitted_said (words_behind behind.now) ≡ Some kind) (λ _. submitted_said (words_behind behind.now) ≡ None) }
 {
@@ -56,7 +56,7 @@ fn submitted_kind(behind: &[u8]) -> Result<SubmittedKind, LineFault>
     }
 }
 
-#[tactic(auto, unfolding(crate::specs::Readings::Handed::submitted_completer))]
+#[tactic(auto, unfolding(crate::specs::Readings::Accept::submitted_completer))]
 fn submitted_completer(behind: &[u8]) -> Result<SubmittedKind, LineFault>
     ensures { MatchResult result (λ kind. submitted_completer (words_behind behind.now) ≡ Some kind) (λ _. submitted_completer (words_behind behind.now) ≡ None) }
 {
@@ -64,7 +64,7 @@ fn submitted_completer(behind: &[u8]) -> Result<SubmittedKind, LineFault>
     Ok(SubmittedKind::Completer { relay, count })
 }
 
-#[tactic(auto, unfolding(crate::specs::Readings::Handed::kind_said))]
+#[tactic(auto, unfolding(crate::specs::Readings::Accept::kind_said))]
 fn kind(behind: &[u8]) -> Result<Kind, LineFault>
     ensures { MatchResult result (λ kind. kind_said (words_behind behind.now) ≡ Some kind) (λ _. kind_said (words_behind behind.now) ≡ None) }
 {
@@ -75,7 +75,7 @@ fn kind(behind: &[u8]) -> Result<Kind, LineFault>
     }
 }
 
-#[tactic(auto, unfolding(crate::specs::Readings::Handed::forked_completer))]
+#[tactic(auto, unfolding(crate::specs::Readings::Accept::forked_completer))]
 fn forked_completer(behind: &[u8]) -> Result<Kind, LineFault>
     ensures { MatchResult result (λ kind. forked_completer (words_behind behind.now) ≡ Some kind) (λ _. forked_completer (words_behind behind.now) ≡ None) }
 {
@@ -89,7 +89,7 @@ fn forked_completer(behind: &[u8]) -> Result<Kind, LineFault>
     })
 }
 
-#[tactic(auto, unfolding(crate::specs::Readings::Handed::count_and_relay))]
+#[tactic(auto, unfolding(crate::specs::Readings::Accept::count_and_relay))]
 fn count_and_relay(behind: &[u8]) -> Result<(u32, bool), LineFault>
     ensures { MatchResult result (λ p. count_and_relay (words_behind behind.now) ≡ Some p) (λ _. count_and_relay (words_behind behind.now) ≡ None) }
 {
@@ -101,7 +101,7 @@ fn count_and_relay(behind: &[u8]) -> Result<(u32, bool), LineFault>
 }
 
 // A task, or `-` for none.
-#[tactic(auto, unfolding(crate::specs::Readings::Handed::parent_said))]
+#[tactic(auto, unfolding(crate::specs::Readings::Accept::parent_said))]
 fn parent(word: &[u8]) -> Result<Option<Serial>, LineFault>
     ensures { MatchResult result (λ parent. parent_said word.now ≡ Some parent) (λ _. parent_said word.now ≡ None) }
 {

@@ -1,4 +1,4 @@
--- The lines of the steps by which a worker takes a task, waits for one or ends one.
+-- The lines of the steps of end.
 use Rattle.std.proofs.Common.{◌≡◌, ℕ, ◌^◌, ◌<◌, true, List, [], ◌∷◌, Option, Some, None, refl, ap, subst, ◌∙◌}
 use Rattle.std.specs.Prelude.{codes}
 use Rattle.std.specs.Fmt.{decimal}
@@ -10,43 +10,11 @@ use Rattle.fj_model.specs.declared.step.Step.{Step}
 use Rattle.fj_model.specs.declared.step.Step.TheVariants as step
 use Rattle.fj_model.specs.Words.{◌>>=◌, if_last}
 use Rattle.fj_model.specs.Lines.{ending_words, HasSmallEnding}
-use Rattle.fj_model.specs.Readings.Taken.{poll_in, help_in, join_in, hook_in, end_in, ending_word_said, failure_said, word_alone_said, ending_said}
+use Rattle.fj_model.specs.Readings.End.{end_in, hook_in, ending_word_said, failure_said, word_alone_said, ending_said}
 use Rattle.fj_model.proofs.NumberLaws.{number_again}
 use Rattle.fj_model.proofs.WordLaws.{is_word, number_is_word, one_is_words}
 use Rattle.fj_model.proofs.PartLaws.{some_is, number_then, word_then, last_then, some_then, chosen, is_text}
-use Rattle.fj_model.proofs.FormLaws.{AreWordsOf, said_words, one_then, one_found, two_found, three_found, one_again, two_again, three_again}
-
-pub poll_found : (ws : List (List ℕ)) (s : Step) → poll_in ws ≡ Some s → AreWordsOf s (codes "poll" ∷ ws)
-unfolding poll_in
-poll_found ws s e = two_found (codes "poll") ws (λ p. step.Poll p.0 p.1) s e (λ w r w_small r_small. ((w_small, r_small), refl))
-
-pub poll_again : (w r : ℕ) → w < 2 ^ 32 → r < 2 ^ 32 → poll_in (decimal w ∷ decimal r ∷ []) ≡ Some (step.Poll w r)
-unfolding poll_in
-poll_again w r w_small r_small = rw (two_again w r w_small r_small) refl
-
-pub help_found : (ws : List (List ℕ)) (s : Step) → help_in ws ≡ Some s → AreWordsOf s (codes "help" ∷ ws)
-unfolding help_in
-help_found ws s e = two_found (codes "help") ws (λ p. step.Help p.0 p.1) s e (λ w r w_small r_small. ((w_small, r_small), refl))
-
-pub help_again : (w r : ℕ) → w < 2 ^ 32 → r < 2 ^ 32 → help_in (decimal w ∷ decimal r ∷ []) ≡ Some (step.Help w r)
-unfolding help_in
-help_again w r w_small r_small = rw (two_again w r w_small r_small) refl
-
-pub join_found : (ws : List (List ℕ)) (s : Step) → join_in ws ≡ Some s → AreWordsOf s (codes "join" ∷ ws)
-unfolding join_in
-join_found ws s e = three_found (codes "join") ws (λ p. step.Join p.0 p.1 p.2) s e (λ w t r w_small t_small r_small. ((w_small, t_small, r_small), refl))
-
-pub join_again : (w t r : ℕ) → w < 2 ^ 32 → t < 2 ^ 32 → r < 2 ^ 32 → join_in (decimal w ∷ decimal t ∷ decimal r ∷ []) ≡ Some (step.Join w t r)
-unfolding join_in
-join_again w t r w_small t_small r_small = rw (three_again w t r w_small t_small r_small) refl
-
-pub hook_found : (ws : List (List ℕ)) (s : Step) → hook_in ws ≡ Some s → AreWordsOf s (codes "hook" ∷ ws)
-unfolding hook_in
-hook_found ws s e = one_found (codes "hook") ws (λ w. step.HookDone w) s e (λ w small. (small, refl))
-
-pub hook_again : (w : ℕ) → w < 2 ^ 32 → hook_in (decimal w ∷ []) ≡ Some (step.HookDone w)
-unfolding hook_in
-hook_again w small = rw (one_again w small) refl
+use Rattle.fj_model.proofs.FormLaws.{AreWordsOf, said_words, one_then, one_found, one_again}
 
 -- ---- endings
 
@@ -109,6 +77,8 @@ ending_are_words ending.Pass fits = refl
 ending_are_words ending.Complete fits = refl
 ending_are_words (ending.Fail code) fits = rw (one_is_words code fits) refl
 
+-- ---- steps
+
 pub end_found : (ws : List (List ℕ)) (s : Step) → end_in ws ≡ Some s → AreWordsOf s (codes "end" ∷ ws)
 unfolding end_in
 end_found ws s e =
@@ -126,3 +96,11 @@ pub end_are_words : (w : ℕ) (how : Ending) → w < 2 ^ 32 → HasSmallEnding h
 end_are_words w how small fits =
     let first = number_is_word w small in
     rw (first, ending_are_words how fits) refl
+
+pub hook_found : (ws : List (List ℕ)) (s : Step) → hook_in ws ≡ Some s → AreWordsOf s (codes "hook" ∷ ws)
+unfolding hook_in
+hook_found ws s e = one_found (codes "hook") ws (λ w. step.HookDone w) s e (λ w small. (small, refl))
+
+pub hook_again : (w : ℕ) → w < 2 ^ 32 → hook_in (decimal w ∷ []) ≡ Some (step.HookDone w)
+unfolding hook_in
+hook_again w small = rw (one_again w small) refl

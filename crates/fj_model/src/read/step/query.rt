@@ -1,28 +1,12 @@
 ghost use Rattle.std.specs.Prelude.{◌≡◌, Some, None, MatchResult};
 ghost use Rattle.fj_model.specs.Words.{words_behind};
-ghost use Rattle.fj_model.specs.Readings.Asked.{shutdown_in, stop_in, quiet_in, state_in};
+ghost use Rattle.fj_model.specs.Readings.Query.{quiet_in, state_in};
 
 use crate::ids::Serial;
 use crate::read::fault::LineFault;
 use crate::read::numbers::one_number;
 use crate::read::words::no_more;
 use crate::step::Step;
-
-/// Reads what stands behind `shutdown`: nothing.
-pub fn shutdown(behind: &[u8]) -> Result<Step, LineFault>
-    ensures { MatchResult result (λ step. shutdown_in (words_behind behind.now) ≡ Some step) (λ _. shutdown_in (words_behind behind.now) ≡ None) }
-{
-    no_more(behind)?;
-    Ok(Step::Shutdown)
-}
-
-/// Reads what stands behind `stop`: nothing.
-pub fn stop(behind: &[u8]) -> Result<Step, LineFault>
-    ensures { MatchResult result (λ step. stop_in (words_behind behind.now) ≡ Some step) (λ _. stop_in (words_behind behind.now) ≡ None) }
-{
-    no_more(behind)?;
-    Ok(Step::Stop)
-}
 
 /// Reads what stands behind `quiet`: nothing.
 pub fn quiet(behind: &[u8]) -> Result<Step, LineFault>
@@ -33,7 +17,7 @@ pub fn quiet(behind: &[u8]) -> Result<Step, LineFault>
 }
 
 /// Reads what stands behind `state`: the task.
-#[tactic(auto, unfolding(crate::specs::Readings::Asked::state_in))]
+#[tactic(auto, unfolding(crate::specs::Readings::Query::state_in))]
 pub fn state(behind: &[u8]) -> Result<Step, LineFault>
     ensures { MatchResult result (λ step. state_in (words_behind behind.now) ≡ Some step) (λ _. state_in (words_behind behind.now) ≡ None) }
 {

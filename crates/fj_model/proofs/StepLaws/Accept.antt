@@ -1,4 +1,4 @@
--- The lines of the steps that hand in a task.
+-- The lines of the steps of accept.
 use Rattle.std.proofs.Common.{◌≡◌, ℕ, ◌^◌, ◌<◌, Bool, true, false, List, [], ◌∷◌, Option, Some, None, refl, sym, ap, subst, ◌∙◌, arith}
 use Rattle.std.specs.Prelude.{codes, IfSome}
 use Rattle.std.specs.Fmt.{decimal}
@@ -12,7 +12,7 @@ use Rattle.fj_model.specs.declared.step.Step.{Step}
 use Rattle.fj_model.specs.declared.step.Step.TheVariants as step
 use Rattle.fj_model.specs.Words.{◌>>=◌, number_in, word_first, is_last, if_last}
 use Rattle.fj_model.specs.Lines.{relay_word, parent_word, submitted_words, kind_words, IsSmall, HasSmallSubmitted, HasSmallKind}
-use Rattle.fj_model.specs.Readings.Handed.{relay_said, parent_said, count_and_relay, submitted_completer, submitted_said, forked_completer, kind_said, submit_in, fork_in, trigger_in}
+use Rattle.fj_model.specs.Readings.Accept.{relay_said, parent_said, count_and_relay, submitted_completer, submitted_said, forked_completer, kind_said, submit_in, fork_in, trigger_in}
 use Rattle.fj_model.proofs.NumberLaws.{number_found, number_again, no_number_other}
 use Rattle.fj_model.proofs.WordLaws.{is_word, number_is_word}
 use Rattle.fj_model.proofs.PartLaws.{some_is, number_then, word_then, last_then, some_then, chosen, is_text}

@@ -1,31 +1,11 @@
--- What the words behind the first say, where a worker takes a task, waits for one or ends one.
+-- What the words behind the first say, of the steps of end: a body or a completion action ends.
 use Rattle.std.specs.Prelude.{ℕ, if◌then◌else◌, List, Option, Some, None, codes}
 use Rattle.std.specs.Str.{bytes_eq}
 use Rattle.fj_model.specs.declared.step.Ending.{Ending}
 use Rattle.fj_model.specs.declared.step.Ending.TheVariants as ending
 use Rattle.fj_model.specs.declared.step.Step.{Step}
-use Rattle.fj_model.specs.declared.step.Step.TheVariants.{Poll, Help, Join, End, HookDone}
-use Rattle.fj_model.specs.Words.{◌>>=◌, word_first, number_first, if_last, one_number, two_numbers, three_numbers}
-
-unfoldable pub poll_in : List (List ℕ) → Option Step
-poll_in ws = do
-  said ← two_numbers ws
-  Some (Poll said.0 said.1)
-
-unfoldable pub help_in : List (List ℕ) → Option Step
-help_in ws = do
-  said ← two_numbers ws
-  Some (Help said.0 said.1)
-
-unfoldable pub join_in : List (List ℕ) → Option Step
-join_in ws = do
-  said ← three_numbers ws
-  Some (Join said.0 said.1 said.2)
-
-unfoldable pub hook_in : List (List ℕ) → Option Step
-hook_in ws = do
-  w ← one_number ws
-  Some (HookDone w)
+use Rattle.fj_model.specs.declared.step.Step.TheVariants.{End, HookDone}
+use Rattle.fj_model.specs.Words.{◌>>=◌, word_first, number_first, if_last, one_number}
 
 -- ---- how a body ends
 
@@ -54,8 +34,15 @@ ending_said ws = do
   word ← word_first ws
   if bytes_eq word.0 (codes "fail") then failure_said word.1 else word_alone_said word.0 word.1
 
+-- ---- steps
+
 unfoldable pub end_in : List (List ℕ) → Option Step
 end_in ws = do
   w ← number_first ws
   how ← ending_said w.1
   Some (End w.0 how)
+
+unfoldable pub hook_in : List (List ℕ) → Option Step
+hook_in ws = do
+  w ← one_number ws
+  Some (HookDone w)

@@ -1,0 +1,19 @@
+ghost use Rattle.std.specs.Prelude.{◌≡◌, Some, None, MatchResult};
+ghost use Rattle.fj_model.specs.Words.{words_behind};
+ghost use Rattle.fj_model.specs.Readings.Release.{release_in};
+
+use crate::ids::Serial;
+use crate::read::fault::LineFault;
+use crate::read::numbers::one_number;
+use crate::step::Step;
+
+/// Reads what stands behind `release`: the task.
+#[tactic(auto, unfolding(crate::specs::Readings::Release::release_in))]
+pub fn release(behind: &[u8]) -> Result<Step, LineFault>
+    ensures { MatchResult result (λ step. release_in (words_behind behind.now) ≡ Some step) (λ _. release_in (words_behind behind.now) ≡ None) }
+{
+    let t = one_number(behind)?;
+    Ok(Step::Release {
+        t: Serial(u64::from(t)),
+    })
+}

@@ -1,0 +1,31 @@
+ghost use Rattle.std.specs.Prelude.{◌≡◌, Some, None, MatchResult};
+ghost use Rattle.fj_model.specs.Words.{words_behind};
+ghost use Rattle.fj_model.specs.Readings.Settle.{fault_in, cancel_in};
+
+use crate::ids::Serial;
+use crate::read::fault::LineFault;
+use crate::read::numbers::{one_number, two_numbers};
+use crate::step::Step;
+
+/// Reads what stands behind `fault`: the task and the code.
+#[tactic(auto, unfolding(crate::specs::Readings::Settle::fault_in))]
+pub fn fault(behind: &[u8]) -> Result<Step, LineFault>
+    ensures { MatchResult result (λ step. fault_in (words_behind behind.now) ≡ Some step) (λ _. fault_in (words_behind behind.now) ≡ None) }
+{
+    let (t, code) = two_numbers(behind)?;
+    Ok(Step::Fault {
+        t: Serial(u64::from(t)),
+        code,
+    })
+}
+
+/// Reads what stands behind `cancel`: the task.
+#[tactic(auto, unfolding(crate::specs::Readings::Settle::cancel_in))]
+pub fn cancel(behind: &[u8]) -> Result<Step, LineFault>
+    ensures { MatchResult result (λ step. cancel_in (words_behind behind.now) ≡ Some step) (λ _. cancel_in (words_behind behind.now) ≡ None) }
+{
+    let t = one_number(behind)?;
+    Ok(Step::Cancel {
+        t: Serial(u64::from(t)),
+    })
+}

@@ -1,0 +1,23 @@
+ghost use Rattle.std.specs.Prelude.{◌≡◌, Some, None, MatchResult};
+ghost use Rattle.fj_model.specs.Words.{words_behind};
+ghost use Rattle.fj_model.specs.Readings.Shut.{shutdown_in, stop_in};
+
+use crate::read::fault::LineFault;
+use crate::read::words::no_more;
+use crate::step::Step;
+
+/// Reads what stands behind `shutdown`: nothing.
+pub fn shutdown(behind: &[u8]) -> Result<Step, LineFault>
+    ensures { MatchResult result (λ step. shutdown_in (words_behind behind.now) ≡ Some step) (λ _. shutdown_in (words_behind behind.now) ≡ None) }
+{
+    no_more(behind)?;
+    Ok(Step::Shutdown)
+}
+
+/// Reads what stands behind `stop`: nothing.
+pub fn stop(behind: &[u8]) -> Result<Step, LineFault>
+    ensures { MatchResult result (λ step. stop_in (words_behind behind.now) ≡ Some step) (λ _. stop_in (words_behind behind.now) ≡ None) }
+{
+    no_more(behind)?;
+    Ok(Step::Stop)
+}
