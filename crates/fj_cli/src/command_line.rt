@@ -7,7 +7,7 @@ use clap::{Command, Error};
 use std::alloc::{AllocError, Global};
 
 /// What is to be run.
-#[derive(Clone, Copy, Debug, PartialEq, Eq)]
+#[derive(Clone, Copy)]
 pub enum Subcommand {
     /// A script on standard input.
     Replay,

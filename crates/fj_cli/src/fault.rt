@@ -1,7 +1,7 @@
 use thiserror::Error;
 
 /// Why a replay ended before its input did.
-#[derive(Clone, Copy, Debug, PartialEq, Eq, Error)]
+#[derive(Clone, Copy, Debug, PartialEq, Error)]
 pub enum ReplayFault {
     /// This line, counted from 1, is no heading or step where one must stand, or the input ends before its line feed. All lines before
     /// it were replied to.

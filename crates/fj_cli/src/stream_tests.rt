@@ -38,7 +38,7 @@ impl Read for Halting {
 }
 
 // How a writer ends.
-#[derive(Clone, Copy, Debug, PartialEq, Eq)]
+#[derive(Clone, Copy, Debug)]
 enum End {
     Fails,
     TakesNothing,

@@ -8,7 +8,7 @@ use std::sync::Arc;
 
 /// The answer of a close: how many were admitted before it, the closing number, at most 2,097,152. Java's `shutdown` answers
 /// nothing.
-#[derive(Clone, Copy, Debug, PartialEq, Eq)]
+#[derive(Clone, Copy, Debug, PartialEq)]
 pub enum Closing {
     /// This call has closed the gate.
     First(u64),

@@ -9,7 +9,7 @@ use crate::word::{LastLook, Part, Token, Word};
 use std::sync::Arc;
 
 /// What all ends of a gate know together. Java has no counterpart.
-#[derive(Clone, Copy, Debug, PartialEq, Eq)]
+#[derive(Clone, Copy, Debug, PartialEq)]
 pub struct Tickets {
     /// How many tickets were drawn, from 0 to submitters times `each`, which is at most 2,097,152.
     pub drawn: u64,

@@ -4,7 +4,7 @@ use super::*;
 use std::test::*;
 
 /// What any step answers.
-#[derive(Clone, Copy, Debug, PartialEq, Eq)]
+#[derive(Clone, Copy, Debug, PartialEq)]
 enum Answer {
     Ticket(u64),
     Open(u64),

@@ -3,7 +3,7 @@ use std::marker::Model;
 /// The number of an admission: 0, 1, 2, .. in the order of the exchanges, over all entrants of a gate.
 ///
 /// At a gate it is below the number of submitters times `each`, so below 2,097,152. Java has no counterpart.
-#[derive(Clone, Copy, Debug, PartialEq, Eq)]
+#[derive(Clone, Copy, Debug, PartialEq)]
 pub struct Ticket(pub u64);
 
 impl Model for Ticket {
@@ -17,5 +17,5 @@ impl Model for Ticket {
 }
 
 /// The gate is closed. It stays so. To a submitter this is refusal 1, `Closed` of `fj_model::Refusal`.
-#[derive(Clone, Copy, Debug, PartialEq, Eq)]
+#[derive(Clone, Copy, Debug, PartialEq)]
 pub struct Closed;

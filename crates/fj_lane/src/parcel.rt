@@ -1,7 +1,7 @@
 use fj_gate::Ticket;
 
 /// A body, with the ticket under which it was admitted. Java has no counterpart.
-#[derive(Debug, Drop)]
+#[derive(Drop)]
 pub struct Parcel<B> {
     /// The number of its admission, drawn at the gate.
     pub ticket: Ticket,
@@ -12,5 +12,5 @@ pub struct Parcel<B> {
 /// The lane has taken as many parcels as its capacity. It stays so: a take makes no room.
 ///
 /// To a submitter this is refusal 11, `LaneSpent` of `fj_model::Refusal`. Java knows no such limit.
-#[derive(Clone, Copy, Debug, PartialEq, Eq)]
+#[derive(Clone, Copy, Debug, PartialEq)]
 pub struct LaneSpent;

@@ -5,7 +5,7 @@ use crate::said::Said;
 use crate::step::Step;
 
 /// What a machine is asked for in a run with seals.
-#[derive(Clone, Copy, Debug, PartialEq, Eq)]
+#[derive(Clone, Copy)]
 pub enum Move {
     /// A step.
     Step(Step),
@@ -14,7 +14,7 @@ pub enum Move {
 }
 
 /// What a machine answers in a run with seals.
-#[derive(Clone, Copy, Debug, PartialEq, Eq)]
+#[derive(Clone, Copy)]
 pub enum Answer {
     /// The reply to a step.
     Said(Said),

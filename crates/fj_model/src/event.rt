@@ -4,7 +4,7 @@ use crate::owner::Owner;
 use crate::status::Status;
 
 /// Why a completion action was handed out.
-#[derive(Clone, Copy, Debug, PartialEq, Eq)]
+#[derive(Clone, Copy, Debug)]
 pub enum How {
     /// An arrival found the pending count at zero.
     Zero,
@@ -13,7 +13,7 @@ pub enum How {
 }
 
 /// One thing that happened. A history is a list of these, the oldest first.
-#[derive(Clone, Copy, Debug, PartialEq, Eq)]
+#[derive(Clone, Copy, Debug)]
 pub enum Event {
     /// The task was accepted into the queue of this owner.
     Acc(Serial, Owner, Kind),

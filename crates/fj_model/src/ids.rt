@@ -1,7 +1,7 @@
 use std::marker::Model;
 
 /// A submitter, by its number: `0..S` in a pool of `S` submitters.
-#[derive(Clone, Copy, Debug, PartialEq, Eq)]
+#[derive(Clone, Copy, Debug, PartialEq)]
 pub struct SubId(pub u32);
 
 impl Model for SubId {
@@ -15,7 +15,7 @@ impl Model for SubId {
 }
 
 /// A worker, by its number: `0..W` in a pool of `W` workers.
-#[derive(Clone, Copy, Debug, PartialEq, Eq)]
+#[derive(Clone, Copy, Debug, PartialEq)]
 pub struct WorkerId(pub u32);
 
 impl Model for WorkerId {
@@ -29,7 +29,7 @@ impl Model for WorkerId {
 }
 
 /// A task's number: 0, 1, 2, .. in order of acceptance, and never used again.
-#[derive(Clone, Copy, Debug, PartialEq, Eq)]
+#[derive(Clone, Copy, Debug, PartialEq)]
 pub struct Serial(pub u64);
 
 impl Model for Serial {

@@ -1,7 +1,7 @@
 use crate::ids::Serial;
 
 /// What a task is.
-#[derive(Clone, Copy, Debug, PartialEq, Eq)]
+#[derive(Clone, Copy, Debug, PartialEq)]
 pub enum Kind {
     /// A task with a result, as a `RecursiveTask`.
     Plain,
@@ -62,7 +62,7 @@ impl Kind {
 }
 
 /// What a submitted task is: as [`Kind`], but without a parent, since a submitter completes nothing inside the pool.
-#[derive(Clone, Copy, Debug, PartialEq, Eq)]
+#[derive(Clone, Copy, Debug, PartialEq)]
 pub enum SubmittedKind {
     /// A task with a result.
     Plain,

@@ -8,7 +8,7 @@ use std::marker::Model;
 pub const MAX_PENDING: u64 = 65_535;
 
 /// How large a pool may grow: 1 to 32 workers, 1 to 32 submitters, 1 to 4,096 tasks kept at a time, 1 to 1,048,576 events in all.
-#[derive(Clone, Copy, Debug, PartialEq, Eq)]
+#[derive(Clone, Copy, Debug, PartialEq)]
 pub struct Limits {
     workers: u32,
     submitters: u32,

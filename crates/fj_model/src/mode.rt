@@ -1,7 +1,7 @@
 /// In which order a worker takes the tasks that it forked itself.
 ///
 /// This is the `asyncMode` of `ForkJoinPool`. Everybody else takes from a queue the oldest first in either mode.
-#[derive(Clone, Copy, Debug, PartialEq, Eq)]
+#[derive(Clone, Copy, Debug, PartialEq)]
 pub enum Mode {
     /// First in, first out: for tasks that are never joined.
     Async,

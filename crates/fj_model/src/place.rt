@@ -2,7 +2,7 @@ use crate::ids::WorkerId;
 use crate::owner::Owner;
 
 /// Where an accepted task is. It is in exactly one place.
-#[derive(Clone, Copy, Debug, PartialEq, Eq)]
+#[derive(Clone, Copy, Debug, PartialEq)]
 pub enum Place {
     /// In this owner's queue.
     Queued(Owner),

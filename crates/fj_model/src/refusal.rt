@@ -4,7 +4,7 @@ use thiserror::Error;
 ///
 /// Where several hold, a step is answered the first in this order: `NoSuch`, `NotIdle`, `NotRunning`, `Unknown`, `NotCompleter`,
 /// `NotDone`, `OwnStack`, `Closed`, `CountTooLarge`, `TooManyTasks`, `LogFull`.
-#[derive(Clone, Copy, Debug, PartialEq, Eq, Error)]
+#[derive(Clone, Copy, Debug, PartialEq, Error)]
 pub enum Refusal {
     /// 1: nothing more is accepted.
     #[error("nothing more is accepted")]

@@ -4,7 +4,7 @@ use crate::refusal::Refusal;
 use crate::status::Status;
 
 /// What the machine replies to a step.
-#[derive(Clone, Copy, Debug, PartialEq, Eq)]
+#[derive(Clone, Copy, Debug, PartialEq)]
 pub enum Said {
     /// The task was accepted under this number.
     Task(Serial),

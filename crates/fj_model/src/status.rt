@@ -3,7 +3,7 @@ use std::fmt;
 /// How far a task has come. The first status other than `Undone` stays.
 ///
 /// It is displayed as the words that stand for it in the reply `state`.
-#[derive(Clone, Copy, Debug, PartialEq, Eq)]
+#[derive(Clone, Copy, Debug, PartialEq)]
 pub enum Status {
     /// Not completed yet.
     Undone,

@@ -2,7 +2,7 @@ use crate::ids::{Serial, SubId, WorkerId};
 use crate::kind::{Kind, SubmittedKind};
 
 /// How the body of a running task ends.
-#[derive(Clone, Copy, Debug, PartialEq, Eq)]
+#[derive(Clone, Copy, Debug, PartialEq)]
 pub enum Ending {
     /// The end of a plain task's body, which completes it.
     Ok,
@@ -21,7 +21,7 @@ pub enum Ending {
 /// What the machine is asked to do.
 ///
 /// The steps stand in eight groups. What reads, defines, makes or tests the steps of a group is named for it.
-#[derive(Clone, Copy, Debug, PartialEq, Eq)]
+#[derive(Clone, Copy, Debug, PartialEq)]
 pub enum Step {
     // accept: a task comes into the pool
     /// A submitter hands in a task of this kind: `ForkJoinPool.submit`.

@@ -1,5 +1,5 @@
 /// What an arrival at a completer does.
-#[derive(Clone, Copy, Debug, PartialEq, Eq)]
+#[derive(Clone, Copy, Debug, PartialEq)]
 pub enum Arrived {
     /// The pending count fell by one.
     Counted,

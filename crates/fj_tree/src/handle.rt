@@ -5,7 +5,7 @@ use std::marker::Model;
 ///
 /// A handle is good while the record at its key has its number. A number is never used again, so a handle that has ceased to be
 /// good is never good again.
-#[derive(Clone, Copy, Debug, PartialEq, Eq)]
+#[derive(Clone, Copy, PartialEq)]
 pub struct Handle {
     /// The key of the record.
     pub key: usize,

@@ -6,7 +6,7 @@ use crate::handle::Handle;
 use std::marker::Model;
 
 /// What ends a climb without hooks.
-#[derive(Clone, Copy, Debug, PartialEq, Eq)]
+#[derive(Clone, Copy, Debug, PartialEq)]
 pub enum PassHow {
     /// A completer with a pending count above 0, which falls by one.
     Counted,
@@ -19,7 +19,7 @@ pub enum PassHow {
 }
 
 /// Where a climb without hooks ends.
-#[derive(Clone, Copy, Debug, PartialEq, Eq)]
+#[derive(Clone, Copy, PartialEq)]
 pub struct PassEnd {
     /// How many completers are passed.
     pub passed: u64,

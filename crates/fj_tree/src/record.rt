@@ -7,7 +7,7 @@ use crate::arrive::Arrived;
 use fj_model::{Kind, Place, Serial, Status};
 
 /// What is known of a task that is kept.
-#[derive(Clone, Copy, Debug, PartialEq, Eq)]
+#[derive(Clone, Copy, Debug)]
 pub struct Record {
     /// The task's number.
     pub serial: Serial,
