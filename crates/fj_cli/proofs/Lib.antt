@@ -1,7 +1,14 @@
+-- two writes, one after the other
 pub mod Bytes
+-- bytes that are read in two parts, and their lines
 pub mod Lines
+-- what more lines say, behind good ones
 pub mod Pasts
+-- a playback takes one byte more
 pub mod Steps
+-- what a playback has found when it stops
 pub mod FaultsFound
+-- however a replay ends, a beginning of the replies was written
 pub mod Begun
+-- what the kind of an error says of the words
 pub mod Answered

@@ -15,7 +15,7 @@ use Rattle.fj_cli.specs.Scripts.{pool_in, is_step, is_good, pool, before_those, 
 use Rattle.fj_cli.specs.Cuts.{lines}
 use Rattle.fj_cli.specs.Faults.{IsFaultyAfter}
 use Rattle.fj_cli.specs.Playbacks.{opened, past_of, stepped, past_after, replied, line_text, IsFaulty}
-use Rattle.fj_model.proofs.LineLaws.{head_short, step_short}
+use Rattle.fj_model.proofs.Reading.LineLaws.{head_short, step_short}
 use Rattle.fj_cli.proofs.Lines.{and_left, and_right}
 
 -- ---- steps and replies in two parts

@@ -12,7 +12,7 @@ use Rattle.fj_gate.specs.Steps.{fresh, less_one, together}
 use Rattle.fj_gate.specs.declared.word.View.{View}
 use Rattle.fj_gate.proofs.Lists.{times_in-joined, length-joined, sum_by-set}
 use Rattle.fj_gate.proofs.Seats.{EachSeat-set, EachSeat-push, first_set, knows, parts_of}
-use Rattle.fj_model.proofs.Members.{times_in_append}
+use Rattle.fj_model.proofs.Lists.Members.{times_in_append}
 
 -- the gate at its start
 pub begins : IsRuled (record { words = 0 ∷ []; homes = []; views = fresh 32 ∷ [] })

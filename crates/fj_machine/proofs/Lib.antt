@@ -1,21 +1,6 @@
-pub mod AcceptSteps
-pub mod BodyEnds
-pub mod CompleterSteps
-pub mod Found
-pub mod HookSteps
-pub mod MovesMore
-pub mod OneEvent
+-- What any step comes to.
 pub mod Outcomes
-pub mod PassSteps
-pub mod Passing
-pub mod QuerySteps
-pub mod RefusedSteps
-pub mod Refusing
-pub mod Relaying
-pub mod ReleaseSteps
-pub mod RoomTests
-pub mod Running
-pub mod SettleSteps
-pub mod ShutSteps
-pub mod Stepping
-pub mod TakeSteps
+-- What each step comes to, by the words of `src/steps/`.
+pub mod ByStep
+-- One step or move more of a run.
+pub mod MoreSteps

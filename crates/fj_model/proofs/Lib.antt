@@ -1,64 +1,16 @@
-pub mod Members
-pub mod Growth
-pub mod Owners
-pub mod Lawful
-pub mod Statuses
-pub mod StacksTaken
-pub mod FewLive
-pub mod Standing
-pub mod KindsKept
-pub mod Parents
-pub mod AcceptsAllowed
-pub mod TakesAllowed
-pub mod Arrivals
-pub mod Ways
-pub mod Climbed
-pub mod StepsClimb
-pub mod ClimbsAllowed
-pub mod EndsAllowed
-pub mod SettlesAllowed
-pub mod ShutsAllowed
-pub mod StepsAllowed
-pub mod AnswersAllowed
-pub mod Queues
-pub mod Ends
-pub mod GoneTasks
-pub mod OnePlace
-pub mod Firings
-pub mod StepsTell
-pub mod Replies
-pub mod OwnFirings
-pub mod Headlines
-pub mod AllowedTest
-pub mod SampleScripts
-pub mod GoneList
-pub mod Absent
-pub mod PlacesKept
-pub mod PlaceLaws
-pub mod Spending
-pub mod Calm
-pub mod Unfired
-pub mod Unknown
-pub mod NewTasks
-pub mod Pending
-pub mod Taking
-pub mod Opening
-pub mod WordLaws
-pub mod NumberLaws
-pub mod PartLaws
-pub mod FormLaws
-pub mod StepLaws
-pub mod HeadLaws
-pub mod LineLaws
-pub mod Counting
-pub mod OpenList
-pub mod Stopping
-pub mod Rising
-pub mod Releasing
-pub mod KeptPlaces
-pub mod Closing
-pub mod KeptParents
-pub mod Settling
-pub mod ArrivalPlaces
-pub mod Sealing
-pub mod Parting
+-- Lists of numbers, and the owners of queues.
+pub mod Lists
+-- What one more event changes, and what it leaves.
+pub mod Events
+-- Where each task is, and how many are kept.
+pub mod Places
+-- Arrivals at completers, and the paths over their parents.
+pub mod Completers
+-- The events of each step are allowed, and tell what its reply tells.
+pub mod Steps
+-- What holds of each run.
+pub mod Headline
+-- Lines and what they say.
+pub mod Reading
+-- Sample scripts, computed by the definitions.
+pub mod Samples

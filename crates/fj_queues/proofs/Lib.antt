@@ -1,10 +1,4 @@
-pub mod ChainEnds
-pub mod Counts
-pub mod Links
-pub mod Owners
-pub mod QueueSteps
-pub mod QueueWrites
-pub mod Scans
-pub mod TableLinks
-pub mod TableSteps
-pub mod Walks
+-- Cells that are linked to one another.
+pub mod Chains
+-- The queues of all owners in one table.
+pub mod Table

@@ -1,18 +1,6 @@
-pub mod Children
-pub mod Climbing
-pub mod Counts
-pub mod Finds
-pub mod Growing
-pub mod Halving
-pub mod Indexing
-pub mod Listing
-pub mod Names
-pub mod Numbers
-pub mod Parents
-pub mod Passing
-pub mod Paths
-pub mod Relaying
-pub mod Shrinking
-pub mod Sweeping
-pub mod Writes
-pub mod Written
+-- Records are read and changed.
+pub mod Records
+-- Numbers, and where their records are.
+pub mod Index
+-- The ways from a record over its parents.
+pub mod Ascents

@@ -12,7 +12,7 @@ use Rattle.fj_model.specs.Lists.{is_empty, or_else, first_of}
 use Rattle.fj_model.specs.Queues.{queue}
 use Rattle.fj_model.specs.Choices.{choice, own_choice, first_queued, scan_order}
 use Rattle.fj_model.specs.Runs.{Past}
-use Rattle.fj_model.proofs.Owners.{work_owner}
+use Rattle.fj_model.proofs.Lists.Owners.{work_owner}
 use Rattle.fj_queues.specs.Queues.{first_filled, places_from}
 use Rattle.fj_ledger.specs.declared.source.Source.{Source}
 use Rattle.fj_ledger.specs.declared.source.Source.TheVariants.{Oldest, Newest}

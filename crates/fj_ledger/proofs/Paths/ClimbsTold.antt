@@ -14,8 +14,8 @@ use Rattle.fj_model.specs.Climbs.{Arrival, arrival, does_fire, path_up, path, pa
 use Rattle.fj_model.specs.Climbs as climb
 use Rattle.fj_model.specs.Answers.{root_of}
 use Rattle.fj_model.specs.Allowed.{Allowed, AllowedFrom}
-use Rattle.fj_model.proofs.Arrivals.{arrival_end}
-use Rattle.fj_model.proofs.KindsKept.{path_same}
+use Rattle.fj_model.proofs.Completers.Arrivals.{arrival_end}
+use Rattle.fj_model.proofs.Events.KindsKept.{path_same}
 use Rattle.fj_tree.specs.declared.record.Record.{Record}
 use Rattle.fj_tree.specs.declared.arrive.Arrived.{Arrived}
 use Rattle.fj_tree.specs.declared.arrive.Arrived.TheVariants as arrive
@@ -28,8 +28,8 @@ use Rattle.fj_tree.specs.Records.{Records, IsGood, IsSound, record_at, with_plac
 use Rattle.fj_tree.specs.Paths as ways
 use Rattle.fj_tree.specs.Passes.{PassEnd, EndsBefore, EndsAs, arrival_of, end_by, is_passed, not_passed, stop_at, with_ended_body}
 use Rattle.fj_tree.specs.Passes as passes
-use Rattle.fj_tree.proofs.Children.{changed_here, changed_other}
-use Rattle.fj_tree.proofs.Finds.{named_record}
+use Rattle.fj_tree.proofs.Records.Children.{changed_here, changed_other}
+use Rattle.fj_tree.proofs.Index.Finds.{named_record}
 use Rattle.fj_ledger.specs.Arriving.{as_arrival}
 use Rattle.fj_ledger.specs.Climbing.{IsEnd, EndsAt, Climbs}
 use Rattle.fj_ledger.specs.Holds.{Tells}

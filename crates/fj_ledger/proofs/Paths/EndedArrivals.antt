@@ -10,12 +10,12 @@ use Rattle.fj_model.specs.Completers.{is_spent, pending}
 use Rattle.fj_model.specs.Places.{is_open}
 use Rattle.fj_model.specs.Climbs.{Spent, Counted, Early, Fires, arrival}
 use Rattle.fj_model.specs.Allowed.{Allowed, AllowedFrom}
-use Rattle.fj_model.proofs.ArrivalPlaces.{arrival_at}
-use Rattle.fj_model.proofs.Arrivals.{pending_untouched}
-use Rattle.fj_model.proofs.KindsKept.{completer_same}
-use Rattle.fj_model.proofs.Lawful.{allowed_more}
-use Rattle.fj_model.proofs.Opening.{ended_place}
-use Rattle.fj_model.proofs.Spending.{moved_spent}
+use Rattle.fj_model.proofs.Completers.ArrivalPlaces.{arrival_at}
+use Rattle.fj_model.proofs.Completers.Arrivals.{pending_untouched}
+use Rattle.fj_model.proofs.Events.KindsKept.{completer_same}
+use Rattle.fj_model.proofs.Events.Lawful.{allowed_more}
+use Rattle.fj_model.proofs.Events.Opening.{ended_place}
+use Rattle.fj_model.proofs.Events.Spending.{moved_spent}
 
 -- it is not too early
 pub ended_arrival : (pool : Pool) (h : List Event) (w t : ℕ) → AllowedFrom pool [] h → Allowed pool h (event.End t w) → is_completer h t ≡ true

@@ -13,7 +13,7 @@ use Rattle.fj_tree.specs.Records.{Records, IsGood, record_of}
 use Rattle.fj_tree.specs.Relays.{is_undone_at, relays_at, undone_in}
 use Rattle.fj_tree.specs.Relays as relays
 use Rattle.fj_tree.specs.Paths as ways
-use Rattle.fj_tree.proofs.Finds.{named_record}
+use Rattle.fj_tree.proofs.Index.Finds.{named_record}
 use Rattle.fj_ledger.proofs.Paths.ClimbsTold.{way_short}
 use Rattle.fj_ledger.proofs.Paths.WaysTold.{Knows, AllGood, numbers, way_told}
 

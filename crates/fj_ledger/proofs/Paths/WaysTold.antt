@@ -9,13 +9,13 @@ use Rattle.fj_model.specs.Tasks.{is_kept, kind, parent}
 use Rattle.fj_model.specs.Climbs.{path_up, path}
 use Rattle.fj_model.specs.Answers.{root_of}
 use Rattle.fj_model.specs.Allowed.{AllowedFrom}
-use Rattle.fj_model.proofs.KeptParents.{parent_kept}
+use Rattle.fj_model.proofs.Completers.KeptParents.{parent_kept}
 use Rattle.fj_tree.specs.Handles.{Handle}
 use Rattle.fj_tree.specs.Records.{Records, IsGood, record_of, handle_of}
 use Rattle.fj_tree.specs.Paths.{above, and_on, last_from}
 use Rattle.fj_tree.specs.Paths as ways
-use Rattle.fj_tree.proofs.Finds.{named_record}
-use Rattle.fj_tree.proofs.Numbers.{good_found}
+use Rattle.fj_tree.proofs.Index.Finds.{named_record}
+use Rattle.fj_tree.proofs.Index.Numbers.{good_found}
 use Rattle.fj_ledger.specs.Holds.{KeepsTree}
 use Rattle.fj_ledger.proofs.Recorded.Located.{numbered}
 

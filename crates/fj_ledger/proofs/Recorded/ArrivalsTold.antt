@@ -11,9 +11,9 @@ use Rattle.fj_model.specs.Tasks.{tasks, released, is_kept, is_completer}
 use Rattle.fj_model.specs.Completers.{is_spent, pending}
 use Rattle.fj_model.specs.Places.{place, place_of, queued_in, held_by, opened}
 use Rattle.fj_model.specs.Climbs.{Arrival, Spent, Counted, Early, Fires, arrival}
-use Rattle.fj_model.proofs.KeptPlaces.{released_arrival}
-use Rattle.fj_model.proofs.KindsKept.{completer_known}
-use Rattle.fj_model.proofs.OnePlace.{never}
+use Rattle.fj_model.proofs.Places.KeptPlaces.{released_arrival}
+use Rattle.fj_model.proofs.Events.KindsKept.{completer_known}
+use Rattle.fj_model.proofs.Places.OnePlace.{never}
 use Rattle.fj_tree.specs.declared.record.Record.{Record}
 use Rattle.fj_tree.specs.declared.arrive.Arrived.TheVariants as arrive
 use Rattle.fj_tree.specs.Arrivals.{arrival_at, is_queued_or_held}

@@ -6,13 +6,13 @@ use Rattle.fj_model.specs.declared.event.Event.{Event}
 use Rattle.fj_model.specs.Bounds.{Bounds}
 use Rattle.fj_model.specs.Tasks.{parent, parent_in}
 use Rattle.fj_model.specs.Allowed.{has_kept_child}
-use Rattle.fj_model.proofs.KeptParents.{child_found, child_there}
-use Rattle.fj_model.proofs.OnePlace.{never}
+use Rattle.fj_model.proofs.Completers.KeptParents.{child_found, child_there}
+use Rattle.fj_model.proofs.Places.OnePlace.{never}
 use Rattle.fj_tree.specs.declared.record.Record.{Record}
 use Rattle.fj_tree.specs.Records.{Records, IsSound, record_at, is_named, names_parent, children_of}
-use Rattle.fj_tree.proofs.Counts.{count_none}
-use Rattle.fj_tree.proofs.Numbers.{at_found}
-use Rattle.fj_tree.proofs.Parents.{has_child}
+use Rattle.fj_tree.proofs.Records.Counts.{count_none}
+use Rattle.fj_tree.proofs.Index.Numbers.{at_found}
+use Rattle.fj_tree.proofs.Ascents.Parents.{has_child}
 use Rattle.fj_ledger.specs.Holds.{Tells, KeepsTree}
 
 -- the parent of a task, as its record names it

@@ -14,15 +14,15 @@ use Rattle.fj_model.specs.Queues.{taken_by}
 use Rattle.fj_model.specs.Stacks.{ended_by}
 use Rattle.fj_model.specs.Completers.{pending, added_by, counted_by, fires_or_passes}
 use Rattle.fj_model.specs.Allowed.{Allowed, AllowedFrom, is_stop}
-use Rattle.fj_model.proofs.Growth.{filter_map_more, or_false}
-use Rattle.fj_model.proofs.Lawful.{known_more, number_if_is, not_new}
-use Rattle.fj_model.proofs.OnePlace.{never}
-use Rattle.fj_model.proofs.PlaceLaws.{place_kept}
-use Rattle.fj_model.proofs.Releasing.{released_same}
-use Rattle.fj_model.proofs.Spending.{spends, settled_by, spent_kept, status_kept}
+use Rattle.fj_model.proofs.Events.Growth.{filter_map_more, or_false}
+use Rattle.fj_model.proofs.Events.Lawful.{known_more, number_if_is, not_new}
+use Rattle.fj_model.proofs.Places.OnePlace.{never}
+use Rattle.fj_model.proofs.Places.PlaceLaws.{place_kept}
+use Rattle.fj_model.proofs.Events.Releasing.{released_same}
+use Rattle.fj_model.proofs.Events.Spending.{spends, settled_by, spent_kept, status_kept}
 use Rattle.fj_tree.specs.declared.record.Record.{Record}
 use Rattle.fj_ledger.specs.Holds.{Tells}
-use Rattle.fj_model.proofs.KindsKept.{kind_still, kept_known}
+use Rattle.fj_model.proofs.Events.KindsKept.{kind_still, kept_known}
 
 -- whether the event says something of one task at most, and releases none
 abbrev pub is_of_one : Event → Bool

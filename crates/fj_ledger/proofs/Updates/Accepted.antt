@@ -17,21 +17,21 @@ use Rattle.fj_model.specs.Queues.{queue, is_same}
 use Rattle.fj_model.specs.Completers.{is_spent, fires_or_passes}
 use Rattle.fj_model.specs.Places.{place}
 use Rattle.fj_model.specs.Allowed.{Allowed, AllowedFrom}
-use Rattle.fj_model.proofs.Growth.{stack_same}
-use Rattle.fj_model.proofs.Lawful.{is_new, same_owner}
-use Rattle.fj_model.proofs.NewTasks.{kind_given, new_kind, new_count, new_undone, submitted_place, submitted_open, submitted_gone, made_place, made_open, made_gone, same_as_itself}
-use Rattle.fj_model.proofs.OnePlace.{never, number_owner}
-use Rattle.fj_model.proofs.Owners.{owners_apart}
-use Rattle.fj_model.proofs.Queues.{queue_same, queue_push}
-use Rattle.fj_model.proofs.Releasing.{new_kept}
-use Rattle.fj_model.proofs.Unfired.{climbs_unfired}
-use Rattle.fj_model.proofs.Unknown.{unknown_unspent}
+use Rattle.fj_model.proofs.Events.Growth.{stack_same}
+use Rattle.fj_model.proofs.Events.Lawful.{is_new, same_owner}
+use Rattle.fj_model.proofs.Events.NewTasks.{kind_given, new_kind, new_count, new_undone, submitted_place, submitted_open, submitted_gone, made_place, made_open, made_gone, same_as_itself}
+use Rattle.fj_model.proofs.Places.OnePlace.{never, number_owner}
+use Rattle.fj_model.proofs.Lists.Owners.{owners_apart}
+use Rattle.fj_model.proofs.Events.Queues.{queue_same, queue_push}
+use Rattle.fj_model.proofs.Events.Releasing.{new_kept}
+use Rattle.fj_model.proofs.Completers.Unfired.{climbs_unfired}
+use Rattle.fj_model.proofs.Completers.Unknown.{unknown_unspent}
 use Rattle.fj_queues.specs.Queues.{Lists as Waiting, queue_at, with_queue}
 use Rattle.fj_tree.specs.declared.record.Record.{Record}
 use Rattle.fj_tree.specs.Handles.{Handle}
 use Rattle.fj_tree.specs.Records.{Records, IsCompleter, count, record_at, handle_of}
 use Rattle.fj_tree.specs.Makes.{fresh, with_child_of}
-use Rattle.fj_tree.proofs.Numbers.{good_found}
+use Rattle.fj_tree.proofs.Index.Numbers.{good_found}
 use Rattle.fj_ledger.specs.Stacks.{Lists}
 use Rattle.fj_ledger.specs.InHands.{InHand}
 use Rattle.fj_ledger.specs.Holds.{Holds, KeepsQueues, KeepsTree, Tells}

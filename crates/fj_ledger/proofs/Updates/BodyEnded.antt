@@ -14,16 +14,16 @@ use Rattle.fj_model.specs.Tasks.{tasks, is_completer, is_completer_kind}
 use Rattle.fj_model.specs.Stacks.{stack}
 use Rattle.fj_model.specs.Places.{gone, place}
 use Rattle.fj_model.specs.Allowed.{Allowed, AllowedFrom}
-use Rattle.fj_model.proofs.Ends.{stack_end, stack_end_other}
-use Rattle.fj_model.proofs.Opening.{opens, ended_accepted, ended_place, ended_open, ended_gone}
-use Rattle.fj_model.proofs.Queues.{queue_same}
-use Rattle.fj_model.proofs.Spending.{moved_status}
+use Rattle.fj_model.proofs.Events.Ends.{stack_end, stack_end_other}
+use Rattle.fj_model.proofs.Events.Opening.{opens, ended_accepted, ended_place, ended_open, ended_gone}
+use Rattle.fj_model.proofs.Events.Queues.{queue_same}
+use Rattle.fj_model.proofs.Events.Spending.{moved_status}
 use Rattle.fj_queues.specs.Queues.{Lists as Waiting}
 use Rattle.fj_tree.specs.declared.record.Record.{Record}
 use Rattle.fj_tree.specs.Arrivals as record_is
 use Rattle.fj_tree.specs.Handles.{Handle}
 use Rattle.fj_tree.specs.Records.{Records, IsSound, changed, with_place}
-use Rattle.fj_tree.proofs.Numbers.{written}
+use Rattle.fj_tree.proofs.Index.Numbers.{written}
 use Rattle.fj_ledger.specs.Stacks.{Lists, stack_at, with_stack}
 use Rattle.fj_ledger.specs.InHands.{InHand}
 use Rattle.fj_ledger.specs.Holds.{Holds, KeepsStacks, Tells}
@@ -34,7 +34,7 @@ use Rattle.fj_ledger.proofs.Recorded.Located.{IsLocated}
 use Rattle.fj_ledger.proofs.Updates.Parts.{new_row, queues_same}
 use Rattle.fj_ledger.proofs.Recorded.Records.{tree_written}
 use Rattle.fj_ledger.proofs.Recorded.Telling.{kept_more, pending_same, fired_same}
-use Rattle.fj_model.proofs.KindsKept.{kind_still}
+use Rattle.fj_model.proofs.Events.KindsKept.{kind_still}
 
 -- the last task of a stack leaves it, and the other stacks stay
 stacks_after_end : (pool : Pool) (h : List Event) (stacks : Lists) (w t : ℕ) → AllowedFrom pool [] h → w < pool.limits.workers → last_of (stack h w) ≡ Some t

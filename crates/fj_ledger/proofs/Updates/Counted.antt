@@ -13,10 +13,10 @@ use Rattle.fj_model.specs.Allowed.{Allowed, AllowedFrom}
 use Rattle.fj_model.specs.Tasks.{accepted_by}
 use Rattle.fj_model.specs.Climbs.{arrival}
 use Rattle.fj_model.specs.Climbs as climb
-use Rattle.fj_model.proofs.PlaceLaws.{none_accepted, unmoved_queue, unmoved_stack}
-use Rattle.fj_model.proofs.Calm.{is_calm, calm_unmoved, calm_status, calm_place, calm_open, calm_gone}
-use Rattle.fj_model.proofs.Spending.{settled_by}
-use Rattle.fj_model.proofs.Pending.{pending_added, pending_counted}
+use Rattle.fj_model.proofs.Places.PlaceLaws.{none_accepted, unmoved_queue, unmoved_stack}
+use Rattle.fj_model.proofs.Events.Calm.{is_calm, calm_unmoved, calm_status, calm_place, calm_open, calm_gone}
+use Rattle.fj_model.proofs.Events.Spending.{settled_by}
+use Rattle.fj_model.proofs.Events.Pending.{pending_added, pending_counted}
 use Rattle.fj_queues.specs.Queues.{Lists as Waiting}
 use Rattle.fj_tree.specs.declared.record.Record.{Record}
 use Rattle.fj_tree.specs.declared.arrive.Arrived.{Arrived}
@@ -26,7 +26,7 @@ use Rattle.fj_tree.specs.Arrivals.{arrived, arrival_at}
 use Rattle.fj_tree.specs.Makes.{add_refusal}
 use Rattle.fj_tree.specs.Handles.{Handle}
 use Rattle.fj_tree.specs.Records.{Records, IsSound, record_at, record_of, changed, with_added}
-use Rattle.fj_tree.proofs.Numbers.{written}
+use Rattle.fj_tree.proofs.Index.Numbers.{written}
 use Rattle.fj_ledger.specs.Arriving.{as_arrival}
 use Rattle.fj_ledger.specs.Stacks.{Lists}
 use Rattle.fj_ledger.specs.InHands.{InHand}
@@ -38,8 +38,8 @@ use Rattle.fj_ledger.proofs.Recorded.Located.{IsLocated}
 use Rattle.fj_ledger.proofs.Updates.Parts.{queues_same, stacks_same}
 use Rattle.fj_ledger.proofs.Recorded.Records.{tree_written}
 use Rattle.fj_ledger.proofs.Recorded.Telling.{touched, is_of_one, kept_more, fired_same}
-use Rattle.fj_model.proofs.KindsKept.{kind_still, kept_known}
-use Rattle.fj_model.proofs.Lawful.{not_new}
+use Rattle.fj_model.proofs.Events.KindsKept.{kind_still, kept_known}
+use Rattle.fj_model.proofs.Events.Lawful.{not_new}
 
 -- an event that changes the pending count of one task alone
 record IsCount (e : Event) (t : ℕ) : Type 0 where

@@ -8,7 +8,7 @@ use Rattle.fj_model.specs.Queues.{queue, pushed, left, taken}
 use Rattle.fj_model.specs.Stacks.{stack}
 use Rattle.fj_model.specs.Hooks.{hooks, hand}
 use Rattle.fj_model.specs.Places.{opened, open_tasks, gone, gone_from}
-use Rattle.fj_model.proofs.Climbed.{climbs_none}
+use Rattle.fj_model.proofs.Completers.Climbed.{climbs_none}
 use Rattle.fj_ledger.specs.InHands.{InHand}
 use Rattle.fj_ledger.specs.Holds.{Holds}
 

@@ -6,8 +6,8 @@ use Rattle.fj_model.specs.Tasks.{is_completer}
 use Rattle.fj_model.specs.Climbs.{ClimbsCompleters, climbed, climbed_by}
 use Rattle.fj_model.specs.Places.{open_tasks, gone}
 use Rattle.fj_model.specs.Allowed.{Allowed}
-use Rattle.fj_model.proofs.Climbed.{climbs_more}
-use Rattle.fj_model.proofs.Lawful.{allowed_more, front_cases}
+use Rattle.fj_model.proofs.Completers.Climbed.{climbs_more}
+use Rattle.fj_model.proofs.Events.Lawful.{allowed_more, front_cases}
 use Rattle.fj_queues.specs.Queues.{Lists as Waiting}
 use Rattle.fj_tree.specs.Records.{Records}
 use Rattle.fj_ledger.specs.Stacks.{Lists}

@@ -6,8 +6,8 @@ use Rattle.fj_model.specs.declared.event.Event.TheVariants.{Hooked}
 use Rattle.fj_model.specs.Bounds.{Pool}
 use Rattle.fj_model.specs.Hooks.{hand}
 use Rattle.fj_model.specs.Allowed.{Allowed}
-use Rattle.fj_model.proofs.PlaceLaws.{unmoved_queue, unmoved_stack}
-use Rattle.fj_model.proofs.Calm.{calm_open, calm_gone}
+use Rattle.fj_model.proofs.Places.PlaceLaws.{unmoved_queue, unmoved_stack}
+use Rattle.fj_model.proofs.Events.Calm.{calm_open, calm_gone}
 use Rattle.fj_queues.specs.Queues.{Lists as Waiting}
 use Rattle.fj_tree.specs.Records.{Records}
 use Rattle.fj_ledger.specs.Stacks.{Lists}

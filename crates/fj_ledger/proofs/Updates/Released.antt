@@ -14,14 +14,14 @@ use Rattle.fj_model.specs.Tasks.{is_kept, parent_in}
 use Rattle.fj_model.specs.Statuses.{status}
 use Rattle.fj_model.specs.Places.{place}
 use Rattle.fj_model.specs.Allowed.{Allowed, AllowedFrom, is_fired_by_complete, fires_by_complete}
-use Rattle.fj_model.proofs.Releasing.{release_forgets, release_keeps, release_live, release_tasks, release_accepted, release_kind, release_parent, release_status, release_pending, release_queue, release_stack, release_place, release_open, release_gone}
+use Rattle.fj_model.proofs.Events.Releasing.{release_forgets, release_keeps, release_live, release_tasks, release_accepted, release_kind, release_parent, release_status, release_pending, release_queue, release_stack, release_place, release_open, release_gone}
 use Rattle.fj_queues.specs.Queues.{Lists as Waiting}
 use Rattle.fj_tree.specs.declared.record.Record.{Record}
 use Rattle.fj_tree.specs.Records.{Records, IsSound, is_named, record_at, record_of, handle_of, count}
 use Rattle.fj_tree.specs.Handles.{Handle}
 use Rattle.fj_tree.specs.Releases.{without_child, without_child_of}
 use Rattle.fj_tree.specs.Releases as record_is
-use Rattle.fj_tree.proofs.Numbers.{there, at_found}
+use Rattle.fj_tree.proofs.Index.Numbers.{there, at_found}
 use Rattle.fj_ledger.specs.Stacks.{Lists}
 use Rattle.fj_ledger.specs.InHands.{InHand, released_with}
 use Rattle.fj_ledger.specs.Holds.{Holds, Tells, TellsHook, TellsReleased, KeepsTree, KeepsHands}
@@ -32,7 +32,7 @@ use Rattle.fj_ledger.proofs.Recorded.Located.{IsLocated}
 use Rattle.fj_ledger.proofs.Updates.Parts.{queues_same, stacks_same}
 use Rattle.fj_ledger.proofs.Recorded.Refused.{of_ok}
 use Rattle.fj_ledger.proofs.Recorded.Telling.{fired_same}
-use Rattle.fj_model.proofs.KindsKept.{kept_known}
+use Rattle.fj_model.proofs.Events.KindsKept.{kept_known}
 
 -- what a release leaves: one record fewer, and the other ones as they were but for the count of children
 pub record IsReleased (old new : Records) (key : ℕ) (r : Record) : Type 0 where

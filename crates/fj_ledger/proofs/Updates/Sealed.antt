@@ -6,7 +6,7 @@ use Rattle.fj_model.specs.Bounds.{Pool}
 use Rattle.fj_model.specs.Places.{gone}
 use Rattle.fj_model.specs.Answers.{is_quiet}
 use Rattle.fj_model.specs.Epochs.{most_events}
-use Rattle.fj_model.proofs.Sealing.{quiet_left}
+use Rattle.fj_model.proofs.Headline.Sealing.{quiet_left}
 use Rattle.fj_queues.specs.Queues.{Lists as Waiting}
 use Rattle.fj_tree.specs.Records.{Records}
 use Rattle.fj_ledger.specs.Stacks.{Lists}

@@ -19,17 +19,17 @@ use Rattle.fj_model.specs.Statuses.{status, is_undone}
 use Rattle.fj_model.specs.Completers.{is_spent, fires_or_passes}
 use Rattle.fj_model.specs.Places.{place, is_open}
 use Rattle.fj_model.specs.Allowed.{Allowed, AllowedFrom}
-use Rattle.fj_model.proofs.Firings.{fires_unspent}
-use Rattle.fj_model.proofs.Ends.{status_settle}
-use Rattle.fj_model.proofs.PlaceLaws.{unmoved_queue, unmoved_stack}
-use Rattle.fj_model.proofs.KeptPlaces.{open_kept}
-use Rattle.fj_model.proofs.OnePlace.{never}
-use Rattle.fj_model.proofs.Spending.{status_kept, spending_open, spending_gone}
+use Rattle.fj_model.proofs.Completers.Firings.{fires_unspent}
+use Rattle.fj_model.proofs.Events.Ends.{status_settle}
+use Rattle.fj_model.proofs.Places.PlaceLaws.{unmoved_queue, unmoved_stack}
+use Rattle.fj_model.proofs.Places.KeptPlaces.{open_kept}
+use Rattle.fj_model.proofs.Places.OnePlace.{never}
+use Rattle.fj_model.proofs.Events.Spending.{status_kept, spending_open, spending_gone}
 use Rattle.fj_queues.specs.Queues.{Lists as Waiting}
 use Rattle.fj_tree.specs.declared.record.Record.{Record}
 use Rattle.fj_tree.specs.Handles.{Handle}
 use Rattle.fj_tree.specs.Records.{Records, IsSound, changed, with_status, made_spent}
-use Rattle.fj_tree.proofs.Numbers.{written}
+use Rattle.fj_tree.proofs.Index.Numbers.{written}
 use Rattle.fj_ledger.specs.Stacks.{Lists}
 use Rattle.fj_ledger.specs.InHands.{InHand}
 use Rattle.fj_ledger.specs.Closing.{is_open_at, closed}
@@ -41,7 +41,7 @@ use Rattle.fj_ledger.proofs.Updates.Parts.{queues_same, stacks_same}
 use Rattle.fj_ledger.proofs.Recorded.Records.{tree_other}
 use Rattle.fj_ledger.proofs.Updates.Spent.{Respent, spent_holds, open_after, gone_after}
 use Rattle.fj_ledger.proofs.Recorded.Telling.{pending_same, fired_same}
-use Rattle.fj_model.proofs.KindsKept.{kind_still}
+use Rattle.fj_model.proofs.Events.KindsKept.{kind_still}
 
 pub settled_says : (pool : Pool) (h : List Event) (s : Status) (r : Record) → AllowedFrom pool [] h → Allowed pool h (Settle r.serial s) → Tells h r
     → Respent (h ++ Settle r.serial s ∷ []) r (with_status s r)

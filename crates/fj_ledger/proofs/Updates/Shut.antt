@@ -17,15 +17,15 @@ use Rattle.fj_model.specs.Statuses.{status, is_undone}
 use Rattle.fj_model.specs.Completers.{pending, fires_or_passes}
 use Rattle.fj_model.specs.Places.{place, is_open}
 use Rattle.fj_model.specs.Allowed.{Allowed, AllowedFrom, is_fired_by_complete, fires_by_complete}
-use Rattle.fj_model.proofs.Closing.{close_queue, close_stack, close_open, close_gone}
-use Rattle.fj_model.proofs.Spending.{closed}
-use Rattle.fj_model.proofs.Stopping.{stop_tasks, stop_queue, stop_stack, stop_accepted, stop_kept, stop_live, stop_kind, stop_parent, stop_pending, stop_cancels, stop_place, stop_open, stop_gone_sorted}
+use Rattle.fj_model.proofs.Events.Closing.{close_queue, close_stack, close_open, close_gone}
+use Rattle.fj_model.proofs.Events.Spending.{closed}
+use Rattle.fj_model.proofs.Events.Stopping.{stop_tasks, stop_queue, stop_stack, stop_accepted, stop_kept, stop_live, stop_kind, stop_parent, stop_pending, stop_cancels, stop_place, stop_open, stop_gone_sorted}
 use Rattle.fj_queues.specs.Queues.{Lists as Waiting}
 use Rattle.fj_tree.specs.declared.record.Record.{Record}
 use Rattle.fj_tree.specs.Records.{Records, record_at, count, with_status, with_place}
 use Rattle.fj_tree.specs.Cancels.{if_undone_cancelled}
 use Rattle.fj_tree.specs.Closes.{if_open_gone}
-use Rattle.fj_tree.proofs.Numbers.{there, at_found}
+use Rattle.fj_tree.proofs.Index.Numbers.{there, at_found}
 use Rattle.fj_ledger.specs.Stacks.{Lists}
 use Rattle.fj_ledger.specs.InHands.{InHand, if_cancelled, cancelled}
 use Rattle.fj_ledger.specs.Holds.{Holds, Tells, TellsHook, TellsReleased, KeepsTree}
@@ -34,7 +34,7 @@ use Rattle.fj_ledger.proofs.Lists.HandParts.{any_same, hands_same, hands_mapped}
 use Rattle.fj_ledger.proofs.Updates.Parts.{queues_same, stacks_same}
 use Rattle.fj_ledger.proofs.Recorded.Records.{tree_same}
 use Rattle.fj_ledger.proofs.Recorded.Telling.{fired_same}
-use Rattle.fj_model.proofs.KindsKept.{kept_known}
+use Rattle.fj_model.proofs.Events.KindsKept.{kept_known}
 
 -- no submission is accepted from now on
 pub close_holds : {sealed : List Event} (pool : Pool) (h : List Event) (queues : Waiting) (stacks : Lists) (hands : List (Option InHand)) (tree : Records) (opens gones : List ℕ)

@@ -17,17 +17,17 @@ use Rattle.fj_model.specs.Completers.{pending, fires_or_passes}
 use Rattle.fj_model.specs.Climbs.{climbed_by}
 use Rattle.fj_model.specs.Places.{place, is_open, opened, open_tasks, gone}
 use Rattle.fj_model.specs.Allowed.{Allowed, AllowedFrom}
-use Rattle.fj_model.proofs.PlaceLaws.{none_accepted, unmoved_queue, unmoved_stack}
-use Rattle.fj_model.proofs.Spending.{spends, closed, spends_unmoved, spent_place, spending_open, spending_gone}
-use Rattle.fj_model.proofs.Members.{times_in_filter}
-use Rattle.fj_model.proofs.OnePlace.{opened_once}
-use Rattle.fj_model.proofs.OpenList.{in_open}
-use Rattle.fj_model.proofs.Queues.{without_absent}
+use Rattle.fj_model.proofs.Places.PlaceLaws.{none_accepted, unmoved_queue, unmoved_stack}
+use Rattle.fj_model.proofs.Events.Spending.{spends, closed, spends_unmoved, spent_place, spending_open, spending_gone}
+use Rattle.fj_model.proofs.Lists.Members.{times_in_filter}
+use Rattle.fj_model.proofs.Places.OnePlace.{opened_once}
+use Rattle.fj_model.proofs.Places.OpenList.{in_open}
+use Rattle.fj_model.proofs.Events.Queues.{without_absent}
 use Rattle.fj_queues.specs.Queues.{Lists as Waiting}
 use Rattle.fj_tree.specs.declared.record.Record.{Record}
 use Rattle.fj_tree.specs.Handles.{Handle}
 use Rattle.fj_tree.specs.Records.{Records, IsSound, record_of, changed, with_place}
-use Rattle.fj_tree.proofs.Numbers.{IsWritten, written, written_again}
+use Rattle.fj_tree.proofs.Index.Numbers.{IsWritten, written, written_again}
 use Rattle.fj_ledger.specs.Stacks.{Lists}
 use Rattle.fj_ledger.specs.InHands.{InHand}
 use Rattle.fj_ledger.specs.Closing.{is_open_at, is_open_in}
@@ -38,8 +38,8 @@ use Rattle.fj_ledger.proofs.Histories.Rooms.{going_few}
 use Rattle.fj_ledger.proofs.Updates.Parts.{queues_same, stacks_same}
 use Rattle.fj_ledger.proofs.Recorded.Records.{tree_written}
 use Rattle.fj_ledger.proofs.Recorded.Telling.{is_of_one, kept_more, spends_touched}
-use Rattle.fj_model.proofs.KindsKept.{kind_still, kept_known}
-use Rattle.fj_model.proofs.Lawful.{not_new}
+use Rattle.fj_model.proofs.Events.KindsKept.{kind_still, kept_known}
+use Rattle.fj_model.proofs.Events.Lawful.{not_new}
 
 -- ---- room for one gone task more
 

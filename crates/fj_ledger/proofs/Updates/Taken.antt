@@ -17,21 +17,21 @@ use Rattle.fj_model.specs.Stacks.{stack}
 use Rattle.fj_model.specs.Completers.{fires_or_passes, added_by, counted_by}
 use Rattle.fj_model.specs.Places.{place}
 use Rattle.fj_model.specs.Allowed.{Allowed, AllowedFrom}
-use Rattle.fj_model.proofs.Counting.{without_first_one, without_last_one}
-use Rattle.fj_model.proofs.Growth.{stack_more, stack_same, without_none}
-use Rattle.fj_model.proofs.Lawful.{queued_pushed}
-use Rattle.fj_model.proofs.Members.{Once, first_is_in, get_is_in}
-use Rattle.fj_model.proofs.OnePlace.{queue_once}
-use Rattle.fj_model.proofs.Owners.{owners_apart}
-use Rattle.fj_model.proofs.PlaceLaws.{moves}
-use Rattle.fj_model.proofs.Queues.{queue_without, queue_other}
-use Rattle.fj_model.proofs.Spending.{moved_status}
-use Rattle.fj_model.proofs.Taking.{taking_open, handed_place, handed_gone, skipped_place, skipped_gone}
+use Rattle.fj_model.proofs.Lists.Counting.{without_first_one, without_last_one}
+use Rattle.fj_model.proofs.Events.Growth.{stack_more, stack_same, without_none}
+use Rattle.fj_model.proofs.Events.Lawful.{queued_pushed}
+use Rattle.fj_model.proofs.Lists.Members.{Once, first_is_in, get_is_in}
+use Rattle.fj_model.proofs.Places.OnePlace.{queue_once}
+use Rattle.fj_model.proofs.Lists.Owners.{owners_apart}
+use Rattle.fj_model.proofs.Places.PlaceLaws.{moves}
+use Rattle.fj_model.proofs.Events.Queues.{queue_without, queue_other}
+use Rattle.fj_model.proofs.Events.Spending.{moved_status}
+use Rattle.fj_model.proofs.Events.Taking.{taking_open, handed_place, handed_gone, skipped_place, skipped_gone}
 use Rattle.fj_queues.specs.Queues.{Lists as Waiting, queue_at, with_queue}
 use Rattle.fj_tree.specs.declared.record.Record.{Record}
 use Rattle.fj_tree.specs.Handles.{Handle}
 use Rattle.fj_tree.specs.Records.{Records, IsSound, changed, with_place}
-use Rattle.fj_tree.proofs.Numbers.{written}
+use Rattle.fj_tree.proofs.Index.Numbers.{written}
 use Rattle.fj_ledger.specs.declared.source.Source.{Source}
 use Rattle.fj_ledger.specs.declared.source.Source.TheVariants.{Oldest, Newest}
 use Rattle.fj_ledger.specs.Stacks.{Lists, stack_at, with_stack}
@@ -44,7 +44,7 @@ use Rattle.fj_ledger.proofs.Recorded.Located.{IsLocated}
 use Rattle.fj_ledger.proofs.Updates.Parts.{new_row, stacks_same}
 use Rattle.fj_ledger.proofs.Recorded.Records.{tree_written}
 use Rattle.fj_ledger.proofs.Recorded.Telling.{is_of_one, kept_more, pending_same, fired_same}
-use Rattle.fj_model.proofs.KindsKept.{kind_still}
+use Rattle.fj_model.proofs.Events.KindsKept.{kind_still}
 
 -- what is taken was there
 pub in_end : (source : Source) (ts : List ℕ) (t : ℕ) → end_of source ts ≡ Some t → is_in t ts ≡ true

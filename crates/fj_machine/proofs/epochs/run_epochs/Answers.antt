@@ -2,11 +2,11 @@ use Rattle.std.proofs.Common.{take, refl}
 use Rattle.fj_model.specs.Bounds.{Pool}
 use Rattle.fj_model.specs.Headline.{Headline}
 use Rattle.fj_model.specs.Epochs.{IsPast}
-use Rattle.fj_model.proofs.Headlines.{headline}
-use Rattle.fj_model.proofs.OwnFirings.{fires_by_complete_only_own}
-use Rattle.fj_model.proofs.Replies.{moves_tell}
-use Rattle.fj_model.proofs.Parting.{fits_none, parts_joined, gone_joined}
-use Rattle.fj_machine.proofs.MovesMore.{move_keeps, run_move, run_past}
+use Rattle.fj_model.proofs.Headline.Headlines.{headline}
+use Rattle.fj_model.proofs.Completers.OwnFirings.{fires_by_complete_only_own}
+use Rattle.fj_model.proofs.Steps.Replies.{moves_tell}
+use Rattle.fj_model.proofs.Headline.Parting.{fits_none, parts_joined, gone_joined}
+use Rattle.fj_machine.proofs.MoreSteps.MovesMore.{move_keeps, run_move, run_past}
 use Rattle.fj_machine.proofs.epochs.run_epochs.Goals as goal
 use Rattle.fj_machine.proofs.epochs.run_epochs.Goals.{After-loop-asked}
 

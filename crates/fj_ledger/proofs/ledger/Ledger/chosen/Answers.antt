@@ -5,7 +5,7 @@ use Rattle.fj_model.specs.Bounds.{Pool, queues_in}
 use Rattle.fj_model.specs.Queues.{queue}
 use Rattle.fj_model.specs.Choices.{first_queued, scan_order}
 use Rattle.fj_model.specs.Runs.{Past}
-use Rattle.fj_model.proofs.Owners.{work_owner}
+use Rattle.fj_model.proofs.Lists.Owners.{work_owner}
 use Rattle.fj_queues.specs.Queues.{queue_at, first_filled, places_from}
 use Rattle.fj_ledger.specs.Sources.{IsChosenFrom}
 use Rattle.fj_ledger.proofs.Lists.Choosing.{ComesFrom, own_source, own_is_chosen, scan_found, scan_choice, scanned_is_chosen}

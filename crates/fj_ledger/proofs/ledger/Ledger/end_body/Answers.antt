@@ -9,10 +9,10 @@ use Rattle.fj_model.specs.Tasks.{is_completer_kind}
 use Rattle.fj_model.specs.Stacks.{stack}
 use Rattle.fj_model.specs.Allowed.{Allowed}
 use Rattle.fj_model.specs.Runs.{Past}
-use Rattle.fj_model.proofs.FewLive.{few_live}
-use Rattle.fj_model.proofs.KeptPlaces.{held_kept}
-use Rattle.fj_model.proofs.Members.{get_is_in}
-use Rattle.fj_model.proofs.Opening.{opens}
+use Rattle.fj_model.proofs.Places.FewLive.{few_live}
+use Rattle.fj_model.proofs.Places.KeptPlaces.{held_kept}
+use Rattle.fj_model.proofs.Lists.Members.{get_is_in}
+use Rattle.fj_model.proofs.Events.Opening.{opens}
 use Rattle.fj_tree.specs.declared.record.Record.{Record}
 use Rattle.fj_tree.specs.Arrivals.{is_spent}
 use Rattle.fj_ledger.proofs.Updates.BodyEnded.{stays_told, ended_holds}

@@ -10,7 +10,7 @@ use Rattle.fj_model.specs.Runs.{Past}
 use Rattle.fj_tree.specs.Handles.{Handle}
 use Rattle.fj_ledger.proofs.Updates.Accepted.{made_is, trigger_holds}
 use Rattle.fj_ledger.proofs.Recorded.Records.{IsMade}
-use Rattle.fj_model.proofs.KeptPlaces.{few_open}
+use Rattle.fj_model.proofs.Places.KeptPlaces.{few_open}
 use Rattle.fj_ledger.proofs.Updates.Spent.{few_accepted}
 use Rattle.fj_ledger.proofs.ledger.Ledger.make_trigger.Goals as goal
 use Rattle.fj_ledger.proofs.ledger.Ledger.make_trigger.Goals.{After-self, After-insert-h}

@@ -6,10 +6,10 @@ use Rattle.fj_model.specs.Tasks.{accepted, is_completer}
 use Rattle.fj_model.specs.Stacks.{stack}
 use Rattle.fj_model.specs.Allowed.{Allowed}
 use Rattle.fj_model.specs.Runs.{Past}
-use Rattle.fj_model.proofs.Lawful.{is_numbered}
-use Rattle.fj_model.proofs.KeptPlaces.{held_kept}
-use Rattle.fj_model.proofs.Members.{get_is_in}
-use Rattle.fj_model.proofs.Opening.{ended_accepted}
+use Rattle.fj_model.proofs.Events.Lawful.{is_numbered}
+use Rattle.fj_model.proofs.Places.KeptPlaces.{held_kept}
+use Rattle.fj_model.proofs.Lists.Members.{get_is_in}
+use Rattle.fj_model.proofs.Events.Opening.{ended_accepted}
 use Rattle.fj_ledger.specs.Climbing.{Climbs}
 use Rattle.fj_ledger.proofs.Paths.ClimbsTold.{climbs_told, few_passed}
 use Rattle.fj_ledger.proofs.Recorded.Located.{located, good_at, completer_at}

@@ -8,7 +8,7 @@ use Rattle.fj_model.specs.Lists.{is_in}
 use Rattle.fj_model.specs.Tasks.{is_kept}
 use Rattle.fj_model.specs.Allowed.{Allowed}
 use Rattle.fj_model.specs.Runs.{Past}
-use Rattle.fj_model.proofs.OnePlace.{never}
+use Rattle.fj_model.proofs.Places.OnePlace.{never}
 use Rattle.fj_ledger.specs.Holds.{hook_completers}
 use Rattle.fj_ledger.proofs.Recorded.Located.{located}
 use Rattle.fj_ledger.proofs.Updates.Settled.{settle_holds, settle_left_holds}

@@ -8,8 +8,8 @@ use Rattle.fj_model.specs.Statuses.{status, is_undone}
 use Rattle.fj_model.specs.Allowed.{Allowed, AllowedFrom}
 use Rattle.fj_model.specs.Answers.{taking}
 use Rattle.fj_model.specs.Runs.{Past}
-use Rattle.fj_model.proofs.FewLive.{few_live}
-use Rattle.fj_model.proofs.KeptPlaces.{queued_kept}
+use Rattle.fj_model.proofs.Places.FewLive.{few_live}
+use Rattle.fj_model.proofs.Places.KeptPlaces.{queued_kept}
 use Rattle.fj_tree.specs.declared.record.Record.{Record}
 use Rattle.fj_ledger.specs.Sources.{queue_of, end_of, task_at, tasks_there}
 use Rattle.fj_ledger.proofs.Recorded.Located.{IsLocated, located, read_at}

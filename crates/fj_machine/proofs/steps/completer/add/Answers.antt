@@ -7,11 +7,11 @@ use Rattle.fj_model.specs.declared.step.Step.TheVariants.{Add, QuietRoot}
 use Rattle.fj_model.specs.Answers.{first_that_stands, refusals_of, count_too_large}
 use Rattle.fj_model.specs.Completers.{pending}
 use Rattle.fj_ledger.specs.Holds.{TellsOf}
-use Rattle.fj_machine.proofs.Refusing.{first_after, first_refused}
-use Rattle.fj_machine.proofs.Stepping.{steps_refused}
-use Rattle.fj_machine.proofs.Found.{found_pending}
-use Rattle.fj_machine.proofs.CompleterSteps.{adds, add_says}
-use Rattle.fj_machine.proofs.Outcomes.{exits, full_of_one, made_one}
+use Rattle.fj_machine.proofs.Outcomes.Refusing.{first_after, first_refused}
+use Rattle.fj_machine.proofs.Outcomes.Stepping.{steps_refused}
+use Rattle.fj_machine.proofs.Outcomes.Found.{found_pending}
+use Rattle.fj_machine.proofs.ByStep.CompleterSteps.{adds, add_says}
+use Rattle.fj_machine.proofs.Outcomes.Results.{exits, full_of_one, made_one}
 use Rattle.fj_machine.proofs.steps.completer.add.Goals as goal
 use Rattle.fj_machine.proofs.steps.completer.add.Goals.{After-from-2}
 

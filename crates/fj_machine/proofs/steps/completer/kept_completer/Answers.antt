@@ -1,8 +1,8 @@
 use Rattle.std.proofs.Common.{[], ◌∷◌, refl, sym, ◌∙◌}
 use Rattle.fj_model.specs.Answers.{unknown_task, not_a_completer, no_such_worker, hook_in_hand, nothing_running}
 use Rattle.fj_ledger.specs.Holds.{TellsOf}
-use Rattle.fj_machine.proofs.Found.{found_kept, found_completer}
-use Rattle.fj_machine.proofs.Refusing.{first_after}
+use Rattle.fj_machine.proofs.Outcomes.Found.{found_kept, found_completer}
+use Rattle.fj_machine.proofs.Outcomes.Refusing.{first_after}
 use Rattle.fj_machine.proofs.steps.completer.kept_completer.Goals as goal
 
 pub returns-then-not-is_completer-clause-refusal : goal.returns-then-not-is_completer-clause-refusal

@@ -5,11 +5,11 @@ use Rattle.fj_model.specs.Statuses.{status, is_undone}
 use Rattle.fj_model.specs.Answers.{root_of}
 use Rattle.fj_model.specs.Climbs.{path}
 use Rattle.fj_tree.specs.Handles.{Handle}
-use Rattle.fj_machine.proofs.Stepping.{told}
-use Rattle.fj_machine.proofs.OneEvent.{only_tells}
-use Rattle.fj_machine.proofs.Outcomes.{exits, full_of_one, may_one, made_one}
-use Rattle.fj_machine.proofs.Found.{found_status}
-use Rattle.fj_machine.proofs.CompleterSteps.{settles_root, root_says, leaves_root}
+use Rattle.fj_machine.proofs.Outcomes.Stepping.{told}
+use Rattle.fj_machine.proofs.Outcomes.OneEvent.{only_tells}
+use Rattle.fj_machine.proofs.Outcomes.Results.{exits, full_of_one, may_one, made_one}
+use Rattle.fj_machine.proofs.Outcomes.Found.{found_status}
+use Rattle.fj_machine.proofs.ByStep.CompleterSteps.{settles_root, root_says, leaves_root}
 use Rattle.fj_machine.proofs.steps.completer.quiet_root.Goals as goal
 use Rattle.fj_machine.proofs.steps.completer.quiet_root.Goals.{After-is_undone}
 

@@ -1,5 +1,5 @@
 use Rattle.fj_model.specs.declared.step.Step.TheVariants.{End}
-use Rattle.fj_machine.proofs.Outcomes.{exits}
+use Rattle.fj_machine.proofs.Outcomes.Results.{exits}
 use Rattle.fj_machine.proofs.steps.end.end.Goals as goal
 
 pub returns-in_err-t : goal.returns-in_err-t

@@ -9,13 +9,13 @@ use Rattle.fj_model.specs.Completers.{is_spent}
 use Rattle.fj_model.specs.Allowed.{Allowed}
 use Rattle.fj_model.specs.Answers.{after_end}
 use Rattle.fj_model.specs.Runs.{Past}
-use Rattle.fj_machine.proofs.BodyEnds.{running_kept, end_full, end_made, may_end, end_suits, ended_kept, ended_completer, ended_free, ended_given, complete_events, complete_says, complete_count}
-use Rattle.fj_machine.proofs.RoomTests.{either_way, grown_none}
-use Rattle.fj_machine.proofs.Outcomes.{exits_full}
+use Rattle.fj_machine.proofs.ByStep.EndSteps.{running_kept, end_full, end_made, may_end, end_suits, ended_kept, ended_completer, ended_free, ended_given, complete_events, complete_says, complete_count}
+use Rattle.fj_machine.proofs.Outcomes.RoomTests.{either_way, grown_none}
+use Rattle.fj_machine.proofs.Outcomes.Results.{exits_full}
 use Rattle.fj_tree.specs.Handles.{Handle}
 use Rattle.fj_machine.proofs.steps.end.end_complete.Goals as goal
 use Rattle.fj_machine.proofs.steps.end.end_complete.Goals.{After-room_for, then-spent, else-spent}
-use Rattle.fj_machine.proofs.Found.{found_spent}
+use Rattle.fj_machine.proofs.Outcomes.Found.{found_spent}
 
 -- whether the task is spent, as its record tells
 told : (c : After-room_for) → is_spent c.args.ledger.now.events c.args.t.serial ≡ c.is_spent-spent.result

@@ -8,10 +8,10 @@ use Rattle.fj_model.specs.Climbs.{relayed}
 use Rattle.fj_model.specs.Allowed.{AllowedFrom}
 use Rattle.fj_model.specs.Answers.{after_end}
 use Rattle.fj_model.specs.Runs.{Past, grown}
-use Rattle.fj_model.proofs.Settling.{settles}
-use Rattle.fj_machine.proofs.BodyEnds.{running_kept, end_full, end_made, may_end, ended_kept}
-use Rattle.fj_machine.proofs.SettleSteps.{fail_events, fail_relayed, settles_count}
-use Rattle.fj_machine.proofs.Outcomes.{exits_full}
+use Rattle.fj_model.proofs.Events.Settling.{settles}
+use Rattle.fj_machine.proofs.ByStep.EndSteps.{running_kept, end_full, end_made, may_end, ended_kept}
+use Rattle.fj_machine.proofs.ByStep.SettleSteps.{fail_events, fail_relayed, settles_count}
+use Rattle.fj_machine.proofs.Outcomes.Results.{exits_full}
 use Rattle.fj_machine.proofs.steps.end.end_fail.Goals as goal
 use Rattle.fj_machine.proofs.steps.end.end_fail.Goals.{After-room_for}
 

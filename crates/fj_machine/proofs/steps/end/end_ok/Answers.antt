@@ -8,12 +8,12 @@ use Rattle.fj_model.specs.Statuses.{status, is_undone}
 use Rattle.fj_model.specs.Allowed.{Allowed}
 use Rattle.fj_model.specs.Answers.{after_end}
 use Rattle.fj_model.specs.Runs.{Past}
-use Rattle.fj_machine.proofs.BodyEnds.{running_kept, end_full, end_made, may_end, ended_kept, ok_events, ok_count}
-use Rattle.fj_machine.proofs.RoomTests.{either_way, grown_none}
-use Rattle.fj_machine.proofs.Outcomes.{exits_full}
+use Rattle.fj_machine.proofs.ByStep.EndSteps.{running_kept, end_full, end_made, may_end, ended_kept, ok_events, ok_count}
+use Rattle.fj_machine.proofs.Outcomes.RoomTests.{either_way, grown_none}
+use Rattle.fj_machine.proofs.Outcomes.Results.{exits_full}
 use Rattle.fj_machine.proofs.steps.end.end_ok.Goals as goal
 use Rattle.fj_machine.proofs.steps.end.end_ok.Goals.{After-room_for, then-undone, else-undone, then-undone-2, else-undone-2}
-use Rattle.fj_machine.proofs.Found.{found_undone}
+use Rattle.fj_machine.proofs.Outcomes.Found.{found_undone}
 
 -- whether the task is undone, as its record tells
 told : (c : After-room_for) → is_undone (status c.args.ledger.now.events c.args.t.serial) ≡ c.is_undone-undone.result

@@ -1,9 +1,9 @@
 use Rattle.fj_model.specs.declared.step.Step.TheVariants as step
 use Rattle.std.proofs.Common.{refl, ◌∙◌, []}
 use Rattle.fj_model.specs.declared.step.Ending.TheVariants.{Quiet}
-use Rattle.fj_machine.proofs.BodyEnds.{end_full, end_made}
-use Rattle.fj_machine.proofs.RoomTests.{grown_none}
-use Rattle.fj_machine.proofs.Outcomes.{exits_full}
+use Rattle.fj_machine.proofs.ByStep.EndSteps.{end_full, end_made}
+use Rattle.fj_machine.proofs.Outcomes.RoomTests.{grown_none}
+use Rattle.fj_machine.proofs.Outcomes.Results.{exits_full}
 use Rattle.fj_machine.proofs.steps.end.end_quiet.Goals as goal
 
 pub returns-in_err-room_for : goal.returns-in_err-room_for

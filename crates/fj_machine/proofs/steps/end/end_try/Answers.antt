@@ -10,12 +10,12 @@ use Rattle.fj_model.specs.Hooks.{hooks, hand, receiver}
 use Rattle.fj_model.specs.Climbs.{arrival}
 use Rattle.fj_model.specs.Answers.{arriving, arriving_says}
 use Rattle.fj_model.specs.Runs.{Past, grown}
-use Rattle.fj_machine.proofs.BodyEnds.{running_kept, end_full, end_made, end_suits, ended_completer, ended_free, ended_given, try_count}
-use Rattle.fj_machine.proofs.RoomTests.{either_way}
-use Rattle.fj_machine.proofs.Outcomes.{exits_full}
+use Rattle.fj_machine.proofs.ByStep.EndSteps.{running_kept, end_full, end_made, end_suits, ended_completer, ended_free, ended_given, try_count}
+use Rattle.fj_machine.proofs.Outcomes.RoomTests.{either_way}
+use Rattle.fj_machine.proofs.Outcomes.Results.{exits_full}
 use Rattle.fj_machine.proofs.steps.end.end_try.Goals as goal
 use Rattle.fj_machine.proofs.steps.end.end_try.Goals.{After-room_for, then-spent, else-spent}
-use Rattle.fj_machine.proofs.Found.{found_spent}
+use Rattle.fj_machine.proofs.Outcomes.Found.{found_spent}
 
 -- how many events there are
 count : (c : After-room_for) → 1 + length (arriving c.args.t.serial (arrival (c.args.ledger.now.events ++ event.End c.args.t.serial c.args.w ∷ []) c.args.t.serial)) ≡ c.if-spent.room_for

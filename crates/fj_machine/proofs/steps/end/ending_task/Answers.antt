@@ -8,8 +8,8 @@ use Rattle.fj_model.specs.declared.step.Step.TheVariants.{End}
 use Rattle.fj_model.specs.Tasks.{is_completer}
 use Rattle.fj_model.specs.Answers.{is_misfit, first_that_stands, refusals_of, running}
 use Rattle.fj_machine.specs.Outcomes.{suits}
-use Rattle.fj_machine.proofs.BodyEnds.{running_kept, end_refused}
-use Rattle.fj_machine.proofs.Found.{found_completer}
+use Rattle.fj_machine.proofs.ByStep.EndSteps.{running_kept, end_refused}
+use Rattle.fj_machine.proofs.Outcomes.Found.{found_completer}
 use Rattle.fj_machine.proofs.steps.end.ending_task.Goals as goal
 use Rattle.fj_machine.proofs.steps.end.ending_task.Goals.{After-named-t, After-suits}
 

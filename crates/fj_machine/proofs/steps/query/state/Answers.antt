@@ -2,9 +2,9 @@ use Rattle.std.proofs.Common.{◌≡◌, false, refl, ◌∙◌}
 use Rattle.fj_model.specs.declared.step.Step.TheVariants.{State}
 use Rattle.fj_model.specs.Tasks.{is_kept}
 use Rattle.fj_ledger.specs.Holds.{TellsOf}
-use Rattle.fj_machine.proofs.OneEvent.{only_tells}
-use Rattle.fj_machine.proofs.Found.{found_kept, found_place, found_status}
-use Rattle.fj_machine.proofs.QuerySteps.{asks_state, unknown_state}
+use Rattle.fj_machine.proofs.Outcomes.OneEvent.{only_tells}
+use Rattle.fj_machine.proofs.Outcomes.Found.{found_kept, found_place, found_status}
+use Rattle.fj_machine.proofs.ByStep.QuerySteps.{asks_state, unknown_state}
 use Rattle.fj_machine.proofs.steps.query.state.Goals as goal
 
 pub returns-in-None : goal.returns-in-None

@@ -2,7 +2,7 @@ use Rattle.std.proofs.Common.{◌≡◌, ◌≤◌, false, refl, arith}
 use Rattle.std.specs.Prelude.{nat_lt}
 use Rattle.std.proofs.lemmas.Bool.{le-ltb}
 use Rattle.fj_model.specs.Tasks.{live}
-use Rattle.fj_machine.proofs.Refusing.{is_full, not_below}
+use Rattle.fj_machine.proofs.Outcomes.Refusing.{is_full, not_below}
 use Rattle.fj_machine.proofs.steps.refuse.task_room.Goals as goal
 
 pub returns-then-not-has_task_room : goal.returns-then-not-has_task_room

@@ -1,7 +1,7 @@
 use Rattle.std.proofs.Common.{sym}
 use Rattle.fj_model.specs.declared.step.Step.TheVariants.{Release}
-use Rattle.fj_machine.proofs.ReleaseSteps.{releases, release_says}
-use Rattle.fj_machine.proofs.Outcomes.{exits, full_of_one, may_one, made_one}
+use Rattle.fj_machine.proofs.ByStep.ReleaseSteps.{releases, release_says}
+use Rattle.fj_machine.proofs.Outcomes.Results.{exits, full_of_one, may_one, made_one}
 use Rattle.fj_machine.proofs.steps.release.release.Goals as goal
 
 pub returns-in_err-t : goal.returns-in_err-t

@@ -4,9 +4,9 @@ use Rattle.fj_model.specs.declared.step.Step.TheVariants.{Cancel}
 use Rattle.fj_model.specs.Tasks.{is_kept}
 use Rattle.fj_model.specs.Statuses.{status, is_undone}
 use Rattle.fj_ledger.specs.Holds.{TellsOf}
-use Rattle.fj_machine.proofs.Found.{found_kept, found_status}
-use Rattle.fj_machine.proofs.Outcomes.{exits, full_of_one, may_one, made_one}
-use Rattle.fj_machine.proofs.SettleSteps.{cancels, cancel_replies, cancel_tells}
+use Rattle.fj_machine.proofs.Outcomes.Found.{found_kept, found_status}
+use Rattle.fj_machine.proofs.Outcomes.Results.{exits, full_of_one, may_one, made_one}
+use Rattle.fj_machine.proofs.ByStep.SettleSteps.{cancels, cancel_replies, cancel_tells}
 use Rattle.fj_machine.proofs.steps.settle.cancel.Goals as goal
 use Rattle.fj_machine.proofs.steps.settle.cancel.Goals.{After-record}
 

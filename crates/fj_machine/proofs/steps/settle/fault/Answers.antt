@@ -8,10 +8,10 @@ use Rattle.fj_model.specs.Allowed.{AllowedFrom}
 use Rattle.fj_model.specs.Answers.{events_of}
 use Rattle.fj_model.specs.Runs.{grown}
 use Rattle.fj_ledger.specs.Holds.{TellsOf}
-use Rattle.fj_machine.proofs.Found.{found_kept, found_status}
-use Rattle.fj_machine.proofs.SettleSteps.{fault_stands, fault_events, fault_says, fault_tells, settles_count}
-use Rattle.fj_machine.proofs.Stepping.{steps_full, steps_made, may_step}
-use Rattle.fj_machine.proofs.Outcomes.{exits, exits_full}
+use Rattle.fj_machine.proofs.Outcomes.Found.{found_kept, found_status}
+use Rattle.fj_machine.proofs.ByStep.SettleSteps.{fault_stands, fault_events, fault_says, fault_tells, settles_count}
+use Rattle.fj_machine.proofs.Outcomes.Stepping.{steps_full, steps_made, may_step}
+use Rattle.fj_machine.proofs.Outcomes.Results.{exits, exits_full}
 use Rattle.fj_machine.proofs.steps.settle.fault.Goals as goal
 use Rattle.fj_machine.proofs.steps.settle.fault.Goals.{After-record, After-is_undone, After-relay_look-count}
 

@@ -9,14 +9,14 @@ use Rattle.fj_model.specs.Tasks.{is_kept, parent}
 use Rattle.fj_model.specs.Climbs.{relayed, path}
 use Rattle.fj_model.specs.Allowed.{Allowed}
 use Rattle.fj_model.specs.Runs.{Past, grown}
-use Rattle.fj_model.proofs.Members.{get_is_in}
-use Rattle.fj_model.proofs.Settling.{settles}
+use Rattle.fj_model.proofs.Lists.Members.{get_is_in}
+use Rattle.fj_model.proofs.Events.Settling.{settles}
 use Rattle.fj_ledger.specs.Holds.{IsLawful}
 use Rattle.fj_ledger.proofs.Lists.Choosing.{some_get}
-use Rattle.fj_machine.proofs.Passing.{next_up, path_begins, may_next, allowed_front, next_more}
-use Rattle.fj_machine.proofs.Relaying.{relayed_at, parent_settled}
-use Rattle.fj_model.proofs.KeptParents.{relayed_kept}
-use Rattle.fj_model.proofs.Settling.{settles_kept}
+use Rattle.fj_machine.proofs.ByStep.Passing.{next_up, path_begins, may_next, allowed_front, next_more}
+use Rattle.fj_machine.proofs.ByStep.Relaying.{relayed_at, parent_settled}
+use Rattle.fj_model.proofs.Completers.KeptParents.{relayed_kept}
+use Rattle.fj_model.proofs.Events.Settling.{settles_kept}
 use Rattle.fj_tree.specs.Handles.{Handle}
 use Rattle.fj_machine.proofs.steps.settle.relay.Goals as goal
 use Rattle.fj_machine.proofs.steps.settle.relay.Goals.{In-loop, After-unwrap-c, After-parent-at}

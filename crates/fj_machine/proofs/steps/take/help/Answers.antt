@@ -1,9 +1,9 @@
 use Rattle.std.proofs.Common.{sym}
 use Rattle.fj_model.specs.declared.step.Step.TheVariants.{Help}
 use Rattle.fj_machine.specs.Outcomes.{said_by}
-use Rattle.fj_machine.proofs.TakeSteps.{choice_may, choice_steps}
-use Rattle.fj_machine.proofs.Outcomes.{exits}
-use Rattle.fj_machine.proofs.TakeSteps.{help_takes}
+use Rattle.fj_machine.proofs.ByStep.TakeSteps.{choice_may, choice_steps}
+use Rattle.fj_machine.proofs.Outcomes.Results.{exits}
+use Rattle.fj_machine.proofs.ByStep.TakeSteps.{help_takes}
 use Rattle.fj_machine.proofs.steps.take.help.Goals as goal
 
 pub returns-in_err-running_task : goal.returns-in_err-running_task

@@ -8,11 +8,11 @@ use Rattle.fj_model.specs.Answers.{first_that_stands, refusals_of, status_says}
 use Rattle.fj_model.specs.Runs.{Past, Steps}
 use Rattle.fj_ledger.specs.Holds.{IsLawful}
 use Rattle.fj_machine.specs.Outcomes.{said_by}
-use Rattle.fj_machine.proofs.Stepping.{told}
-use Rattle.fj_machine.proofs.OneEvent.{only_tells}
-use Rattle.fj_machine.proofs.Outcomes.{exits}
-use Rattle.fj_machine.proofs.TakeSteps.{choice_may, choice_steps}
-use Rattle.fj_machine.proofs.TakeSteps.{join_takes, join_tells}
+use Rattle.fj_machine.proofs.Outcomes.Stepping.{told}
+use Rattle.fj_machine.proofs.Outcomes.OneEvent.{only_tells}
+use Rattle.fj_machine.proofs.Outcomes.Results.{exits}
+use Rattle.fj_machine.proofs.ByStep.TakeSteps.{choice_may, choice_steps}
+use Rattle.fj_machine.proofs.ByStep.TakeSteps.{join_takes, join_tells}
 use Rattle.fj_machine.proofs.steps.take.join.Goals as goal
 
 pub returns-in_err-joined : goal.returns-in_err-joined

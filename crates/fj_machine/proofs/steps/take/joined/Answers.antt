@@ -6,8 +6,8 @@ use Rattle.fj_model.specs.Stacks.{stack}
 use Rattle.fj_model.specs.Statuses.{status, is_undone}
 use Rattle.fj_model.specs.Answers.{unknown_task, no_such_worker, hook_in_hand, nothing_running}
 use Rattle.fj_ledger.specs.Holds.{TellsOf}
-use Rattle.fj_machine.proofs.Found.{found_kept, found_status, found_place, held_as_told}
-use Rattle.fj_machine.proofs.Refusing.{first_after}
+use Rattle.fj_machine.proofs.Outcomes.Found.{found_kept, found_status, found_place, held_as_told}
+use Rattle.fj_machine.proofs.Outcomes.Refusing.{first_after}
 use Rattle.fj_machine.proofs.steps.take.joined.Goals as goal
 use Rattle.fj_machine.proofs.steps.take.joined.Goals.{else-is_undone-via-then-is_undone+else-is_held, else-is_undone-via-else-is_undone}
 

@@ -1,9 +1,9 @@
 use Rattle.std.proofs.Common.{sym}
 use Rattle.fj_model.specs.declared.step.Step.TheVariants.{Poll}
 use Rattle.fj_machine.specs.Outcomes.{said_by}
-use Rattle.fj_machine.proofs.TakeSteps.{choice_may, choice_steps}
-use Rattle.fj_machine.proofs.Outcomes.{exits}
-use Rattle.fj_machine.proofs.TakeSteps.{poll_takes}
+use Rattle.fj_machine.proofs.ByStep.TakeSteps.{choice_may, choice_steps}
+use Rattle.fj_machine.proofs.Outcomes.Results.{exits}
+use Rattle.fj_machine.proofs.ByStep.TakeSteps.{poll_takes}
 use Rattle.fj_machine.proofs.steps.take.poll.Goals as goal
 
 pub returns-in_err-idle_worker : goal.returns-in_err-idle_worker

@@ -1,7 +1,7 @@
 use Rattle.std.proofs.Common.{◌≡◌, ℕ, ◌<◌, ◌≤◌, length, get_or, Some, arith, false, inl, inr, refl, sym, ap, ◌∙◌}
 use Rattle.std.specs.Str.Parse.{digits_value}
 use Rattle.std.proofs.lemmas.Bool.{both_ways, cases_lt, eqb-true}
-use Rattle.fj_model.proofs.NumberLaws.{no_number_empty, no_number_long, no_number_zeros, no_number_large, number_of_digits, some_bytes, large}
+use Rattle.fj_model.proofs.Reading.NumberLaws.{no_number_empty, no_number_long, no_number_zeros, no_number_large, number_of_digits, some_bytes, large}
 use Rattle.fj_model.proofs.read.number.read_number.Goals as goal
 use Rattle.fj_model.proofs.read.number.read_number.Goals.{then-is_empty-via-then-is_empty, then-is_empty-via-else-is_empty+then-word-gt10}
 

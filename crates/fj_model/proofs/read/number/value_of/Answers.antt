@@ -3,7 +3,7 @@ use Rattle.std.specs.Int.{IsInRange}
 use Rattle.std.specs.Char.{digit_value}
 use Rattle.std.proofs.lemmas.Str.{digit_value_digit}
 use Rattle.std.proofs.lemmas.Int.Digits.{digits_more, digits_value_more}
-use Rattle.fj_model.proofs.NumberLaws.{few_digits, no_number_other}
+use Rattle.fj_model.proofs.Reading.NumberLaws.{few_digits, no_number_other}
 use Rattle.fj_model.proofs.read.number.value_of.Goals as goal
 
 pub returns-then-not-is_ascii_digit : goal.returns-then-not-is_ascii_digit

@@ -1,4 +1,4 @@
-use Rattle.fj_model.proofs.WordLaws.{is_last_at}
+use Rattle.fj_model.proofs.Reading.WordLaws.{is_last_at}
 use Rattle.fj_model.proofs.read.words.at_end.Goals as goal
 
 pub returns : goal.returns

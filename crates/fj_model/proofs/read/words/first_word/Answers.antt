@@ -1,5 +1,5 @@
 use Rattle.std.proofs.Common.{arith}
-use Rattle.fj_model.proofs.WordLaws.{words_cut, first_place-le}
+use Rattle.fj_model.proofs.Reading.WordLaws.{words_cut, first_place-le}
 use Rattle.fj_model.proofs.read.words.first_word.Goals as goal
 
 pub split_at-requires : goal.split_at-requires

@@ -1,7 +1,7 @@
 use Rattle.std.proofs.Common.{rules, tests}
 use Rattle.std.proofs.lemmas.Iterator.{YieldsList-from_slice}
 use Rattle.std.proofs.lemmas.Iterator.Search.{position_from_yields_List}
-use Rattle.fj_model.proofs.WordLaws.{is_space, first_place}
+use Rattle.fj_model.proofs.Reading.WordLaws.{is_space, first_place}
 use Rattle.fj_model.proofs.read.words.word_len.Goals as goal
 
 pub returns : goal.returns

@@ -1,6 +1,6 @@
 use Rattle.std.proofs.Common.{arith, ap, ◌+◌}
 use Rattle.fj_queues.specs.declared.ends.Ends.{Ends}
-use Rattle.fj_queues.proofs.ChainEnds.{appended, newest_within}
+use Rattle.fj_queues.proofs.Chains.ChainEnds.{appended, newest_within}
 use Rattle.fj_queues.proofs.ends.Ends.append.Goals as goal
 use Rattle.fj_queues.proofs.ends.Ends.append.Goals.{then-self-eq0, else-self-eq0}
 

@@ -1,8 +1,8 @@
 use Rattle.fj_queues.specs.declared.cells.Cell.{Cell}
 use Rattle.fj_queues.specs.declared.ends.Ends.{Ends}
 use Rattle.fj_queues.specs.Cells.{blank, older_at}
-use Rattle.fj_queues.proofs.ChainEnds.{last_lost, newest_named, older_within}
-use Rattle.fj_queues.proofs.Links.{is_none, is_not_none}
+use Rattle.fj_queues.proofs.Chains.ChainEnds.{last_lost, newest_named, older_within}
+use Rattle.fj_queues.proofs.Chains.Links.{is_none, is_not_none}
 use Rattle.std.proofs.Common.{arith, ap, ◌-◌, ◌≡◌}
 use Rattle.std.proofs.lemmas.List.{get_or_read}
 use Rattle.fj_queues.proofs.ends.Ends.detach_newest.Goals as goal

@@ -1,7 +1,7 @@
 use Rattle.fj_queues.specs.declared.cells.Cell.{Cell}
 use Rattle.fj_queues.specs.Cells.{blank, cell_at}
 use Rattle.fj_queues.specs.Tables.{numbers_from}
-use Rattle.fj_queues.proofs.Walks.{next_within, goes_on, gives_first}
+use Rattle.fj_queues.proofs.Chains.Walks.{next_within, goes_on, gives_first}
 use Rattle.std.proofs.Common.{arith, rules, ap, sym, ◌∷◌, ◌-◌, ◌∙◌, ◌≡◌, get_or}
 use Rattle.std.proofs.lemmas.List.{get_or_read}
 use Rattle.fj_queues.proofs.numbers.NumbersIterator.next.Goals as goal

@@ -1,4 +1,4 @@
-use Rattle.fj_queues.proofs.Walks.{len_shown}
+use Rattle.fj_queues.proofs.Chains.Walks.{len_shown}
 use Rattle.std.proofs.Common.{List, ℕ, length, arith, ap}
 use Rattle.fj_queues.proofs.numbers.NumbersIterator.size_hint.Goals as goal
 

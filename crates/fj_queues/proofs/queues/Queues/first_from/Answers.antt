@@ -1,8 +1,8 @@
 use Rattle.fj_model.specs.Lists.{is_empty}
 use Rattle.fj_queues.specs.Queues.{first_filled, places_from}
 use Rattle.fj_queues.specs.Tables.{no_ends, numbers_from, lists_of}
-use Rattle.fj_queues.proofs.Scans.{all_empty, none_in_empty, scan_step, is_empty_no, is_empty_yes}
-use Rattle.fj_queues.proofs.TableSteps.{len_seen}
+use Rattle.fj_queues.proofs.Table.Scans.{all_empty, none_in_empty, scan_step, is_empty_no, is_empty_yes}
+use Rattle.fj_queues.proofs.Table.TableSteps.{len_seen}
 use Rattle.std.proofs.Common.{[], ap, ◌<◌, ◌≡◌, ◌+◌, ◌%◌, ◌-◌, None, length, arith, get_or, sym, ◌∙◌, true, false}
 use Rattle.std.proofs.Math.Nat.{mod-add-mod}
 use Rattle.std.proofs.lemmas.List.{get_or_read, length-map}

@@ -1,9 +1,9 @@
 use Rattle.fj_queues.specs.Queues.{Lists, queue_at}
 use Rattle.fj_queues.specs.Tables.{no_ends}
-use Rattle.fj_queues.proofs.TableSteps.{len_seen}
+use Rattle.fj_queues.proofs.Table.TableSteps.{len_seen}
 use Rattle.std.proofs.Common.{[], ap, ◌∙◌, length}
 use Rattle.std.proofs.lemmas.List.{get_or_read}
-use Rattle.fj_queues.proofs.Owners.{owner_within}
+use Rattle.fj_queues.proofs.Table.Owners.{owner_within}
 use Rattle.fj_queues.proofs.queues.Queues.len.Goals as goal
 
 pub returns : goal.returns

@@ -1,6 +1,6 @@
 use Rattle.fj_queues.specs.Queues.{Lists, all_in}
-use Rattle.fj_queues.proofs.Owners.{none_linked, none_listed}
-use Rattle.fj_queues.proofs.Counts.{none_in}
+use Rattle.fj_queues.proofs.Table.Owners.{none_linked, none_listed}
+use Rattle.fj_queues.proofs.Table.Counts.{none_in}
 use Rattle.std.proofs.Common.{arith, ap, sym, ◌∙◌, ◌≡◌, List, ℕ, length}
 use Rattle.fj_queues.proofs.queues.Queues.new.Goals as goal
 

@@ -1,6 +1,6 @@
 use Rattle.fj_queues.specs.Tables.{no_ends}
-use Rattle.fj_queues.proofs.Owners.{owner_within}
-use Rattle.fj_queues.proofs.TableSteps.{chain_of, apart_of}
+use Rattle.fj_queues.proofs.Table.Owners.{owner_within}
+use Rattle.fj_queues.proofs.Table.TableSteps.{chain_of, apart_of}
 use Rattle.std.proofs.Common.{[], get_or}
 use Rattle.std.proofs.lemmas.List.{get_or_read}
 use Rattle.fj_queues.proofs.queues.Queues.numbers.Goals as goal

@@ -1,8 +1,8 @@
 use Rattle.fj_queues.specs.Queues.{Lists, all_in, total}
 use Rattle.fj_queues.specs.Tables.{no_ends, lists_of, IsTable}
-use Rattle.fj_queues.proofs.Owners.{owner_within, list_within}
-use Rattle.fj_queues.proofs.TableSteps.{free_within, none_free, filled, queue_of}
-use Rattle.fj_queues.proofs.QueueSteps.{loose_within, len_below, grown, push_steps, count_pushed}
+use Rattle.fj_queues.proofs.Table.Owners.{owner_within, list_within}
+use Rattle.fj_queues.proofs.Table.TableSteps.{free_within, none_free, filled, queue_of}
+use Rattle.fj_queues.proofs.Table.QueueSteps.{loose_within, len_below, grown, push_steps, count_pushed}
 use Rattle.std.proofs.Common.{arith, ap, subst, sym, ◌≡◌, ◌<◌, ◌+◌, ◌∷◌, ◌++◌, [], List, ℕ, None, length, get_or}
 use Rattle.std.proofs.Math.ListN.{set}
 use Rattle.std.proofs.lemmas.List.{get_or_read}

@@ -2,11 +2,11 @@ use Rattle.fj_queues.specs.Queues.{Lists, all_in, queue_at, without_last}
 use Rattle.fj_queues.specs.declared.cells.Cells.{Cells}
 use Rattle.fj_queues.specs.Cells.{serial_at}
 use Rattle.fj_queues.specs.Tables.{no_ends, lists_of, IsTable}
-use Rattle.fj_queues.proofs.Owners.{owner_within, list_within}
-use Rattle.fj_queues.proofs.TableSteps.{queue_of, last_moved}
-use Rattle.fj_queues.proofs.QueueSteps.{loose_within, take_new_steps, no_newest, count_without_last}
-use Rattle.fj_queues.proofs.QueueWrites.{untouched}
-use Rattle.fj_queues.proofs.Counts.{one_in_all}
+use Rattle.fj_queues.proofs.Table.Owners.{owner_within, list_within}
+use Rattle.fj_queues.proofs.Table.TableSteps.{queue_of, last_moved}
+use Rattle.fj_queues.proofs.Table.QueueSteps.{loose_within, take_new_steps, no_newest, count_without_last}
+use Rattle.fj_queues.proofs.Table.QueueWrites.{untouched}
+use Rattle.fj_queues.proofs.Table.Counts.{one_in_all}
 use Rattle.fj_model.specs.Lists.{last_of}
 use Rattle.std.proofs.Common.{arith, ap, subst, sym, ◌∙◌, ◌≡◌, ◌<◌, ◌+◌, ◌∷◌, [], List, ℕ, Some, None, length, get_or}
 use Rattle.std.proofs.Math.ListN.{set}

@@ -3,7 +3,7 @@ use Rattle.std.specs.Prelude.{IfSome}
 use Rattle.fj_tree.specs.Handles.{Handle}
 use Rattle.fj_tree.specs.Paths.{above}
 use Rattle.fj_tree.specs.Records.{IsCompleter}
-use Rattle.fj_tree.proofs.Parents.{completers_above}
+use Rattle.fj_tree.proofs.Ascents.Parents.{completers_above}
 use Rattle.fj_tree.proofs.tree.Tree.above.Goals as goal
 
 pub returns-clause-completer : goal.returns-clause-completer

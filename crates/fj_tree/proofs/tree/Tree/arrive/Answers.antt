@@ -1,5 +1,5 @@
-use Rattle.fj_tree.proofs.Indexing.{index_written}
-use Rattle.fj_tree.proofs.Writes.{arrived_number, sound_arrived}
+use Rattle.fj_tree.proofs.Index.Indexing.{index_written}
+use Rattle.fj_tree.proofs.Records.Writes.{arrived_number, sound_arrived}
 use Rattle.fj_tree.proofs.tree.Tree.arrive.Goals as goal
 
 pub invariant_of-self : goal.invariant_of-self

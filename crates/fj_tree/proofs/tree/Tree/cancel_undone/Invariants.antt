@@ -1,5 +1,5 @@
 use Rattle.fj_tree.specs.Cancels.{if_undone_cancelled}
-use Rattle.fj_tree.proofs.Sweeping.{IsChangedBelow}
+use Rattle.fj_tree.proofs.Records.Sweeping.{IsChangedBelow}
 use Rattle.fj_tree.proofs.tree.Tree.cancel_undone.Given as goal
 
 -- the records of smaller keys are cancelled if they were undone, and no other is written

@@ -1,5 +1,5 @@
 use Rattle.fj_tree.specs.Closes.{if_open_gone}
-use Rattle.fj_tree.proofs.Sweeping.{IsChangedBelow}
+use Rattle.fj_tree.proofs.Records.Sweeping.{IsChangedBelow}
 use Rattle.fj_tree.proofs.tree.Tree.close_open.Given as goal
 
 -- the records of smaller keys are gone if they were open, and no other is written

@@ -2,9 +2,9 @@ use Rattle.std.proofs.Common.{◌≡◌, true, sym, ◌∙◌, subst, refl, Opti
 use Rattle.std.specs.Prelude.{IsSome, is_some, option_copied}
 use Rattle.fj_tree.specs.declared.record.Record.{Record}
 use Rattle.fj_tree.specs.Records.{Records, IsGood, IsSound}
-use Rattle.fj_tree.proofs.Finds.{named_record}
-use Rattle.fj_tree.proofs.Indexing.{absent_handle, absent_kept}
-use Rattle.fj_tree.proofs.Numbers.{found_there}
+use Rattle.fj_tree.proofs.Index.Finds.{named_record}
+use Rattle.fj_tree.proofs.Index.Indexing.{absent_handle, absent_kept}
+use Rattle.fj_tree.proofs.Index.Numbers.{found_there}
 use Rattle.fj_tree.proofs.tree.Tree.find.Goals as goal
 
 pub returns-clause-found : goal.returns-clause-found

@@ -5,8 +5,8 @@ use Rattle.fj_tree.specs.declared.record.Record.{Record}
 use Rattle.fj_tree.specs.Handles.{Handle}
 use Rattle.fj_tree.specs.Makes.{with_child, with_child_of}
 use Rattle.fj_tree.specs.Records.{Records, IsCompleter, IsSound, changed, count, record_at}
-use Rattle.fj_tree.proofs.Growing.{put_in, grown_alone, grown_below, sound_grown}
-use Rattle.fj_tree.proofs.Indexing.{index_above, index_grown, index_written}
+use Rattle.fj_tree.proofs.Records.Growing.{put_in, grown_alone, grown_below, sound_grown}
+use Rattle.fj_tree.proofs.Index.Indexing.{index_above, index_grown, index_written}
 use Rattle.fj_tree.proofs.tree.Tree.insert.Goals as goal
 use Rattle.fj_tree.proofs.tree.Tree.insert.Goals.{in-Some, in_default}
 

@@ -1,8 +1,8 @@
 use Rattle.std.proofs.Common.{◌≡◌, Some, ap, sym, ◌∙◌, subst, refl}
 use Rattle.std.specs.Prelude.{IsSome, option_and_then, option_copied}
 use Rattle.fj_tree.specs.Records.{IsGood, IsSound, record_of}
-use Rattle.fj_tree.proofs.Finds.{named_record}
-use Rattle.fj_tree.proofs.Numbers.{found_there}
+use Rattle.fj_tree.proofs.Index.Finds.{named_record}
+use Rattle.fj_tree.proofs.Index.Numbers.{found_there}
 use Rattle.fj_tree.proofs.tree.Tree.look.Goals as goal
 
 pub returns-in-Some-clause-found : goal.returns-in-Some-clause-found

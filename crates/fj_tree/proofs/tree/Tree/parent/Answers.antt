@@ -1,7 +1,7 @@
 use Rattle.std.proofs.Common.{ap, sym, ◌∙◌, ◌≡◌, Some}
 use Rattle.fj_tree.specs.Records.{record_at}
 use Rattle.fj_tree.specs.Makes.{parent_refusal}
-use Rattle.fj_tree.proofs.Finds.{parent_found}
+use Rattle.fj_tree.proofs.Index.Finds.{parent_found}
 use Rattle.fj_tree.proofs.tree.Tree.parent.Goals as goal
 
 pub returns-then-is_completer-clause-refused : goal.returns-then-is_completer-clause-refused

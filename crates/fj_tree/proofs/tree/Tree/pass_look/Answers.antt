@@ -1,7 +1,7 @@
 use Rattle.std.proofs.Common.{arith, ap, sym, subst, ◌∙◌, ◌+◌, ◌++◌, ◌∷◌, [], length-append, refl}
 use Rattle.fj_tree.specs.Records.{Records, IsSound}
-use Rattle.fj_tree.proofs.Climbing.{climb_begins, climb_goes_on, ends_at_stop, ends_past_root, counted_all}
-use Rattle.fj_tree.proofs.Finds.{good_completer, number_of}
+use Rattle.fj_tree.proofs.Ascents.Climbing.{climb_begins, climb_goes_on, ends_at_stop, ends_past_root, counted_all}
+use Rattle.fj_tree.proofs.Index.Finds.{good_completer, number_of}
 use Rattle.fj_tree.proofs.tree.Tree.pass_look.Goals as goal
 
 pub loop-how-init : goal.loop-how-init

@@ -1,5 +1,5 @@
 use Rattle.fj_tree.specs.Records.{IsGood}
-use Rattle.fj_tree.proofs.Climbing.{HasPassed}
+use Rattle.fj_tree.proofs.Ascents.Climbing.{HasPassed}
 use Rattle.fj_tree.proofs.tree.Tree.pass_look.Given as goal
 
 -- what is passed and left from here on is what is passed and left at all

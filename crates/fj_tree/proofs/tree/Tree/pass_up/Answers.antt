@@ -3,9 +3,9 @@ use Rattle.std.specs.Prelude.{option_map}
 use Rattle.fj_tree.specs.declared.pass.PassHow.TheVariants.{Root}
 use Rattle.fj_tree.specs.Passes.{PassEnd, after_climb}
 use Rattle.fj_tree.specs.Records.{Records, IsSound, record_at}
-use Rattle.fj_tree.proofs.Climbing.{counted_all}
-use Rattle.fj_tree.proofs.Finds.{good_completer, number_of}
-use Rattle.fj_tree.proofs.Passing.{passing_begins, passing_goes_on, passing_good, passing_was_good, passing_stops, passing_ends, spends, counts_not, after_uncounted, after_counted}
+use Rattle.fj_tree.proofs.Ascents.Climbing.{counted_all}
+use Rattle.fj_tree.proofs.Index.Finds.{good_completer, number_of}
+use Rattle.fj_tree.proofs.Ascents.Passing.{passing_begins, passing_goes_on, passing_good, passing_was_good, passing_stops, passing_ends, spends, counts_not, after_uncounted, after_counted}
 use Rattle.fj_tree.proofs.tree.Tree.pass_up.Goals as goal
 use Rattle.fj_tree.proofs.tree.Tree.pass_up.Goals.{in-Counted, in_default-how}
 

@@ -1,5 +1,5 @@
 use Rattle.fj_tree.specs.Records.{IsGood}
-use Rattle.fj_tree.proofs.Passing.{IsPassing}
+use Rattle.fj_tree.proofs.Ascents.Passing.{IsPassing}
 use Rattle.fj_tree.proofs.tree.Tree.pass_up.Given as goal
 
 -- what is passed and left from here on is what is passed and left at all, and what was passed so far is spent

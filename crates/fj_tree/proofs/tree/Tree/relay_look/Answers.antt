@@ -1,7 +1,7 @@
 use Rattle.std.proofs.Common.{arith, ap, sym, subst, ◌∙◌, ◌++◌, ◌∷◌, [], length-append, refl}
 use Rattle.fj_tree.specs.Records.{Records, IsSound}
-use Rattle.fj_tree.proofs.Finds.{number_of}
-use Rattle.fj_tree.proofs.Relaying.{relay_begins, relay_goes_on, relay_ends_before, relay_ends_at, relayed_all}
+use Rattle.fj_tree.proofs.Index.Finds.{number_of}
+use Rattle.fj_tree.proofs.Ascents.Relaying.{relay_begins, relay_goes_on, relay_ends_before, relay_ends_at, relayed_all}
 use Rattle.fj_tree.proofs.tree.Tree.relay_look.Goals as goal
 
 pub loop-at-init : goal.loop-at-init

@@ -1,5 +1,5 @@
 use Rattle.fj_tree.specs.Records.{IsGood}
-use Rattle.fj_tree.proofs.Relaying.{HasRelayed}
+use Rattle.fj_tree.proofs.Ascents.Relaying.{HasRelayed}
 use Rattle.fj_tree.proofs.tree.Tree.relay_look.Given as goal
 
 -- those from here on are the others that get it

@@ -2,8 +2,8 @@ use Rattle.std.proofs.Common.{arith, ap, sym, subst, ◌∙◌, ◌+◌, ◌++�
 use Rattle.std.specs.Prelude.{option_map}
 use Rattle.fj_tree.specs.Records.{Records, IsSound, record_at}
 use Rattle.fj_tree.specs.Relays.{after_relay}
-use Rattle.fj_tree.proofs.Finds.{number_of}
-use Rattle.fj_tree.proofs.Relaying.{relayed_begins, relayed_goes_on, relayed_ends_before, relayed_ends_at, relayed_all, relayed_good, relayed_was_good, settles_one}
+use Rattle.fj_tree.proofs.Index.Finds.{number_of}
+use Rattle.fj_tree.proofs.Ascents.Relaying.{relayed_begins, relayed_goes_on, relayed_ends_before, relayed_ends_at, relayed_all, relayed_good, relayed_was_good, settles_one}
 use Rattle.fj_tree.proofs.tree.Tree.relay_up.Goals as goal
 
 pub loop-status-init : goal.loop-status-init

@@ -1,5 +1,5 @@
 use Rattle.fj_tree.specs.Records.{IsGood}
-use Rattle.fj_tree.proofs.Relaying.{IsRelayed}
+use Rattle.fj_tree.proofs.Ascents.Relaying.{IsRelayed}
 use Rattle.fj_tree.proofs.tree.Tree.relay_up.Given as goal
 
 -- those from here on are the others that get it, and the ones before have got it

@@ -6,8 +6,8 @@ use Rattle.fj_tree.specs.Handles.{Handle}
 use Rattle.fj_tree.specs.Paths.{above}
 use Rattle.fj_tree.specs.Releases.{without_child, without_child_of}
 use Rattle.fj_tree.specs.Records.{Records, IsSound, changed, record_at, record_of}
-use Rattle.fj_tree.proofs.Shrinking.{removal, removal_parent_kept, removal_parent_counts, removal_shrinks, removal_shrinks_below, removal_others, sound_shrunk}
-use Rattle.fj_tree.proofs.Indexing.{index_shrunk, index_written}
+use Rattle.fj_tree.proofs.Records.Shrinking.{removal, removal_parent_kept, removal_parent_counts, removal_shrinks, removal_shrinks_below, removal_others, sound_shrunk}
+use Rattle.fj_tree.proofs.Index.Indexing.{index_shrunk, index_written}
 use Rattle.fj_tree.proofs.tree.Tree.remove.Goals as goal
 
 pub index_mut-requires : goal.index_mut-requires

@@ -2,8 +2,8 @@ use Rattle.std.proofs.Common.{◌≡◌, true, sym, ◌∙◌, subst, refl, Opti
 use Rattle.std.specs.Prelude.{IsSome, is_some, option_copied}
 use Rattle.fj_tree.specs.declared.record.Record.{Record}
 use Rattle.fj_tree.specs.Records.{IsGood, IsSound}
-use Rattle.fj_tree.proofs.Finds.{named_record}
-use Rattle.fj_tree.proofs.Numbers.{found_there}
+use Rattle.fj_tree.proofs.Index.Finds.{named_record}
+use Rattle.fj_tree.proofs.Index.Numbers.{found_there}
 use Rattle.fj_tree.proofs.tree.Tree.renew.Goals as goal
 
 some_copied : (o : Option (Bor Record)) → is_some o ≡ true → IsSome (option_copied o)

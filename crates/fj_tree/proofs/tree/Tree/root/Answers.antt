@@ -1,5 +1,5 @@
 use Rattle.std.proofs.Common.{sym, ◌∙◌}
-use Rattle.fj_tree.proofs.Paths.{below_at_start, below_above, root_at_end}
+use Rattle.fj_tree.proofs.Ascents.Paths.{below_at_start, below_above, root_at_end}
 use Rattle.fj_tree.proofs.tree.Tree.root.Goals as goal
 
 pub loop-up-init : goal.loop-up-init

@@ -1,5 +1,5 @@
 use Rattle.fj_tree.specs.Records.{IsGood}
-use Rattle.fj_tree.proofs.Paths.{IsBelowRoot}
+use Rattle.fj_tree.proofs.Ascents.Paths.{IsBelowRoot}
 use Rattle.fj_tree.proofs.tree.Tree.root.Given as goal
 
 -- the root is the same from here

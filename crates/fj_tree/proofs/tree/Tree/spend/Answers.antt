@@ -1,6 +1,6 @@
 use Rattle.std.proofs.Common.{refl}
-use Rattle.fj_tree.proofs.Indexing.{index_written}
-use Rattle.fj_tree.proofs.Writes.{sound_marked}
+use Rattle.fj_tree.proofs.Index.Indexing.{index_written}
+use Rattle.fj_tree.proofs.Records.Writes.{sound_marked}
 use Rattle.fj_tree.proofs.tree.Tree.spend.Goals as goal
 
 pub invariant_of-self : goal.invariant_of-self

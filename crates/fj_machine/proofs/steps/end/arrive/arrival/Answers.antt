@@ -5,7 +5,7 @@ use Rattle.fj_model.specs.Climbs.{arrival}
 use Rattle.fj_ledger.specs.Arriving.{as_arrival}
 use Rattle.fj_ledger.proofs.Recorded.ArrivalsTold.{arrival_told, released_told}
 use Rattle.fj_machine.proofs.steps.end.arrive.arrival.Goals as goal
-use Rattle.fj_machine.proofs.Found.{unkept}
+use Rattle.fj_machine.proofs.Outcomes.Found.{unkept}
 
 pub returns-in-None-clause-arrival : goal.returns-in-None-clause-arrival
 returns-in-None-clause-arrival c =

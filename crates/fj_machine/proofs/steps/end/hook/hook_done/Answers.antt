@@ -1,6 +1,6 @@
 use Rattle.std.proofs.Common.{sym}
 use Rattle.fj_model.specs.declared.step.Step.TheVariants.{HookDone}
-use Rattle.fj_machine.proofs.Outcomes.{exits}
+use Rattle.fj_machine.proofs.Outcomes.Results.{exits}
 use Rattle.fj_machine.proofs.steps.end.hook.hook_done.Goals as goal
 
 pub returns-in_err-hook : goal.returns-in_err-hook

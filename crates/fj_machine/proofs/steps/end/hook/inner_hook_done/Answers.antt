@@ -12,9 +12,9 @@ use Rattle.fj_model.specs.Allowed.{Allowed}
 use Rattle.fj_model.specs.Answers.{hook_events, arriving, arriving_says}
 use Rattle.fj_model.specs.Runs.{Past, grown}
 use Rattle.fj_ledger.specs.Holds.{hook_completers}
-use Rattle.fj_machine.proofs.HookSteps.{own, own_count, hook_full, hook_made, may_hook, hooked_unlisted, parent_is_completer, parent_still_completer, past_free, past_given, parent_arrival, inner_events, inner_says, arriving_count, inner_count, past_fits}
-use Rattle.fj_machine.proofs.RoomTests.{either_way, grown_none, grown_twice}
-use Rattle.fj_machine.proofs.Outcomes.{exits_full}
+use Rattle.fj_machine.proofs.ByStep.HookSteps.{own, own_count, hook_full, hook_made, may_hook, hooked_unlisted, parent_is_completer, parent_still_completer, past_free, past_given, parent_arrival, inner_events, inner_says, arriving_count, inner_count, past_fits}
+use Rattle.fj_machine.proofs.Outcomes.RoomTests.{either_way, grown_none, grown_twice}
+use Rattle.fj_machine.proofs.Outcomes.Results.{exits_full}
 use Rattle.fj_machine.proofs.steps.end.hook.inner_hook_done.Goals as goal
 use Rattle.fj_machine.proofs.steps.end.hook.inner_hook_done.Goals.{After-room_for, After-arrive-arg-1, then-settles, else-settles, then-settles-2, else-settles-2}
 

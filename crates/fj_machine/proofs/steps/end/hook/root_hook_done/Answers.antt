@@ -8,9 +8,9 @@ use Rattle.fj_model.specs.Allowed.{Allowed}
 use Rattle.fj_model.specs.Answers.{hook_events}
 use Rattle.fj_model.specs.Runs.{Past}
 use Rattle.fj_ledger.specs.Holds.{hook_completers}
-use Rattle.fj_machine.proofs.HookSteps.{own, own_count, hook_full, hook_made, may_hook, hooked_unlisted, root_events, root_says}
-use Rattle.fj_machine.proofs.RoomTests.{either_way, grown_none}
-use Rattle.fj_machine.proofs.Outcomes.{exits_full}
+use Rattle.fj_machine.proofs.ByStep.HookSteps.{own, own_count, hook_full, hook_made, may_hook, hooked_unlisted, root_events, root_says}
+use Rattle.fj_machine.proofs.Outcomes.RoomTests.{either_way, grown_none}
+use Rattle.fj_machine.proofs.Outcomes.Results.{exits_full}
 use Rattle.fj_tree.specs.Handles.{Handle}
 use Rattle.fj_machine.proofs.steps.end.hook.root_hook_done.Goals as goal
 use Rattle.fj_machine.proofs.steps.end.hook.root_hook_done.Goals.{After-room_for, then-undone, else-undone}

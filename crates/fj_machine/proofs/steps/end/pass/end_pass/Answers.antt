@@ -8,17 +8,17 @@ use Rattle.fj_model.specs.Climbs.{passed}
 use Rattle.fj_model.specs.Allowed.{AllowedFrom}
 use Rattle.fj_model.specs.Answers.{after_end}
 use Rattle.fj_model.specs.Runs.{Past, grown}
-use Rattle.fj_model.proofs.Lawful.{allowed_more}
+use Rattle.fj_model.proofs.Events.Lawful.{allowed_more}
 use Rattle.fj_tree.specs.Passes.{PassEnd}
 use Rattle.fj_ledger.specs.Climbing.{Climbs}
 use Rattle.fj_machine.specs.Climbing.{climb_end}
-use Rattle.fj_machine.proofs.BodyEnds.{end_full, end_made, end_suits, may_end, ended_completer}
-use Rattle.fj_machine.proofs.Passing.{still_completer, allowed_front}
-use Rattle.fj_machine.proofs.PassSteps.{pass_events, pass_reply, pass_count, climb_completer, kept_past, allowed_back}
-use Rattle.fj_machine.proofs.RoomTests.{grown_twice}
-use Rattle.fj_machine.proofs.BodyEnds.{ended_kept}
-use Rattle.fj_machine.proofs.PassSteps.{climb_kept}
-use Rattle.fj_machine.proofs.Outcomes.{exits_full}
+use Rattle.fj_machine.proofs.ByStep.EndSteps.{end_full, end_made, end_suits, may_end, ended_completer}
+use Rattle.fj_machine.proofs.ByStep.Passing.{still_completer, allowed_front}
+use Rattle.fj_machine.proofs.ByStep.PassSteps.{pass_events, pass_reply, pass_count, climb_completer, kept_past, allowed_back}
+use Rattle.fj_machine.proofs.Outcomes.RoomTests.{grown_twice}
+use Rattle.fj_machine.proofs.ByStep.EndSteps.{ended_kept}
+use Rattle.fj_machine.proofs.ByStep.PassSteps.{climb_kept}
+use Rattle.fj_machine.proofs.Outcomes.Results.{exits_full}
 use Rattle.fj_machine.proofs.steps.end.pass.end_pass.Goals as goal
 use Rattle.fj_machine.proofs.steps.end.pass.end_pass.Goals.{After-room_for, After-pass_all}
 

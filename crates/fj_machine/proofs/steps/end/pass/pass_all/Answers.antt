@@ -8,13 +8,13 @@ use Rattle.fj_model.specs.Tasks.{is_completer, is_kept, parent}
 use Rattle.fj_model.specs.Climbs.{passed, path}
 use Rattle.fj_model.specs.Allowed.{Allowed}
 use Rattle.fj_model.specs.Runs.{Past, grown}
-use Rattle.fj_model.proofs.Members.{get_is_in}
-use Rattle.fj_model.proofs.Parents.{path_completers}
+use Rattle.fj_model.proofs.Lists.Members.{get_is_in}
+use Rattle.fj_model.proofs.Completers.Parents.{path_completers}
 use Rattle.fj_ledger.specs.Holds.{IsLawful}
 use Rattle.fj_ledger.proofs.Lists.Choosing.{some_get}
-use Rattle.fj_machine.proofs.Passing.{passed_at, next_up, path_begins, may_next, still_completer, still_parent, allowed_front, next_more}
-use Rattle.fj_model.proofs.KeptParents.{path_kept}
-use Rattle.fj_machine.proofs.PassSteps.{kept_past}
+use Rattle.fj_machine.proofs.ByStep.Passing.{passed_at, next_up, path_begins, may_next, still_completer, still_parent, allowed_front, next_more}
+use Rattle.fj_model.proofs.Completers.KeptParents.{path_kept}
+use Rattle.fj_machine.proofs.ByStep.PassSteps.{kept_past}
 use Rattle.fj_tree.specs.Handles.{Handle}
 use Rattle.fj_machine.proofs.steps.end.pass.pass_all.Goals as goal
 use Rattle.fj_machine.proofs.steps.end.pass.pass_all.Goals.{In-loop, After-unwrap-c, After-parent-at}

@@ -1,0 +1,6 @@
+-- One step or move more of a run.
+
+-- one step
+pub mod Running
+-- one move
+pub mod MovesMore

@@ -1,0 +1,26 @@
+-- The events of each step are allowed, and tell what its reply tells.
+
+-- what holds where a step is not refused
+pub mod Standing
+-- Submit, Fork, Trigger
+pub mod AcceptsAllowed
+-- Poll, Help, Join
+pub mod TakesAllowed
+-- arrivals, climbs and roots
+pub mod ClimbsAllowed
+-- End and HookDone
+pub mod EndsAllowed
+-- Fault, Cancel, and an end that fails
+pub mod SettlesAllowed
+-- Shutdown, Stop and Release
+pub mod ShutsAllowed
+-- every step
+pub mod StepsAllowed
+-- every answer, and so the history of a run
+pub mod AnswersAllowed
+-- the events of a step count, fire and pass completers only
+pub mod StepsClimb
+-- the events and the reply of a step tell the same
+pub mod StepsTell
+-- what the replies say of the events
+pub mod Replies

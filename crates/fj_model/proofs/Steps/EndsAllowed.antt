@@ -1,0 +1,68 @@
+-- The events of End are allowed.
+use Rattle.std.proofs.Common.{ℕ, ◌≡◌, ◌-◌, Bool, true, false, List, [], ◌∷◌, ◌++◌, length, Option, Some, None, refl, inl, ◌∙◌}
+use Rattle.std.specs.Prelude.{if◌then◌else◌}
+use Rattle.std.proofs.lemmas.Bool.{eq-eqb, not-false}
+use Rattle.fj_model.specs.declared.event.Event.{Event}
+use Rattle.fj_model.specs.declared.event.Event.TheVariants as event
+use Rattle.fj_model.specs.declared.event.How.TheVariants as how
+use Rattle.fj_model.specs.declared.status.Status.TheVariants as status_is
+use Rattle.fj_model.specs.declared.step.Ending.{Ending}
+use Rattle.fj_model.specs.declared.step.Ending.TheVariants.{Ok, Quiet, Try, Pass, Complete, Fail}
+use Rattle.fj_model.specs.declared.step.Step.TheVariants.{End}
+use Rattle.fj_model.specs.Bounds.{Pool}
+use Rattle.fj_model.specs.Lists.{is_in}
+use Rattle.fj_model.specs.Tasks.{tasks, is_completer}
+use Rattle.fj_model.specs.Stacks.{stack}
+use Rattle.fj_model.specs.Hooks.{hand}
+use Rattle.fj_model.specs.Statuses.{is_undone, status}
+use Rattle.fj_model.specs.Completers.{is_spent}
+use Rattle.fj_model.specs.Allowed.{Allowed, AllowedFrom}
+use Rattle.fj_model.specs.Answers.{events_of, running, ending_events, after_end, is_misfit}
+use Rattle.fj_model.proofs.Lists.Members.{get_is_in}
+use Rattle.fj_model.proofs.Events.Lawful.{known_more, taken_known, allowed_more}
+use Rattle.fj_model.proofs.Places.StacksTaken.{stack_taken}
+use Rattle.fj_model.proofs.Events.KindsKept.{completer_same}
+use Rattle.fj_model.proofs.Steps.Standing.{Stands, some_or_none, newest_more}
+use Rattle.fj_model.proofs.Steps.ClimbsAllowed.{arriving_allowed, passing_allowed}
+use Rattle.fj_model.proofs.Steps.SettlesAllowed.{failing_allowed}
+
+-- the last of a stack was accepted
+running_known : (pool : Pool) (h : List Event) (w t : ℕ) → AllowedFrom pool [] h → running h w ≡ Some t → is_in t (tasks h) ≡ true
+running_known pool h w t so is = taken_known pool h so t (stack_taken h w t (get_is_in t (stack h w) (length (stack h w) - 1) is))
+
+-- a plain task that is undone becomes normal
+ok_allowed : (pool : Pool) (h : List Event) (w t : ℕ) → is_in t (tasks (h ++ event.End t w ∷ [])) ≡ true → is_completer h t ≡ false
+    → AllowedFrom pool (h ++ event.End t w ∷ []) (after_end (h ++ event.End t w ∷ []) t Ok)
+ok_allowed pool h w t known plain = go (is_undone (status (h ++ event.End t w ∷ []) t)) refl
+  where
+    go : (b : Bool) → is_undone (status (h ++ event.End t w ∷ []) t) ≡ b → AllowedFrom pool (h ++ event.End t w ∷ []) (if b then event.Settle t status_is.Normal ∷ [] else [])
+    go true undone = ((known, undone, refl, inl (completer_same h (event.End t w) t refl ∙ plain, rw (newest_more h (event.End t w)) (eq-eqb t t refl))), tt)
+    go false undone = tt
+
+complete_allowed : (pool : Pool) (h : List Event) (w t : ℕ) → AllowedFrom pool (h ++ event.End t w ∷ []) (after_end (h ++ event.End t w ∷ []) t Complete)
+complete_allowed pool h w t = go (is_spent (h ++ event.End t w ∷ []) t) refl
+  where
+    go : (b : Bool) → is_spent (h ++ event.End t w ∷ []) t ≡ b → AllowedFrom pool (h ++ event.End t w ∷ []) (if b then [] else event.Fire t how.Complete ∷ [])
+    go true spent = tt
+    go false spent = ((spent, rw (newest_more h (event.End t w)) (eq-eqb t t refl)), tt)
+
+after_allowed : (pool : Pool) (h : List Event) (w t : ℕ) (ending : Ending) → AllowedFrom pool [] (h ++ event.End t w ∷ []) → is_in t (tasks (h ++ event.End t w ∷ [])) ≡ true
+    → is_misfit h ending (Some t) ≡ false → AllowedFrom pool (h ++ event.End t w ∷ []) (after_end (h ++ event.End t w ∷ []) t ending)
+after_allowed pool h w t Ok so known fit = ok_allowed pool h w t known fit
+after_allowed pool h w t Quiet so known fit = tt
+after_allowed pool h w t Try so known fit = arriving_allowed pool (h ++ event.End t w ∷ []) t
+after_allowed pool h w t Complete so known fit = complete_allowed pool h w t
+after_allowed pool h w t Pass so known fit =
+    passing_allowed pool (h ++ event.End t w ∷ []) t so (completer_same h (event.End t w) t refl ∙ not-false (is_completer h t) fit)
+after_allowed pool h w t (Fail code) so known fit = failing_allowed pool (h ++ event.End t w ∷ []) t code so known
+
+pub end_allowed : (pool : Pool) (h : List Event) (w : ℕ) (ending : Ending) → AllowedFrom pool [] h → Stands pool h (End w ending) → AllowedFrom pool h (events_of pool h (End w ending))
+unfolding events_of
+end_allowed pool h w ending so st = go (running h w) refl st.tests.1.1.1.0
+  where
+    go : (t : Option ℕ) → running h w ≡ t → is_misfit h ending t ≡ false → AllowedFrom pool h (ending_events h w ending t)
+    go None is fit = tt
+    go (Some t) is fit =
+        let may : Allowed pool h (event.End t w) = (is, some_or_none (hand h w) st.tests.1.0) in
+        let known = known_more h (event.End t w) t (running_known pool h w t so is) in
+        (may, after_allowed pool h w t ending (allowed_more pool [] h (event.End t w) so may) known fit)
