@@ -47,13 +47,13 @@ pub(crate) fn take_out(kept: &mut Kept, serial: Serial)
     ensures fewer { (key : ℕ) → IsListed kept.old.pairs serial key → length kept.new.pairs + 1 ≡ length kept.old.pairs }
     ensures room { kept.new.room ≡ kept.old.room }
 {
-    if let Some(i) = place_newest_first(kept, serial) {
+    if let Some(i) = place_ends_first(kept, serial) {
         kept.remove(i);
     }
 }
 
-/// The place at which a number stands, the newest looked at first: a worker that runs its own forks asks for it most.
-fn place_newest_first(kept: &Kept, serial: Serial) -> Option<usize>
+/// The place at which a number stands, both ends looked at first: there stand those that are released last come or first come.
+fn place_ends_first(kept: &Kept, serial: Serial) -> Option<usize>
     ensures found { IfSome result (IsAt kept.now.pairs serial) }
     ensures absent { IfNone result (IsAbsent kept.now.pairs serial) }
     ensures rising { IsRising kept.now.pairs }
@@ -64,6 +64,9 @@ fn place_newest_first(kept: &Kept, serial: Serial) -> Option<usize>
         let newest = count - 1;
         if let Ordering::Equal = kept.probe(newest, serial, probes) {
             return Some(newest);
+        }
+        if let Ordering::Equal = kept.probe(0, serial, probes) {
+            return Some(0);
         }
     }
     place(kept, serial, probes)

@@ -1,6 +1,6 @@
 use Rattle.std.proofs.Common.{arith, sym, ◌∙◌}
 use Rattle.std.proofs.lemmas.Cmp.{ranked}
-use Rattle.fj_tree.proofs.Halving.{halved_above, halved_below}
+use Rattle.fj_tree.proofs.Index.Halving.{halved_above, halved_below}
 use Rattle.fj_tree.proofs.lookup.place.Goals as goal
 
 pub loop-low-preserved-in-Less : goal.loop-low-preserved-in-Less

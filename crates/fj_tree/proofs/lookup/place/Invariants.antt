@@ -1,5 +1,5 @@
 use Rattle.std.proofs.Common.{◌-◌}
-use Rattle.fj_tree.proofs.Halving.{Halved}
+use Rattle.fj_tree.proofs.Index.Halving.{Halved}
 use Rattle.fj_tree.proofs.lookup.place.Given as goal
 
 abbrev pub invariant-loop-low : goal.invariant-loop-low
