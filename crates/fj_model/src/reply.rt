@@ -59,7 +59,7 @@ impl fmt::Display for Reply<'_> {
     }
 }
 
-// The words of a place.
+/// The words of a place.
 fn write_place<W: fmt::Write>(
     f: &mut fmt::Formatter<W>,
     limits: &Limits,

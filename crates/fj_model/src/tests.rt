@@ -2,7 +2,7 @@ use super::*;
 use std::alloc::Global;
 use std::test::*;
 
-// The line of a reply, with queue numbers of a pool of two submitters.
+/// The line of a reply, with queue numbers of a pool of two submitters.
 fn line_of(alloc: Global, said: Said) -> Result<String, Fail> {
     let limits = Limits::new(32, 2, 8, 16)?;
     let mut text = String::new(alloc);

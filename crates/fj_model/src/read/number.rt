@@ -22,14 +22,14 @@ pub fn read_number(word: &[u8]) -> Result<u32, LineFault>
     }
 }
 
-// Whether a zero stands before other bytes.
+/// Whether a zero stands before other bytes.
 fn has_leading_zero(word: &[u8]) -> bool
     ensures { IsTrue result ↔ ((slice_index word.now 0 ≡ 48) × (1 < length word.now)) }
 {
     word.len() > 1 && word[0] == b'0'
 }
 
-// What the digits of a word write. A fault where a byte is no digit.
+/// What the digits of a word write. A fault where a byte is no digit.
 fn value_of(word: &[u8]) -> Result<u64, LineFault>
     requires { length word.now ≤ 10 }
     ensures { MatchResult result

@@ -100,7 +100,7 @@ fn count_and_relay(behind: &[u8]) -> Result<(u32, bool), LineFault>
     Ok((count, relay))
 }
 
-// A task, or `-` for none.
+/// A task, or `-` for none.
 #[tactic(auto, unfolding(crate::specs::Readings::Accept::parent_said))]
 fn parent(word: &[u8]) -> Result<Option<Serial>, LineFault>
     ensures { MatchResult result (λ parent. parent_said word.now ≡ Some parent) (λ _. parent_said word.now ≡ None) }
