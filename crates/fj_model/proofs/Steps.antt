@@ -6,14 +6,18 @@ pub mod Standing
 pub mod AcceptsAllowed
 -- Poll, Help, Join
 pub mod TakesAllowed
--- arrivals, climbs and roots
+-- arrivals and climbs
 pub mod ClimbsAllowed
 -- End and HookDone
 pub mod EndsAllowed
+-- Add, QuietRoot
+pub mod CompletersAllowed
 -- Fault, Cancel, and an end that fails
 pub mod SettlesAllowed
--- Shutdown, Stop and Release
+-- Shutdown, Stop
 pub mod ShutsAllowed
+-- Release
+pub mod ReleasesAllowed
 -- every step
 pub mod StepsAllowed
 -- every answer, and so the history of a run

@@ -28,7 +28,7 @@ use Rattle.fj_model.proofs.Places.OnePlace.{one_place, never}
 use Rattle.fj_model.proofs.Places.OpenList.{in_open, open_accepted, open_once}
 use Rattle.fj_model.proofs.Completers.ArrivalPlaces.{gone_spent}
 use Rattle.fj_model.proofs.Events.Releasing.{released_known}
-use Rattle.fj_model.proofs.Steps.ShutsAllowed.{gone_is}
+use Rattle.fj_model.proofs.Steps.ReleasesAllowed.{gone_is}
 use Rattle.fj_model.proofs.Events.KindsKept.{kept_known}
 
 -- ---- released tasks are gone

@@ -1,29 +1,25 @@
--- The events of arrivals, of climbs and of roots are allowed.
+-- The events of arrivals and of climbs are allowed.
 use Rattle.std.proofs.Common.{ℕ, ◌≡◌, ◌++◌, ◌∙◌, ◌+◌, cond, drop, map, ap, sym, arith, subst, Bool, true, false, List, [], ◌∷◌, length, ◌-◌, Option, Some, None, refl, inl, inr}
 use Rattle.std.specs.Prelude.{◌==◌, if◌then◌else◌}
-use Rattle.std.specs.List.{filter_map}
-use Rattle.std.proofs.lemmas.Bool.{not-false, eq-eqb, or_right}
+use Rattle.std.proofs.lemmas.Bool.{eq-eqb, or_right}
 use Rattle.std.proofs.lemmas.List.{append-nil}
 use Rattle.fj_model.specs.declared.event.Event.{Event}
 use Rattle.fj_model.specs.declared.event.Event.TheVariants as event
 use Rattle.fj_model.specs.declared.status.Status.TheVariants as status_is
-use Rattle.fj_model.specs.declared.step.Step.TheVariants.{QuietRoot, HookDone}
 use Rattle.fj_model.specs.Bounds.{Pool}
-use Rattle.fj_model.specs.Tasks.{tasks, accepted_by, is_completer, parent}
+use Rattle.fj_model.specs.Tasks.{tasks, is_completer, parent}
 use Rattle.fj_model.specs.Lists.{is_in, times_in}
-use Rattle.fj_model.specs.Hooks.{hand}
 use Rattle.fj_model.specs.Statuses.{is_undone, status}
-use Rattle.fj_model.specs.Climbs.{Arrival, Spent, Counted, Early, Fires, arrival, path, passed, ClimbsCompleters}
-use Rattle.fj_model.specs.Allowed.{AllowedFrom, newest, ends_hook, is_fired_by_complete}
-use Rattle.fj_model.specs.Answers.{events_of, arriving, settling, settling_own, above_hook, hook_events, passing, pass_end, settle_root, root_of, root_events}
+use Rattle.fj_model.specs.Climbs.{Arrival, Spent, Counted, Early, Fires, arrival, path, passed}
+use Rattle.fj_model.specs.Allowed.{AllowedFrom}
+use Rattle.fj_model.specs.Answers.{arriving, settling, passing, pass_end, settle_root, root_of}
 use Rattle.fj_model.proofs.Lists.Members.{get_is_in, times_in_cons, times_in_append, times_in_some, Once}
-use Rattle.fj_model.proofs.Events.KindsKept.{completer_known, completer_stays, completer_same_all, parent_same, parent_same_all}
+use Rattle.fj_model.proofs.Events.KindsKept.{completer_known, completer_same_all, parent_same_all}
 use Rattle.fj_model.proofs.Completers.Parents.{path_completers, path_once, root_free}
 use Rattle.fj_model.proofs.Completers.Ways.{way_split, passed_fires}
 use Rattle.fj_model.proofs.Completers.Arrivals.{arrival_pass, arrival_passes, status_passes, undone_unspent}
-use Rattle.fj_model.proofs.Completers.Climbed.{hand_climbed}
 use Rattle.fj_model.proofs.Completers.Firings.{fires_unspent}
-use Rattle.fj_model.proofs.Steps.Standing.{Stands, allowed_append, newest_more}
+use Rattle.fj_model.proofs.Steps.Standing.{allowed_append}
 
 -- an arrival whose outcome is known
 pub arriving_is : (pool : Pool) (h : List Event) (c : ℕ) (a : Arrival) → arrival h c ≡ a → AllowedFrom pool h (arriving c a)
@@ -42,60 +38,6 @@ settling_free pool h c completer free = go (is_undone (status h c)) refl
     go : (b : Bool) → is_undone (status h c) ≡ b → AllowedFrom pool h (if b then event.Settle c status_is.Normal ∷ [] else [])
     go true undone = ((completer_known h c completer, undone, refl, inr (inl (completer, free))), tt)
     go false undone = tt
-
-pub quiet_root_allowed : (pool : Pool) (h : List Event) (w t : ℕ) → AllowedFrom pool [] h → Stands pool h (QuietRoot w t) → AllowedFrom pool h (events_of pool h (QuietRoot w t))
-unfolding events_of
-quiet_root_allowed pool h w t so st = go (root_of (path h t)) refl
-  where
-    go : (r : Option ℕ) → root_of (path h t) ≡ r → AllowedFrom pool h (root_events h r)
-    go None is = tt
-    go (Some r) is =
-        let completer = not-false (is_completer h t) st.tests.1.1.1.1.0 in
-        settling_free pool h r (path_completers pool h t r so completer (get_is_in r (path h t) (length (path h t) - 1) is)) (root_free pool h t r so is)
-
--- ---- the end of a hook
-
--- a completer that was fired by Complete becomes normal directly after its hook
-own_allowed : (pool : Pool) (h : List Event) (c : ℕ) → is_completer h c ≡ true → ends_hook c (newest h) ≡ true → AllowedFrom pool h (settling_own h c)
-own_allowed pool h c completer newest = go (is_fired_by_complete h c) (is_undone (status h c)) refl refl
-  where
-    go : (b u : Bool) → is_fired_by_complete h c ≡ b → is_undone (status h c) ≡ u → AllowedFrom pool h (if b then (if u then event.Settle c status_is.Normal ∷ [] else []) else [])
-    go true true fired undone = ((completer_known h c completer, undone, refl, inr (inr (fired, newest))), tt)
-    go true false fired undone = tt
-    go false u fired undone = tt
-
-own_accepts : (h : List Event) (c : ℕ) → tasks (settling_own h c) ≡ []
-unfolding tasks
-own_accepts h c = go (is_fired_by_complete h c) (is_undone (status h c))
-  where
-    go : (b u : Bool) → filter_map accepted_by (if b then (if u then event.Settle c status_is.Normal ∷ [] else []) else []) ≡ []
-    go true true = refl
-    go true false = refl
-    go false u = refl
-
-above_allowed : (pool : Pool) (h : List Event) (c : ℕ) (p : Option ℕ) → is_completer h c ≡ true → parent h c ≡ p → AllowedFrom pool h (above_hook h c p)
-above_allowed pool h c (Some p) completer is = arriving_allowed pool h p
-above_allowed pool h c None completer is = settling_free pool h c completer is
-
-hooked_allowed : (pool : Pool) (h : List Event) (w c : ℕ) → is_completer h c ≡ true → hand h w ≡ Some c → AllowedFrom pool h (hook_events h (Some c))
-hooked_allowed pool h w c completer is =
-    let ended = h ++ event.Hooked c ∷ [] in
-    let own = settling_own ended c in
-    let still = completer_stays h (event.Hooked c) c completer in
-    let free : parent (ended ++ own) c ≡ parent h c = parent_same_all ended own c (own_accepts ended c) ∙ parent_same h (event.Hooked c) c refl in (
-      (w, is),
-      allowed_append pool ended own (above_hook (ended ++ own) c (parent h c))
-          (own_allowed pool ended c still (rw (newest_more h (event.Hooked c)) (eq-eqb c c refl)))
-          (above_allowed pool (ended ++ own) c (parent h c) (completer_same_all ended own c (own_accepts ended c) ∙ still) free),
-    )
-
-pub hook_allowed : (pool : Pool) (h : List Event) (w : ℕ) → AllowedFrom pool [] h → ClimbsCompleters h → AllowedFrom pool h (events_of pool h (HookDone w))
-unfolding events_of
-hook_allowed pool h w so climbs = go (hand h w) refl
-  where
-    go : (c : Option ℕ) → hand h w ≡ c → AllowedFrom pool h (hook_events h c)
-    go None is = tt
-    go (Some c) is = hooked_allowed pool h w c (climbs c (hand_climbed pool h w c so is)) is
 
 -- ---- the climb from the end of a body
 

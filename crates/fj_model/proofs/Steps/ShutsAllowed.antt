@@ -1,18 +1,13 @@
--- The events of Shutdown, of Stop and of Release are allowed.
-use Rattle.std.proofs.Common.{ℕ, ◌≡◌, ◌||◌, Bool, true, false, not, List, [], ◌∷◌, refl}
+-- The events of Shutdown and Stop are allowed.
+use Rattle.std.proofs.Common.{◌≡◌, Bool, true, false, List, [], ◌∷◌, refl, ◌||◌}
 use Rattle.std.specs.Prelude.{if◌then◌else◌}
-use Rattle.std.proofs.lemmas.Bool.{not-false, or_parts}
+use Rattle.std.proofs.lemmas.Bool.{or_parts}
 use Rattle.fj_model.specs.declared.event.Event.{Event}
 use Rattle.fj_model.specs.declared.event.Event.TheVariants as event
-use Rattle.fj_model.specs.declared.place.Place.{Place}
-use Rattle.fj_model.specs.declared.place.Place.TheVariants.{Queued, Held, Open, Gone}
-use Rattle.fj_model.specs.declared.step.Step.TheVariants.{Shutdown, Stop, Release}
+use Rattle.fj_model.specs.declared.step.Step.TheVariants.{Shutdown, Stop}
 use Rattle.fj_model.specs.Bounds.{Pool}
-use Rattle.fj_model.specs.Tasks.{is_kept}
-use Rattle.fj_model.specs.Places.{place, is_gone}
-use Rattle.fj_model.specs.Allowed.{AllowedFrom, is_closed, is_stopped, has_kept_child}
+use Rattle.fj_model.specs.Allowed.{AllowedFrom, is_closed, is_stopped}
 use Rattle.fj_model.specs.Answers.{events_of}
-use Rattle.fj_model.proofs.Steps.Standing.{Stands}
 
 pub shutdown_allowed : (pool : Pool) (h : List Event) → AllowedFrom pool h (events_of pool h Shutdown)
 unfolding events_of
@@ -29,15 +24,3 @@ stop_allowed pool h = go (is_stopped h) refl
     go : (b : Bool) → is_stopped h ≡ b → AllowedFrom pool h (if b then [] else event.Stop ∷ [])
     go true is = tt
     go false is = (is, tt)
-
-pub gone_is : (p : Place) → is_gone p ≡ true → p ≡ Gone
-gone_is Gone is = refl
-gone_is (Queued o) is = absurd cc
-gone_is (Held w) is = absurd cc
-gone_is Open is = absurd cc
-
-pub release_allowed : (pool : Pool) (h : List Event) (t : ℕ) → Stands pool h (Release t) → AllowedFrom pool h (events_of pool h (Release t))
-unfolding events_of
-release_allowed pool h t st =
-    let parts = or_parts (not (is_gone (place h t))) (has_kept_child h t) st.tests.1.0 in
-    ((not-false (is_kept h t) st.tests.0, gone_is (place h t) (not-false (is_gone (place h t)) parts.0), parts.1), tt)

@@ -1,28 +1,20 @@
 -- The events of every step against which nothing stands are allowed.
-use Rattle.std.proofs.Common.{ℕ, ◌≡◌, ◌+◌, List, [], refl}
-use Rattle.std.proofs.lemmas.Bool.{not-false, ltb-false}
+use Rattle.std.proofs.Common.{ℕ, ◌≡◌, List, [], refl}
 use Rattle.fj_model.specs.declared.event.Event.{Event}
-use Rattle.fj_model.specs.declared.step.Step.{Step}
 use Rattle.fj_model.specs.declared.step.Step.TheVariants.{Submit, Fork, Trigger, Poll, Help, Join, End, HookDone, Add, QuietRoot, Fault, Cancel, Shutdown, Stop, IsQuiescent, State, Release}
+use Rattle.fj_model.specs.declared.step.Step.{Step}
 use Rattle.fj_model.specs.Bounds.{Pool}
-use Rattle.fj_model.specs.Tasks.{is_kept, is_completer}
-use Rattle.fj_model.specs.Completers.{pending}
 use Rattle.fj_model.specs.Climbs.{ClimbsCompleters}
 use Rattle.fj_model.specs.Allowed.{AllowedFrom}
 use Rattle.fj_model.specs.Answers.{events_of}
 use Rattle.fj_model.proofs.Steps.Standing.{Stands}
 use Rattle.fj_model.proofs.Steps.AcceptsAllowed.{submit_allowed, fork_allowed, trigger_allowed}
 use Rattle.fj_model.proofs.Steps.TakesAllowed.{poll_allowed, help_allowed, join_allowed}
-use Rattle.fj_model.proofs.Steps.EndsAllowed.{end_allowed}
-use Rattle.fj_model.proofs.Steps.ClimbsAllowed.{hook_allowed, quiet_root_allowed}
+use Rattle.fj_model.proofs.Steps.EndsAllowed.{end_allowed, hook_allowed}
+use Rattle.fj_model.proofs.Steps.CompletersAllowed.{add_allowed, quiet_root_allowed}
 use Rattle.fj_model.proofs.Steps.SettlesAllowed.{fault_allowed, cancel_allowed}
-use Rattle.fj_model.proofs.Steps.ShutsAllowed.{shutdown_allowed, stop_allowed, release_allowed}
-
-add_allowed : (pool : Pool) (h : List Event) (w c n : ℕ) → Stands pool h (Add w c n) → AllowedFrom pool h (events_of pool h (Add w c n))
-unfolding events_of
-add_allowed pool h w c n st =
-    let later = st.tests.1.1.1 in
-    ((not-false (is_kept h c) later.0, not-false (is_completer h c) later.1.0, ltb-false 65535 (pending h c + n) later.1.1.0), tt)
+use Rattle.fj_model.proofs.Steps.ShutsAllowed.{shutdown_allowed, stop_allowed}
+use Rattle.fj_model.proofs.Steps.ReleasesAllowed.{release_allowed}
 
 no_events : (pool : Pool) (h : List Event) (t : ℕ) → (events_of pool h IsQuiescent ≡ []) × (events_of pool h (State t) ≡ [])
 unfolding events_of
