@@ -10,7 +10,7 @@
 #include <string.h>
 #include <time.h>
 
-enum { TASKS = 4096, EVENTS = 1048576, MAX_WORKERS = 32, MAX_QUEUES = 64, MAX_PENDING = 65535, HINTS = 4096, PAIRS = 2 * TASKS };
+enum { TASKS = 4096, EVENTS = 1048576, MAX_WORKERS = 32, MAX_QUEUES = 64, MAX_PENDING = 65535, HINTS = 4096, TWICE = 2 * TASKS };
 enum { EVENT_BYTES = 48 }; /* as an event of fj_model has */
 static const uint32_t NO_CELL = UINT32_MAX, NO_QUEUE = UINT32_MAX;
 static const uint64_t NO_TASK = UINT64_MAX; /* at a key at which there is no record */
@@ -79,9 +79,9 @@ typedef struct {
 } Pair;
 
 typedef struct {
-    bool full, has_parent, left;
+    bool full, has_parent, released;
     uint64_t completer, parent;
-    Status status;
+    Status status; /* with which the completer was released */
 } Hand;
 
 typedef struct {
@@ -102,8 +102,11 @@ typedef struct {
     uint64_t *stacks[MAX_WORKERS];
     uint32_t depth[MAX_WORKERS];
     Hand hands[MAX_WORKERS];
-    uint64_t *open, *gone;
-    uint32_t opened, went;
+    uint64_t *open, *stamps; /* the open tasks from place `open_from` on, and the stamps under which they were put, rising */
+    uint32_t open_from, opened;
+    uint64_t given, stamp_of[TASKS]; /* by key: the stamp that was given last */
+    uint64_t *gone;
+    uint32_t went;
 } Machine;
 
 static void stop(const char *why) {
@@ -131,12 +134,13 @@ static Machine *new_machine(Mode mode, uint32_t workers) {
         m->vacant[i] = TASKS - 1 - i;
         m->records[i].task = NO_TASK;
     }
-    m->pairs = room(sizeof(Pair) * PAIRS);
+    m->pairs = room(sizeof(Pair) * TWICE);
     m->cells = room(sizeof(Cell) * TASKS);
     m->free_cell = NO_CELL;
     for (uint32_t q = 0; q < m->submitters + workers; q++) m->queues[q] = (Queue){NO_CELL, NO_CELL, 0};
     for (uint32_t w = 0; w < workers; w++) m->stacks[w] = room(sizeof(uint64_t) * TASKS);
-    m->open = room(sizeof(uint64_t) * TASKS);
+    m->open = room(sizeof(uint64_t) * TWICE);
+    m->stamps = room(sizeof(uint64_t) * TWICE);
     m->gone = room(sizeof(uint64_t) * (EVENTS + TASKS));
     return m;
 }
@@ -149,6 +153,7 @@ static void drop_machine(Machine *m) {
     free(m->cells);
     for (uint32_t w = 0; w < m->workers; w++) free(m->stacks[w]);
     free(m->open);
+    free(m->stamps);
     free(m->gone);
     free(m);
 }
@@ -210,6 +215,8 @@ static uint32_t first_from(const Machine *m, uint32_t r) {
 
 /* The records. */
 
+static uint32_t key_of(const Machine *m, const Record *record) { return (uint32_t)(record - m->records); }
+
 /* The place from which on the kept numbers are not below this one. */
 static uint32_t place_of(const Machine *m, uint64_t task) {
     uint32_t low = m->head, high = m->head + m->kept;
@@ -232,7 +239,7 @@ static Record *insert(Machine *m, Kind kind, Place place, uint32_t at, Record *p
     uint32_t key = m->vacant[--m->vacancies];
     Record *record = &m->records[key];
     *record = (Record){.task = m->made, .kind = kind, .place = place, .at = at, .pending = kind.count};
-    if (m->head + m->kept == PAIRS) {
+    if (m->head + m->kept == TWICE) {
         memcpy(m->pairs, &m->pairs[m->head], sizeof(Pair) * m->kept);
         m->head = 0;
     }
@@ -243,10 +250,14 @@ static Record *insert(Machine *m, Kind kind, Place place, uint32_t at, Record *p
     return record;
 }
 
-/* The side with fewer numbers closes up. */
+/* The newest number is looked at first. The side with fewer numbers closes up. */
 static void forget(Machine *m, Record *record) {
-    uint32_t before = place_of(m, record->task) - m->head;
+    uint32_t before = m->kept - 1;
     Pair *first = &m->pairs[m->head], *taken = first + before;
+    if (taken->task != record->task) {
+        before = place_of(m, record->task) - m->head;
+        taken = first + before;
+    }
     m->kept--;
     if (before < m->kept - before) {
         memmove(first + 1, first, sizeof(Pair) * before);
@@ -255,7 +266,43 @@ static void forget(Machine *m, Record *record) {
         memmove(taken, taken + 1, sizeof(Pair) * (m->kept - before));
     }
     record->task = NO_TASK;
-    m->vacant[m->vacancies++] = (uint32_t)(record - m->records);
+    m->vacant[m->vacancies++] = key_of(m, record);
+}
+
+/* The open tasks. */
+
+static void add_open(Machine *m, const Record *record) {
+    if (m->open_from + m->opened == TWICE) {
+        memcpy(m->open, &m->open[m->open_from], sizeof(uint64_t) * m->opened);
+        memcpy(m->stamps, &m->stamps[m->open_from], sizeof(uint64_t) * m->opened);
+        m->open_from = 0;
+    }
+    m->open[m->open_from + m->opened] = record->task;
+    m->stamps[m->open_from + m->opened++] = ++m->given;
+    m->stamp_of[key_of(m, record)] = m->given;
+}
+
+/* A number is taken out of a list of so many by moving those before it, or those behind it. */
+static void close_up(uint64_t *list, uint32_t length, uint32_t i, bool from_front) {
+    if (from_front) memmove(list + 1, list, sizeof(uint64_t) * i);
+    else memmove(list + i, list + i + 1, sizeof(uint64_t) * (length - i - 1));
+}
+
+/* The place is found by the stamp. The side with fewer numbers closes up. */
+static void take_out(Machine *m, const Record *record) {
+    uint64_t *open = &m->open[m->open_from], *stamps = &m->stamps[m->open_from], stamp = m->stamp_of[key_of(m, record)];
+    uint32_t low = 0, high = m->opened;
+    bool from_front;
+    while (low < high) {
+        uint32_t middle = low + (high - low) / 2;
+        if (stamps[middle] < stamp) low = middle + 1;
+        else high = middle;
+    }
+    from_front = low < m->opened - 1 - low;
+    close_up(open, m->opened, low, from_front);
+    close_up(stamps, m->opened, low, from_front);
+    if (from_front) m->open_from++;
+    m->opened--;
 }
 
 /* The updates: each appends one event. */
@@ -271,7 +318,7 @@ static Said make_trigger(Machine *m, uint32_t count) {
     Kind kind = {.completer = true, .relay = true, .count = count};
     Record *record = insert(m, kind, OPEN, 0, NULL);
     append(m, MAKE, record->task, 0)->kind = kind;
-    m->open[m->opened++] = record->task;
+    add_open(m, record);
     return (Said){TASK, record->task};
 }
 
@@ -296,19 +343,11 @@ static void end_body(Machine *m, Record *record, uint32_t w) {
     m->depth[w]--;
     if (record->kind.completer && !record->fired && record->status == UNDONE) {
         record->place = OPEN;
-        m->open[m->opened++] = record->task;
+        add_open(m, record);
     } else {
         record->place = GONE;
         m->gone[m->went++] = record->task;
     }
-}
-
-/* It looks from the end. */
-static void take_out(Machine *m, uint64_t task) {
-    uint32_t i = m->opened;
-    while (m->open[--i] != task) {}
-    m->opened--;
-    memmove(&m->open[i], &m->open[i + 1], sizeof(uint64_t) * (m->opened - i));
 }
 
 static void settle(Machine *m, Record *record, Status status) {
@@ -316,7 +355,7 @@ static void settle(Machine *m, Record *record, Status status) {
     record->status = status;
     if (record->place == OPEN) {
         record->place = GONE;
-        take_out(m, record->task);
+        take_out(m, record);
         m->gone[m->went++] = record->task;
     }
 }
@@ -333,7 +372,7 @@ static void let_go(Machine *m, Record *record) {
     for (uint32_t w = 0; w < m->workers; w++) {
         Hand *hand = &m->hands[w];
         if (hand->full && hand->completer == task) {
-            hand->left = true;
+            hand->released = true;
             hand->status = status;
         }
     }
