@@ -25,6 +25,16 @@ returns-in-Ok-eq0-clause-err g c =
       },
     ))
 
+pub returns-then-ne-clause-err : goal.returns-then-ne-clause-err
+returns-then-ne-clause-err g c =
+    let so_far = c.loop.invariant in (
+      so_far.0,
+      record {
+        read = consumes_kept _ _ _ _ so_far.1 c.in-Err.ensures.bytes;
+        means = (record { good = so_far.2.good; short = rw (← so_far.2.line) so_far.2.short }, so_far.2.written);
+      },
+    )
+
 pub returns-in_err-feed_all-in-Ok-read-clause-err : goal.returns-in_err-feed_all-in-Ok-read-clause-err
 returns-in_err-feed_all-in-Ok-read-clause-err g c =
     let so_far = c.loop.invariant in
