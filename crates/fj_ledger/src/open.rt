@@ -10,9 +10,10 @@ use std::marker::Model;
 
 /// The numbers of the open tasks, in the order in which they came to be open. All memory is taken when the list is made.
 ///
-/// One that goes is found without a walk. Each is put under a stamp, and the stamps rise along the list; so the place of one is found by
-/// halves, by the stamp that its key was given last. The key of a task's record is its own as long as the task is open, and the number at
-/// that place is the wanted one. No proof needs that: if another one stood there, a walk would find it.
+/// One that goes is found without a walk: mostly it is the first or the last one. Each is put under a stamp, and the stamps rise along the
+/// list; so the place of any other one is found by halves, by the stamp that its key was given last. The key of a task's record is its own
+/// as long as the task is open, so the number at that place is the wanted one. No proof needs that: if another one stood there, a walk
+/// would find it.
 #[derive(Drop)]
 pub struct OpenTasks {
     tasks: Window<Serial>,
@@ -79,11 +80,17 @@ impl OpenTasks {
         self.stamps.clear();
     }
 
-    /// Where a number stands.
+    /// Where a number stands, if it does.
     fn place(&self, t: Serial, key: usize) -> Option<usize>
         ensures { MatchOption result (is_in t self.now.list ≡ false) (λ i. slice_get self.now.list i ≡ Some t) }
     {
         let tasks = self.as_slice();
+        if tasks.first() == Some(&t) {
+            return Some(0);
+        }
+        if tasks.last() == Some(&t) {
+            return Some(tasks.len() - 1);
+        }
         if let Ok(i) = self.stamps.as_slice().binary_search(&self.given.last(key)) {
             if tasks.get(i) == Some(&t) {
                 return Some(i);
