@@ -31,7 +31,7 @@ pub struct Tree {
     records: Slab<Record>,
     /// The numbers of the records, by which they are found.
     kept: Kept,
-    /// For each number below 4,096, the key under which the last number was put that leaves this rest: where to look first.
+    /// For each number below 16,384, the key under which the last number was put that leaves this rest: where to look first.
     hints: Hints,
     /// How many records were made so far, which is the number of the next one.
     made: u64,
