@@ -11,6 +11,7 @@ ghost use Rattle.fj_model.specs.Parts.{Fits};
 ghost use Rattle.fj_model.specs.Headline.{Headline, RepliesTell};
 ghost use Rattle.fj_machine.specs.Outcomes.{Makes, said_by};
 ghost use Rattle.fj_model.specs.declared.epoch.Sealed.{Sealed as Part};
+ghost use Rattle.fj_model.specs.declared.owner.Owner.{Owner as OwnerCase};
 ghost use Rattle.fj_model.specs.declared.refusal.Refusal.{Refusal as RefusalCase};
 
 use crate::steps::accept::{fork, submit, trigger};
@@ -151,6 +152,8 @@ impl Machine {
         ensures allowed { AllowedFrom self.old.pool self.old.events (answer self.old asked.now).1 }
         // The reply `task`, `run` or `hook` is given exactly where a task is accepted, a task or a hook is handed out.
         ensures tells { RepliesTell (answer self.old asked.now).1 (result ∷ []) }
+        // The reply `none` is given only where every queue is empty.
+        ensures none { result ≡ Said.None → (o : OwnerCase) → queue self.old.events o ≡ [] }
         // Nothing was handed out.
         ensures fits { (parts : List Part) → Fits parts self.old → Fits parts self.new }
         ensures refused { (r : RefusalCase) → result ≡ Said.Refused r → self.new ≡ self.old }

@@ -8,5 +8,7 @@ pub mod Counting
 pub mod Rising
 -- the owners of queues, and their numbers
 pub mod Owners
+-- a scan that begins again behind the last place
+pub mod Scanning
 -- what is not there has nothing
 pub mod Absent

@@ -26,5 +26,7 @@ pub mod AnswersAllowed
 pub mod StepsClimb
 -- the events and the reply of a step tell the same
 pub mod StepsTell
+-- where `none` is replied, every queue is empty
+pub mod NothingChosen
 -- what the replies say of the events
 pub mod Replies

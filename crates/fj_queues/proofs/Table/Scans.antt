@@ -3,7 +3,7 @@ use Rattle.fj_queues.specs.Queues.{all_in, first_filled, places_from}
 use Rattle.fj_model.specs.Lists.{is_empty}
 use Rattle.std.specs.List.{range_with_len}
 use Rattle.std.proofs.Common.{arith, cond, zero, suc, ◌+◌, ◌-◌, ◌%◌, Some, None, true, false, ◌∷◌, ℕ, ◌≡◌, ◌<◌, List, [], length, get_or, map, refl, ◌∙◌}
-use Rattle.std.proofs.Math.Nat.{mod-add-mod, add-mod-mod, add-mod_right, mod-eq_of_lt}
+use Rattle.fj_model.proofs.Lists.Scanning.{comes_to}
 use Rattle.std.proofs.lemmas.List.Sums.{sum_by-cons}
 use Rattle.std.proofs.lemmas.List.FromFn.{get_or-map-range_with_len, length-map-range_with_len}
 
@@ -34,14 +34,6 @@ none_at lists (o ∷ places) none i within = go (none_at lists places) (get_or l
     go others (t ∷ ts) is none i within = let found = rw is at none in absurd (cc)
     go others [] is none zero within = rw is refl
     go others [] is none (suc i) within = others (rw is at none) i (omega arith)
-
--- the place of the scan that comes to an owner
-comes_to : (count r o : ℕ) → o < count → (r + (o + (count - r % count)) % count) % count ≡ o
-comes_to count r o within =
-    let low : r % count < count = omega arith in
-    let gone_by : (r % count + (o + (count - r % count))) % count ≡ (r + (o + (count - r % count))) % count = mod-add-mod r count (o + (count - r % count)) in
-    let round : r % count + (o + (count - r % count)) ≡ o + count = omega arith in
-    rw (add-mod-mod r (o + (count - r % count)) count, ← gone_by, round, add-mod_right o count) (mod-eq_of_lt within)
 
 -- where the scan of all places finds nothing, all lists are empty
 pub all_empty : (lists : List (List ℕ)) (r : ℕ) → first_filled lists (places_from (length lists) r) ≡ None
