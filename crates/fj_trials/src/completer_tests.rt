@@ -7,6 +7,9 @@ async 2 1 8 64; submit 0 0 relay > task 0; poll 0 0 > run 0; fork 0 0 0 relay > 
 root 0 1 > root 0; root 0 1 > spent 0; state 0 > state gone normal; state 1 > state held 0 undone; end 0 try > hook 1;
 hook 0 > spent 0
 
+the root of a done task is made normal
+async 1 1 4 64; submit 0 1 relay > task 0; poll 0 0 > run 0; fork 0 0 0 relay > task 1; cancel 1 > yes; root 0 1 > root 0
+
 a count is raised to 65,535 at most, also that of a completer that is done
 async 1 1 8 64; submit 0 1 relay > task 0; poll 0 0 > run 0; add 0 0 2 > count 3; add 0 0 65532 > count 65535; add 0 0 1 > refused 10;
 root 0 0 > root 0; add 0 0 0 > count 65535; events 2 > Add(Serial(0), 2) Add(Serial(0), 65532) Settle(Serial(0), Normal) Add(Serial(0), 0)

@@ -23,6 +23,14 @@ an arrival at a held completer is early, and it fires by its own end
 async 2 1 8 64; submit 0 0 relay > task 0; poll 0 0 > run 0; fork 0 0 0 relay > task 1; poll 1 1 > run 1; end 1 try > hook 1;
 hook 1 > early 0; end 0 try > hook 0; hook 0 > root 0
 
+a hook goes to the worker whose step fired it, though another ended a body meanwhile
+async 2 1 8 64; submit 0 > task 0; submit 0 > task 1; poll 0 0 > run 0; trigger 0 0 > task 2; fork 0 2 0 relay > task 3; help 0 0 > run 3;
+end 0 try > hook 3; poll 1 0 > run 1; end 1 ok > done; hook 0 > hook 2; hook 0 > root 2
+
+a hook goes to the worker whose hook ended, not to the one that ran the completer
+async 2 1 4 64; submit 0 0 relay > task 0; poll 0 0 > run 0; fork 0 0 0 relay > task 1; end 0 quiet > done; poll 1 0 > run 1;
+end 1 try > hook 1; hook 1 > hook 0; hook 0 > refused 6; hook 1 > root 0
+
 a try at a count waits
 async 2 1 8 64; submit 0 2 relay > task 0; poll 0 0 > run 0; end 0 try > counted 0; quiet > yes; state 0 > state open undone";
 

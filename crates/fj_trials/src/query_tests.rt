@@ -18,6 +18,9 @@ async 1 1 2 8; quiet > yes; submit 0 > task 0; state 0 > state queued 0 undone; 
 state 0 > state held 0 undone; quiet > no; end 0 ok > done; state 0 > state gone normal; quiet > yes;
 events 0 > Acc(Serial(0), Sub(SubId(0)), Plain) Out(Serial(0), WorkerId(0)) End(Serial(0), WorkerId(0)) Settle(Serial(0), Normal)
 
+not quiescent with a task in the queue of a worker alone
+async 1 1 8 64; submit 0 > task 0; poll 0 0 > run 0; fork 0 > task 1; end 0 ok > done; submitter 0 > none; worker 0 > 1; quiet > no
+
 open and gone tasks stand in their order
 async 2 1 8 64; submit 0 1 relay > task 0; submit 0 > task 1; poll 0 0 > run 0; trigger 0 1 > task 2; trigger 0 0 > task 3;
 end 0 quiet > done; poll 0 0 > run 1; fork 0 2 0 relay > task 4; fork 0 3 0 relay > task 5; end 0 ok > done; poll 0 0 > run 4;

@@ -19,7 +19,16 @@ async 1 1 4 64; submit 0 > task 0; poll 0 0 > run 0; join 0 0 0 > refused 7; for
 end 0 ok > done; join 0 1 0 > normal
 
 a join in joining mode takes the newest task
-joining 1 1 4 64; submit 0 > task 0; poll 0 0 > run 0; join 0 0 0 > refused 7; fork 0 > task 1; fork 0 > task 2; join 0 2 0 > run 2";
+joining 1 1 4 64; submit 0 > task 0; poll 0 0 > run 0; join 0 0 0 > refused 7; fork 0 > task 1; fork 0 > task 2; join 0 2 0 > run 2
+
+a join of a task on the stack of another worker
+async 2 1 8 64; submit 0 > task 0; poll 1 0 > run 0; submit 0 > task 1; poll 0 0 > run 1; join 0 0 0 > none
+
+a poll that takes nothing is made at a full log
+async 1 1 8 4; submit 0 > task 0; poll 0 0 > run 0; end 0 ok > done; poll 0 0 > none; submit 0 > refused 3
+
+a help that takes nothing is made at a full log
+async 1 1 8 2; submit 0 > task 0; poll 0 0 > run 0; help 0 0 > none; fork 0 > refused 3";
 
 // The first refusal that holds is told.
 const REFUSALS: &str = "a worker with a task does not poll
@@ -27,6 +36,9 @@ async 1 1 8 64; submit 0 > task 0; poll 0 0 > run 0; poll 0 0 > refused 14
 
 a join of a task that was never accepted
 async 1 1 1 64; submit 0 > task 0; poll 0 0 > run 0; join 0 1 0 > refused 5
+
+an idle worker does not join a task that is done
+async 2 1 8 64; submit 0 > task 0; stop > done; join 1 0 0 > refused 6
 
 a poll does not fit into the log
 async 1 1 8 1; submit 0 > task 0; poll 0 0 > refused 3
