@@ -1,5 +1,5 @@
 -- All that is kept, after a task was accepted.
-use Rattle.std.proofs.Common.{ℕ, ◌≡◌, ◌≢◌, ◌+◌, ◌<◌, Bool, true, false, List, [], ◌∷◌, ◌++◌, length, Option, Some, None, refl, ap, sym, ◌∙◌, arith, subst, ⊎_elim}
+use Rattle.std.proofs.Common.{ℕ, ◌≡◌, ◌≢◌, ◌+◌, ◌<◌, true, false, List, [], ◌∷◌, ◌++◌, length, Option, Some, None, refl, ap, sym, ◌∙◌, arith, subst, ⊎_elim}
 use Rattle.std.specs.Prelude.{IsSome, IfSome, option_map}
 use Rattle.std.specs.List.{list_any}
 use Rattle.std.proofs.Math.ListN.{length-set}
@@ -27,7 +27,6 @@ use Rattle.fj_model.proofs.Events.Releasing.{new_kept}
 use Rattle.fj_model.proofs.Completers.Unfired.{climbs_unfired}
 use Rattle.fj_model.proofs.Completers.Unknown.{unknown_unspent}
 use Rattle.fj_queues.specs.Queues.{Lists as Waiting, queue_at, with_queue}
-use Rattle.fj_tree.specs.declared.record.Record.{Record}
 use Rattle.fj_tree.specs.Handles.{Handle}
 use Rattle.fj_tree.specs.Records.{Records, IsCompleter, count, record_at, handle_of}
 use Rattle.fj_tree.specs.Makes.{fresh, with_child_of}

@@ -1,5 +1,5 @@
 -- The reply `none` is given only where every queue is empty.
-use Rattle.std.proofs.Common.{ℕ, zero, suc, ◌≡◌, ◌+◌, ◌-◌, ◌%◌, ◌≤◌, ◌<◌, Bool, true, false, List, [], ◌∷◌, map, Option, Some, None, refl, ap, sym, ◌∙◌, subst, arith, ⊎_elim}
+use Rattle.std.proofs.Common.{ℕ, zero, suc, ◌≡◌, ◌+◌, ◌-◌, ◌%◌, ◌≤◌, ◌<◌, Bool, true, false, List, [], ◌∷◌, map, Option, Some, None, refl, ap, sym, ◌∙◌, arith, ⊎_elim}
 use Rattle.std.specs.Prelude.{if◌then◌else◌}
 use Rattle.std.specs.List.{range_with_len}
 use Rattle.std.proofs.lemmas.Bool.{cases_lt, cases_eq}
@@ -7,7 +7,6 @@ use Rattle.fj_model.specs.declared.event.Event.{Event}
 use Rattle.fj_model.specs.declared.owner.Owner.{Owner}
 use Rattle.fj_model.specs.declared.owner.Owner.TheVariants.{Sub, Work}
 use Rattle.fj_model.specs.declared.refusal.Refusal.{Refusal}
-use Rattle.fj_model.specs.declared.said.Said.{Said}
 use Rattle.fj_model.specs.declared.said.Said.TheVariants as says
 use Rattle.fj_model.specs.declared.status.Status.{Status}
 use Rattle.fj_model.specs.declared.status.Status.TheVariants as status_is
@@ -26,7 +25,7 @@ use Rattle.fj_model.specs.Choices.{choice, own_choice, first_queued, scan_order}
 use Rattle.fj_model.specs.Climbs.{Arrival, arrival, path, passed}
 use Rattle.fj_model.specs.Climbs as climb
 use Rattle.fj_model.specs.Allowed.{AllowedFrom}
-use Rattle.fj_model.specs.Answers.{answer, answer_of, refusal_of, is_quiet, reply_of, taking_says, status_says, arriving_says, root_says, pass_says, end_says, ending_says, hook_says, hook_done_says, quiet_root_says, cancel_says, running, root_of, settling_own}
+use Rattle.fj_model.specs.Answers.{answer, answer_of, refusal_of, is_quiet, reply_of, taking_says, status_says, arriving_says, pass_says, end_says, ending_says, hook_says, hook_done_says, quiet_root_says, cancel_says, running, root_of}
 use Rattle.fj_model.specs.Pasts.{Past}
 use Rattle.fj_model.proofs.Lists.Absent.{no_such_queue}
 use Rattle.fj_model.proofs.Lists.Scanning.{comes_to}

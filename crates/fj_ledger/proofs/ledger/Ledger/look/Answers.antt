@@ -1,10 +1,7 @@
 use Rattle.std.proofs.Common.{subst}
-use Rattle.std.specs.Prelude.{MatchOption}
 use Rattle.fj_model.specs.Pasts.{limit}
 use Rattle.fj_model.specs.Runs.{Past}
-use Rattle.fj_model.specs.Tasks.{is_kept}
-use Rattle.fj_tree.specs.declared.record.Record.{Record}
-use Rattle.fj_ledger.specs.Holds.{IsLawful, TellsOf}
+use Rattle.fj_ledger.specs.Holds.{IsLawful}
 use Rattle.fj_ledger.proofs.Histories.Lawfuls.{lawful}
 use Rattle.fj_ledger.proofs.Recorded.Located.{looked}
 use Rattle.fj_ledger.proofs.ledger.Ledger.look.Goals as goal
