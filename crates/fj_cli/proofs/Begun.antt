@@ -10,7 +10,7 @@ use Rattle.fj_cli.specs.Faults.{Ends, FaultOf, IsBegun, IsReplayed}
 use Rattle.fj_cli.proofs.Bytes.{appends_keeps}
 
 -- the whole is a beginning too
-all_some : (a b : Option (List ℕ)) (t : List ℕ) → Appends a b t → AppendsSome a b t
+pub all_some : (a b : Option (List ℕ)) (t : List ℕ) → Appends a b t → AppendsSome a b t
 all_some a b t p = (length t, rw (take-length t) p)
 
 some_keeps : (a b c : Option (List ℕ)) (t : List ℕ) → AppendsSome a b t → Keeps b c → AppendsSome a c t

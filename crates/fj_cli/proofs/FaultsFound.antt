@@ -4,14 +4,14 @@ use Rattle.std.proofs.Common.{ℕ, ◌≡◌, ◌≢◌, ◌+◌, ◌<◌, ◌�
 use Rattle.std.proofs.lemmas.List.{append-nil, take-append-drop}
 use Rattle.std.proofs.Math.Seq.{take-append_seam}
 use Rattle.std.proofs.Math.ListN.{get_or}
-use Rattle.std.specs.Io.KnownBytes.{Appends, Consumes, IsAtEnd}
+use Rattle.std.specs.Io.KnownBytes.{Appends, Consumes, IsAtEnd, Keeps}
 use Rattle.fj_cli.specs.declared.fault.ReplayFault.{ReplayFault}
 use Rattle.fj_cli.specs.declared.fault.ReplayFault.TheVariants.{Line, Limits, Memory, Read, Write}
 use Rattle.fj_cli.specs.Cuts.{cut, left, lines, rest, AppendsSome}
 use Rattle.fj_cli.specs.Scripts.{text}
 use Rattle.fj_cli.specs.Faults.{Stands, IsUnended, IsOutOfLimits, OpensOutOfLimits, FaultOf, IsReplayed}
 use Rattle.fj_cli.specs.Playbacks.{Kept, IsAt, EndsEarly, FaultAt, IsFaulty, past_of, line_text}
-use Rattle.fj_cli.proofs.Bytes.{appends_twice}
+use Rattle.fj_cli.proofs.Bytes.{appends_keeps, appends_twice}
 use Rattle.fj_cli.proofs.Lines.{cut-append, left-append, left-uncut, none-cut}
 use Rattle.fj_cli.proofs.Pasts.{text_from, text-stops, text-begins, text-none, faulty_after, faulty_behind, too_long, no_past, is_run}
 use Rattle.fj_cli.proofs.Steps.{tens, no_ten, text_at, and_rest}
@@ -165,3 +165,7 @@ replayed_whole b v before ahead s n read ends at none there = record {
   };
   written = at.written;
 }
+
+-- a flush changes nothing of it
+pub flushed_at : (b : List ℕ) (v : Kept) (start now after : Option (List ℕ)) → IsAt b v start now → Keeps now after → IsAt b v start after
+flushed_at b v start now after at kept = record { count = at.count; line = at.line; short = at.short; past = at.past; good = at.good; written = appends_keeps start now after (text b) at.written kept }

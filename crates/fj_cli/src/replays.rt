@@ -4,6 +4,7 @@ ghost use Rattle.fj_cli.specs.Faults.{IsScript, IsReplayed, Ends};
 
 use crate::fault::ReplayFault;
 use crate::playback::Playback;
+use crate::writes::flush_whole;
 use std::alloc::Global;
 use std::io::{ErrorKind, Read, Write};
 
@@ -13,8 +14,9 @@ const CHUNK: usize = 8192;
 /// Reads a script, makes its steps and writes the replies.
 ///
 /// What was written is `text b` of the bytes `b` that were read; at `Memory` and `Write` it is a beginning of `text b`. A reply is
-/// handed to the writer before the next line is looked at, so what was replied before a fault is written. An interrupted read or
-/// write is tried again. The writer is not flushed.
+/// handed to the writer before the next line is looked at, so what was replied before a fault is written. The writer is flushed before
+/// each further read, so that who sends one line at a time has each reply; a flush that fails there is `Write`. It is not flushed at the
+/// end. An interrupted read, write or flush is tried again.
 pub fn replay<R: Read, W: Write>(alloc: Global, r: &mut R, w: &mut W) -> Result<(), ReplayFault>
     ensures ok { OnOk result ((b : List ℕ) × IsReplayed b (R.remaining r.old) (R.remaining r.new) (W.contents w.old) (W.contents w.new)) }
     ensures err { IfErr result (λ fault. (b : List ℕ) × Ends fault b (R.remaining r.old) (R.remaining r.new) (W.contents w.old) (W.contents w.new)) }
@@ -30,7 +32,13 @@ pub fn replay<R: Read, W: Write>(alloc: Global, r: &mut R, w: &mut W) -> Result<
         }
         match r.read(&mut chunk) {
             Ok(0) => return playback.finish(),
-            Ok(n) => playback.feed_all(alloc, &chunk[..n], w)?,
+            Ok(n) => {
+                playback.feed_all(alloc, &chunk[..n], w)?;
+                // Whoever waits for these replies has them before the next read waits for more lines.
+                if flush_whole(w).is_err() {
+                    return Err(ReplayFault::Write);
+                }
+            }
             Err(e) => {
                 if e.kind() != ErrorKind::Interrupted {
                     return Err(ReplayFault::Read);

@@ -1,9 +1,10 @@
 use Rattle.std.proofs.Common.{◌<◌, ◌++◌, length, take, rules}
 use Rattle.std.proofs.lemmas.Result.{MatchResult-weaker, err_from_is_err_and, on_ok_weaker}
 use Rattle.fj_cli.proofs.Bytes.{consumes_twice, consumes_kept, read_end}
-use Rattle.fj_cli.proofs.FaultsFound.{ended, replayed_whole}
+use Rattle.fj_cli.proofs.Begun.{all_some}
+use Rattle.fj_cli.proofs.FaultsFound.{ended, flushed_at, replayed_whole}
 use Rattle.fj_cli.proofs.replays.replay.Goals as goal
-use Rattle.fj_cli.proofs.replays.replay.Goals.{in-Ok-read+in_ok-feed_all-in-Ok-read, in-Err+else-ne}
+use Rattle.fj_cli.proofs.replays.replay.Goals.{in-Ok-read+in_ok-feed_all-in-Ok-read+else-is_err, in-Err+else-ne}
 
 pub returns-in-Ok-eq0-clause-ok : goal.returns-in-Ok-eq0-clause-ok
 returns-in-Ok-eq0-clause-ok g c =
@@ -47,11 +48,26 @@ returns-in_err-feed_all-in-Ok-read-clause-err g c =
       },
     )
 
+pub returns-then-is_err-clause-err : goal.returns-then-is_err-clause-err
+returns-then-is_err-clause-err g c =
+    let so_far = c.loop.invariant in
+    let at = flushed_at _ _ _ _ _ (c.in_ok-feed_all-in-Ok-read.ensures.ok so_far.0 _ so_far.2) c.flush_whole.ensures in (
+      so_far.0 ++ take c.in-Ok-read.n c.read.new.buf,
+      record {
+        read = consumes_twice _ _ _ _ _ so_far.1 c.in-Ok-read.ensures.bytes.0;
+        means = all_some _ _ _ at.written;
+      },
+    )
+
 pub loop-preserved : goal.loop-preserved
 loop-preserved g c =
     let so_far = c.loop.invariant in
     elim c.match-read.branch [
-      | in-Ok-read+in_ok-feed_all-in-Ok-read w ↦
-          rw (w.playback-is, w.w-is) (so_far.0 ++ take w.in-Ok-read.n c.read.new.buf, consumes_twice _ _ _ _ _ so_far.1 w.in-Ok-read.ensures.bytes.0, w.in_ok-feed_all-in-Ok-read.ensures.ok so_far.0 _ so_far.2)
+      | in-Ok-read+in_ok-feed_all-in-Ok-read+else-is_err w ↦
+          rw (w.playback-is, w.w-is) (
+            so_far.0 ++ take w.in-Ok-read.n c.read.new.buf,
+            consumes_twice _ _ _ _ _ so_far.1 w.in-Ok-read.ensures.bytes.0,
+            flushed_at _ _ _ _ _ (w.in_ok-feed_all-in-Ok-read.ensures.ok so_far.0 _ so_far.2) w.flush_whole.ensures,
+          )
       | in-Err+else-ne w ↦ rw (w.playback-is, w.w-is) (so_far.0, consumes_kept _ _ _ _ so_far.1 w.in-Err.ensures.bytes, so_far.2)
     ]
