@@ -2,6 +2,8 @@
 
 -- whether an event may follow, as a test
 pub mod AllowedTest
+-- what passes it is allowed
+pub mod AllowedTested
 -- what a script comes to
 pub mod Scripts
 -- Submit, Fork, Trigger

@@ -7,7 +7,9 @@ use Rattle.fj_model.specs.declared.kind.Kind.{Kind}
 use Rattle.fj_model.specs.declared.status.Status.{Status}
 use Rattle.fj_model.specs.declared.status.Status.TheVariants.{Normal}
 use Rattle.fj_model.specs.declared.event.How.TheVariants.{Zero, Complete}
-use Rattle.fj_model.specs.Bounds.{Pool, queues_in, workers}
+use Rattle.fj_model.specs.declared.owner.Owner.{Owner}
+use Rattle.fj_model.specs.declared.owner.Owner.TheVariants.{Sub, Work}
+use Rattle.fj_model.specs.Bounds.{Bounds, Pool, queues_in, workers}
 use Rattle.fj_model.specs.Lists.{is_in, last_of, times_in}
 use Rattle.fj_model.specs.Tasks.{tasks, accepted, is_kept, live, is_completer, is_completer_kind, parent, parent_in, count_in}
 use Rattle.fj_model.specs.Stacks.{stack}
@@ -30,6 +32,10 @@ is_counted Spent = false
 is_counted Early = false
 is_counted Fires = false
 
+abbrev pub is_owner : Bounds → Owner → Bool
+is_owner l (Sub s) = nat_lt s l.submitters
+is_owner l (Work w) = nat_lt w l.workers
+
 abbrev pub parent_fits : List Event → Option ℕ → Bool
 parent_fits h None = true
 parent_fits h (Some p) = is_kept h p && is_completer h p
@@ -46,7 +52,7 @@ may_be_normal h t Normal =
 may_be_normal h t _ = true
 
 abbrev pub allowed_test : Pool → List Event → Event → Bool
-allowed_test pool h (Acc t o k) = may_accept pool h t k && not (is_shut h o)
+allowed_test pool h (Acc t o k) = may_accept pool h t k && is_owner pool.limits o && not (is_shut h o)
 allowed_test pool h (Make t k) = may_accept pool h t k && is_completer_kind (Some k) && is_none (parent_in (Some k)) && not (is_stopped h)
 allowed_test pool h (Out t w) = may_take pool h t w && is_undone (status h t)
 allowed_test pool h (Skip t w) = may_take pool h t w && not (is_undone (status h t))
