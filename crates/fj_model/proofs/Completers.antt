@@ -14,6 +14,8 @@ pub mod ArrivalPlaces
 pub mod Climbed
 -- completion actions, over every lawful history
 pub mod Firings
+-- a completion action is in the hand of a worker that is there
+pub mod Hands
 -- who is fired by `complete`
 pub mod OwnFirings
 -- nothing fires before it is accepted

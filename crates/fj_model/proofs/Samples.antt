@@ -2,7 +2,7 @@
 
 -- whether an event may follow, as a test
 pub mod AllowedTest
--- what passes it is allowed
+-- that it says what the definition says
 pub mod AllowedTested
 -- what a script comes to
 pub mod Scripts
