@@ -14,7 +14,8 @@ keep=${4:-0}
 . bench/loader.sh
 build_loader epochs fj_model fj_queues fj_tree fj_ledger fj_machine
 measured=$loader.measured
-read -r count all seals sealing longest < <(/usr/bin/time -o "$measured" -f '%M %R' "$loader" "$tasks" "$every" "$events" "$keep")
+/usr/bin/time -o "$measured" -f '%M %R' "$loader" "$tasks" "$every" "$events" "$keep" > "$loader.times"
+read -r count all seals sealing longest < "$loader.times"
 read -r peak faults < "$measured"
 awk -v tasks="$count" -v all="$all" -v seals="$seals" -v sealing="$sealing" -v longest="$longest" -v peak="$peak" -v faults="$faults" 'BEGIN {
     printf "tasks: %d  seconds: %.2f  steps/second: %.0f  seals: %d", tasks, all / 1e9, 4 * tasks / all * 1e9, seals
