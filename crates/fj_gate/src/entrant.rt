@@ -44,7 +44,7 @@ impl Entrant {
     /// `Closed` if the gate was closed, or if this entrant was told so before; then no exchange is made. Java's counterpart is
     /// `RejectedExecutionException` of `ForkJoinPool.submit` after a shutdown; Java has no tickets.
     ///
-    /// The caller answers for fewer than `each` tickets so far. Only tickets count, not refusals.
+    /// Precondition: fewer than `each` tickets so far. Only tickets count, not refusals.
     pub fn admit(&mut self) -> Result<Ticket, Closed>
         requires { length self.old.drawn < self.old.each }
         ensures stays { (self.new.gate ≡ self.old.gate) × (self.new.each ≡ self.old.each) }

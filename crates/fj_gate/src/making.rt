@@ -14,7 +14,7 @@ use std::sync::Arc;
 ///
 /// `OutOfMemory` where memory is refused, and no other error. No other call of this crate takes memory.
 ///
-/// The caller answers for 1 to 32 submitters, and for `each`, the number of tickets that each of them may draw, from 1 to 65,536.
+/// Precondition: 1 to 32 submitters, and `each`, the number of tickets that each of them may draw, from 1 to 65,536.
 pub fn gate(
     alloc: Global,
     submitters: u32,

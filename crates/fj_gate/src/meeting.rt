@@ -22,7 +22,7 @@ pub struct Tickets {
 /// The tickets that the entrants drew are the numbers below `drawn`, each once, and `drawn` is the closing number if the gate was
 /// closed. If it was not, nobody was told Closed. Nobody had seen more admissions than `drawn`.
 ///
-/// The caller answers for ends of one gate, and for as many entrants as were made.
+/// Precondition: they are ends of one gate, and as many entrants as were made.
 pub fn meet(entrants: Vec<Entrant>, closer: Closer) -> Tickets
     requires same { All (λ e. e.gate ≡ closer.gate) entrants.items }
     requires all { vec_len entrants ≡ closer.submitters }

@@ -45,7 +45,7 @@ impl<B> Feed<B> {
         self.pushed < self.capacity
     }
 
-    /// Pushes a parcel behind those that were pushed before. It waits for nobody, and is never refused for want of memory.
+    /// Pushes a parcel behind those that were pushed before. It waits for nobody, and never runs out of memory.
     ///
     /// The first `capacity` pushes succeed. Every later one is refused by `LaneSpent`, which hands its parcel back; nothing has
     /// changed then. The capacity counts pushes over the lane's life, so a take makes no room.

@@ -2,7 +2,7 @@
 //!
 //! A contract sees a [`Feed`] as the parcels that it pushed and its capacity, a [`Drain`] as the parcels that it took and how many
 //! takes gave none. Where both [`meet()`], what was taken, followed by what is left, is what was pushed, as values. Only [`lane()`]
-//! can be refused for want of memory.
+//! can run out of memory.
 //!
 //! The lane is this project's own. It stands where `ForkJoinPool` of Java has its submission queues: what one submitter hands in
 //! is taken in first in, first out.

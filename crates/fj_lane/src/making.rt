@@ -14,7 +14,7 @@ use std::alloc::Global;
 ///
 /// `OutOfMemory` where memory is refused, and no other error. No other call of this crate is refused for that.
 ///
-/// The caller answers for `capacity`, the number of parcels that may be pushed in all, from 1 to 65,536.
+/// Precondition: `capacity`, the number of parcels that may be pushed in all, is from 1 to 65,536.
 pub fn lane<B: Drop>(alloc: Global, capacity: u32) -> Result<(Feed<B>, Drain<B>), OutOfMemory>
     requires capacity { (1 ≤ capacity) × (capacity ≤ 65536) }
     ensures feed { IfOk result (λ r. r.0 ≡ new_feed r.1.lane capacity) }

@@ -35,7 +35,7 @@ impl<B> Model for Rest<B> {
 ///
 /// What the drain took, followed by what is left, is what the feed pushed, which is at most its capacity.
 ///
-/// The caller answers for ends of one lane.
+/// Precondition: they are ends of one lane.
 pub fn meet<B: Drop>(feed: Feed<B>, drain: Drain<B>) -> Rest<B>
     requires { feed.lane ≡ drain.lane }
     ensures all { drain.drained ++ result ≡ feed.fed }

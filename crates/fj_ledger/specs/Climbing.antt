@@ -15,7 +15,7 @@ IsEnd how.Spent arrival = arrival ≡ climb.Spent
 IsEnd how.Early arrival = arrival ≡ climb.Early
 IsEnd how.Root arrival = ⊥
 
--- with this much of the way left, the climb ends at the first of it, and past the root where nothing is left
+-- with this much of the path left, the climb ends at the first of it, and past the root where nothing is left
 abbrev pub EndsAt : List Event → List ℕ → Option ℕ → PassEnd → Type 0
 EndsAt h (c ∷ above) root end = IsEnd end.how (arrival h c) × (end.at.serial ≡ c)
 EndsAt h [] root end = (end.how ≡ how.Root) × (root ≡ Some end.at.serial)

@@ -66,7 +66,7 @@ abbrev pub failing : List Event → ℕ → ℕ → List Event
 failing h t code =
     if is_undone (status h t) then map (λ u. event.Settle u (status_is.Exceptional code)) (relayed h t) else []
 
--- the last member of a way, which is its root
+-- the last member of a path, which is its root
 abbrev pub root_of : List ℕ → Option ℕ
 root_of way = last_of way
 
@@ -75,7 +75,7 @@ abbrev pub settle_root : Option ℕ → List Event
 settle_root (Some c) = event.Settle c status_is.Normal ∷ []
 settle_root None = []
 
--- the end of a climb: the arrival at the first member of the way that is not passed, or past the root
+-- the end of a climb: the arrival at the first member of the path that is not passed, or past the root
 abbrev pub pass_end : List Event → List ℕ → Option ℕ → List Event
 pass_end h (c ∷ above) root = arriving c (arrival h c)
 pass_end h [] root = settle_root root

@@ -1,4 +1,4 @@
--- The way from a task to its root, and how far a climb goes.
+-- The path from a task to its root, and how far a climb goes.
 use Rattle.std.specs.Prelude.{ℕ, ◌≡◌, zero, suc, Bool, true, false, ◌||◌, nat_lt, if◌then◌else◌, List, [], ◌∷◌, Option, Some, None, is_some}
 use Rattle.std.specs.List.{take_while, filter_map}
 use Rattle.fj_model.specs.declared.event.Event.{Event}
@@ -15,11 +15,11 @@ path_up zero h from = []
 path_up (suc most) h None = []
 path_up (suc most) h (Some c) = c ∷ path_up most h (parent h c)
 
--- up to the root. A parent's number is smaller than its child's, so the way is no longer than that
+-- up to the root. A parent's number is smaller than its child's, so the path is no longer than that
 unfoldable pub path : List Event → ℕ → List ℕ
 path h c = path_up (suc c) h (Some c)
 
--- the longest beginning of the way in which each is undone, and each but the last says relay
+-- the longest beginning of the path in which each is undone, and each but the last says relay
 unfoldable pub relayed_along : List Event → List ℕ → List ℕ
 relayed_along h [] = []
 relayed_along h (c ∷ above) =
@@ -49,7 +49,7 @@ does_fire Spent = false
 does_fire Counted = false
 does_fire Early = false
 
--- the longest beginning of the way at whose members an arrival fires
+-- the longest beginning of the path at whose members an arrival fires
 unfoldable pub passed : List Event → ℕ → List ℕ
 passed h c = take_while (λ d. does_fire (arrival h d)) (path h c)
 

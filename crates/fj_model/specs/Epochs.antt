@@ -16,7 +16,7 @@ use Rattle.fj_model.specs.Runs.{Steps}
 abbrev pub most_events : ℕ
 most_events = 4611686018427387904
 
--- each refusal that a seal can meet but want of memory, with whether it stands, in the order in which they are tested
+-- each refusal that a seal can meet but out of memory, with whether it stands, in the order in which they are tested
 abbrev pub seal_refusals : Past → List (Bool × Refusal)
 seal_refusals past =
     (not (is_quiet past.pool.limits past.events), NotIdle)
@@ -27,7 +27,7 @@ seal_refusals past =
 unfoldable pub seal_refusal : Past → Option Refusal
 seal_refusal past = first_that_stands (seal_refusals past)
 
--- a seal may be refused so: by the first that stands, and where none stands for want of memory
+-- a seal may be refused so: by the first that stands, and where none stands as out of memory
 abbrev pub RefusesSeal : Past → Refusal → Type 0
 RefusesSeal past refusal = (seal_refusal past ≡ Some refusal) ⊎ ((seal_refusal past ≡ None) × (refusal ≡ OutOfMemory))
 

@@ -121,7 +121,7 @@ HasLine (State t) = IsSmall t
 -- release
 HasLine (Release t) = IsSmall t
 
--- the step of a line, if it has one
+-- the step of a line, if it has one: what the reader makes of it
 unfoldable pub step_in : List ℕ → Option Step
 step_in line = do
   verb ← word_first (words line)
@@ -146,7 +146,7 @@ pub record HasHeadLine (head : Mode × List ℕ) : Type 0 where
   pub four : length head.1 ≡ 4
   pub small : AllByRecursion IsSmall head.1
 
--- the mode and the four numbers of a heading, if the line is one
+-- the mode and the four numbers of a heading, if the line is one: what the reader makes of it
 unfoldable pub head_in : List ℕ → Option (Mode × List ℕ)
 head_in line = do
   verb ← word_first (words line)

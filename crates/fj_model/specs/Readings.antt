@@ -1,4 +1,5 @@
--- What the words of a line say.
+-- What the words of a line say, word after word, as the reader goes. These mirror the reader, for its proof: which lines there are is
+-- said by `Lines`, and that these say the same by `written`, `read` and `again` of `read_step` and `read_head`.
 use Rattle.std.specs.Prelude.{ℕ, if◌then◌else◌, List, [], ◌∷◌, Option, Some, None, codes}
 use Rattle.std.specs.Str.{bytes_eq}
 use Rattle.fj_model.specs.declared.mode.Mode.{Mode}

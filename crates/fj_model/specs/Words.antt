@@ -25,7 +25,7 @@ is_number word = nat_lt (digits_value 10 word) (2 ^ 32) && bytes_eq word (decima
 unfoldable pub number_in : List ℕ → Option ℕ
 number_in word = if is_number word then Some (digits_value 10 word) else None
 
--- ---- reading words, one after the other
+-- ---- reading words, one after the other: these mirror the reader
 
 infixl 10 ◌>>=◌
 abbrev pub ◌>>=◌ : {A B : Type 0} → Option A → (A → Option B) → Option B

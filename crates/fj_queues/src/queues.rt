@@ -11,7 +11,7 @@ use std::marker::Model;
 
 /// A queue of task numbers for each owner, with room that is taken when they are made.
 ///
-/// The caller answers for an owner that there is: a number below the number of owners.
+/// Precondition of each call that takes an owner: it is below the number of owners.
 #[derive(Drop)]
 pub struct Queues {
     cells: Cells,
@@ -39,7 +39,7 @@ impl Model for Queues {
 }
 
 impl Queues {
-    /// So many empty queues, each with room for as many numbers as all may have together. Refused only for want of memory.
+    /// So many empty queues, each with room for as many numbers as all may have together. Refused only where out of memory.
     pub fn new(alloc: Global, owners: usize, room: usize) -> Result<Queues, OutOfMemory>
         ensures { IfOk result (λ q. q ≡ record { lists = replicate owners []; room = room }) }
     {
@@ -98,7 +98,7 @@ impl Queues {
         }
     }
 
-    /// Puts a number at the new end of an owner's queue. The caller answers for the room, and no memory is taken.
+    /// Puts a number at the new end of an owner's queue. Precondition: there is room. No memory is taken.
     pub fn push(&mut self, o: usize, serial: Serial)
         requires owner { o < length self.old.lists }
         requires room { total self.old < self.old.room }

@@ -38,11 +38,11 @@ with_ended_body t h = changed t h.key (with_place Open)
 abbrev pub is_passed : Records → Handle → Handle → Bool
 is_passed t h at = does_fire (arrival_of (with_ended_body t h) at)
 
--- the longest beginning of the way at whose members an arrival fires
+-- the longest beginning of the path at whose members an arrival fires
 unfoldable pub passed : Records → Handle → List Handle
 passed t h = take_while (is_passed t h) (path t h)
 
--- the way from the first that is not passed
+-- the path from the first that is not passed
 unfoldable pub not_passed : Records → Handle → List Handle
 not_passed t h = drop (length (passed t h)) (path t h)
 
@@ -57,7 +57,7 @@ end_by Fire = None
 abbrev pub stop_at : Records → Handle → Handle → Option PassHow
 stop_at t h at = option_and_then end_by (arrival_of (with_ended_body t h) at)
 
--- with this much of the way left, the climb ends at the first of it, and past the root where nothing is left
+-- with this much of the path left, the climb ends at the first of it, and past the root where nothing is left
 abbrev pub EndsBefore : Records → Handle → List Handle → PassEnd → Type 0
 EndsBefore t h [] end = (end.how ≡ how.Root) × (end.at ≡ root_of t h)
 EndsBefore t h (at ∷ above) end = (stop_at t h at ≡ Some end.how) × (end.at ≡ at)

@@ -1,4 +1,4 @@
--- The way from a task to its root.
+-- The path from a task to its root.
 use Rattle.std.specs.Prelude.{ℕ, zero, suc, List, [], ◌∷◌, Option, Some, None, option_map, option_and_then}
 use Rattle.fj_model.specs.Tasks.{parent_in}
 use Rattle.fj_tree.specs.Handles.{Handle}
@@ -8,7 +8,7 @@ use Rattle.fj_tree.specs.Records.{Records, record_of, handle_of}
 abbrev pub above : Records → Handle → Option Handle
 above t h = option_and_then (handle_of t) (parent_in (option_map (λ r. r.kind) (record_of t h)))
 
--- where a way goes on to
+-- where a path goes on to
 abbrev pub and_on : (Handle → List Handle) → Option Handle → List Handle
 and_on way None = []
 and_on way (Some h) = way h
@@ -18,11 +18,11 @@ unfoldable pub path_up : ℕ → Records → Handle → List Handle
 path_up zero t h = []
 path_up (suc most) t h = h ∷ and_on (path_up most t) (above t h)
 
--- up to the root. A parent's number is smaller than its child's, so the way is no longer than that
+-- up to the root. A parent's number is smaller than its child's, so the path is no longer than that
 unfoldable pub path : Records → Handle → List Handle
 path t h = path_up (suc h.serial) t h
 
--- the last of a way that begins here
+-- the last of a path that begins here
 abbrev pub last_from : Handle → List Handle → Handle
 last_from h [] = h
 last_from h (next ∷ later) = last_from next later

@@ -51,7 +51,7 @@ impl Model for Tree {
 }
 
 impl Tree {
-    /// A tree without records, with room for so many. Refused only for want of memory.
+    /// A tree without records, with room for so many. Refused only where out of memory.
     pub fn new(alloc: Global, room: usize) -> Result<Tree, OutOfMemory>
         ensures { IfOk result (λ t. t ≡ record { slots = []; made = 0; room = room }) }
     {
@@ -87,7 +87,7 @@ impl Tree {
         }
     }
 
-    /// Writes how far a task has come. The caller answers for a good handle.
+    /// Writes how far a task has come. Precondition: a good handle.
     pub fn set_status(&mut self, h: Handle, status: Status)
         requires { IsGood self.old h }
         ensures { self.new ≡ changed self.old h.key (with_status status) }
@@ -95,7 +95,7 @@ impl Tree {
         self.records[h.key].status = status;
     }
 
-    /// Writes where a task is. The caller answers for a good handle.
+    /// Writes where a task is. Precondition: a good handle.
     pub fn set_place(&mut self, h: Handle, place: Place)
         requires { IsGood self.old h }
         ensures { self.new ≡ changed self.old h.key (with_place place) }
@@ -149,7 +149,7 @@ impl Tree {
         self.get(found)
     }
 
-    /// Makes a completer spent. The caller answers for a good handle of a completer.
+    /// Makes a completer spent. Precondition: a good handle of a completer.
     pub fn fire(&mut self, h: Handle)
         requires { IsCompleter self.old h }
         ensures { self.new ≡ changed self.old h.key made_spent }
@@ -157,7 +157,7 @@ impl Tree {
         self.records[h.key].fired = true;
     }
 
-    /// What an arrival at a completer would do, which is what [`Tree::arrive`] answers. The caller answers for a good handle of a
+    /// What an arrival at a completer would do, which is what [`Tree::arrive`] answers. Precondition: a good handle of a
     /// completer.
     pub fn arrival(&self, h: Handle) -> Arrived
         requires { IsCompleter self.now h }
@@ -166,7 +166,7 @@ impl Tree {
         self.records[h.key].arrival()
     }
 
-    /// Arrives at a completer. The caller answers for a good handle of one.
+    /// Arrives at a completer. Precondition: a good handle of one.
     ///
     /// A spent or done one stays as it is, a pending count above 0 falls by one, a queued or held one stays as it is, and otherwise
     /// the completer becomes spent: it fires. The first of these that holds is answered. Place and status stay.
@@ -218,7 +218,7 @@ impl Tree {
 
     /// Makes a task, with the next number. Refused, with nothing changed, by `Unknown` if the parent that the kind names is not
     /// kept, `NotCompleter` if it is a plain task, `CountTooLarge` if the pending count is above 65,535, and `TooManyTasks` if there
-    /// is no room, in this order. The caller answers for fewer than 2^63 makes so far.
+    /// is no room, in this order. Precondition: fewer than 2^63 makes so far.
     pub fn make(&mut self, kind: Kind, place: Place) -> Result<Handle, Refusal>
         requires { self.old.made < 2 ^ 63 }
         ensures refused { MatchResult result (λ _. make_refusal self.old kind ≡ None) (λ e. make_refusal self.old kind ≡ Some e) }

@@ -155,7 +155,7 @@ pub record HasPassed (t : Records) (h at : Handle) (count : ℕ) : Type 0 where
   pub climbs : IsClimbing t h at done
   pub counted : length done ≡ count
 
--- a climb has one end, so a look tells what the deed answers
+-- a climb has one end, so a look tells what the update answers
 pub one_end : (t : Records) (h : Handle) (a b : PassEnd) → a.passed ≡ length (passed t h) → b.passed ≡ length (passed t h) → EndsAs t h a → EndsAs t h b → a ≡ b
 one_end t h a b passed_a passed_b ends_a ends_b = go (not_passed t h) ends_a ends_b
   where

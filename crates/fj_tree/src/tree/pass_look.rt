@@ -8,8 +8,8 @@ use crate::pass::{self, PassEnd, PassHow};
 use crate::tree::Tree;
 
 impl Tree {
-    /// Where a climb without hooks from a completer would end, which is what [`Tree::pass_up`] answers. The caller answers for a good
-    /// handle of a completer.
+    /// Where a climb without hooks from a completer would end, which is what [`Tree::pass_up`] answers. Precondition: a good handle
+    /// of a completer.
     ///
     /// A record at which an arrival would fire is passed, and the climb goes on at its parent; any other one ends the climb, and so
     /// does a passed one without a parent. The place of the first record is not looked at, since its body ends as the climb begins.
@@ -39,7 +39,7 @@ impl Tree {
         }
     }
 
-    /// What ends a climb from `h` at a record of its way. None if the climb passes the record.
+    /// What ends a climb from `h` at a record of its path. None if the climb passes the record.
     pub(super) fn stop(&self, h: Handle, at: Handle) -> Option<PassHow>
         requires begins { IsGood self.now h }
         requires good { IsGood self.now at }

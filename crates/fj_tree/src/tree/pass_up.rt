@@ -11,7 +11,7 @@ use crate::pass::{PassEnd, PassHow};
 use crate::tree::Tree;
 
 impl Tree {
-    /// Climbs without hooks from a completer: `CountedCompleter.propagateCompletion`. The caller answers for a good handle of a
+    /// Climbs without hooks from a completer: `CountedCompleter.propagateCompletion`. Precondition: a good handle of a
     /// completer.
     ///
     /// The passed records become spent, and where the climb is counted at its end, that count falls by one. Statuses and places stay.

@@ -1,4 +1,4 @@
-//! The way from a record to its root.
+//! The path from a record to its root.
 ghost use Rattle.std.specs.Prelude.{◌≡◌, ◌<◌, IfSome};
 ghost use Rattle.fj_tree.specs.Records.{IsCompleter, IsGood};
 ghost use Rattle.fj_tree.specs.Paths.{above, root_of};
@@ -7,8 +7,8 @@ use crate::handle::Handle;
 use crate::tree::Tree;
 
 impl Tree {
-    /// The last on the way from a record to its parent, the parent's parent and so on: `CountedCompleter.getRoot`. The caller answers
-    /// for a good handle.
+    /// The last on the path from a record to its parent, the parent's parent and so on: `CountedCompleter.getRoot`. Precondition: a good
+    /// handle.
     pub fn root(&self, h: Handle) -> Handle
         requires { IsGood self.now h }
         ensures root { result ≡ root_of self.now h }
@@ -21,7 +21,7 @@ impl Tree {
         at
     }
 
-    /// The parent of a record, if it names one that is kept: `CountedCompleter.getCompleter`. The caller answers for a good handle.
+    /// The parent of a record, if it names one that is kept: `CountedCompleter.getCompleter`. Precondition: a good handle.
     pub fn above(&self, h: Handle) -> Option<Handle>
         requires { IsGood self.now h }
         ensures parent { result ≡ above self.now h }

@@ -9,8 +9,8 @@ use crate::tree::Tree;
 use fj_model::Status;
 
 impl Tree {
-    /// How many get a status that is relayed from a task, itself counted, which is what [`Tree::relay_up`] answers. The caller answers
-    /// for a good handle.
+    /// How many get a status that is relayed from a task, itself counted, which is what [`Tree::relay_up`] answers. Precondition: a good
+    /// handle.
     ///
     /// A done task gets nothing and ends the relay. An undone one gets the status, and if its kind says relay, the relay goes on at its
     /// parent. So 0 is answered for a done task.
@@ -32,7 +32,7 @@ impl Tree {
         relayed
     }
 
-    /// Relays a status from a task, and answers how many get it, itself counted. The caller answers for a good handle.
+    /// Relays a status from a task, and answers how many get it, itself counted. Precondition: a good handle.
     ///
     /// They are those that [`Tree::relay_look`] counts. All else stays. Which parents a status reaches is what
     /// `CountedCompleter.onExceptionalCompletion` answers in Java.
