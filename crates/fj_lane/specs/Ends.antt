@@ -18,6 +18,7 @@ pub record DrainState (B : Type 0) : Type 0 where
   pub lane : LaneId
   pub drained : List (Parcel B)
   pub missed : ℕ
+  pub capacity : ℕ
 
 module _ {B : Type 0} where
   -- a feed that has done nothing
@@ -25,5 +26,5 @@ module _ {B : Type 0} where
   new_feed lane capacity = record { lane = lane; fed = []; capacity = capacity }
 
   -- a drain that has done nothing
-  abbrev pub new_drain : LaneId → DrainState B
-  new_drain lane = record { lane = lane; drained = []; missed = 0 }
+  abbrev pub new_drain : LaneId → ℕ → DrainState B
+  new_drain lane capacity = record { lane = lane; drained = []; missed = 0; capacity = capacity }

@@ -1,4 +1,4 @@
-ghost use Rattle.std.specs.Prelude.{◌≡◌, ◌+◌, [], ◌∷◌, ◌++◌, MatchOption};
+ghost use Rattle.std.specs.Prelude.{◌≡◌, ◌+◌, ◌≤◌, [], ◌∷◌, ◌++◌, length, MatchOption};
 
 use crate::misses::Misses;
 use crate::parcel::Parcel;
@@ -14,21 +14,28 @@ pub struct Drain<B> {
     /// The right to take, with what was taken. It has no bytes.
     pub(crate) pass: Pass<Parcel<B>, View<B>>,
     pub(crate) misses: Misses,
+    /// How many parcels may be pushed into the lane, and so taken out of it, in all.
+    pub(crate) capacity: u32,
+    /// How many it has taken.
+    pub(crate) taken: u32,
 }
 
 impl<B> Model for Drain<B> {
-    ghost use Rattle.std.specs.Prelude.{◌≡◌, true};
+    ghost use Rattle.std.specs.Prelude.{◌≡◌, ◌≤◌, true, length};
     ghost use Rattle.crossbeam_deque.specs.Handles.{stealer_deque, stealer_flavor, view as pass_view, IsPassOf};
     ghost use Rattle.fj_lane.specs.Ends.{DrainState};
 
     ghost Value = { DrainState B };
 
-    ghost view = { λ d. record { lane = stealer_deque d.stealer; drained = (pass_view d.pass).drained; missed = d.misses.number } };
+    ghost view = { λ d. record { lane = stealer_deque d.stealer; drained = (pass_view d.pass).drained; missed = d.misses.number; capacity = d.capacity } };
 
     ghost invariant = { λ d. record {
       paired : IsPassOf (stealer_deque d.stealer) d.pass;
       may_drain : (pass_view d.pass).drains ≡ true;
       oldest_first : stealer_flavor d.stealer ≡ 0;
+      counted : d.taken ≡ length (pass_view d.pass).drained;
+      within : d.taken ≤ d.capacity;
+      most : d.capacity ≤ 65536;
     } };
 }
 
@@ -37,12 +44,21 @@ impl<B> Drain<B> {
     ///
     /// Of the parcels pushed it is the one that follows those taken so far; where the ends meet that is seen. `None` only where the
     /// lane was empty at one moment of the call, or the steal answered `Retry`. Then the count of misses has grown by one, and
-    /// nothing else has changed.
+    /// nothing else has changed. It never gives more parcels than the capacity of the lane.
     pub fn take(&mut self) -> Option<Parcel<B>>
-        ensures { MatchOption result (self.new ≡ record self.old { missed = self.old.missed + 1 }) (λ p. self.new ≡ record self.old { drained = self.old.drained ++ p ∷ [] }) }
+        ensures within { length self.new.drained ≤ self.new.capacity }
+        ensures taken { MatchOption result (self.new ≡ record self.old { missed = self.old.missed + 1 }) (λ p. self.new ≡ record self.old { drained = self.old.drained ++ p ∷ [] }) }
     {
+        // All that may be pushed was taken: the lane is empty for good.
+        if self.taken == self.capacity {
+            self.misses = self.misses.next();
+            return None;
+        }
         match self.stealer.steal_as::<Take>(&mut self.pass) {
-            Steal::Success(parcel) => Some(parcel),
+            Steal::Success(parcel) => {
+                self.taken += 1;
+                Some(parcel)
+            }
             Steal::Empty | Steal::Retry => {
                 self.misses = self.misses.next();
                 None

@@ -18,7 +18,7 @@ use std::alloc::Global;
 pub fn lane<B: Drop>(alloc: Global, capacity: u32) -> Result<(Feed<B>, Drain<B>), OutOfMemory>
     requires capacity { (1 ≤ capacity) × (capacity ≤ 65536) }
     ensures feed { IfOk result (λ r. r.0 ≡ new_feed r.1.lane capacity) }
-    ensures drain { IfOk result (λ r. r.1 ≡ new_drain r.1.lane) }
+    ensures drain { IfOk result (λ r. r.1 ≡ new_drain r.1.lane capacity) }
 {
     let mut worker = Worker::<Parcel<B>, Global, View<B>, LaneRule>::fifo_as(
         alloc,
@@ -35,6 +35,8 @@ pub fn lane<B: Drop>(alloc: Global, capacity: u32) -> Result<(Feed<B>, Drain<B>)
         stealer,
         pass,
         misses: Misses::zero(),
+        capacity,
+        taken: 0,
     };
     Ok((feed, drain))
 }

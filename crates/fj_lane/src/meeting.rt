@@ -50,6 +50,8 @@ pub fn meet<B: Drop>(feed: Feed<B>, drain: Drain<B>) -> Rest<B>
         stealer: _,
         pass,
         misses: _,
+        capacity: _,
+        taken: _,
     } = drain;
     worker.absorb::<Ends>(pass);
     // Of this load only what it proves is used: that the deque holds just what was pushed and not taken.
