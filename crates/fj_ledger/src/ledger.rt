@@ -192,8 +192,16 @@ impl Ledger {
         requires { w < self.now.pool.limits.workers }
         ensures hand { option_map (λ k. k.completer) result ≡ hand self.now.events w }
         ensures tells { IfSome result (TellsHook self.now.events) }
+        ensures lawful { IsLawful self.now.pool (limit self.now) self.now.events }
     {
         self.hands[w.0 as usize]
+    }
+
+    /// How large the pool may grow.
+    pub fn limits(&self) -> Limits
+        ensures { result ≡ self.now.pool.limits }
+    {
+        self.limits
     }
 
     /// Whether there is such a worker.

@@ -2,6 +2,8 @@
 
 -- Submit, Fork, Trigger
 pub mod AcceptSteps
+-- what the next submission would be refused with
+pub mod SubmitRefusals
 -- Poll, Help, Join
 pub mod TakeSteps
 -- End

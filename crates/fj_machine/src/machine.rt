@@ -1,20 +1,25 @@
-ghost use Rattle.std.specs.Prelude.{◌≡◌, IfOk, OnOk, IfErr, OnErr, ◌∷◌, [], ◌++◌, None, List};
+ghost use Rattle.std.specs.Prelude.{◌≡◌, ◌<◌, IfOk, OnOk, IfErr, OnErr, ◌∷◌, [], ◌++◌, None, List, true};
 ghost use Rattle.fj_model.specs.Queues.{queue};
 ghost use Rattle.fj_model.specs.Stacks.{stack};
+ghost use Rattle.fj_model.specs.Bounds.{IsWithin};
+ghost use Rattle.fj_model.specs.Hooks.{hand};
+ghost use Rattle.fj_model.specs.Tasks.{is_kept, parent};
 ghost use Rattle.fj_model.specs.Places.{open_tasks};
 ghost use Rattle.fj_model.specs.Allowed.{AllowedFrom};
-ghost use Rattle.fj_model.specs.Answers.{answer};
+ghost use Rattle.fj_model.specs.Answers.{answer, refusal_of};
 ghost use Rattle.fj_model.specs.Pasts.{fresh, present, gone_since, sealed_now};
 ghost use Rattle.fj_model.specs.Runs.{Steps};
 ghost use Rattle.fj_model.specs.Epochs.{IsPast, seal_refusal, RefusesSeal};
 ghost use Rattle.fj_model.specs.Parts.{Fits};
 ghost use Rattle.fj_model.specs.Headline.{Headline, RepliesTell};
+ghost use Rattle.fj_machine.specs.InHands.{HooksApart};
 ghost use Rattle.fj_machine.specs.Outcomes.{Makes, said_by};
+ghost use Rattle.fj_model.specs.declared.step.Step.TheVariants.{Submit};
 ghost use Rattle.fj_model.specs.declared.epoch.Sealed.{Sealed as Part};
 ghost use Rattle.fj_model.specs.declared.owner.Owner.{Owner as OwnerCase};
 ghost use Rattle.fj_model.specs.declared.refusal.Refusal.{Refusal as RefusalCase};
 
-use crate::steps::accept::{fork, submit, trigger};
+use crate::steps::accept::{fork, submit, submit_refusal, trigger};
 use crate::steps::completer::{add, quiet_root};
 use crate::steps::end::end;
 use crate::steps::end::hook::hook_done;
@@ -24,7 +29,9 @@ use crate::steps::settle::{cancel, fault};
 use crate::steps::shut::{shutdown, stop};
 use crate::steps::take::{help, join, poll};
 use fj_ledger::Ledger;
-use fj_model::{Event, Limits, Mode, Owner, Refusal, Said, Sealed, Serial, Step, WorkerId};
+use fj_model::{
+    Event, Limits, Mode, Owner, Refusal, Said, Sealed, Serial, Step, SubId, SubmittedKind, WorkerId,
+};
 use fj_queues::Numbers;
 use std::alloc::Global;
 use std::marker::Model;
@@ -98,6 +105,40 @@ impl Machine {
         ensures { result.now ≡ gone_since self.now }
     {
         self.ledger.gone()
+    }
+
+    /// The completer whose completion action is in a worker's hand. Precondition: there is such a worker.
+    pub fn hook(&self, w: WorkerId) -> Option<Serial>
+        requires { w < self.now.pool.limits.workers }
+        ensures hook { result ≡ hand self.now.events w }
+        ensures apart { HooksApart self.now.events }
+    {
+        self.ledger.hook(w).map(|hook| hook.completer)
+    }
+
+    /// The parent that a kept task names, if it names one: `CountedCompleter.getCompleter`. None for a task that is not kept.
+    pub fn parent(&self, t: Serial) -> Option<Serial>
+        ensures { is_kept self.now.events t ≡ true → result ≡ parent self.now.events t }
+    {
+        self.ledger.find(t)?.kind.parent()
+    }
+
+    /// How large the pool may grow.
+    pub fn limits(&self) -> Limits
+        ensures limits { result ≡ self.now.pool.limits }
+        ensures within { IsWithin result.workers result.submitters result.tasks result.events }
+    {
+        let limits = self.ledger.limits();
+        // Tells that each limit lies in its range.
+        let _workers = limits.workers();
+        limits
+    }
+
+    /// The refusal that the step Submit would answer now for a task of this kind. None if it would be accepted.
+    pub fn submit_refusal(&self, s: SubId, kind: &SubmittedKind) -> Option<Refusal>
+        ensures { result ≡ refusal_of self.now (Submit s kind.now) }
+    {
+        submit_refusal(&self.ledger, s, kind)
     }
 
     /// How many seals there were.

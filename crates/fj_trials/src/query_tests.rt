@@ -32,6 +32,22 @@ a root becomes normal as its hook ends
 async 2 1 8 64; submit 0 3 relay > task 0; poll 1 0 > run 0; end 1 complete > hook 0; hook 1 > root 0;
 events 2 > End(Serial(0), WorkerId(1)) Fire(Serial(0), Complete) Hooked(Serial(0)) Settle(Serial(0), Normal)";
 
+// What the machine tells of hands, parents, limits and the next submission.
+const TOLD: &str = "a completion action is in the hand of the worker that ended the body
+async 2 1 8 64; submit 0 0 relay > task 0; poll 1 0 > run 0; hand 1 > none; end 1 try > hook 0; hand 1 > 0; hand 0 > none; hook 1 > root 0; hand 1 > none
+
+a child names its parent
+async 1 1 8 64; submit 0 1 relay > task 0; poll 0 0 > run 0; fork 0 0 0 relay > task 1; fork 0 > task 2; parent 0 > none; parent 1 > 0; parent 2 > none; parent 3 > none
+
+the limits are those that it was made with
+joining 3 2 17 99; limits > 3 2 17 99
+
+a submission is refused in the order of refusals
+async 1 1 1 4; submission 1 > refused 4; submission 0 > accepted; submit 0 > task 0; submission 0 > refused 2; shutdown > done; submission 0 > refused 1
+
+a submission does not fit into a full history
+async 1 1 4 1; submission 0 > accepted; submit 0 > task 0; submission 0 > refused 3";
+
 // The order in which several tasks come to be gone by one step.
 const GONE: &str = "a propagated completion goes upward
 async 1 1 4 64; submit 0 0 relay > task 0; poll 0 0 > run 0; fork 0 0 0 relay > task 1; end 0 quiet > done; poll 0 0 > run 1;
@@ -45,6 +61,13 @@ open > 3 1; gone > 2 0; stop > done; gone > 2 0 1 3";
 #[test]
 fn lists_and_events_are_shown(rt: HostRuntime) -> Result<(), Fail> {
     let given = wrong(rt.alloc(), LISTS)?;
+    assert_eq!(rt; given.as_str(), "");
+    Ok(())
+}
+
+#[test]
+fn hands_parents_limits_and_refusals_are_told(rt: HostRuntime) -> Result<(), Fail> {
+    let given = wrong(rt.alloc(), TOLD)?;
     assert_eq!(rt; given.as_str(), "");
     Ok(())
 }

@@ -169,10 +169,49 @@ fn shown(alloc: Global, machine: &Machine, asked: &str) -> Result<String, Fail> 
         "open" => numbers(alloc, machine.open())?,
         "gone" => numbers(alloc, machine.gone())?,
         "epoch" => format!(in alloc; "{}", machine.epoch())?,
+        "hand" => hand(alloc, machine, number)?,
+        "parent" => maybe(alloc, machine.parent(Serial(u64::from(number))))?,
+        "limits" => limits(alloc, machine.limits())?,
+        "submission" => submission(alloc, machine, SubId(number))?,
         "events" => events(alloc, machine, number)?,
         _ => format!(in alloc; "no step")?,
     };
     Ok(tasks)
+}
+
+// The completer whose completion action a worker has in hand.
+fn hand(alloc: Global, machine: &Machine, number: u32) -> Result<String, Fail> {
+    if number < machine.limits().workers() {
+        maybe(alloc, machine.hook(WorkerId(number)))
+    } else {
+        Ok(format!(in alloc; "no worker")?)
+    }
+}
+
+// A task's number, or `none`.
+fn maybe(alloc: Global, task: Option<Serial>) -> Result<String, Fail> {
+    match task {
+        Some(t) => Ok(format!(in alloc; "{}", t.0)?),
+        None => Ok(format!(in alloc; "none")?),
+    }
+}
+
+fn limits(alloc: Global, limits: Limits) -> Result<String, Fail> {
+    Ok(format!(in alloc;
+        "{} {} {} {}",
+        limits.workers(),
+        limits.submitters(),
+        limits.tasks(),
+        limits.events()
+    )?)
+}
+
+// What the submission of a plain task would be refused with.
+fn submission(alloc: Global, machine: &Machine, s: SubId) -> Result<String, Fail> {
+    match machine.submit_refusal(s, &SubmittedKind::Plain) {
+        Some(refusal) => Ok(format!(in alloc; "refused {}", refusal.number())?),
+        None => Ok(format!(in alloc; "accepted")?),
+    }
 }
 
 fn queue(alloc: Global, machine: &Machine, owner: Owner) -> Result<String, Fail> {

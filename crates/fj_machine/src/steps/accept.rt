@@ -3,7 +3,7 @@ ghost use Rattle.std.specs.Prelude.{◌≡◌, ◌∷◌, [], Some, IfOk, option
 ghost use Rattle.fj_model.specs.declared.refusal.Refusal.TheVariants.{Unknown, NotCompleter};
 ghost use Rattle.fj_model.specs.declared.step.Step.TheVariants.{Fork, Submit, Trigger};
 ghost use Rattle.fj_model.specs.Tasks.{parent_in};
-ghost use Rattle.fj_model.specs.Answers.{first_that_stands, refusals_of, is_unknown_parent, is_plain_parent};
+ghost use Rattle.fj_model.specs.Answers.{first_that_stands, refusal_of, refusals_of, is_unknown_parent, is_plain_parent};
 ghost use Rattle.fj_machine.specs.Outcomes.{Makes, refusal_in};
 
 use crate::steps::refuse::{known, room_for, running_task, task_room};
@@ -18,6 +18,16 @@ pub(crate) fn submit(ledger: &mut Ledger, s: SubId, kind: &SubmittedKind) -> Res
     may_submit(ledger, s, kind)?;
     room_for(ledger, 1)?;
     Ok(Said::Task(ledger.accept(&Owner::Sub(s), &kind.to_kind(), None)))
+}
+
+/// Why a submission would be refused now, if it would be.
+pub(crate) fn submit_refusal(ledger: &Ledger, s: SubId, kind: &SubmittedKind) -> Option<Refusal>
+    ensures { result ≡ refusal_of ledger.now (Submit s kind.now) }
+{
+    if let Err(refusal) = may_submit(ledger, s, kind) {
+        return Some(refusal);
+    }
+    room_for(ledger, 1).err()
 }
 
 /// The running task of a worker forks a task, which goes to the new end of the worker's queue: `ForkJoinTask.fork`.
