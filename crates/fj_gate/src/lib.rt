@@ -20,17 +20,17 @@
 mod closer;
 mod entrant;
 mod look;
-mod making;
-mod meeting;
+mod new_gate;
 mod ticket;
+mod tickets;
 mod word;
 
 pub use closer::{Closer, Closing};
 pub use entrant::Entrant;
 pub use look::Look;
-pub use making::gate;
-pub use meeting::{Tickets, meet};
+pub use new_gate::gate;
 pub use ticket::{Closed, Ticket};
+pub use tickets::{Tickets, meet};
 
 #[cfg(test)]
 mod tests;

@@ -18,17 +18,17 @@
 
 mod drain;
 mod feed;
-mod making;
-mod meeting;
 mod misses;
+mod new_lane;
 mod parcel;
+mod rest;
 mod rule;
 
 pub use drain::Drain;
 pub use feed::Feed;
-pub use making::lane;
-pub use meeting::{Rest, meet};
+pub use new_lane::lane;
 pub use parcel::{LaneSpent, Parcel};
+pub use rest::{Rest, meet};
 
 #[cfg(test)]
 mod tests;

@@ -2,7 +2,7 @@ use Rattle.std.proofs.Common.{◌≡◌, ◌-◌, [], All, vec_len}
 use Rattle.std.specs.Arc.{arc_value}
 use Rattle.fj_gate.specs.Ends.{new_entrant}
 use Rattle.fj_gate.specs.Steps.{fresh}
-use Rattle.fj_gate.proofs.making.gate.Given as goal
+use Rattle.fj_gate.proofs.new_gate.gate.Given as goal
 
 abbrev pub invariant-loop : goal.invariant-loop
 invariant-loop l = record {

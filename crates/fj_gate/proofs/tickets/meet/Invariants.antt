@@ -1,7 +1,7 @@
 use Rattle.std.proofs.Common.{◌≡◌, ◌≤◌, ◌+◌, false, [], All, length}
 use Rattle.std.specs.Arc.{arc_value}
 use Rattle.fj_gate.specs.Ends.{drawn_by}
-use Rattle.fj_gate.proofs.meeting.meet.Given as goal
+use Rattle.fj_gate.proofs.tickets.meet.Given as goal
 
 abbrev pub invariant-loop-entrant : goal.invariant-loop-entrant
 invariant-loop-entrant l = record {

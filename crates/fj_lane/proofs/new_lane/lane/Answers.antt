@@ -1,6 +1,6 @@
 use Rattle.std.proofs.Common.{rules}
 use Rattle.fj_lane.proofs.Kept.{begins, forks}
-use Rattle.fj_lane.proofs.making.lane.Goals as goal
+use Rattle.fj_lane.proofs.new_lane.lane.Goals as goal
 
 pub fifo_as-requires : goal.fifo_as-requires
 fifo_as-requires g c = begins

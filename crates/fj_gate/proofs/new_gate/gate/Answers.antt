@@ -4,7 +4,7 @@ use Rattle.atomic_table.specs.Seated.{TableId}
 use Rattle.fj_gate.specs.Ends.{new_entrant}
 use Rattle.fj_gate.specs.Steps.{Seated, fresh, less_one}
 use Rattle.fj_gate.proofs.Parting.{less_one-fresh}
-use Rattle.fj_gate.proofs.making.gate.Goals as goal
+use Rattle.fj_gate.proofs.new_gate.gate.Goals as goal
 
 pub cut_off-requires-clause-token : goal.cut_off-requires-clause-token
 cut_off-requires-clause-token c =

@@ -3,7 +3,7 @@ use Rattle.std.proofs.lemmas.List.Elements.{All-push}
 use Rattle.atomic_table.specs.Seated.{TableId}
 use Rattle.fj_gate.proofs.Drawn.{drawn_by-push}
 use Rattle.fj_gate.proofs.Steps.{meets}
-use Rattle.fj_gate.proofs.meeting.meet.Goals as goal
+use Rattle.fj_gate.proofs.tickets.meet.Goals as goal
 
 pub loop-entrant-preserved : goal.loop-entrant-preserved
 loop-entrant-preserved c =
