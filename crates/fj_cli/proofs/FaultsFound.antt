@@ -1,6 +1,6 @@
 -- What a playback has found when it stops.
 use Rattle.std.specs.Prelude.{◌==◌, if◌then◌else◌, true, false, is_some}
-use Rattle.std.proofs.Common.{ℕ, ◌≡◌, ◌≢◌, ◌+◌, ◌<◌, ◌≤◌, List, [], ◌∷◌, ◌++◌, refl, arith, ◌∙◌, sym, ap, take, drop, length, length-append, append_assoc, ◌⊎◌, inl, inr, Option, None}
+use Rattle.std.proofs.Common.{ℕ, ◌≡◌, ◌≢◌, ◌+◌, ◌<◌, ◌≤◌, List, [], ◌∷◌, ◌++◌, refl, arith, ◌∙◌, sym, ap, take, drop, length, length-append, append_assoc, ◌⊎◌, inl, inr, Option, None, Some}
 use Rattle.std.proofs.lemmas.List.{append-nil, take-append-drop}
 use Rattle.std.proofs.Math.Seq.{take-append_seam}
 use Rattle.std.proofs.Math.ListN.{get_or}
@@ -9,7 +9,7 @@ use Rattle.fj_cli.specs.declared.fault.ReplayFault.{ReplayFault}
 use Rattle.fj_cli.specs.declared.fault.ReplayFault.TheVariants.{Line, Limits, Memory, Read, Write}
 use Rattle.fj_cli.specs.Cuts.{cut, left, lines, rest, AppendsSome}
 use Rattle.fj_cli.specs.Scripts.{text}
-use Rattle.fj_cli.specs.Faults.{Stands, IsUnended, IsOutOfLimits, OpensOutOfLimits, FaultOf, IsReplayed}
+use Rattle.fj_cli.specs.Faults.{Stands, IsUnended, IsOutOfLimits, OpensOutOfLimits, Ends, FaultOf, IsReplayed}
 use Rattle.fj_cli.specs.Playbacks.{Kept, IsAt, EndsEarly, FaultAt, IsFaulty, past_of, line_text}
 use Rattle.fj_cli.proofs.Bytes.{appends_keeps, appends_twice}
 use Rattle.fj_cli.proofs.Lines.{cut-append, left-append, left-uncut, none-cut}
@@ -169,3 +169,10 @@ replayed_whole b v before ahead s n read ends at none there = record {
 -- a flush changes nothing of it
 pub flushed_at : (b : List ℕ) (v : Kept) (start now after : Option (List ℕ)) → IsAt b v start now → Keeps now after → IsAt b v start after
 flushed_at b v start now after at kept = record { count = at.count; line = at.line; short = at.short; past = at.past; good = at.good; written = appends_keeps start now after (text b) at.written kept }
+
+-- replies that lie in memory are refused a byte for want of memory alone
+pub write_is_memory : (b : List ℕ) (before ahead start now : Option (List ℕ)) → Ends Write b before ahead start now → Ends Memory b before ahead start now
+write_is_memory b before ahead start now e = record { read = e.read; means = e.means }
+
+pub ends_in_memory : (fault : ReplayFault) (b whole script written : List ℕ) (ahead now : Option (List ℕ)) → whole ≡ script → written ≡ [] → Ends fault b (Some whole) ahead (Some written) now → Ends fault b (Some script) ahead (Some []) now
+ends_in_memory fault b whole script written ahead now same empty e = rw (same, empty) at e

@@ -12,3 +12,5 @@ pub mod FaultsFound
 pub mod Begun
 -- what the kind of an error says of the words
 pub mod Answered
+-- the calls of a reader or a writer, one after another
+pub mod CallsMade

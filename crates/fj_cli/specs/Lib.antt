@@ -1,4 +1,5 @@
 pub mod Cuts
+pub mod Calls
 pub mod Scripts
 pub mod Faults
 pub mod Playbacks

@@ -13,10 +13,12 @@ pub enum ReplayFault {
     /// Memory was refused. The first replies may be written.
     #[error("out of memory")]
     Memory,
-    /// The reader failed, or gave no end in as many reads or lines as 64 bits count. All whole lines were replied to.
+    /// A read gave an error other than an interruption; or there was no end in 2^64 - 1 reads, or in as many lines as 64 bits count.
+    /// All whole lines were replied to.
     #[error("read failed")]
     Read,
-    /// The writer failed, or took nothing. The first replies may be written.
+    /// A write or a flush gave an error other than an interruption, or a write took nothing, or 2^64 - 1 were interrupted. The first
+    /// replies may be written.
     #[error("write failed")]
     Write,
 }

@@ -2,13 +2,15 @@
 //!
 //! [`replay`] reads a script from any reader, makes its steps on a `Machine` and writes the replies: what it writes is `text` of the
 //! bytes that it read, or a beginning of it where memory or the writer failed. `text` is a definition of `specs/Scripts.antt`.
-//! [`fj`] runs a command over any reader and writers.
+//! Any `Read` is a [`Source`], any `Write` a [`Sink`]; over those that are [`Watched`] contracts see too that a fault of reading or
+//! writing is told exactly where one came. [`fj`] runs a command over any reader and writers.
 #![tactic(auto)]
 
 mod command_line;
 #[cfg(test)]
 mod completer_tests;
 mod fault;
+mod in_memory;
 #[cfg(test)]
 mod last_tests;
 mod play;
@@ -20,10 +22,13 @@ mod run;
 mod script_tests;
 #[cfg(test)]
 mod stream_tests;
+mod streams;
+mod tally;
 #[cfg(test)]
 mod test_rows;
 #[cfg(test)]
 mod tests;
+mod watched;
 #[cfg(test)]
 mod word_tests;
 mod writes;
@@ -31,3 +36,5 @@ mod writes;
 pub use fault::ReplayFault;
 pub use replays::{replay, replayed};
 pub use run::{fj, without_words};
+pub use streams::{Sink, Source};
+pub use watched::Watched;

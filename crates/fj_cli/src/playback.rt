@@ -1,14 +1,15 @@
 ghost use Rattle.std.specs.Prelude.{◌≡◌, ℕ, ◌+◌, ◌^◌, ◌<◌, ◌≤◌, ◌++◌, [], length, OnOk, IfOk, IfErr, List, Option, true, is_some};
 ghost use Rattle.std.specs.Io.KnownBytes.{Appends};
+ghost use Rattle.fj_cli.specs.Calls.{IsFine, WriterTells};
 ghost use Rattle.fj_cli.specs.Cuts.{lines};
 ghost use Rattle.fj_cli.specs.Faults.{FaultOf};
 ghost use Rattle.fj_cli.specs.Playbacks.{Kept, nothing_kept, next_kept, fed, Goes, FaultAt, EndsEarly, IsAt};
 
 use crate::fault::ReplayFault;
 use crate::replier::Replier;
+use crate::streams::Sink;
 use fj_model::read_step;
 use std::alloc::{AllocError, Global};
-use std::io::Write;
 use std::marker::Model;
 
 /// What is kept of the bytes so far.
@@ -54,12 +55,14 @@ impl Playback {
     }
 
     /// Ends the line: opens the machine at the heading, and replies to any other line.
-    fn end_line<W: Write>(&mut self, alloc: Global, w: &mut W) -> Result<(), ReplayFault>
+    fn end_line<W: Sink>(&mut self, alloc: Global, w: &mut W) -> Result<(), ReplayFault>
         requires { self.old.count + 1 < 2 ^ 64 }
         ensures goes { OnOk result (Goes self.old 10) }
         ensures next { OnOk result (self.new ≡ next_kept self.old 10) }
         ensures wrote { OnOk result (Appends (W.contents w.old) (W.contents w.new) (fed self.old 10)) }
         ensures err { IfErr result (λ fault. FaultAt fault self.old 10 (W.contents w.old) (W.contents w.new)) }
+        ensures fine { OnOk result (IsFine (W.calls w.old) (W.calls w.new)) }
+        ensures told { IfErr result (λ fault. WriterTells fault (W.calls w.old) (W.calls w.new)) }
     {
         match &mut self.replier {
             None => self.replier = Some(Replier::open(alloc, self.line.as_slice())?),
@@ -76,12 +79,14 @@ impl Playback {
     }
 
     /// Takes one byte. A line is ended by a line feed, and is at fault as soon as it has more than 64 bytes.
-    fn feed<W: Write>(&mut self, alloc: Global, byte: u8, w: &mut W) -> Result<(), ReplayFault>
+    fn feed<W: Sink>(&mut self, alloc: Global, byte: u8, w: &mut W) -> Result<(), ReplayFault>
         requires { self.old.count + 1 < 2 ^ 64 }
         ensures goes { OnOk result (Goes self.old byte) }
         ensures next { OnOk result (self.new ≡ next_kept self.old byte) }
         ensures wrote { OnOk result (Appends (W.contents w.old) (W.contents w.new) (fed self.old byte)) }
         ensures err { IfErr result (λ fault. FaultAt fault self.old byte (W.contents w.old) (W.contents w.new)) }
+        ensures fine { OnOk result (IsFine (W.calls w.old) (W.calls w.new)) }
+        ensures told { IfErr result (λ fault. WriterTells fault (W.calls w.old) (W.calls w.new)) }
     {
         if byte == b'\n' {
             return self.end_line(alloc, w);
@@ -94,7 +99,7 @@ impl Playback {
     }
 
     /// Takes bytes, up to a fault.
-    pub fn feed_all<W: Write>(
+    pub fn feed_all<W: Sink>(
         &mut self,
         alloc: Global,
         bytes: &[u8],
@@ -103,6 +108,8 @@ impl Playback {
         requires { self.old.count + length bytes.now < 2 ^ 64 }
         ensures ok { OnOk result ((b : List ℕ) (start : Option (List ℕ)) → IsAt b self.old start (W.contents w.old) → IsAt (b ++ bytes.now) self.new start (W.contents w.new)) }
         ensures err { IfErr result (λ fault. (b : List ℕ) (start ahead : Option (List ℕ)) → IsAt b self.old start (W.contents w.old) → FaultOf fault (b ++ bytes.now) ahead start (W.contents w.new)) }
+        ensures fine { OnOk result (IsFine (W.calls w.old) (W.calls w.new)) }
+        ensures told { IfErr result (λ fault. WriterTells fault (W.calls w.old) (W.calls w.new)) }
     {
         for byte in bytes {
             self.feed(alloc, *byte, w)?;

@@ -3,18 +3,19 @@ ghost use Rattle.std.specs.Io.KnownBytes.{Appends};
 ghost use Rattle.fj_model.specs.Answers.{answer};
 ghost use Rattle.fj_model.specs.Pasts.{grown};
 ghost use Rattle.fj_model.specs.Lines.{reply_line};
+ghost use Rattle.fj_cli.specs.Calls.{IsFine, WriterTells};
 ghost use Rattle.fj_cli.specs.Cuts.{AppendsSome};
 ghost use Rattle.fj_cli.specs.Scripts.{pool_in, start};
 ghost use Rattle.fj_cli.specs.Playbacks.{IsHeadFault, IsReplyFault};
 
 use crate::fault::ReplayFault;
+use crate::streams::Sink;
 use crate::writes::write_whole;
 use fj_machine::Machine;
 use fj_model::{
     Limits, Mode, Owner, Place, Refusal, Serial, Status, Step, SubId, WorkerId, read_head,
 };
 use std::alloc::Global;
-use std::io::Write;
 use std::marker::Model;
 
 /// A machine, and what its replies are written with. It is known by the machine's past.
@@ -62,10 +63,12 @@ impl Replier {
     }
 
     /// Makes the step, and writes the reply. `Memory` or `Write` where only a first part of the reply, or nothing, was written.
-    pub fn reply<W: Write>(&mut self, asked: &Step, w: &mut W) -> Result<(), ReplayFault>
+    pub fn reply<W: Sink>(&mut self, asked: &Step, w: &mut W) -> Result<(), ReplayFault>
         ensures past { OnOk result (self.new ≡ grown self.old (answer self.old asked.now).1) }
         ensures written { OnOk result (Appends (W.contents w.old) (W.contents w.new) (reply_line self.old.pool.limits (answer self.old asked.now).0)) }
         ensures err { IfErr result (λ fault. IsReplyFault fault) }
+        ensures fine { OnOk result (IsFine (W.calls w.old) (W.calls w.new)) }
+        ensures told { IfErr result (λ fault. WriterTells fault (W.calls w.old) (W.calls w.new)) }
         ensures some { OnErr result (AppendsSome (W.contents w.old) (W.contents w.new) (reply_line self.old.pool.limits (answer self.old asked.now).0)) }
     {
         // The check wants each type inside a reply to be named where one is moved.

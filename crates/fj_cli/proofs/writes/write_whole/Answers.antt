@@ -1,10 +1,11 @@
-use Rattle.fj_cli.proofs.Bytes.{write_step, appends_keeps}
+use Rattle.std.proofs.Common.{refl}
+use Rattle.fj_cli.proofs.Bytes.{write_step}
+use Rattle.fj_cli.proofs.CallsMade.{fine_twice}
 use Rattle.fj_cli.proofs.writes.write_whole.Goals as goal
-use Rattle.fj_cli.proofs.writes.write_whole.Goals.{in-Ok, in-Err+else-ne}
 
-pub loop-preserved : goal.loop-preserved
-loop-preserved g c =
-    elim c.match-write.branch [
-      | in-Ok w ↦ write_step _ _ _ _ _ _ _ c.loop.invariant.0 c.loop.invariant.1 w.in-Ok.ensures.bound w.in-Ok.ensures.bytes w.at-is
-      | in-Err+else-ne w ↦ rw w.at-is (c.loop.invariant.0, appends_keeps _ _ _ _ c.loop.invariant.1 w.in-Err.ensures.bytes)
-    ]
+pub loop-at-preserved : goal.loop-at-preserved
+loop-at-preserved g c =
+    let so_far = c.loop-at.invariant in
+    let wrote = c.in_ok-at.ensures in
+    let step = write_step _ _ _ _ _ _ _ so_far.0 so_far.1 wrote.count.1 wrote.bytes refl in
+    (step.0, step.1, fine_twice _ _ _ so_far.2 wrote.fine)
