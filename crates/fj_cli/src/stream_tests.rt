@@ -3,6 +3,7 @@ use crate::replays::{replay, replayed};
 use crate::run::fj;
 use crate::test_rows::{REPLAY, Ran, bytes, command};
 use crate::tests::{REPLIES, SCRIPT, ended, first_lines};
+use crate::watched::Watched;
 use std::alloc::{AllocError, Global};
 use std::io::{self, ErrorKind, Read, Write};
 use std::test::Fail;
@@ -227,6 +228,54 @@ fn long_lines(rt: HostRuntime) -> Result<(), Fail> {
             "{length} letters"
         );
     }
+    Ok(())
+}
+
+#[test]
+fn watched_streams(rt: HostRuntime) -> Result<(), Fail> {
+    let alloc = rt.alloc();
+    let mut input = Halting {
+        bytes: bytes(alloc, SCRIPT)?,
+        at: 0,
+        rests: false,
+        fails: true,
+    };
+    let mut out = sink(alloc, 1000, End::Fails);
+    let ended = replay(
+        alloc,
+        &mut Watched::new(&mut input),
+        &mut Watched::new(&mut out),
+    );
+    assert_eq!(rt; ended, Err(ReplayFault::Read));
+    assert_eq!(rt; out.taken, bytes(alloc, REPLIES)?);
+    for end in [End::Fails, End::TakesNothing, End::DoesNotFlush] {
+        let script = bytes(alloc, SCRIPT)?;
+        let mut full = sink(alloc, 5, end);
+        let ended = replay(
+            alloc,
+            &mut Watched::new(script.as_slice()),
+            &mut Watched::new(&mut full),
+        );
+        assert_eq!(rt; ended, Err(ReplayFault::Write), "{end:?}");
+        assert_eq!(rt; full.taken, bytes(alloc, "task ")?);
+    }
+    Ok(())
+}
+
+#[test]
+fn many_lines(rt: HostRuntime) -> Result<(), Fail> {
+    let alloc = rt.alloc();
+    let mut script = bytes(alloc, "async 1 1 1 4;")?;
+    let mut replies = Vec::new(alloc);
+    for _ in 0..2_000 {
+        script.extend_from_slice(b"quiet\n")?;
+        replies.extend_from_slice(b"yes\n")?;
+    }
+    let mut out = Vec::new(alloc);
+    let ended = replay(alloc, &mut script.as_slice(), &mut out);
+    assert_eq!(rt; ended, Ok(()));
+    assert_eq!(rt; out, replies);
+    assert_eq!(rt; replayed(alloc, script.as_slice())?, replies);
     Ok(())
 }
 
