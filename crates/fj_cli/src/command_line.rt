@@ -6,6 +6,25 @@ use clap::error::ErrorKind;
 use clap::{Command, Error};
 use std::alloc::{AllocError, Global};
 
+// What help says last: the form of the input, an example, the exit statuses.
+const INPUT: &str =
+    "Input of fj replay: a script on standard input, a heading and then one step a line; each line ends with a line feed
+  async WORKERS SUBMITTERS TASKS EVENTS      or joining, with the same four limits
+  submit 0      poll 0 0      end 0 ok       among other steps, each with one reply line
+
+Example:
+  $ printf 'async 1 1 8 64\\nsubmit 0\\npoll 0 0\\nend 0 ok\\n' | fj replay
+  task 0
+  run 0
+  done
+
+Exit status:
+  0  the whole script was replied to, or help or the version was written
+  2  a fault of the command line
+  3  a faulty line, told by its number, or a limit out of its range
+  4  out of memory
+  5  a read or a write failed";
+
 /// What is to be run.
 #[derive(Clone, Copy)]
 pub enum Subcommand {
@@ -17,12 +36,14 @@ pub enum Subcommand {
 fn command<'a>(alloc: Global) -> Result<Command<'a>, AllocError>
     ensures { IfOk result (λ command. app_of command ≡ whole_line) }
 {
-    let replay = Command::new(alloc, "replay").about(
-        "Runs the script on standard input and writes its replies",
-    );
+    let replay = Command::new(alloc, "replay")
+        .about("Runs the script on standard input and writes its replies")
+        .override_usage("fj replay < SCRIPT")
+        .after_help(INPUT);
     Command::new(alloc, "fj")
         .version("0.1.0")
         .about("A fork-join pool with counted completers")
+        .after_help(INPUT)
         .subcommand_required(true)
         .subcommand(replay)
 }

@@ -46,6 +46,39 @@ fn help_that_is_asked_for(rt: HostRuntime) -> Result<(), Fail> {
 }
 
 #[test]
+fn help_ends_with_the_input_an_example_and_the_statuses(rt: HostRuntime) -> Result<(), Fail> {
+    let lines: [&[&str]; 2] = [
+        ["fj", "--help"].as_slice(),
+        ["fj", "replay", "--help"].as_slice(),
+    ];
+    for words in lines {
+        let ran = command(rt.alloc(), words, &mut b"".as_slice());
+        let text = str::from_utf8(ran.out.as_slice())?;
+        for part in [
+            "Input of fj replay: a script on standard input",
+            "Example:\n  $ ",
+            "Exit status:\n  0  ",
+        ] {
+            assert!(rt; text.contains(part), "{words:?}: {part}");
+        }
+        assert!(rt;
+            text.ends_with("\n  5  a read or a write failed\n"),
+            "{words:?}"
+        );
+    }
+    Ok(())
+}
+
+#[test]
+fn an_argument_too_many_is_told_where_the_script_goes(rt: HostRuntime) -> Result<(), Fail> {
+    let words = ["fj", "replay", "file"];
+    let ran = command(rt.alloc(), words.as_slice(), &mut b"".as_slice());
+    let text = str::from_utf8(ran.err.as_slice())?;
+    assert!(rt; text.contains("Usage: fj replay < SCRIPT"), "{text}");
+    Ok(())
+}
+
+#[test]
 fn the_version(rt: HostRuntime) -> Result<(), Fail> {
     let words = ["fj", "--version"];
     let ran = command(rt.alloc(), words.as_slice(), &mut b"".as_slice());
