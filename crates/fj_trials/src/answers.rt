@@ -1,0 +1,151 @@
+use crate::script::Line;
+use crate::shown::{part, shown};
+use anyhow::Result;
+use fj_cli::replayed;
+use fj_machine::{Machine, run_epochs};
+use fj_model::{
+    Answer, Ending, Kind, Limits, Mode, Move, Owner, Place, Refusal, Said, Serial, Status, Step,
+    SubId, SubmittedKind, WorkerId, read_head, read_step,
+};
+use std::alloc::Global;
+use std::fmt::Write;
+use std::str;
+
+// How the lines of a script are handed on: one by one to a machine, which also shows what stands there; in one list to `run_epochs`; or
+// as text to `replayed`.
+#[derive(Clone, Copy, Debug, PartialEq)]
+pub enum Way {
+    Machine,
+    RunEpochs,
+    Replayed,
+}
+
+impl Way {
+    // Whether it answers such a line.
+    pub fn takes(self, asked: &str) -> bool {
+        match self {
+            Way::Machine => true,
+            Way::RunEpochs => move_of(asked).is_some(),
+            Way::Replayed => read_step(asked.as_bytes()).is_ok(),
+        }
+    }
+
+    // The answers to the lines that it takes, a line each.
+    pub fn answers(
+        self,
+        alloc: Global,
+        mode: Mode,
+        limits: Limits,
+        head: &str,
+        lines: &[Line<'_>],
+    ) -> Result<String> {
+        match self {
+            Way::Machine => of_machine(alloc, mode, limits, lines),
+            Way::RunEpochs => of_run_epochs(
+                alloc,
+                mode,
+                limits,
+                moves_in(alloc, lines)?.as_slice(),
+            ),
+            Way::Replayed => of_replayed(alloc, &script_of(alloc, head, lines)?),
+        }
+    }
+}
+
+// What a heading says, if it is one.
+pub fn heading(head: &str) -> Option<(Mode, Limits)> {
+    let (mode, numbers) = read_head(head.as_bytes()).ok()?;
+    let [workers, submitters, tasks, events] = numbers;
+    let limits = Limits::new(workers, submitters, tasks, events).ok()?;
+    Some((mode, limits))
+}
+
+fn of_machine(alloc: Global, mode: Mode, limits: Limits, lines: &[Line<'_>]) -> Result<String> {
+    let mut machine = Machine::new(alloc, mode, limits)?;
+    let mut text = String::new(alloc);
+    for line in lines {
+        writeln!(
+            text,
+            "{}",
+            answer(alloc, &mut machine, &limits, line.asked)?
+        )?;
+    }
+    Ok(text)
+}
+
+// The reply to a step or a seal, or what the machine shows.
+fn answer(alloc: Global, machine: &mut Machine, limits: &Limits, asked: &str) -> Result<String> {
+    match move_of(asked) {
+        Some(Move::Step(step)) => {
+            Ok(format!(in alloc; "{}", machine.step(&step).display(limits))?)
+        }
+        Some(Move::Seal) => match machine.seal(alloc) {
+            Ok(sealed) => part(alloc, &sealed),
+            Err(refusal) => Ok(format!(in alloc; "refused {}", refusal.number())?),
+        },
+        None => shown(alloc, machine, asked),
+    }
+}
+
+// The move that a line asks for, if it is one.
+fn move_of(asked: &str) -> Option<Move> {
+    // The check wants each type inside a step to be named where one is moved.
+    let _inside: Option<(Kind, SubmittedKind, Ending, Serial, SubId, WorkerId)> = None;
+    if asked == "seal" {
+        return Some(Move::Seal);
+    }
+    match read_step(asked.as_bytes()) {
+        Ok(step) => Some(Move::Step(step)),
+        Err(_) => None,
+    }
+}
+
+fn moves_in(alloc: Global, lines: &[Line<'_>]) -> Result<Vec<Move>> {
+    // As in `move_of`.
+    let _inside: Option<(Step, Kind, SubmittedKind, Ending, Serial, SubId, WorkerId)> = None;
+    let mut moves = Vec::new(alloc);
+    for line in lines {
+        if let Some(asked) = move_of(line.asked) {
+            moves.push(asked)?;
+        }
+    }
+    Ok(moves)
+}
+
+fn of_run_epochs(alloc: Global, mode: Mode, limits: Limits, moves: &[Move]) -> Result<String> {
+    // As in `move_of`.
+    let _inside: Option<(Said, Place, Status, Owner, Refusal, Serial, SubId, WorkerId)> = None;
+    let (_machine, parts, answers) = run_epochs(alloc, mode, limits, moves)?;
+    let mut text = String::new(alloc);
+    let mut parts = parts.iter();
+    for answer in answers.iter() {
+        match answer {
+            Answer::Said(said) => writeln!(text, "{}", said.display(&limits))?,
+            Answer::Sealed => match parts.next() {
+                Some(sealed) => writeln!(text, "{}", part(alloc, sealed)?)?,
+                None => writeln!(text, "no part")?,
+            },
+            Answer::Refused(refusal) => writeln!(text, "refused {}", refusal.number())?,
+        }
+    }
+    Ok(text)
+}
+
+// The heading, and the steps among the lines.
+fn script_of(alloc: Global, head: &str, lines: &[Line<'_>]) -> Result<String> {
+    let mut text = String::new(alloc);
+    writeln!(text, "{head}")?;
+    for line in lines {
+        if read_step(line.asked.as_bytes()).is_ok() {
+            writeln!(text, "{}", line.asked)?;
+        }
+    }
+    Ok(text)
+}
+
+fn of_replayed(alloc: Global, script: &str) -> Result<String> {
+    match replayed(alloc, script.as_bytes()) {
+        Ok(replies) => Ok(str::from_utf8(replies.as_slice())?.to_string(alloc)?),
+        Err(fault) => Ok(format!(in alloc; "{fault}")?),
+    }
+}

@@ -1,0 +1,76 @@
+use crate::answers::{Way, heading};
+use crate::script::{Form, Script, alternative, scripts};
+use anyhow::Result;
+use std::alloc::Global;
+use std::fmt::Write;
+
+// How many scripts a text has, and a line for each that did not give what it must.
+#[derive(Drop)]
+pub struct Report {
+    pub scripts: usize,
+    pub mismatches: String,
+}
+
+// Runs each script of a text, once for each of its headings, in each way. A text without scripts is a mismatch too.
+pub fn report_on(alloc: Global, file: &str, text: &str, form: Form) -> Result<Report> {
+    let all = scripts(alloc, text, form)?;
+    let mut mismatches = String::new(alloc);
+    if all.is_empty() {
+        writeln!(mismatches, "{file}: no script")?;
+    }
+    for script in all.iter() {
+        let mismatch = first_mismatch(alloc, script)?;
+        if !mismatch.is_empty() {
+            writeln!(mismatches, "{file}:{mismatch}")?;
+        }
+    }
+    Ok(Report {
+        scripts: all.len(),
+        mismatches,
+    })
+}
+
+// The place of the first answer of a script that is another one, and what it is; empty where there is none.
+fn first_mismatch(alloc: Global, script: &Script<'_>) -> Result<String> {
+    if script.lines.is_empty() {
+        return Ok(format!(in alloc; "{}: {}: no steps", script.number, script.title)?);
+    }
+    // No text has a line for a seal.
+    let is_sealed = script.lines.iter().any(|line| line.asked == "seal");
+    for k in 0..script.headings.split(" or ").count() {
+        for way in [Way::Machine, Way::RunEpochs, Way::Replayed] {
+            if is_sealed && way == Way::Replayed {
+                continue;
+            }
+            let mismatch = mismatch(alloc, script, k, way)?;
+            if !mismatch.is_empty() {
+                return Ok(mismatch);
+            }
+        }
+    }
+    Ok(String::new(alloc))
+}
+
+// The same of one way, with one of the headings.
+pub fn mismatch(alloc: Global, script: &Script<'_>, k: usize, way: Way) -> Result<String> {
+    let head = alternative(script.headings, k);
+    let Some((mode, limits)) = heading(head) else {
+        return Ok(format!(in alloc; "{}: {}: no heading: {head}", script.number, script.title)?);
+    };
+    let answers = way.answers(alloc, mode, limits, head, script.lines.as_slice())?;
+    let mut answers = answers.lines();
+    for line in script.lines.iter() {
+        if !way.takes(line.asked) {
+            continue;
+        }
+        let given = answers.next().unwrap_or("no answer");
+        let expected = alternative(line.replies, k);
+        if given != expected {
+            return Ok(format!(in alloc;
+                "{}: {}: {} > {given}, and not {expected} ({way:?} at {head})",
+                line.number, script.title, line.asked
+            )?);
+        }
+    }
+    Ok(String::new(alloc))
+}

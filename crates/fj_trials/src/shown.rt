@@ -1,0 +1,64 @@
+use anyhow::Result;
+use fj_machine::Machine;
+use fj_model::{Owner, Sealed, Serial, SubId, WorkerId};
+use std::alloc::Global;
+use std::fmt::Write;
+
+// What a machine shows, where a line asks for it: the lists of tasks, the oldest first; `epoch`, the number of seals; `events N`, the
+// events of the present history but for the first N.
+pub fn shown(alloc: Global, machine: &Machine, asked: &str) -> Result<String> {
+    let (word, number) = asked.split_once(' ').unwrap_or((asked, "0"));
+    let Ok(number) = number.parse::<u32>() else {
+        return Ok(format!(in alloc; "no step")?);
+    };
+    let tasks = match word {
+        "submitter" => queue(alloc, machine, Owner::Sub(SubId(number)))?,
+        "worker" => queue(alloc, machine, Owner::Work(WorkerId(number)))?,
+        "stack" => numbers(alloc, machine.stack(WorkerId(number)))?,
+        "open" => numbers(alloc, machine.open())?,
+        "gone" => numbers(alloc, machine.gone())?,
+        "epoch" => format!(in alloc; "{}", machine.epoch())?,
+        "events" => events(alloc, machine, number)?,
+        _ => format!(in alloc; "no step")?,
+    };
+    Ok(tasks)
+}
+
+// How many events a part has that was sealed, and its gone tasks.
+pub fn part(alloc: Global, sealed: &Sealed) -> Result<String> {
+    let gone = numbers(alloc, sealed.gone.as_slice())?;
+    Ok(format!(in alloc; "sealed {} events, gone {gone}", sealed.events.len())?)
+}
+
+fn queue(alloc: Global, machine: &Machine, owner: Owner) -> Result<String> {
+    let tasks: Vec<Serial> = machine.queue(owner).collect(alloc)?;
+    numbers(alloc, tasks.as_slice())
+}
+
+// The numbers of tasks.
+fn numbers(alloc: Global, tasks: &[Serial]) -> Result<String> {
+    let mut text = String::new(alloc);
+    for task in tasks {
+        write!(text, "{} ", task.0)?;
+    }
+    list(alloc, &text)
+}
+
+// The events but for the first ones, as they are printed by `{:?}`.
+fn events(alloc: Global, machine: &Machine, first: u32) -> Result<String> {
+    let mut text = String::new(alloc);
+    for event in machine.history().iter().skip(first as usize) {
+        write!(text, "{event:?} ")?;
+    }
+    list(alloc, &text)
+}
+
+// A list without the space at its end, or `none`.
+fn list(alloc: Global, text: &str) -> Result<String> {
+    let words = if text.is_empty() {
+        "none"
+    } else {
+        text.trim_end()
+    };
+    Ok(words.to_string(alloc)?)
+}
