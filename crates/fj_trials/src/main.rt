@@ -5,8 +5,6 @@
 //! error, with its place; then the exit status is 1.
 #![tactic(auto)]
 
-#[cfg(test)]
-mod accept_tests;
 mod answers;
 #[cfg(test)]
 mod completer_tests;
