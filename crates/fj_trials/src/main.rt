@@ -7,8 +7,6 @@
 
 mod answers;
 #[cfg(test)]
-mod completer_tests;
-#[cfg(test)]
 mod epoch_tests;
 #[cfg(test)]
 mod open_tests;
