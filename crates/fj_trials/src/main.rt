@@ -28,8 +28,6 @@ mod report_tests;
 #[cfg(test)]
 mod run_tests;
 mod script;
-#[cfg(test)]
-mod settle_tests;
 mod shown;
 #[cfg(test)]
 mod shut_tests;
