@@ -30,8 +30,6 @@ mod run_tests;
 mod script;
 mod shown;
 #[cfg(test)]
-mod shut_tests;
-#[cfg(test)]
 mod test_rows;
 #[cfg(test)]
 mod thread_tests;
