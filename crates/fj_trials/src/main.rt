@@ -15,8 +15,6 @@ mod picks;
 #[cfg(test)]
 mod place_tests;
 #[cfg(test)]
-mod query_tests;
-#[cfg(test)]
 mod random_epoch_tests;
 #[cfg(test)]
 mod refusal_tests;
