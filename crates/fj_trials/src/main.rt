@@ -18,8 +18,6 @@ mod place_tests;
 mod random_epoch_tests;
 #[cfg(test)]
 mod refusal_tests;
-#[cfg(test)]
-mod release_tests;
 mod report;
 #[cfg(test)]
 mod report_tests;
