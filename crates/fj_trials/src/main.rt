@@ -16,8 +16,6 @@ mod picks;
 mod place_tests;
 #[cfg(test)]
 mod random_epoch_tests;
-#[cfg(test)]
-mod refusal_tests;
 mod report;
 #[cfg(test)]
 mod report_tests;
