@@ -24,8 +24,6 @@ mod run_tests;
 mod script;
 mod shown;
 #[cfg(test)]
-mod test_rows;
-#[cfg(test)]
 mod thread_tests;
 
 use crate::report::report_on;

@@ -1,6 +1,5 @@
-use crate::test_rows::first_other_at;
 use fj_machine::{Machine, run};
-use fj_model::{Ending, Limits, Mode, Said, Serial, Step, SubId, SubmittedKind, WorkerId};
+use fj_model::{Ending, Limits, Mode, Refusal, Said, Serial, Step, SubId, SubmittedKind, WorkerId};
 use std::alloc::Global;
 use std::test::Fail;
 
@@ -9,6 +8,10 @@ const fn submit(s: u32) -> Step {
         s: SubId(s),
         kind: SubmittedKind::Plain,
     }
+}
+
+const fn poll(w: u32, r: u32) -> Step {
+    Step::Poll { w: WorkerId(w), r }
 }
 
 // The replies of a run, and how many tasks are gone at its end.
@@ -44,9 +47,12 @@ fn the_largest_limits_hold(rt: HostRuntime) -> Result<(), Fail> {
     let limits = Limits::new(32, 32, 4096, 1_048_576)?;
     let mut machine = Machine::new(alloc, Mode::Joining, limits)?;
     fill(&mut machine);
-    let steps =
-        "submit 31 > refused 2; poll 31 63 > run 0; poll 30 4294967295 > run 1; poll 31 0 > refused 14";
-    let given = first_other_at(alloc, &mut machine, &limits, steps)?;
-    assert_eq!(rt; given.as_str(), "");
+    assert_eq!(rt;
+        machine.step(&submit(31)),
+        Said::Refused(Refusal::TooManyTasks)
+    );
+    assert_eq!(rt; machine.step(&poll(31, 63)), Said::Run(Serial(0)));
+    assert_eq!(rt; machine.step(&poll(30, u32::MAX)), Said::Run(Serial(1)));
+    assert_eq!(rt; machine.step(&poll(31, 0)), Said::Refused(Refusal::NotIdle));
     Ok(())
 }
