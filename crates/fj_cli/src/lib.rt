@@ -7,19 +7,13 @@
 #![tactic(auto)]
 
 mod command_line;
-#[cfg(test)]
-mod completer_tests;
 mod fault;
 mod in_memory;
-#[cfg(test)]
-mod last_tests;
 mod play;
 mod playback;
 mod replays;
 mod replier;
 mod run;
-#[cfg(test)]
-mod script_tests;
 #[cfg(test)]
 mod stream_tests;
 mod streams;

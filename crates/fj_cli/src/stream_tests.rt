@@ -282,8 +282,9 @@ fn many_lines(rt: HostRuntime) -> Result<(), Fail> {
 #[test]
 fn a_script_in_memory(rt: HostRuntime) -> Result<(), Fail> {
     let alloc = rt.alloc();
-    let replies = replayed(alloc, bytes(alloc, SCRIPT)?.as_slice())?;
-    assert_eq!(rt; replies, bytes(alloc, REPLIES)?);
+    let script = b"async 1 1 8 64\nsubmit 0\npoll 0 0\nend 0 ok\n".as_slice();
+    let replies = replayed(alloc, script)?;
+    assert_eq!(rt; replies.as_slice(), b"task 0\nrun 0\ndone\n".as_slice());
     let fault = replayed(alloc, b"async 33 1 1 1\n".as_slice()).err();
     assert_eq!(rt; fault, Some(ReplayFault::Limits));
     Ok(())

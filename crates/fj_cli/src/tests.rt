@@ -7,18 +7,20 @@ pub const SCRIPT: &str =
 
 pub const REPLIES: &str = "task 0;task 1;task 2;run 0;run 2;done;run 1;done;none;";
 
-// Whole scripts, good ones and faulty ones.
-const ROWS: [&str; 10] = [
+// Inputs that end by a fault, and a heading alone.
+const ROWS: [&str; 12] = [
+    "a heading alone | async 1 1 1 4; | ",
+    "no bytes at all |  |  | fault: line 1; | 3",
+    "a step line without its line feed | async 1 1 1 4;submit 0;shutdown | task 0; | fault: line 3; | 3",
     "a step line without its line feed, which would be good | async 1 1 1 4;submit 0;poll 0 0 | task 0; | fault: line 3; | 3",
+    "a heading out of limits | async 33 1 1 1; |  | refused 13; | 3",
     "a heading out of limits without its line feed | async 33 1 1 1 |  | fault: line 1; | 3",
     "a heading out of limits comes before a faulty line | async 33 1 1 1;no step; |  | refused 13; | 3",
+    "a heading with a leading zero | async 01 1 1 4; |  | fault: line 1; | 3",
     "a step in place of the heading | submit 0; |  | fault: line 1; | 3",
     "a faulty line ends the replies | async 1 1 1 4;submit 0;no step;submit 0; | task 0; | fault: line 3; | 3",
     "an empty line | async 1 1 1 4;;submit 0; |  | fault: line 2; | 3",
     "a second heading | async 1 1 1 4;async 1 1 1 4; |  | fault: line 2; | 3",
-    "questions | async 1 1 2 8;quiet;submit 0;state 0;state 1;quiet;fork 0; | yes;task 0;state queued 0 undone;refused 5;no;refused 6;",
-    "a task is followed to its end | joining 2 1 4 64;submit 0;poll 1 0;state 0;quiet;end 1 ok;state 0;quiet; | task 0;run 0;state held 1 undone;no;done;state gone normal;yes;",
-    "forks, helps and joins without a running task | joining 1 1 4 64;submit 0;fork 0;help 0 0;join 0 0 0;poll 0 0;join 0 1 0;help 0 0; | task 0;refused 6;refused 6;refused 6;run 0;refused 5;none;",
 ];
 
 // What no script has as a line.
@@ -97,7 +99,7 @@ fn other_beginning(alloc: Global, script: &str) -> Result<String, Fail> {
 }
 
 #[test]
-fn replies_to_scripts(rt: HostRuntime) -> Result<(), Fail> {
+fn faults_end_a_script(rt: HostRuntime) -> Result<(), Fail> {
     let other = first_other(rt.alloc(), ROWS.as_slice())?;
     assert_eq!(rt; other.as_str(), "");
     Ok(())
