@@ -1,11 +1,12 @@
 use anyhow::Result;
 use fj_machine::Machine;
-use fj_model::{Owner, Sealed, Serial, SubId, WorkerId};
+use fj_model::{Limits, Owner, Sealed, Serial, SubId, SubmittedKind, WorkerId};
 use std::alloc::Global;
 use std::fmt::Write;
 
-// What a machine shows, where a line asks for it: the lists of tasks, the oldest first; `epoch`, the number of seals; `events N`, the
-// events of the present history but for the first N.
+// What a machine shows, where a line asks for it: the lists of tasks, the oldest first; `hand W`, the completer whose action a worker
+// has in hand; `parent T`, a task's parent; `limits`; `submission S`, what a plain task of a submitter would be refused with; `epoch`,
+// the number of seals; `events N`, the events of the present history but for the first N.
 pub fn shown(alloc: Global, machine: &Machine, asked: &str) -> Result<String> {
     let (word, number) = asked.split_once(' ').unwrap_or((asked, "0"));
     let Ok(number) = number.parse::<u32>() else {
@@ -17,6 +18,10 @@ pub fn shown(alloc: Global, machine: &Machine, asked: &str) -> Result<String> {
         "stack" => numbers(alloc, machine.stack(WorkerId(number)))?,
         "open" => numbers(alloc, machine.open())?,
         "gone" => numbers(alloc, machine.gone())?,
+        "hand" => hand(alloc, machine, number)?,
+        "parent" => maybe(alloc, machine.parent(Serial(u64::from(number))))?,
+        "limits" => limits(alloc, machine.limits())?,
+        "submission" => submission(alloc, machine, SubId(number))?,
         "epoch" => format!(in alloc; "{}", machine.epoch())?,
         "events" => events(alloc, machine, number)?,
         _ => format!(in alloc; "no step")?,
@@ -28,6 +33,40 @@ pub fn shown(alloc: Global, machine: &Machine, asked: &str) -> Result<String> {
 pub fn part(alloc: Global, sealed: &Sealed) -> Result<String> {
     let gone = numbers(alloc, sealed.gone.as_slice())?;
     Ok(format!(in alloc; "sealed {} events, gone {gone}", sealed.events.len())?)
+}
+
+// Asked of a worker that is not there, a machine answers nothing.
+fn hand(alloc: Global, machine: &Machine, worker: u32) -> Result<String> {
+    if worker < machine.limits().workers() {
+        maybe(alloc, machine.hook(WorkerId(worker)))
+    } else {
+        Ok(format!(in alloc; "no worker")?)
+    }
+}
+
+// A task's number, or `none`.
+fn maybe(alloc: Global, task: Option<Serial>) -> Result<String> {
+    match task {
+        Some(t) => Ok(format!(in alloc; "{}", t.0)?),
+        None => Ok(format!(in alloc; "none")?),
+    }
+}
+
+fn limits(alloc: Global, limits: Limits) -> Result<String> {
+    Ok(format!(in alloc;
+        "{} {} {} {}",
+        limits.workers(),
+        limits.submitters(),
+        limits.tasks(),
+        limits.events()
+    )?)
+}
+
+fn submission(alloc: Global, machine: &Machine, s: SubId) -> Result<String> {
+    match machine.submit_refusal(s, &SubmittedKind::Plain) {
+        Some(refusal) => Ok(format!(in alloc; "refused {}", refusal.number())?),
+        None => Ok(format!(in alloc; "accepted")?),
+    }
 }
 
 fn queue(alloc: Global, machine: &Machine, owner: Owner) -> Result<String> {
