@@ -8,6 +8,8 @@ pub mod Numbers
 pub mod Names
 -- what one number more or fewer leaves of the list
 pub mod Listing
+-- what closing up leaves of it, and how many of its numbers are of kept records
+pub mod Closing
 -- a search by halves, and its probes
 pub mod Halving
 -- the list says where each record is

@@ -1,5 +1,5 @@
--- The numbers that are kept, each with the key of its record.
-use Rattle.std.specs.Prelude.{ℕ, ◌≡◌, ◌≢◌, ◌<◌, ◌+◌, List, Option, Some, None, length, slice_index_or, is_some, IsSomeAnd}
+-- The numbers by which records are found, each with the key of its record.
+use Rattle.std.specs.Prelude.{ℕ, Bool, false, ◌≡◌, ◌≢◌, ◌<◌, ◌+◌, ◌==◌, nat_lt, if◌then◌else◌, List, Option, Some, None, length, filter, slice_index_or, is_some}
 use Rattle.std.specs.List.{count_by}
 use Rattle.fj_tree.specs.declared.record.Record.{Record}
 
@@ -7,10 +7,11 @@ use Rattle.fj_tree.specs.declared.record.Record.{Record}
 abbrev pub Pairs : Type 0
 Pairs = List (ℕ × ℕ)
 
--- the pairs, and how many there may be
+-- the pairs, how many of them may be of kept records, and how many are of records that were released
 pub record Numbers : Type 0 where
   pub pairs : Pairs
   pub room : ℕ
+  pub released : ℕ
 
 -- the number of the pair at a place
 abbrev pub number_at : Pairs → ℕ → ℕ
@@ -43,11 +44,28 @@ pub record IsListed (l : Pairs) (n key : ℕ) : Type 0 where
   pub in_range : place < length l
   pub is : slice_index_or l place (0, 0) ≡ (n, key)
 
--- each record's number is listed with its key, and nothing else is
-pub record IsIndex (slots : List (Option Record)) (l : Pairs) : Type 0 where
-  pub listed : (key : ℕ) (r : Record) → slice_index_or slots key None ≡ Some r → IsListed l r.serial key
-  pub there : (n key : ℕ) → IsListed l n key → IsSomeAnd (slice_index_or slots key None) (λ r. r.serial ≡ n)
-  pub count : length l ≡ count_by is_some slots
+-- whether this is the record of the number
+abbrev pub has_number : Option Record → ℕ → Bool
+has_number None n = false
+has_number (Some r) n = r.serial == n
+
+-- whether the record of a pair is kept: the one at its key has its number
+abbrev pub is_current : List (Option Record) → ℕ × ℕ → Bool
+is_current slots pair = has_number (slice_index_or slots pair.1 None) pair.0
+
+-- the list closed up: the numbers whose record is kept
+abbrev pub closed_up : List (Option Record) → Numbers → Numbers
+closed_up slots l = record { pairs = filter (is_current slots) l.pairs; room = l.room; released = 0 }
+
+-- the list after one release more, which closes it up once as many records were released as there is room for
+abbrev pub after_release : List (Option Record) → Numbers → Numbers
+after_release slots l = if nat_lt (l.released + 1) l.room then record l { released = l.released + 1 } else closed_up slots l
+
+-- each record's number is listed with its key, and beside these stand the numbers of released records
+pub record IsIndex (slots : List (Option Record)) (l : Numbers) : Type 0 where
+  pub listed : (key : ℕ) (r : Record) → slice_index_or slots key None ≡ Some r → IsListed l.pairs r.serial key
+  pub current : count_by (is_current slots) l.pairs ≡ count_by is_some slots
+  pub count : length l.pairs ≡ count_by is_some slots + l.released
 
 -- how many probes there were, where there was a last one after so many
 abbrev pub count_after : Option ℕ → ℕ

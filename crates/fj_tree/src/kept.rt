@@ -1,44 +1,51 @@
-ghost use Rattle.std.specs.Prelude.{◌≡◌, ◌<◌, ◌+◌, ◌++◌, ◌∷◌, [], length, remove, IfOk};
+ghost use Rattle.std.specs.Prelude.{◌≡◌, ◌<◌, ◌+◌, ◌++◌, ◌∷◌, [], length, IfOk};
 ghost use Rattle.std.specs.Ordering.{nat_cmp};
-ghost use Rattle.fj_tree.specs.Kept.{IsAbove, IsRising, key_at, number_at};
+ghost use Rattle.fj_tree.specs.Kept.{IsAbove, IsRising, after_release, is_current, key_at, number_at};
 
 use crate::probes::Probes;
-use fj_model::Serial;
-use std::alloc::{AllocError, Global};
+use crate::record::Record;
+use fj_model::{OutOfMemory, Serial};
+use slab::Slab;
+use std::alloc::Global;
 use std::cmp::Ordering;
 use std::collections::VecDeque;
 use std::marker::Model;
 
-/// The numbers of the records that are kept, in rising order, each with the key of its record.
+/// The numbers by which records are found, in rising order, each with the key of its record.
 ///
-/// Numbers are given out in rising order. So a new one goes to the end, and one is found by halves. Where one is taken out, the side
-/// with fewer numbers closes up, so the oldest goes as fast as the newest. [`Kept::probe`] alone tells of a number.
+/// Numbers are given out in rising order. So a new one goes to the end, and one is found by halves. The number of a released record
+/// stays until the list is closed up, which takes all such numbers out at once. [`Kept::probe`] alone tells of a number.
 #[derive(Drop)]
 pub struct Kept {
     pairs: VecDeque<(u64, usize)>,
+    /// How many records may be kept. There is room for twice as many numbers.
     room: usize,
+    /// How many of the numbers are of records that were released.
+    released: usize,
 }
 
 impl Model for Kept {
-    ghost use Rattle.std.specs.Prelude.{◌≤◌};
+    ghost use Rattle.std.specs.Prelude.{◌≤◌, ◌+◌, ◌-◌};
     ghost use Rattle.std.specs.VecDeque.{deque_capacity};
     ghost use Rattle.fj_tree.specs.Kept.{IsRising, Numbers};
 
     ghost Value = { Numbers };
 
-    ghost view = { λ k. record { pairs = k.pairs.items; room = k.room } };
+    ghost view = { λ k. record { pairs = k.pairs.items; room = k.room; released = k.released } };
 
-    ghost invariant = { λ k. IsRising k.pairs.items × (k.room ≤ deque_capacity k.pairs) };
+    ghost invariant = { λ k. IsRising k.pairs.items × (k.room + k.room ≤ deque_capacity k.pairs) × (k.released ≤ k.room - 1) };
 }
 
 impl Kept {
-    /// No numbers, with room for so many, which is all the memory that is ever taken.
-    pub fn new(alloc: Global, room: usize) -> Result<Kept, AllocError>
-        ensures { IfOk result (λ k. k ≡ record { pairs = []; room = room }) }
+    /// No numbers, with room for those of so many kept records, which is all the memory that is ever taken.
+    pub fn new(alloc: Global, room: usize) -> Result<Kept, OutOfMemory>
+        ensures { IfOk result (λ k. k ≡ record { pairs = []; room = room; released = 0 }) }
     {
+        let twice = room.checked_mul(2).ok_or(OutOfMemory)?;
         Ok(Kept {
-            pairs: VecDeque::with_capacity(alloc, room)?,
+            pairs: VecDeque::with_capacity(alloc, twice)?,
             room,
+            released: 0,
         })
     }
 
@@ -68,22 +75,39 @@ impl Kept {
         self.pairs[i].1
     }
 
-    /// One number more, at the end, with the key of its record. Precondition: it is larger than all that there are, and there is room.
+    /// One number more, at the end, with the key of its record. Precondition: it is larger than all that there are, and fewer records
+    /// are kept than there is room for.
     pub fn push(&mut self, serial: Serial, key: usize)
         requires above { IsAbove self.old.pairs serial }
-        requires room { length self.old.pairs < self.old.room }
-        ensures pairs { self.new.pairs ≡ self.old.pairs ++ (serial, key) ∷ [] }
-        ensures room { self.new.room ≡ self.old.room }
+        requires room { length self.old.pairs < self.old.room + self.old.released }
+        ensures { self.new ≡ record self.old { pairs = self.old.pairs ++ (serial, key) ∷ [] } }
     {
         self.pairs.push_back_reserved((serial.0, key));
     }
 
-    /// Takes the number at place `i` out. Precondition: `i < len()`.
-    pub fn remove(&mut self, i: usize)
-        requires { i < length self.old.pairs }
-        ensures pairs { self.new.pairs ≡ remove self.old.pairs i }
+    /// A record was released, and these are left. Once as many were released as there is room for, the list is closed up: each release
+    /// pays for a part of it.
+    pub fn release(&mut self, records: &Slab<Record>)
+        ensures left { self.new ≡ after_release records.now.slots self.old }
         ensures room { self.new.room ≡ self.old.room }
+        ensures rising { IsRising self.old.pairs }
     {
-        let _removed = self.pairs.remove(i);
+        let released = self.released + 1;
+        if released < self.room {
+            self.released = released;
+        } else {
+            self.pairs.retain(|pair| is_kept(records, pair));
+            self.released = 0;
+        }
+    }
+}
+
+/// Whether the record at a pair's key has its number.
+fn is_kept(records: &Slab<Record>, pair: &(u64, usize)) -> bool
+    ensures { result ≡ is_current records.now.slots pair.now }
+{
+    match records.get(pair.1) {
+        Some(record) => record.serial.0 == pair.0,
+        None => false,
     }
 }

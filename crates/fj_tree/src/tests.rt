@@ -3,9 +3,11 @@ mod rows;
 mod trial;
 
 use listed::{even, key_at, key_of, odd, odd_numbers};
+use fj_model::{Kind, Place, Serial};
 use rows::{first_other, wrong};
 use std::alloc::Global;
 use std::test::Fail;
+use trial::Trial;
 
 // Records, handles, and what is written.
 const MAKES: &str = "each make has the next number
@@ -97,7 +99,7 @@ state 0 > Gone undone 0 unspent 2; release 0 > refused 9; release 1 > done; stat
 release 2 > refused 9; release 3 > done; state 0 > Gone undone 0 unspent 1; release 2 > done; state 0 > Gone undone 0 unspent 0;
 release 0 > done; len > 0
 
-a release in the middle closes the list up
+a released task is found no more
 3; make plain open > 0:0; make plain gone > 1:1; make plain open > 2:2; find 3 > none; release 1 > done; find 0 > 0:0;
 find 1 > none; find 2 > 2:2; make plain open > 1:3; find 1 > none; find 2 > 2:2; find 3 > 1:3; find 4 > none
 
@@ -201,18 +203,26 @@ fn a_search_finds_each_number_and_no_other(rt: HostRuntime) -> Result<(), Fail> 
     Ok(())
 }
 
+// The guess for a number is that of the last one with the same rest by 16,384, so these are found by a search.
 #[test]
-fn a_number_that_is_taken_out_is_found_no_more(rt: HostRuntime) -> Result<(), Fail> {
-    for (count, out) in [(1, 0), (2, 0), (2, 1), (3, 1), (4096, 5), (4096, 4000)] {
-        let left = odd_numbers(rt.alloc(), count)?.without(odd(out));
-        for i in 0..count {
-            let key = if i == out {
-                None
-            } else {
-                Some(key_at(count, i))
+fn a_task_is_found_behind_thousands_that_were_released(rt: HostRuntime) -> Result<(), Fail> {
+    for room in [2, 3, 4096] {
+        let mut trial = Trial::new(rt.alloc(), room)?;
+        let first = trial.make(Kind::Plain, Place::Open);
+        for made in 1..20_000 {
+            let Some(Ok(h)) = trial.make(Kind::Plain, Place::Gone) else {
+                return Err(Fail);
             };
-            assert_eq!(rt; key_of(&left, odd(i)), key, "{i} of {count}");
+            assert_eq!(rt; h.serial, Serial(made));
+            assert_eq!(rt; trial.release(h), Ok(()));
+            if made % 4_096 < 3 {
+                assert_eq!(rt; trial.find(Serial(0)).map(Ok), first, "{made} made");
+                assert_eq!(rt; trial.find(Serial(made)), None, "{made} made");
+                assert_eq!(rt; trial.find(Serial(made / 2)).is_some(), made < 2, "{made} made");
+            }
         }
+        assert_eq!(rt; trial.find(Serial(0)).map(Ok), first);
+        assert_eq!(rt; trial.len(), 1);
     }
     Ok(())
 }

@@ -40,14 +40,14 @@ pub struct Tree {
 
 impl Model for Tree {
     ghost use Rattle.std.specs.Prelude.{◌≤◌};
-    ghost use Rattle.fj_tree.specs.Kept.{IsIndex};
+    ghost use Rattle.fj_tree.specs.Kept.{IsAbove, IsIndex};
     ghost use Rattle.fj_tree.specs.Records.{Records, IsSound};
 
     ghost Value = { Records };
 
     ghost view = { λ t. record { slots = t.records.slots; made = t.made; room = t.room } };
 
-    ghost invariant = { λ t. IsSound (record { slots = t.records.slots; made = t.made; room = t.room }) × (t.room ≤ t.records.capacity) × (t.room ≤ t.kept.room) × IsIndex t.records.slots t.kept.pairs };
+    ghost invariant = { λ t. IsSound (record { slots = t.records.slots; made = t.made; room = t.room }) × (t.room ≤ t.records.capacity) × (t.room ≤ t.kept.room) × IsIndex t.records.slots t.kept × IsAbove t.kept.pairs t.made };
 }
 
 impl Tree {
@@ -119,7 +119,12 @@ impl Tree {
             return Some(guess);
         }
         let key = search(&self.kept, serial, &mut Probes::new())?;
-        Some(Handle { key, serial })
+        let found = Handle { key, serial };
+        if self.get(found).is_some() {
+            Some(found)
+        } else {
+            None
+        }
     }
 
     /// The kept record of a handle's number: the handle itself where it is good. None if that number is not kept.

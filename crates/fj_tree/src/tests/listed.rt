@@ -1,4 +1,3 @@
-use crate::lookup::take_out;
 use crate::*;
 use fj_model::Serial;
 use std::alloc::Global;
@@ -46,13 +45,6 @@ impl Listed {
 
     pub fn all(&self) -> &Kept {
         &self.kept
-    }
-
-    /// The list without this number, where it was in it.
-    pub fn without(self, number: u64) -> Kept {
-        let mut kept = self.kept;
-        take_out(&mut kept, Serial(number));
-        kept
     }
 }
 

@@ -54,7 +54,7 @@ impl Trial {
     }
 
     pub fn make(&mut self, kind: Kind, place: Place) -> Option<Result<Handle, Refusal>> {
-        if self.makes >= 1000 {
+        if self.makes >= 100_000 {
             return None;
         }
         self.makes += 1;

@@ -6,7 +6,6 @@ ghost use Rattle.fj_tree.specs.Records.{IsGood, count, record_at, record_of};
 ghost use Rattle.fj_tree.specs.Releases.{release_refusal, without_child_of};
 
 use crate::handle::Handle;
-use crate::lookup::take_out;
 use crate::tree::Tree;
 use fj_model::{Place, Refusal};
 
@@ -47,7 +46,7 @@ impl Tree {
         ensures room { self.new.room ≡ self.old.room }
     {
         let _removed = self.records.remove(h.key);
-        take_out(&mut self.kept, h.serial);
+        self.kept.release(&self.records);
         if let Some(p) = parent {
             self.records[p.key].children -= 1;
         }

@@ -8,4 +8,5 @@ invariant_of-self c = (
   c.self.invariant.1,
   c.self.invariant.2,
   rw c.arrive.ensures.arrived (index_written _ _ c.h.inside.key c.index_mut.result.now _ c.self.invariant.3 c.index_mut.ensures.value (arrived_number c.arrive.result c.index_mut.result.now)),
+  c.self.invariant.4,
 )

@@ -1,16 +1,11 @@
-use Rattle.std.proofs.Common.{◌≡◌, true, sym, ◌∙◌, subst, refl, Option, Some, None, Bor}
+use Rattle.std.proofs.Common.{◌≡◌, true, false, sym, ◌∙◌, subst, refl, Option, Some, None, Bor}
 use Rattle.std.specs.Prelude.{IsSome, is_some, option_copied}
 use Rattle.fj_tree.specs.declared.record.Record.{Record}
-use Rattle.fj_tree.specs.Records.{Records, IsGood, IsSound}
+use Rattle.fj_tree.specs.Records.{Records, IsGood, IsSound, record_of}
 use Rattle.fj_tree.proofs.Index.Finds.{named_record}
-use Rattle.fj_tree.proofs.Index.Indexing.{absent_handle, absent_kept}
+use Rattle.fj_tree.proofs.Index.Indexing.{absent_handle, absent_kept, released_handle, released_kept}
 use Rattle.fj_tree.proofs.Index.Numbers.{found_there}
 use Rattle.fj_tree.proofs.tree.Tree.find.Goals as goal
-
-pub returns-clause-found : goal.returns-clause-found
-returns-clause-found c =
-    let listed = c.in_ok-key.ensures.found in
-    rw (← c.self.view_is) (sym (found_there _ c.args.serial c.in_ok-key.key c.self.invariant.0 ((c.self.invariant.3).there c.args.serial c.in_ok-key.key listed)))
 
 pub returns-in_err-key-clause-found : goal.returns-in_err-key-clause-found
 returns-in_err-key-clause-found c =
@@ -25,8 +20,30 @@ some_copied : (o : Option (Bor Record)) → is_some o ≡ true → IsSome (optio
 some_copied (Some r) some = refl
 some_copied None none = absurd cc
 
+none_copied : (o : Option (Bor Record)) → is_some o ≡ false → option_copied o ≡ None
+none_copied (Some r) none = absurd cc
+none_copied None none = refl
+
 pub returns-then-is_some-clause-found : goal.returns-then-is_some-clause-found
 returns-then-is_some-clause-found c =
     let good : IsGood c.args.self.now (record { key = c.key.result; serial = c.args.serial }) = subst IsSome c.get.ensures (some_copied c.get.result (sym c.is_some.ensures ∙ c.if-is_some.true)) in
     let named = named_record c.args.self.now (record { key = c.key.result; serial = c.args.serial }) good in
     sym (found_there c.args.self.now c.args.serial c.key.result (subst IsSound c.self.view_is c.self.invariant.0) (rw named.1 named.2))
+
+pub returns-then-is_some-2-clause-found : goal.returns-then-is_some-2-clause-found
+returns-then-is_some-2-clause-found c =
+    let good : IsGood c.args.self.now (record { key = c.in_ok-key.key; serial = c.args.serial }) = subst IsSome c.get-2.ensures (some_copied c.get-2.result (sym c.is_some-2.ensures ∙ c.if-is_some-2.true)) in
+    let named = named_record c.args.self.now (record { key = c.in_ok-key.key; serial = c.args.serial }) good in
+    sym (found_there c.args.self.now c.args.serial c.in_ok-key.key (subst IsSound c.self.view_is c.self.invariant.0) (rw named.1 named.2))
+
+pub returns-else-is_some-2-clause-found : goal.returns-else-is_some-2-clause-found
+returns-else-is_some-2-clause-found c =
+    let t : Records = record { slots = c.self.inside.records.slots; made = c.self.inside.made; room = c.self.inside.room } in
+    let none : record_of t (record { key = c.in_ok-key.key; serial = c.args.serial }) ≡ None = rw (← c.self.view_is) at (sym c.get-2.ensures ∙ none_copied c.get-2.result (sym c.is_some-2.ensures ∙ c.if-is_some-2.false)) in
+    rw (← c.self.view_is) (sym (released_handle t _ c.args.serial c.in_ok-key.key c.self.invariant.3 c.in_ok-key.ensures.only none))
+
+pub returns-else-is_some-2-clause-absent : goal.returns-else-is_some-2-clause-absent
+returns-else-is_some-2-clause-absent c =
+    let t : Records = record { slots = c.self.inside.records.slots; made = c.self.inside.made; room = c.self.inside.room } in
+    let none : record_of t (record { key = c.in_ok-key.key; serial = c.args.serial }) ≡ None = rw (← c.self.view_is) at (sym c.get-2.ensures ∙ none_copied c.get-2.result (sym c.is_some-2.ensures ∙ c.if-is_some-2.false)) in
+    rw (← c.self.view_is) (released_kept t _ c.args.serial c.in_ok-key.key c.self.invariant.3 c.in_ok-key.ensures.only none)

@@ -6,14 +6,20 @@ use Rattle.fj_tree.specs.Handles.{Handle}
 use Rattle.fj_tree.specs.Makes.{with_child, with_child_of}
 use Rattle.fj_tree.specs.Records.{Records, IsCompleter, IsSound, changed, count, record_at}
 use Rattle.fj_tree.proofs.Records.Growing.{put_in, grown_alone, grown_below, sound_grown}
-use Rattle.fj_tree.proofs.Index.Indexing.{index_above, index_grown, index_written}
+use Rattle.fj_tree.proofs.Index.Indexing.{index_grown, index_written}
+use Rattle.fj_tree.proofs.Index.Listing.{above_new}
 use Rattle.fj_tree.proofs.tree.Tree.insert.Goals as goal
 use Rattle.fj_tree.proofs.tree.Tree.insert.Goals.{in-Some, in_default}
 
 pub push-requires-clause-above : goal.push-requires-clause-above
 push-requires-clause-above c =
+    c.self.invariant.4
+
+pub push-requires-clause-room : goal.push-requires-clause-room
+push-requires-clause-room c =
     let t : Records = record { slots = c.self.inside.records.slots; made = c.self.inside.made; room = c.self.inside.room } in
-    index_above t _ c.self.invariant.0 c.self.invariant.3
+    let few : count t < t.room = rw (← c.self.view_is) at c.requires.room in
+    omega (arith, (c.self.invariant.3).count, few, c.self.invariant.2)
 
 pub invariant_of-self-in_default : goal.invariant_of-self-in_default
 invariant_of-self-in_default c =
@@ -25,8 +31,9 @@ invariant_of-self-in_default c =
     let none : None ≡ parent_in (Some c.args.kind) = rw c.in_default.is at c.requires.named in (
       sound_grown t u i.result c.args.kind c.args.place c.self.invariant.0 (grown_alone t u i.result c.args.kind c.args.place put (sym none)),
       omega (arith, c.self.invariant.1, i.ensures.capacity),
-      omega (arith, c.self.invariant.2, c.push.ensures.room),
-      rw c.push.ensures.pairs (index_grown t u c.self.inside.kept.pairs i.result c.args.kind c.args.place c.self.invariant.3 put i.ensures.len),
+      rw c.push.ensures c.self.invariant.2,
+      rw c.push.ensures (index_grown t u _ i.result c.args.kind c.args.place c.self.invariant.3 c.self.invariant.4 put i.ensures.len),
+      rw c.push.ensures (above_new _ _ _ c.self.invariant.4),
     )
 
 pub invariant_of-self : goal.invariant_of-self
@@ -44,10 +51,11 @@ invariant_of-self c =
       subst (λ (o : Option Record). IsSound (record u { slots = slice_set u.slots p.key (option_map with_child o) })) written
           (sound_grown t (changed u p.key with_child) i.result c.args.kind c.args.place c.self.invariant.0 grown),
       omega (arith, c.self.invariant.1, i.ensures.capacity),
-      omega (arith, c.self.invariant.2, c.push.ensures.room),
-      rw c.push.ensures.pairs (
-          index_written u.slots _ p.key c.index_mut.result.now _ (index_grown t u c.self.inside.kept.pairs i.result c.args.kind c.args.place c.self.invariant.3 put i.ensures.len) written refl
+      rw c.push.ensures c.self.invariant.2,
+      rw c.push.ensures (
+          index_written u.slots _ p.key c.index_mut.result.now _ (index_grown t u _ i.result c.args.kind c.args.place c.self.invariant.3 c.self.invariant.4 put i.ensures.len) written refl
           ),
+      rw c.push.ensures (above_new _ _ _ c.self.invariant.4),
     )
 
 pub returns-clause-others : goal.returns-clause-others

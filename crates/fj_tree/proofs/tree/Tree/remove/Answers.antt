@@ -7,7 +7,7 @@ use Rattle.fj_tree.specs.Paths.{above}
 use Rattle.fj_tree.specs.Releases.{without_child, without_child_of}
 use Rattle.fj_tree.specs.Records.{Records, IsSound, changed, record_at, record_of}
 use Rattle.fj_tree.proofs.Records.Shrinking.{removal, removal_parent_kept, removal_parent_counts, removal_shrinks, removal_shrinks_below, removal_others, sound_shrunk}
-use Rattle.fj_tree.proofs.Index.Indexing.{index_shrunk, index_written}
+use Rattle.fj_tree.proofs.Index.Indexing.{index_released, above_released, index_written}
 use Rattle.fj_tree.proofs.tree.Tree.remove.Goals as goal
 
 pub index_mut-requires : goal.index_mut-requires
@@ -47,10 +47,9 @@ invariant_of-self c =
     let sound = sound_shrunk t (changed u p.key without_child) h.key i.result c.self.invariant.0 (removal_shrinks_below t u h p i.result c.self.invariant.0 removed up) in (
       subst (λ (o : Option Record). IsSound (record u { slots = slice_set u.slots p.key (option_map without_child o) })) c.index_mut.ensures.value sound,
       omega (arith, c.self.invariant.1, i.ensures.capacity),
-      omega (arith, c.self.invariant.2, c.take_out.ensures.room),
-      index_written u.slots _ p.key c.index_mut.result.now _ (
-          index_shrunk t u c.self.inside.kept.pairs _ h.key i.result c.self.invariant.0 c.self.invariant.3 removed.out i.ensures.len (rw (removed.number) c.take_out.ensures.others) (rw (removed.number) c.take_out.ensures.fewer)
-          ) c.index_mut.ensures.value refl,
+      omega (arith, c.self.invariant.2, c.release.ensures.room),
+      rw c.release.ensures.left (index_written u.slots _ p.key c.index_mut.result.now _ (index_released t u _ h.key i.result c.self.invariant.0 c.self.invariant.3 c.release.ensures.rising removed.out i.ensures.len) c.index_mut.ensures.value refl),
+      rw c.release.ensures.left (above_released u.slots _ _ c.self.invariant.4),
     )
 
 pub invariant_of-self-in_default : goal.invariant_of-self-in_default
@@ -64,8 +63,9 @@ invariant_of-self-in_default c =
     let none : above t h ≡ None = rw (c.in_default.is, ← c.self.view_is, ← c.h.view_is) at (sym c.requires.parent) in (
       sound_shrunk t u h.key i.result c.self.invariant.0 (removal_shrinks t u h i.result c.self.invariant.0 removed none),
       omega (arith, c.self.invariant.1, i.ensures.capacity),
-      omega (arith, c.self.invariant.2, c.take_out.ensures.room),
-      index_shrunk t u c.self.inside.kept.pairs _ h.key i.result c.self.invariant.0 c.self.invariant.3 removed.out i.ensures.len (rw (removed.number) c.take_out.ensures.others) (rw (removed.number) c.take_out.ensures.fewer),
+      omega (arith, c.self.invariant.2, c.release.ensures.room),
+      rw c.release.ensures.left (index_released t u _ h.key i.result c.self.invariant.0 c.self.invariant.3 c.release.ensures.rising removed.out i.ensures.len),
+      rw c.release.ensures.left (above_released u.slots _ _ c.self.invariant.4),
     )
 
 pub returns-in-Some-clause-others : goal.returns-in-Some-clause-others

@@ -9,4 +9,5 @@ invariant_of-self c = (
   c.self.invariant.1,
   c.self.invariant.2,
   index_written _ _ c.h.inside.key c.index_mut.result.now _ c.self.invariant.3 c.index_mut.ensures.value refl,
+  c.self.invariant.4,
 )
