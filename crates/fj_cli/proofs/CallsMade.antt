@@ -5,7 +5,7 @@ use Rattle.std.proofs.Common.{◌∷◌, [], ◌++◌, length-append, ℕ, ◌�
 use Rattle.fj_cli.specs.declared.fault.ReplayFault.{ReplayFault}
 use Rattle.fj_cli.specs.declared.fault.ReplayFault.TheVariants.{Line, Limits, Memory, Read, Write}
 use Rattle.fj_cli.specs.Cuts.{cut}
-use Rattle.fj_cli.specs.Playbacks.{Kept, EndsEarly}
+use Rattle.fj_cli.specs.Sessions.{Kept, EndsEarly}
 use Rattle.fj_cli.specs.Calls.{Calls, Fails, FaultTells, GoesOn, HasFailed, IsFine, WriterTells}
 
 pub goes_nowhere : (a : Option Calls) → GoesOn a a 0

@@ -1,4 +1,4 @@
--- What a playback has found when it stops.
+-- What a session has found when it stops.
 use Rattle.std.specs.Prelude.{◌==◌, if◌then◌else◌, true, false, is_some}
 use Rattle.std.proofs.Common.{ℕ, ◌≡◌, ◌≢◌, ◌+◌, ◌<◌, ◌≤◌, List, [], ◌∷◌, ◌++◌, refl, arith, ◌∙◌, sym, ap, take, drop, length, length-append, append_assoc, ◌⊎◌, inl, inr, Option, None, Some}
 use Rattle.std.proofs.lemmas.List.{append-nil, take-append-drop}
@@ -10,7 +10,7 @@ use Rattle.fj_cli.specs.declared.fault.ReplayFault.TheVariants.{Line, Limits, Me
 use Rattle.fj_cli.specs.Cuts.{cut, left, lines, rest, AppendsSome}
 use Rattle.fj_cli.specs.Scripts.{text}
 use Rattle.fj_cli.specs.Faults.{Stands, IsUnended, IsOutOfLimits, OpensOutOfLimits, Ends, FaultOf, IsReplayed}
-use Rattle.fj_cli.specs.Playbacks.{Kept, IsAt, EndsEarly, FaultAt, IsFaulty, past_of, line_text}
+use Rattle.fj_cli.specs.Sessions.{Kept, IsAt, EndsEarly, FaultAt, IsFaulty, past_of, line_text}
 use Rattle.fj_cli.proofs.Bytes.{appends_keeps, appends_twice}
 use Rattle.fj_cli.proofs.Lines.{cut-append, left-append, left-uncut, none-cut}
 use Rattle.fj_cli.proofs.Pasts.{text_from, text-stops, text-begins, text-none, faulty_after, faulty_behind, too_long, no_past, is_run}

@@ -4,9 +4,9 @@ pub mod Bytes
 pub mod Lines
 -- what more lines say, behind good ones
 pub mod Pasts
--- a playback takes one byte more
+-- a session takes one byte more
 pub mod Steps
--- what a playback has found when it stops
+-- what a session has found when it stops
 pub mod FaultsFound
 -- however a replay ends, a beginning of the replies was written
 pub mod Begun

@@ -14,7 +14,7 @@ use Rattle.fj_model.specs.Lines.{head_in, step_in, reply_line}
 use Rattle.fj_cli.specs.Scripts.{pool_in, is_step, is_good, pool, before_those, steps_of, steps, replies, history, after, start, joined, said, IsRun}
 use Rattle.fj_cli.specs.Cuts.{lines}
 use Rattle.fj_cli.specs.Faults.{IsFaultyAfter}
-use Rattle.fj_cli.specs.Playbacks.{opened, past_of, stepped, past_after, replied, line_text, IsFaulty}
+use Rattle.fj_cli.specs.Sessions.{opened, past_of, stepped, past_after, replied, line_text, IsFaulty}
 use Rattle.fj_model.proofs.Reading.LineLaws.{head_short, step_short}
 use Rattle.fj_cli.proofs.Lines.{and_left, and_right}
 

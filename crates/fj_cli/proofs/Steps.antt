@@ -1,4 +1,4 @@
--- A playback that takes one byte more.
+-- A session that takes one byte more.
 use Rattle.std.specs.Prelude.{◌==◌, true, false, is_some}
 use Rattle.std.proofs.Common.{ℕ, ◌≡◌, ◌≢◌, ◌+◌, ◌<◌, ◌≤◌, List, [], ◌∷◌, ◌++◌, refl, arith, ◌∙◌, sym, ap, take, drop, length, length-append, append_assoc, inl, inr, Option}
 use Rattle.std.proofs.lemmas.List.{append-nil, take-append-drop}
@@ -9,7 +9,7 @@ use Rattle.std.proofs.lemmas.Bool.Decides.{nat_tests}
 use Rattle.std.specs.Io.KnownBytes.{Appends}
 use Rattle.fj_cli.specs.Cuts.{cut, lines, rest}
 use Rattle.fj_cli.specs.Scripts.{is_good, text}
-use Rattle.fj_cli.specs.Playbacks.{Kept, IsAt, Goes, next_kept, fed, past_of, past_after, line_text}
+use Rattle.fj_cli.specs.Sessions.{Kept, IsAt, Goes, next_kept, fed, past_of, past_after, line_text}
 use Rattle.fj_cli.proofs.Bytes.{appends_twice}
 use Rattle.fj_cli.proofs.Lines.{yes_or_no, cut-append, left-append}
 use Rattle.fj_cli.proofs.Pasts.{text_from, text-append, text-line, text-none, past-snoc, good-snoc}

@@ -18,7 +18,7 @@ replay_words = codes "fj" ∷ codes "replay" ∷ []
 abbrev pub command_in : List Text → Option Text
 command_in words = option_map (λ (met : Text × List Row). met.0) (subcommand_of whole_line words)
 
--- the kinds of error that a parse of these words may give, but for want of memory
+-- the kinds of error that a parse of these arguments may give, but for out of memory
 abbrev pub faults_in : List Text → Kinds
 faults_in words = fault_of whole_line words
 

@@ -2,6 +2,6 @@ pub mod Cuts
 pub mod Calls
 pub mod Scripts
 pub mod Faults
-pub mod Playbacks
+pub mod Sessions
 pub mod Statuses
 pub mod Commands

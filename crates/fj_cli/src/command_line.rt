@@ -48,7 +48,7 @@ fn command<'a>(alloc: Global) -> Result<Command<'a>, AllocError>
         .subcommand(replay)
 }
 
-/// Reads the words of a command line, of which the first is the program's name. `None` if they name no command.
+/// Reads the arguments, of which the first is the program's name. `None` if they name no command.
 pub fn read<'a>(alloc: Global, words: &'a [&'a str]) -> Result<Option<Subcommand>, Error>
     ensures subcommand { IfOk result (λ asked. (asked ≡ Some Subcommand.Replay) ↔ (command_in (map (λ word. word.now) words.entry.now) ≡ Some (codes "replay"))) }
     ensures fault { IfErr result (λ error. HasKind (faults_in (map (λ word. word.now) words.entry.now)) error) }

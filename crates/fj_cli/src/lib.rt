@@ -9,11 +9,11 @@
 mod command_line;
 mod fault;
 mod in_memory;
-mod play;
-mod playback;
-mod replays;
-mod replier;
-mod run;
+mod program;
+mod replay_command;
+mod replay_script;
+mod responder;
+mod session;
 #[cfg(test)]
 mod stream_tests;
 mod streams;
@@ -28,7 +28,7 @@ mod word_tests;
 mod writes;
 
 pub use fault::ReplayFault;
-pub use replays::{replay, replayed};
-pub use run::{fj, without_words};
+pub use program::{fj, without_words};
+pub use replay_script::{replay, replayed};
 pub use streams::{Sink, Source};
 pub use watched::Watched;

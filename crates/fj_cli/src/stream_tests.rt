@@ -1,6 +1,6 @@
 use crate::fault::ReplayFault;
-use crate::replays::{replay, replayed};
-use crate::run::fj;
+use crate::program::fj;
+use crate::replay_script::{replay, replayed};
 use crate::test_rows::{REPLAY, Ran, bytes, command};
 use crate::tests::{REPLIES, SCRIPT, ended, first_lines};
 use crate::watched::Watched;

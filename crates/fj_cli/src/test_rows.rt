@@ -1,4 +1,4 @@
-use crate::run::fj;
+use crate::program::fj;
 use std::alloc::{AllocError, Global};
 use std::io::Read;
 use std::str;

@@ -1,4 +1,4 @@
-use crate::run::without_words;
+use crate::program::without_words;
 use crate::test_rows::command;
 use std::alloc::Global;
 use std::io::{self, ErrorKind};

@@ -3,10 +3,10 @@ ghost use Rattle.std.specs.Io.KnownBytes.{Appends};
 ghost use Rattle.fj_cli.specs.Calls.{IsFine, WriterTells};
 ghost use Rattle.fj_cli.specs.Cuts.{lines};
 ghost use Rattle.fj_cli.specs.Faults.{FaultOf};
-ghost use Rattle.fj_cli.specs.Playbacks.{Kept, nothing_kept, next_kept, fed, Goes, FaultAt, EndsEarly, IsAt};
+ghost use Rattle.fj_cli.specs.Sessions.{Kept, nothing_kept, next_kept, fed, Goes, FaultAt, EndsEarly, IsAt};
 
 use crate::fault::ReplayFault;
-use crate::replier::Replier;
+use crate::responder::Responder;
 use crate::streams::Sink;
 use fj_model::read_step;
 use std::alloc::{AllocError, Global};
@@ -14,36 +14,36 @@ use std::marker::Model;
 
 /// What is kept of the bytes so far.
 #[derive(Drop)]
-pub struct Playback {
+pub struct Session {
     // how many whole lines there were
     count: u64,
     // the line that goes on
     line: Vec<u8>,
     // there once the heading was read
-    replier: Option<Replier>,
+    responder: Option<Responder>,
 }
 
-impl Model for Playback {
+impl Model for Session {
     ghost use Rattle.std.specs.Prelude.{◌≡◌, ◌≤◌, None, vec_capacity, vec_len};
-    ghost use Rattle.fj_cli.specs.Playbacks.{Kept};
+    ghost use Rattle.fj_cli.specs.Sessions.{Kept};
 
     ghost Value = { Kept };
 
-    ghost view = { λ s. record { count = s.count; line = s.line.items; past = s.replier } };
+    ghost view = { λ s. record { count = s.count; line = s.line.items; past = s.responder } };
 
-    ghost invariant = { λ s. (64 ≤ vec_capacity s.line) × (vec_len s.line ≤ 64) × (s.replier ≡ None → s.count ≡ 0) };
+    ghost invariant = { λ s. (64 ≤ vec_capacity s.line) × (vec_len s.line ≤ 64) × (s.responder ≡ None → s.count ≡ 0) };
 }
 
-impl Playback {
-    /// A playback that has read nothing.
-    pub fn new(alloc: Global) -> Result<Playback, AllocError>
+impl Session {
+    /// A session that has read nothing.
+    pub fn new(alloc: Global) -> Result<Session, AllocError>
         ensures { IfOk result (λ s. s ≡ nothing_kept) }
     {
         let line = Vec::with_capacity(alloc, 64)?;
-        Ok(Playback {
+        Ok(Session {
             count: 0,
             line,
-            replier: None,
+            responder: None,
         })
     }
 
@@ -64,13 +64,13 @@ impl Playback {
         ensures fine { OnOk result (IsFine (W.calls w.old) (W.calls w.new)) }
         ensures told { IfErr result (λ fault. WriterTells fault (W.calls w.old) (W.calls w.new)) }
     {
-        match &mut self.replier {
-            None => self.replier = Some(Replier::open(alloc, self.line.as_slice())?),
-            Some(replier) => {
+        match &mut self.responder {
+            None => self.responder = Some(Responder::open(alloc, self.line.as_slice())?),
+            Some(responder) => {
                 let Ok(asked) = read_step(self.line.as_slice()) else {
                     return Err(ReplayFault::Line(self.count + 1));
                 };
-                replier.reply(&asked, w)?;
+                responder.reply(&asked, w)?;
             }
         }
         self.line.clear();
@@ -126,7 +126,7 @@ impl Playback {
         if !self.line.is_empty() {
             return Err(ReplayFault::Line(self.count + 1));
         }
-        if self.replier.is_none() {
+        if self.responder.is_none() {
             return Err(ReplayFault::Line(self.count + 1));
         }
         Ok(())

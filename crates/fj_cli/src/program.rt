@@ -6,17 +6,17 @@ ghost use Rattle.fj_cli.specs.Faults.{IsBegun, IsReplayed};
 ghost use Rattle.fj_cli.specs.Statuses.{EndsBy, StatusOfNoWords};
 
 use crate::command_line::{Subcommand, read};
-use crate::play::play;
+use crate::replay_command::run_replay;
 use crate::writes::flush_whole;
 use clap::Error;
 use clap::error::ErrorKind;
 use std::alloc::Global;
 use std::io::{self, Read, Write};
 
-/// Runs a command, and gives the exit status. The first of the words is the program's name.
+/// Runs a command, and gives the exit status. `words` are the arguments, of which the first is the program's name.
 ///
-/// 0: it was run, or help or the version was asked for and written to `out`. 2: a fault of the words. 3: a fault of the input. 4: memory
-/// was refused. 5: a read or a write failed. For all but 0 a text is sent to `err`, which may fail. `out` is flushed after a replay, and
+/// 0: it was run, or help or the version was asked for and written to `out`. 2: a fault of the arguments. 3: a fault of the input. 4: out of
+/// memory. 5: a read or a write failed. For all but 0 a text is sent to `err`, which may fail. `out` is flushed after a replay, and
 /// after help or the version; a failed flush gives 5.
 #[tactic(auto, using(crate::proofs::Answered::shown_asks))]
 pub fn fj<R: Read, W: Write, E: Write>(
@@ -27,10 +27,10 @@ pub fn fj<R: Read, W: Write, E: Write>(
     err: &mut E,
 ) -> u8
     ensures status { (result ≡ 0) ⊎ ((result ≡ 2) ⊎ ((result ≡ 3) ⊎ ((result ≡ 4) ⊎ (result ≡ 5)))) }
-    // The words of a replay run one, which is to its end at 0.
+    // The arguments of a replay run one, which is to its end at 0.
     ensures known { map (λ word. word.now) words.entry.now ≡ replay_words → result ≢ 2 }
     ensures replayed { map (λ word. word.now) words.entry.now ≡ replay_words → result ≡ 0 → (b : List ℕ) × IsReplayed b (R.remaining input.old) (R.remaining input.new) (W.contents out.old) (W.contents out.new) }
-    // Words that name no replay read nothing.
+    // Arguments that name no replay read nothing.
     ensures unread { command_in (map (λ word. word.now) words.entry.now) ≢ Some (codes "replay") → R.remaining input.new ≡ R.remaining input.old }
     // What else each status says.
     ensures done { result ≡ 0 → ((b : List ℕ) × IsReplayed b (R.remaining input.old) (R.remaining input.new) (W.contents out.old) (W.contents out.new)) ⊎ (AsksToShow (map (λ word. word.now) words.entry.now) × (R.remaining input.new ≡ R.remaining input.old)) }
@@ -42,13 +42,14 @@ pub fn fj<R: Read, W: Write, E: Write>(
     ensures begun { ((b : List ℕ) × IsBegun b (R.remaining input.old) (R.remaining input.new) (W.contents out.old) (W.contents out.new)) ⊎ (R.remaining input.new ≡ R.remaining input.old) }
 {
     match read(alloc, words) {
-        Ok(Some(Subcommand::Replay)) => play(alloc, input, out, err),
+        Ok(Some(Subcommand::Replay)) => run_replay(alloc, input, out, err),
         Ok(None) => told(err, "no such command\n", 2),
         Err(error) => answered(&error, out, err),
     }
 }
 
-/// Tells what stops the program before a command runs: a word that is not text, or want of memory. Gives the exit status.
+/// Tells what stops the program before a command runs: an argument that is no text, or that it is out of memory. Gives
+/// the exit status.
 pub fn without_words<E: Write>(error: &io::Error, err: &mut E) -> u8
     ensures { StatusOfNoWords (error_kind error.now) result }
 {
@@ -63,7 +64,7 @@ pub fn without_words<E: Write>(error: &io::Error, err: &mut E) -> u8
     }
 }
 
-// Tells why the words name no command, or what they ask for of the command line itself.
+// Tells why the arguments name no command, or what they ask for of the command line itself.
 fn answered<W: Write, E: Write>(error: &Error, out: &mut W, err: &mut E) -> u8
     ensures status { (result ≡ 0) ⊎ ((result ≡ 2) ⊎ ((result ≡ 4) ⊎ (result ≡ 5))) }
     ensures out_of_memory { kind_of error.now ≡ ErrorKind.OutOfMemory → result ≡ 4 }

@@ -1,4 +1,4 @@
--- What a playback keeps, and what one byte does to it.
+-- What a session keeps, and what one byte does to it.
 use Rattle.std.specs.Prelude.{ℕ, ⊤, ◌≡◌, ◌≢◌, ◌+◌, ◌≤◌, ◌==◌, ◌⊎◌, if◌then◌else◌, List, [], ◌∷◌, ◌++◌, Option, Some, None, true, is_some, length}
 use Rattle.std.specs.Io.KnownBytes.{Appends}
 use Rattle.fj_model.specs.declared.step.Step.{Step}
@@ -12,7 +12,7 @@ use Rattle.fj_cli.specs.Cuts.{lines, rest, AppendsSome}
 use Rattle.fj_cli.specs.Scripts.{pool_in, is_good, pool, steps, after, start, text}
 use Rattle.fj_cli.specs.Faults.{IsOutOfLimits}
 
--- what a playback keeps: the number of whole lines, the line that goes on, and the machine's past once there is a heading
+-- what a session keeps: the number of whole lines, the line that goes on, and the machine's past once there is a heading
 pub record Kept : Type 0 where
   pub count : ℕ
   pub line : List ℕ

@@ -1,6 +1,6 @@
 use Rattle.fj_cli.proofs.Begun.{begun_whole, begun_fault}
-use Rattle.fj_cli.proofs.play.play.Goals as goal
-use Rattle.fj_cli.proofs.play.play.Goals.{in-Err, in_default, in_default-2}
+use Rattle.fj_cli.proofs.replay_command.run_replay.Goals as goal
+use Rattle.fj_cli.proofs.replay_command.run_replay.Goals.{in-Err, in_default, in_default-2}
 
 pub returns-in-Ok-clause-begun : goal.returns-in-Ok-clause-begun
 returns-in-Ok-clause-begun g c = begun_whole _ _ _ _ _ c.in-Ok.ensures.ok c.flush_whole.ensures.bytes

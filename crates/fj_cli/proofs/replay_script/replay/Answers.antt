@@ -5,8 +5,8 @@ use Rattle.fj_cli.proofs.Bytes.{consumes_twice, consumes_kept, read_end}
 use Rattle.fj_cli.proofs.Begun.{all_some}
 use Rattle.fj_cli.proofs.CallsMade.{ended_told, fine_failed, fine_twice, goes_failed, goes_fine, goes_forever, goes_further, if_ok, told_later, writer_told}
 use Rattle.fj_cli.proofs.FaultsFound.{ended, flushed_at, replayed_whole}
-use Rattle.fj_cli.proofs.replays.replay.Goals as goal
-use Rattle.fj_cli.proofs.replays.replay.Goals.{in-Ok-pull+in_ok-feed_all-in-Ok-pull+else-is_err, in-Err+else-ne}
+use Rattle.fj_cli.proofs.replay_script.replay.Goals as goal
+use Rattle.fj_cli.proofs.replay_script.replay.Goals.{in-Ok-pull+in_ok-feed_all-in-Ok-pull+else-is_err, in-Err+else-ne}
 
 pub returns-in-Ok-eq0-clause-ok : goal.returns-in-Ok-eq0-clause-ok
 returns-in-Ok-eq0-clause-ok g c =
@@ -94,7 +94,7 @@ loop-reads-preserved g c =
       | in-Ok-pull+in_ok-feed_all-in-Ok-pull+else-is_err w ↦
           let fed = w.in_ok-feed_all-in-Ok-pull.ensures in
           let flushed : IsFine (g.W.Sink.calls w.feed_all.new.w) (g.W.Sink.calls w.flush_whole.new.w) = search rules in
-          rw (w.playback-is, w.w-is) (
+          rw (w.session-is, w.w-is) (
             (
               so_far.0 ++ take w.in-Ok-pull.n c.pull.new.buf,
               consumes_twice _ _ _ _ _ so_far.1 w.in-Ok-pull.ensures.bytes.0,
@@ -103,7 +103,7 @@ loop-reads-preserved g c =
             goes_further _ _ _ _ 1 c.loop-reads.invariant.1 (w.in-Ok-pull.ensures.counts.1 (search rules)),
             fine_twice _ _ _ (fine_twice _ _ _ c.loop-reads.invariant.2 fed.fine) flushed,
           )
-      | in-Err+else-ne w ↦ rw (w.playback-is, w.w-is) (
+      | in-Err+else-ne w ↦ rw (w.session-is, w.w-is) (
         (so_far.0, consumes_kept _ _ _ _ so_far.1 w.in-Err.ensures.bytes, so_far.2),
         goes_further _ _ _ _ 1 c.loop-reads.invariant.1 (w.in-Err.ensures.counts.1 (search rules)),
         c.loop-reads.invariant.2,

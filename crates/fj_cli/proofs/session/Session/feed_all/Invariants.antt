@@ -1,7 +1,7 @@
 use Rattle.std.proofs.Common.{ℕ, ◌≤◌, ◌+◌, List, ◌++◌, take, Option}
 use Rattle.fj_cli.specs.Calls.{IsFine}
-use Rattle.fj_cli.specs.Playbacks.{IsAt}
-use Rattle.fj_cli.proofs.playback.Playback.feed_all.Given as goal
+use Rattle.fj_cli.specs.Sessions.{IsAt}
+use Rattle.fj_cli.proofs.session.Session.feed_all.Given as goal
 
 abbrev pub invariant-loop-byte : goal.invariant-loop-byte
 invariant-loop-byte g l =

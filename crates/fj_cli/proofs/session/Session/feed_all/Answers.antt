@@ -2,7 +2,7 @@ use Rattle.std.proofs.lemmas.Result.{err_from_is_err_and}
 use Rattle.fj_cli.proofs.CallsMade.{fine_twice, told_later}
 use Rattle.fj_cli.proofs.Steps.{at_next, next_count}
 use Rattle.fj_cli.proofs.FaultsFound.{fault_next}
-use Rattle.fj_cli.proofs.playback.Playback.feed_all.Goals as goal
+use Rattle.fj_cli.proofs.session.Session.feed_all.Goals as goal
 
 pub returns-in_err-feed-clause-err : goal.returns-in_err-feed-clause-err
 returns-in_err-feed-clause-err g c =

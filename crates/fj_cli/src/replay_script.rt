@@ -5,7 +5,7 @@ ghost use Rattle.fj_cli.specs.Faults.{IsScript, IsReplayed, Ends};
 
 use crate::fault::ReplayFault;
 use crate::in_memory::InMemory;
-use crate::playback::Playback;
+use crate::session::Session;
 use crate::streams::{Sink, Source};
 use crate::writes::flush_whole;
 use std::alloc::Global;
@@ -26,19 +26,19 @@ pub fn replay<R: Source, W: Sink>(alloc: Global, r: &mut R, w: &mut W) -> Result
     ensures fine { OnOk result (IsFine (R.calls r.old) (R.calls r.new) × IsFine (W.calls w.old) (W.calls w.new)) }
     ensures err { IfErr result (λ fault. (b : List ℕ) × Ends fault b (R.remaining r.old) (R.remaining r.new) (W.contents w.old) (W.contents w.new) × FaultTells fault b (R.calls r.old) (R.calls r.new) (W.calls w.old) (W.calls w.new)) }
 {
-    let Ok(mut playback) = Playback::new(alloc) else {
+    let Ok(mut session) = Session::new(alloc) else {
         return Err(ReplayFault::Memory);
     };
     let mut chunk = [0u8; CHUNK];
     for _reads in 0..u64::MAX {
         // The lines of a chunk are counted in 64 bits.
-        if playback.count() >= u64::MAX - CHUNK as u64 {
+        if session.count() >= u64::MAX - CHUNK as u64 {
             return Err(ReplayFault::Read);
         }
         match r.pull(&mut chunk) {
-            Ok(0) => return playback.finish(),
+            Ok(0) => return session.finish(),
             Ok(n) => {
-                playback.feed_all(alloc, &chunk[..n], w)?;
+                session.feed_all(alloc, &chunk[..n], w)?;
                 // Whoever waits for these replies has them before the next read waits for more lines.
                 if flush_whole(w).is_err() {
                     return Err(ReplayFault::Write);

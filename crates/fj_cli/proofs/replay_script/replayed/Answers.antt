@@ -2,7 +2,7 @@ use Rattle.std.proofs.Common.{rules, ◌≢◌}
 use Rattle.fj_cli.specs.declared.fault.ReplayFault.TheVariants.{Write}
 use Rattle.fj_cli.proofs.CallsMade.{never_read}
 use Rattle.fj_cli.proofs.FaultsFound.{ends_in_memory, write_is_memory}
-use Rattle.fj_cli.proofs.replays.replayed.Goals as goal
+use Rattle.fj_cli.proofs.replay_script.replayed.Goals as goal
 
 pub returns-in-Err-Write-clause-err : goal.returns-in-Err-Write-clause-err
 returns-in-Err-Write-clause-err c =

@@ -6,7 +6,7 @@ ghost use Rattle.fj_model.specs.Lines.{reply_line};
 ghost use Rattle.fj_cli.specs.Calls.{IsFine, WriterTells};
 ghost use Rattle.fj_cli.specs.Cuts.{AppendsSome};
 ghost use Rattle.fj_cli.specs.Scripts.{pool_in, start};
-ghost use Rattle.fj_cli.specs.Playbacks.{IsHeadFault, IsReplyFault};
+ghost use Rattle.fj_cli.specs.Sessions.{IsHeadFault, IsReplyFault};
 
 use crate::fault::ReplayFault;
 use crate::streams::Sink;
@@ -20,14 +20,14 @@ use std::marker::Model;
 
 /// A machine, and what its replies are written with. It is known by the machine's past.
 #[derive(Drop)]
-pub struct Replier {
+pub struct Responder {
     machine: Machine,
     limits: Limits,
     // the line of the last reply
     line: String,
 }
 
-impl Model for Replier {
+impl Model for Responder {
     ghost use Rattle.std.specs.Prelude.{◌≡◌};
     ghost use Rattle.fj_model.specs.Runs.{Past};
 
@@ -38,9 +38,9 @@ impl Model for Replier {
     ghost invariant = { λ r. r.limits ≡ r.machine.pool.limits };
 }
 
-impl Replier {
+impl Responder {
     /// A new machine, as the heading says. `Line` where the line is no heading, `Limits` where a limit is out of its range.
-    pub fn open(alloc: Global, heading: &[u8]) -> Result<Replier, ReplayFault>
+    pub fn open(alloc: Global, heading: &[u8]) -> Result<Responder, ReplayFault>
         ensures pool { IfOk result (λ r. pool_in heading.now ≡ Some r.pool) }
         ensures fresh { IfOk result (λ r. r ≡ start r.pool) }
         ensures err { IfErr result (λ fault. IsHeadFault fault heading.now) }
@@ -53,7 +53,7 @@ impl Replier {
             return Err(ReplayFault::Limits);
         };
         match Machine::new(alloc, head.0, limits) {
-            Ok(machine) => Ok(Replier {
+            Ok(machine) => Ok(Responder {
                 machine,
                 limits,
                 line: String::new(alloc),

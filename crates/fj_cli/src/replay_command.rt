@@ -3,7 +3,7 @@ ghost use Rattle.fj_cli.specs.Faults.{IsBegun, IsReplayed};
 ghost use Rattle.fj_cli.specs.Statuses.{EndsBy, status_of};
 
 use crate::fault::ReplayFault;
-use crate::replays::replay;
+use crate::replay_script::replay;
 use crate::writes::flush_whole;
 use std::alloc::Global;
 use std::io::{Read, Write};
@@ -21,7 +21,7 @@ fn status(fault: ReplayFault) -> u8
 
 /// Replays a script, flushes the replies, and gives the exit status. A fault's text goes to `err`; where the replies cannot be
 /// flushed, that is the fault that is told.
-pub fn play<R: Read, W: Write, E: Write>(
+pub fn run_replay<R: Read, W: Write, E: Write>(
     alloc: Global,
     input: &mut R,
     out: &mut W,
