@@ -15,6 +15,6 @@ pub shown_asks : (e : Error) (words : List Text) → HasKind (faults_in words) e
 shown_asks e words has shown =
     ⊎_elim (λ help. inl (is_among DisplayHelp e words has help (λ x. absurd cc))) (λ version. inr (is_among DisplayVersion e words has version (λ x. absurd cc))) shown
 
--- any other kind but want of memory is a fault of the words
+-- any other kind but out of memory is a fault of the arguments
 pub else_at_fault : (e : Error) (words : List Text) → HasKind (faults_in words) e → (kind_of e ≢ OutOfMemory) × (kind_of e ≢ DisplayHelp) × (kind_of e ≢ DisplayVersion) → IsAtFault words
 else_at_fault e words has other = ⊎_elim (λ memory. absurd (other.0 memory)) (λ among. (kind_of e, among, other.1, other.2)) has

@@ -170,7 +170,7 @@ replayed_whole b v before ahead s n read ends at none there = record {
 pub flushed_at : (b : List ℕ) (v : Kept) (start now after : Option (List ℕ)) → IsAt b v start now → Keeps now after → IsAt b v start after
 flushed_at b v start now after at kept = record { count = at.count; line = at.line; short = at.short; past = at.past; good = at.good; written = appends_keeps start now after (text b) at.written kept }
 
--- replies that lie in memory are refused a byte for want of memory alone
+-- replies that lie in memory are refused a byte only where it is out of memory
 pub write_is_memory : (b : List ℕ) (before ahead start now : Option (List ℕ)) → Ends Write b before ahead start now → Ends Memory b before ahead start now
 write_is_memory b before ahead start now e = record { read = e.read; means = e.means }
 

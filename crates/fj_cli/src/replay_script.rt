@@ -5,14 +5,11 @@ ghost use Rattle.fj_cli.specs.Faults.{IsScript, IsReplayed, Ends};
 
 use crate::fault::ReplayFault;
 use crate::in_memory::InMemory;
-use crate::session::Session;
+use crate::session::{CHUNK, Session};
 use crate::streams::{Sink, Source};
 use crate::writes::flush_whole;
 use std::alloc::Global;
 use std::io::ErrorKind;
-
-// How many bytes are read at once.
-const CHUNK: usize = 8192;
 
 /// Reads a script, makes its steps and writes the replies.
 ///
@@ -32,7 +29,7 @@ pub fn replay<R: Source, W: Sink>(alloc: Global, r: &mut R, w: &mut W) -> Result
     let mut chunk = [0u8; CHUNK];
     for _reads in 0..u64::MAX {
         // The lines of a chunk are counted in 64 bits.
-        if session.count() >= u64::MAX - CHUNK as u64 {
+        if session.is_full() {
             return Err(ReplayFault::Read);
         }
         match r.pull(&mut chunk) {

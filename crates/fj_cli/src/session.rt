@@ -1,4 +1,4 @@
-ghost use Rattle.std.specs.Prelude.{◌≡◌, ℕ, ◌+◌, ◌^◌, ◌<◌, ◌≤◌, ◌++◌, [], length, OnOk, IfOk, IfErr, List, Option, true, is_some};
+ghost use Rattle.std.specs.Prelude.{◌≡◌, ℕ, ◌+◌, ◌-◌, ◌^◌, nat_le, ◌<◌, ◌≤◌, ◌++◌, [], length, OnOk, IfOk, IfErr, List, Option, true, is_some};
 ghost use Rattle.std.specs.Io.KnownBytes.{Appends};
 ghost use Rattle.fj_cli.specs.Calls.{IsFine, WriterTells};
 ghost use Rattle.fj_cli.specs.Cuts.{lines};
@@ -11,6 +11,9 @@ use crate::streams::Sink;
 use fj_model::read_step;
 use std::alloc::{AllocError, Global};
 use std::marker::Model;
+
+/// How many bytes are read at once.
+pub(crate) const CHUNK: usize = 8192;
 
 /// What is kept of the bytes so far.
 #[derive(Drop)]
@@ -47,11 +50,11 @@ impl Session {
         })
     }
 
-    /// How many whole lines there were.
-    pub fn count(&self) -> u64
-        ensures { result ≡ self.now.count }
+    /// Whether the lines of a chunk more might be more than 64 bits count.
+    pub fn is_full(&self) -> bool
+        ensures { result ≡ nat_le (2 ^ 64 - 8193) self.now.count }
     {
-        self.count
+        self.count >= u64::MAX - CHUNK as u64
     }
 
     /// Ends the line: opens the machine at the heading, and replies to any other line.

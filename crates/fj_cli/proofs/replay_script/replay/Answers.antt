@@ -1,6 +1,8 @@
-use Rattle.std.proofs.Common.{◌<◌, ◌++◌, length, take, rules, inl}
+use Rattle.std.proofs.Common.{◌<◌, ◌++◌, ◌≡◌, ◌-◌, ◌^◌, ◌∙◌, nat_le, true, ap, sym, length, take, rules, inl, inr}
 use Rattle.std.proofs.lemmas.Result.{MatchResult-weaker, err_from_is_err_and, on_ok_weaker}
 use Rattle.fj_cli.specs.Calls.{HasFailed, IsFine}
+use Rattle.fj_cli.specs.Cuts.{lines}
+use Rattle.std.proofs.lemmas.Bool.{leb-true}
 use Rattle.fj_cli.proofs.Bytes.{consumes_twice, consumes_kept, read_end}
 use Rattle.fj_cli.proofs.Begun.{all_some}
 use Rattle.fj_cli.proofs.CallsMade.{ended_told, fine_failed, fine_twice, goes_failed, goes_fine, goes_forever, goes_further, if_ok, told_later, writer_told}
@@ -34,6 +36,18 @@ returns-in-Ok-eq0-clause-err g c =
       },
       ended_told fault _ so_far.0 _ _ _ _ early (goes_fine _ _ _ goes) c.loop-reads.invariant.2,
     ))
+
+pub returns-then-is_full-clause-err : goal.returns-then-is_full-clause-err
+returns-then-is_full-clause-err g c =
+    let so_far = c.loop-reads.invariant.0 in
+    let full : nat_le (2 ^ 64 - 8193) (length (lines so_far.0)) ≡ true = ap (nat_le (2 ^ 64 - 8193)) (sym so_far.2.count) ∙ sym c.is_full.ensures ∙ c.if-is_full.true in (
+      so_far.0,
+      record {
+        read = so_far.1;
+        means = (record { good = so_far.2.good; short = rw (← so_far.2.line) so_far.2.short }, so_far.2.written);
+      },
+      (inr (leb-true _ _ full), c.loop-reads.invariant.2),
+    )
 
 pub returns-then-ne-clause-err : goal.returns-then-ne-clause-err
 returns-then-ne-clause-err g c =
