@@ -1,6 +1,6 @@
 -- The list of the numbers says where each record is, and goes on to when a record is written, put in or taken out.
 use Rattle.std.specs.List.{count_by}
-use Rattle.std.proofs.Common.{arith, Bool, true, false, Option, Some, None, ℕ, ◌≡◌, ◌≢◌, ◌<◌, ◌+◌, ◌++◌, ◌∷◌, [], List, length, filter, get_or, nat_lt, nat_eq, cond, ap, sym, ◌∙◌, refl, subst, inl, inr, eq-eqb}
+use Rattle.std.proofs.Common.{arith, Bool, true, false, Option, Some, None, ℕ, ◌≡◌, ◌≢◌, ◌<◌, ◌+◌, ◌++◌, ◌∷◌, [], List, length, get_or, nat_lt, nat_eq, ap, sym, ◌∙◌, refl, subst, inl, inr, eq-eqb}
 use Rattle.std.proofs.Math.ListN.{set}
 use Rattle.std.proofs.lemmas.Bool.{cases_eq, cases_lt, cond_both, eqb-true}
 use Rattle.std.proofs.lemmas.List.{get_or-set_same, get_or-set_other, length_push}
@@ -9,9 +9,9 @@ use Rattle.std.proofs.lemmas.Option.{same_Some, none-some}
 use Rattle.fj_model.specs.declared.kind.Kind.{Kind}
 use Rattle.fj_model.specs.declared.place.Place.{Place}
 use Rattle.fj_tree.specs.declared.record.Record.{Record}
-use Rattle.fj_tree.specs.Kept.{Pairs, Numbers, number_at, IsAbove, IsAbsent, IsRising, IsListed, IsIndex, has_number, is_current, closed_up, after_release}
+use Rattle.fj_tree.specs.Kept.{Numbers, number_at, IsAbove, IsAbsent, IsRising, IsListed, IsIndex, has_number, is_current, closed_up, after_release}
 use Rattle.fj_tree.specs.Makes.{fresh}
-use Rattle.fj_tree.specs.Records.{Records, IsSound, record_at, record_of, if_numbered, entry_of, handle_of, count}
+use Rattle.fj_tree.specs.Records.{Records, IsSound, record_at, record_of, entry_of, handle_of, count}
 use Rattle.fj_tree.proofs.Records.Growing.{IsPutIn}
 use Rattle.fj_tree.proofs.Index.Closing.{listed_left, above_left, count_same, count_one_fewer, count_left, count_push}
 use Rattle.fj_tree.proofs.Index.Listing.{listed_new, listed_still, none_listed}

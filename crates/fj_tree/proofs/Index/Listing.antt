@@ -1,5 +1,5 @@
 -- What a search finds among rising numbers, and what one number more leaves.
-use Rattle.std.proofs.Common.{arith, ℕ, ◌≡◌, ◌<◌, ◌+◌, ◌++◌, ◌∷◌, [], length, get_or, sym, ◌∙◌, ap, refl, inl, inr}
+use Rattle.std.proofs.Common.{arith, ℕ, ◌≡◌, ◌+◌, ◌++◌, ◌∷◌, [], length, get_or, sym, ◌∙◌, ap, refl, inl, inr}
 use Rattle.std.proofs.lemmas.Bool.{cases_eq, cases_lt}
 use Rattle.std.proofs.lemmas.List.{get_or_append_left, get_or_push, length_push}
 use Rattle.fj_tree.specs.Kept.{Pairs, number_at, key_at, IsRising, IsAbove, IsAbsent, IsAt, IsListed}
