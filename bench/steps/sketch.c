@@ -10,7 +10,7 @@
 #include <string.h>
 #include <time.h>
 
-enum { TASKS = 4096, EVENTS = 1048576, MAX_WORKERS = 32, MAX_QUEUES = 64, MAX_PENDING = 65535, HINTS = 4096, TWICE = 2 * TASKS };
+enum { TASKS = 4096, EVENTS = 1048576, MAX_WORKERS = 32, MAX_QUEUES = 64, MAX_PENDING = 65535, HINTS = 16384, TWICE = 2 * TASKS };
 enum { EVENT_BYTES = 48 }; /* as an event of fj_model has */
 static const uint32_t NO_CELL = UINT32_MAX, NO_QUEUE = UINT32_MAX;
 static const uint64_t NO_TASK = UINT64_MAX; /* at a key at which there is no record */
@@ -93,9 +93,9 @@ typedef struct {
     Record *records;
     uint32_t *vacant, vacancies; /* the keys at which there is no record */
     uint64_t made;
-    Pair *pairs; /* the numbers of the records, rising, from place `head` on */
-    uint32_t head, kept;
-    uint32_t hints[HINTS]; /* by the rest of a number: the key to look at first */
+    Pair *pairs; /* the numbers of the records, rising, and of those that were released since the list was closed up */
+    uint32_t listed, released;
+    uint16_t hints[HINTS]; /* by the rest of a number: the key to look at first */
     Cell *cells;
     uint32_t used, free_cell, queued;
     Queue queues[MAX_QUEUES];
@@ -217,56 +217,40 @@ static uint32_t first_from(const Machine *m, uint32_t r) {
 
 static uint32_t key_of(const Machine *m, const Record *record) { return (uint32_t)(record - m->records); }
 
-/* The place from which on the kept numbers are not below this one. */
-static uint32_t place_of(const Machine *m, uint64_t task) {
-    uint32_t low = m->head, high = m->head + m->kept;
+static Record *find(const Machine *m, uint64_t task) {
+    uint32_t key = m->hints[task % HINTS], low = 0, high = m->listed;
+    if (m->records[key].task == task) return &m->records[key];
     while (low < high) {
         uint32_t middle = low + (high - low) / 2;
-        if (m->pairs[middle].task < task) low = middle + 1;
+        const Pair *pair = &m->pairs[middle];
+        if (pair->task == task) return m->records[pair->key].task == task ? &m->records[pair->key] : NULL;
+        if (pair->task < task) low = middle + 1;
         else high = middle;
     }
-    return low;
-}
-
-static Record *find(const Machine *m, uint64_t task) {
-    uint32_t key = m->hints[task % HINTS], i;
-    if (m->records[key].task == task) return &m->records[key];
-    i = place_of(m, task);
-    return i < m->head + m->kept && m->pairs[i].task == task ? &m->records[m->pairs[i].key] : NULL;
+    return NULL;
 }
 
 static Record *insert(Machine *m, Kind kind, Place place, uint32_t at, Record *parent) {
     uint32_t key = m->vacant[--m->vacancies];
     Record *record = &m->records[key];
     *record = (Record){.task = m->made, .kind = kind, .place = place, .at = at, .pending = kind.count};
-    if (m->head + m->kept == TWICE) {
-        memcpy(m->pairs, &m->pairs[m->head], sizeof(Pair) * m->kept);
-        m->head = 0;
-    }
-    m->pairs[m->head + m->kept++] = (Pair){m->made, key};
-    m->hints[m->made % HINTS] = key;
+    m->pairs[m->listed++] = (Pair){m->made, key};
+    m->hints[m->made % HINTS] = (uint16_t)key;
     m->made++;
     if (parent != NULL) parent->children++;
     return record;
 }
 
-/* The newest number is looked at first. The side with fewer numbers closes up. */
+/* The list is closed up once as many records were released as there is room for. */
 static void forget(Machine *m, Record *record) {
-    uint32_t before = m->kept - 1;
-    Pair *first = &m->pairs[m->head], *taken = first + before;
-    if (taken->task != record->task) {
-        before = place_of(m, record->task) - m->head;
-        taken = first + before;
-    }
-    m->kept--;
-    if (before < m->kept - before) {
-        memmove(first + 1, first, sizeof(Pair) * before);
-        m->head++;
-    } else {
-        memmove(taken, taken + 1, sizeof(Pair) * (m->kept - before));
-    }
     record->task = NO_TASK;
     m->vacant[m->vacancies++] = key_of(m, record);
+    if (++m->released < TASKS) return;
+    uint32_t left = 0;
+    for (uint32_t i = 0; i < m->listed; i++)
+        if (m->records[m->pairs[i].key].task == m->pairs[i].task) m->pairs[left++] = m->pairs[i];
+    m->listed = left;
+    m->released = 0;
 }
 
 /* The open tasks. */
@@ -386,7 +370,7 @@ static Said submit(Machine *m, uint32_t s, Kind kind) {
     if (s >= m->submitters) return refuse(NO_SUCH);
     if (m->closed || m->stopped) return refuse(CLOSED);
     if (kind.count > MAX_PENDING) return refuse(TOO_LARGE);
-    if (m->kept >= TASKS) return refuse(TOO_MANY);
+    if (m->vacancies == 0) return refuse(TOO_MANY);
     if (!has_room(m, 1)) return refuse(LOG_FULL);
     return accept(m, s, kind, NULL);
 }
@@ -403,7 +387,7 @@ static Said fork_task(Machine *m, uint32_t w, Kind kind) {
     }
     if (m->stopped) return refuse(CLOSED);
     if (kind.count > MAX_PENDING) return refuse(TOO_LARGE);
-    if (m->kept >= TASKS) return refuse(TOO_MANY);
+    if (m->vacancies == 0) return refuse(TOO_MANY);
     if (!has_room(m, 1)) return refuse(LOG_FULL);
     return accept(m, m->submitters + w, kind, parent);
 }
@@ -414,7 +398,7 @@ static Said trigger(Machine *m, uint32_t w, uint32_t count) {
     if (m->depth[w] == 0) return refuse(NOT_RUNNING);
     if (m->stopped) return refuse(CLOSED);
     if (count > MAX_PENDING) return refuse(TOO_LARGE);
-    if (m->kept >= TASKS) return refuse(TOO_MANY);
+    if (m->vacancies == 0) return refuse(TOO_MANY);
     if (!has_room(m, 1)) return refuse(LOG_FULL);
     return make_trigger(m, count);
 }
