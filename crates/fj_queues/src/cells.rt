@@ -7,25 +7,25 @@ use std::alloc::{AllocError, Global};
 ///
 /// A free cell still holds the number that was taken out of it, and has the next free one as its newer neighbour.
 #[derive(Clone, Copy)]
-pub(crate) struct Cell {
-    pub(crate) serial: Serial,
-    pub(crate) older: Option<usize>,
-    pub(crate) newer: Option<usize>,
+pub struct Cell {
+    pub serial: Serial,
+    pub older: Option<usize>,
+    pub newer: Option<usize>,
 }
 
 /// The cells of all queues in one table, each named by its place there.
 ///
 /// The table has room for all cells from the start. It grows into that room as cells are first used, so that making it costs no time.
 #[derive(Drop)]
-pub(crate) struct Cells {
-    pub(crate) table: Vec<Cell>,
+pub struct Cells {
+    pub table: Vec<Cell>,
     /// The first in the chain of the cells that were given back, and are filled again before a new one is.
-    pub(crate) free: Option<usize>,
+    pub free: Option<usize>,
 }
 
 impl Cell {
     /// A number in a queue of its own.
-    pub(crate) fn alone(serial: Serial) -> Cell
+    pub fn alone(serial: Serial) -> Cell
         ensures { result ≡ record { serial = serial; older = None; newer = None } }
     {
         Cell {
@@ -40,7 +40,7 @@ impl Cells {
     ghost use Rattle.fj_queues.specs.Cells.{IsWritten, AreJoined, cell_at, serial_at, NextFree};
 
     /// No cells, with room for so many. Refused only if out of memory.
-    pub(crate) fn with_capacity(alloc: Global, room: usize) -> Result<Cells, AllocError>
+    pub fn with_capacity(alloc: Global, room: usize) -> Result<Cells, AllocError>
         ensures empty { IfOk result (λ cells. cells.table.items ≡ []) }
         ensures free { IfOk result (λ cells. cells.free ≡ None) }
         ensures room { IfOk result (λ cells. room ≤ vec_capacity cells.table) }
@@ -52,7 +52,7 @@ impl Cells {
     }
 
     /// Writes the first free cell, or where none is free a new one, and names it. No memory is taken.
-    pub(crate) fn fill(&mut self, cell: Cell) -> usize
+    pub fn fill(&mut self, cell: Cell) -> usize
         requires free { IfSome self.old.free (λ c. c < length self.old.table.items) }
         requires room { self.old.free ≡ None → length self.old.table.items < vec_capacity self.old.table }
         ensures written { IsWritten self.old.table.items self.new.table.items result cell }
@@ -70,7 +70,7 @@ impl Cells {
     }
 
     /// Makes a cell the first free one, and answers its number.
-    pub(crate) fn give_back(&mut self, number: usize) -> Serial
+    pub fn give_back(&mut self, number: usize) -> Serial
         requires { number < length self.old.table.items }
         ensures serial { result ≡ serial_at self.old.table.items number }
         ensures written { IsWritten self.old.table.items self.new.table.items number (record (cell_at self.old.table.items number) { newer = self.old.free }) }
@@ -84,7 +84,7 @@ impl Cells {
     }
 
     /// Makes two cells neighbours. Where one of them is none, the other is at that end of its queue.
-    pub(crate) fn join(&mut self, older: Option<usize>, newer: Option<usize>)
+    pub fn join(&mut self, older: Option<usize>, newer: Option<usize>)
         requires older { IfSome older (λ c. c < length self.old.table.items) }
         requires newer { IfSome newer (λ c. c < length self.old.table.items) }
         ensures joined { AreJoined self.old.table.items self.new.table.items older newer }

@@ -4,10 +4,10 @@ use crate::cells::Cells;
 
 /// The cells at the ends of a queue, none where it is empty, and how many numbers it has.
 #[derive(Clone, Copy)]
-pub(crate) struct Ends {
-    pub(crate) oldest: Option<usize>,
-    pub(crate) newest: Option<usize>,
-    pub(crate) len: usize,
+pub struct Ends {
+    pub oldest: Option<usize>,
+    pub newest: Option<usize>,
+    pub len: usize,
 }
 
 impl Ends {
@@ -15,14 +15,14 @@ impl Ends {
     ghost use Rattle.fj_queues.specs.Chains.{IsQueue, IsAppended, LosesFirst, LosesLast};
 
     /// An empty queue.
-    pub(crate) const EMPTY: Ends = Ends {
+    pub const EMPTY: Ends = Ends {
         oldest: None,
         newest: None,
         len: 0,
     };
 
     /// Links a cell at the new end. Precondition: the cell is in no queue, and has no newer neighbour.
-    pub(crate) fn append(&mut self, cells: &mut Cells, number: usize)
+    pub fn append(&mut self, cells: &mut Cells, number: usize)
         requires queue { IsQueue cells.old.table.items self.old }
         requires cell { number < length cells.old.table.items }
         requires alone { newer_at cells.old.table.items number ≡ None }
@@ -41,7 +41,7 @@ impl Ends {
     }
 
     /// Unlinks the oldest cell, and names it. None, with nothing changed, if the queue is empty.
-    pub(crate) fn detach_oldest(&mut self, cells: &mut Cells) -> Option<usize>
+    pub fn detach_oldest(&mut self, cells: &mut Cells) -> Option<usize>
         requires queue { IsQueue cells.old.table.items self.old }
         ensures taken { result ≡ self.old.oldest }
         ensures rest { IfSome result (λ c. LosesFirst cells.old.table.items cells.new.table.items self.old self.new c) }
@@ -62,7 +62,7 @@ impl Ends {
     }
 
     /// Unlinks the newest cell, and names it. None, with nothing changed, if the queue is empty.
-    pub(crate) fn detach_newest(&mut self, cells: &mut Cells) -> Option<usize>
+    pub fn detach_newest(&mut self, cells: &mut Cells) -> Option<usize>
         requires queue { IsQueue cells.old.table.items self.old }
         ensures taken { result ≡ self.old.newest }
         ensures rest { IfSome result (λ c. LosesLast cells.old.table.items cells.new.table.items self.old self.new c) }

@@ -1,3 +1,0 @@
-mod faults;
-mod headings;
-mod steps;
