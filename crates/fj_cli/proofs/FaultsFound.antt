@@ -5,6 +5,7 @@ use Rattle.std.proofs.lemmas.List.{append-nil, take-append-drop}
 use Rattle.std.proofs.Math.Seq.{take-append_seam}
 use Rattle.std.proofs.Math.ListN.{get_or}
 use Rattle.std.specs.Io.KnownBytes.{Appends, Consumes, IsAtEnd, Keeps}
+use Rattle.fj_model.specs.declared.read.TheConstants.{MAX_LINE}
 use Rattle.fj_cli.specs.declared.fault.ReplayFault.{ReplayFault}
 use Rattle.fj_cli.specs.declared.fault.ReplayFault.TheVariants.{Line, Limits, Memory, Read, Write}
 use Rattle.fj_cli.specs.Cuts.{cut, left, lines, rest, AppendsSome}
@@ -61,15 +62,15 @@ stands b more line after k v s n m ahead at number one faulty wrote =
 -- ---- a line that is too long
 
 -- where a long line goes on, it is the first of the lines or what is left
-long_or : (before xs : List ℕ) → 64 < length before → (cut before xs ≡ []) ⊎ ((line : List ℕ) × (after : List (List ℕ)) × (cut before xs ≡ line ∷ after) × (64 < length line))
+long_or : (before xs : List ℕ) → MAX_LINE < length before → (cut before xs ≡ []) ⊎ ((line : List ℕ) × (after : List (List ℕ)) × (cut before xs ≡ line ∷ after) × (MAX_LINE < length line))
 long_or before [] long = inl refl
 long_or before (x ∷ xs) long =
-    elim (x == 10) as (λ t. ((if t then (before ∷ cut [] xs) else cut (before ++ x ∷ []) xs) ≡ []) ⊎ ((line : List ℕ) × (after : List (List ℕ)) × ((if t then (before ∷ cut [] xs) else cut (before ++ x ∷ []) xs) ≡ line ∷ after) × (64 < length line))) [
+    elim (x == 10) as (λ t. ((if t then (before ∷ cut [] xs) else cut (before ++ x ∷ []) xs) ≡ []) ⊎ ((line : List ℕ) × (after : List (List ℕ)) × ((if t then (before ∷ cut [] xs) else cut (before ++ x ∷ []) xs) ≡ line ∷ after) × (MAX_LINE < length line))) [
       | true ↦ inr (before, cut [] xs, refl, long)
       | false ↦ long_or (before ++ x ∷ []) xs (simp length-append (omega arith))
     ]
 
-unended : (b more : List ℕ) (k : ℕ) (v : Kept) (s n m ahead : Option (List ℕ)) → IsAt b v s n → k ≡ v.count + 1 → cut (rest b) more ≡ [] → 64 < length (left (rest b) more) → Appends n m [] → FaultOf (Line k) (b ++ more) ahead s m
+unended : (b more : List ℕ) (k : ℕ) (v : Kept) (s n m ahead : Option (List ℕ)) → IsAt b v s n → k ≡ v.count + 1 → cut (rest b) more ≡ [] → MAX_LINE < length (left (rest b) more) → Appends n m [] → FaultOf (Line k) (b ++ more) ahead s m
 unended b more k v s n m ahead at number none long wrote =
     let cuts : lines (b ++ more) ≡ lines b = cut-append [] b more ∙ (ap (λ ls. lines b ++ ls) none ∙ append-nil (lines b)) in
     let quiet : text_from (past_of (lines b)) (cut (rest b) more) ≡ [] = rw none (text-none (past_of (lines b))) in
@@ -79,16 +80,16 @@ unended b more k v s n m ahead at number none long wrote =
     } in
     (inr (open_line, inl (rw (left-append [] b more) long)), wrote_all b more v s n m at quiet wrote)
 
-long_line : (b more : List ℕ) (x k : ℕ) (v : Kept) (s n m ahead : Option (List ℕ)) → IsAt b v s n → k ≡ v.count + 1 → x ≢ 10 → 64 ≤ length v.line → Appends n m [] → FaultOf (Line k) (b ++ x ∷ more) ahead s m
+long_line : (b more : List ℕ) (x k : ℕ) (v : Kept) (s n m ahead : Option (List ℕ)) → IsAt b v s n → k ≡ v.count + 1 → x ≢ 10 → MAX_LINE ≤ length v.line → Appends n m [] → FaultOf (Line k) (b ++ x ∷ more) ahead s m
 long_line b more x k v s n m ahead at number goes full wrote =
     let e = no_ten x goes in
     let same : length v.line ≡ length (rest b) = ap length at.line in
-    let long : 64 < length (rest b ++ x ∷ []) = simp length-append (omega arith) in
+    let long : MAX_LINE < length (rest b ++ x ∷ []) = simp length-append (omega arith) in
     let on : cut (rest b) (x ∷ more) ≡ cut (rest b ++ x ∷ []) more = rw e refl in
     let on_left : left (rest b) (x ∷ more) ≡ left (rest b ++ x ∷ []) more = rw e refl in
     elim (long_or (rest b ++ x ∷ []) more long) [
       | inl none ↦
-          let far : 64 < length (left (rest b) (x ∷ more)) = rw (on_left, left-uncut (rest b ++ x ∷ []) more none, length-append) (omega arith) in
+          let far : MAX_LINE < length (left (rest b) (x ∷ more)) = rw (on_left, left-uncut (rest b ++ x ∷ []) more none, length-append) (omega arith) in
           unended b (x ∷ more) k v s n m ahead at number (on ∙ none) far wrote
       | inr l ↦ stands b (x ∷ more) l.0 l.1 k v s n m ahead at number (on ∙ l.2) (too_long (past_of (lines b)) l.0 l.3) wrote
     ]

@@ -2,6 +2,7 @@
 use Rattle.std.specs.Prelude.{true, is_some}
 use Rattle.std.proofs.Common.{ℕ, ◌≡◌, ◌<◌, length, arith, List, [], ◌∷◌, ◌++◌, refl, ◌∙◌, sym, ap, append_assoc, Option, Some, None}
 use Rattle.std.specs.List.{list_all}
+use Rattle.fj_model.specs.declared.read.TheConstants.{MAX_LINE}
 use Rattle.fj_model.specs.declared.mode.Mode.{Mode}
 use Rattle.fj_model.specs.declared.step.Step.{Step}
 use Rattle.fj_model.specs.declared.said.Said.{Said}
@@ -192,15 +193,15 @@ is_run b e = run_of (pool (lines b)) (steps (lines b)) e
 
 -- ---- long lines
 
-no_head : (l : List ℕ) (o : Option (Mode × List ℕ)) → head_in l ≡ o → 64 < length l → o ≡ None
+no_head : (l : List ℕ) (o : Option (Mode × List ℕ)) → head_in l ≡ o → MAX_LINE < length l → o ≡ None
 no_head l None e long = refl
 no_head l (Some head) e long = let short = head_short l head e in absurd (omega arith)
 
-no_step : (l : List ℕ) (o : Option Step) → step_in l ≡ o → 64 < length l → o ≡ None
+no_step : (l : List ℕ) (o : Option Step) → step_in l ≡ o → MAX_LINE < length l → o ≡ None
 no_step l None e long = refl
 no_step l (Some asked) e long = let short = step_short l asked e in absurd (omega arith)
 
 -- a line of more than 64 bytes is faulty
-pub too_long : (v : Option Past) (l : List ℕ) → 64 < length l → IsFaulty v l
+pub too_long : (v : Option Past) (l : List ℕ) → MAX_LINE < length l → IsFaulty v l
 too_long None l long = no_head l (head_in l) refl long
 too_long (Some past) l long = no_step l (step_in l) refl long

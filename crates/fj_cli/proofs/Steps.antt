@@ -7,6 +7,7 @@ use Rattle.std.proofs.Math.ListN.{get_or}
 use Rattle.std.proofs.Math.Numerals.{add-one}
 use Rattle.std.proofs.lemmas.Bool.Decides.{nat_tests}
 use Rattle.std.specs.Io.KnownBytes.{Appends}
+use Rattle.fj_model.specs.declared.read.TheConstants.{MAX_LINE}
 use Rattle.fj_cli.specs.Cuts.{cut, lines, rest}
 use Rattle.fj_cli.specs.Scripts.{is_good, text}
 use Rattle.fj_cli.specs.Sessions.{Kept, IsAt, Goes, next_kept, fed, past_of, past_after, line_text}
@@ -47,7 +48,7 @@ at_end b v w x s n m at next wrote e there =
       written = rw whole (appends_twice s n m (text b) (line_text v.past v.line) at.written (rw here at wrote));
     }
 
-at_more : (b : List ℕ) (v w : Kept) (x : ℕ) (s n m : Option (List ℕ)) → IsAt b v s n → w ≡ next_kept v x → Appends n m (fed v x) → (x == 10) ≡ false → length v.line + 1 ≤ 64 → IsAt (b ++ x ∷ []) w s m
+at_more : (b : List ℕ) (v w : Kept) (x : ℕ) (s n m : Option (List ℕ)) → IsAt b v s n → w ≡ next_kept v x → Appends n m (fed v x) → (x == 10) ≡ false → length v.line + 1 ≤ MAX_LINE → IsAt (b ++ x ∷ []) w s m
 at_more b v w x s n m at next wrote e few =
     let now : w ≡ record { count = v.count; line = v.line ++ x ∷ []; past = v.past } = next ∙ rw e refl in
     let cuts : lines (b ++ x ∷ []) ≡ lines b = cut-append [] b (x ∷ []) ∙ rw (e, append-nil) refl in

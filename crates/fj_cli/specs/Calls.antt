@@ -5,6 +5,7 @@ use Rattle.std.specs.declared.io.Error.{Error}
 use Rattle.std.specs.declared.io.ErrorKind.TheVariants.{Interrupted}
 use Rattle.fj_cli.specs.declared.fault.ReplayFault.{ReplayFault}
 use Rattle.fj_cli.specs.declared.fault.ReplayFault.TheVariants.{Line, Limits, Memory, Read, Write}
+use Rattle.fj_cli.specs.declared.session.TheConstants.{CHUNK}
 use Rattle.fj_cli.specs.Cuts.{lines}
 
 -- how many there were, where there was a last one after so many
@@ -71,5 +72,5 @@ abbrev pub FaultTells : ReplayFault → List ℕ → Option Calls → Option Cal
 FaultTells (Line n) b read now written after = IsFine read now × IsFine written after
 FaultTells Limits b read now written after = IsFine read now × IsFine written after
 FaultTells Memory b read now written after = IsFine read now × IsFine written after
-FaultTells Read b read now written after = (HasFailed read now ⊎ (2 ^ 64 - 8193 ≤ length (lines b))) × IsFine written after
+FaultTells Read b read now written after = (HasFailed read now ⊎ (2 ^ 64 - 1 - CHUNK ≤ length (lines b))) × IsFine written after
 FaultTells Write b read now written after = IsFine read now × HasFailed written after

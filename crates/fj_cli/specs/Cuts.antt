@@ -1,16 +1,17 @@
 -- The lines of bytes.
 use Rattle.std.specs.Prelude.{ℕ, ◌==◌, if◌then◌else◌, List, [], ◌∷◌, ◌++◌, Option, take}
 use Rattle.std.specs.Io.KnownBytes.{Appends}
+use Rattle.fj_model.specs.declared.read.TheConstants.{LINE_FEED}
 
 -- the lines that end with a line feed, where rest stands before the bytes on the first
 abbrev pub cut : List ℕ → List ℕ → List (List ℕ)
 cut rest [] = []
-cut rest (x ∷ xs) = if x == 10 then (rest ∷ cut [] xs) else cut (rest ++ x ∷ []) xs
+cut rest (x ∷ xs) = if x == LINE_FEED then (rest ∷ cut [] xs) else cut (rest ++ x ∷ []) xs
 
 -- what stands behind the last line feed, where rest stands before the bytes
 abbrev pub left : List ℕ → List ℕ → List ℕ
 left rest [] = rest
-left rest (x ∷ xs) = if x == 10 then left [] xs else left (rest ++ x ∷ []) xs
+left rest (x ∷ xs) = if x == LINE_FEED then left [] xs else left (rest ++ x ∷ []) xs
 
 -- the lines that end with a line feed, without it
 abbrev pub lines : List ℕ → List (List ℕ)

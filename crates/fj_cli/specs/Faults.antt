@@ -1,6 +1,7 @@
 -- What the end of a replay says of the bytes that were read.
 use Rattle.std.specs.Prelude.{ℕ, ◌≡◌, ◌≢◌, ◌+◌, ◌<◌, ◌≤◌, ◌⊎◌, List, [], ◌∷◌, ◌++◌, Option, Some, None, true, length}
 use Rattle.std.specs.Io.KnownBytes.{Appends, Consumes, IsAtEnd}
+use Rattle.fj_model.specs.declared.read.TheConstants.{MAX_LINE}
 use Rattle.fj_model.specs.declared.mode.Mode.{Mode}
 use Rattle.fj_model.specs.Lines.{head_in, step_in}
 use Rattle.fj_cli.specs.declared.fault.ReplayFault.{ReplayFault}
@@ -30,7 +31,7 @@ pub record IsUnended (n : ℕ) (b : List ℕ) : Type 0 where
 abbrev pub IsFirstFault : ℕ → List ℕ → Option (List ℕ) → Type 0
 IsFirstFault n b ahead =
     ((before : List (List ℕ)) × (line : List ℕ) × (after : List (List ℕ)) × Stands n b before line after)
-    ⊎ (IsUnended n b × ((64 < length (rest b)) ⊎ (IsAtEnd ahead × ((rest b ≢ []) ⊎ (b ≡ [])))))
+    ⊎ (IsUnended n b × ((MAX_LINE < length (rest b)) ⊎ (IsAtEnd ahead × ((rest b ≢ []) ⊎ (b ≡ [])))))
 
 -- the line is a heading with a limit out of its range
 abbrev pub IsOutOfLimits : List ℕ → Type 0
@@ -44,7 +45,7 @@ OpensOutOfLimits (head ∷ others) = IsOutOfLimits head
 -- so far all is good: the whole lines are canonical, the heading is within the limits, and the line that goes on is not too long
 pub record IsGoodSoFar (b : List ℕ) : Type 0 where
   pub good : is_good (lines b) ≡ true
-  pub short : length (rest b) ≤ 64
+  pub short : length (rest b) ≤ MAX_LINE
 
 -- what a fault says of the bytes that were read, of those ahead, and of what was written
 abbrev pub FaultOf : ReplayFault → List ℕ → Option (List ℕ) → Option (List ℕ) → Option (List ℕ) → Type 0
@@ -76,3 +77,11 @@ pub record IsReplayed (b : List ℕ) (before ahead start now : Option (List ℕ)
 pub record IsBegun (b : List ℕ) (before ahead start now : Option (List ℕ)) : Type 0 where
   pub read : Consumes before ahead b
   pub written : AppendsSome start now (text b)
+
+-- some bytes are the whole input and a script, and the replies to it were written
+abbrev pub Replays : Option (List ℕ) → Option (List ℕ) → Option (List ℕ) → Option (List ℕ) → Type 0
+Replays before ahead start now = (b : List ℕ) × IsReplayed b before ahead start now
+
+-- some bytes were read, and a beginning of the replies to them was written
+abbrev pub Begins : Option (List ℕ) → Option (List ℕ) → Option (List ℕ) → Option (List ℕ) → Type 0
+Begins before ahead start now = (b : List ℕ) × IsBegun b before ahead start now

@@ -2,6 +2,7 @@
 use Rattle.std.specs.Prelude.{ℕ, Bool, true, ◌≡◌, ◌&&◌, nat_le, if◌then◌else◌, List, [], ◌∷◌, ◌++◌, Option, Some, None, is_some, slice_index}
 use Rattle.std.specs.Option.{option_and_then}
 use Rattle.std.specs.List.{list_all}
+use Rattle.fj_model.specs.declared.limits.TheConstants.{MAX_WORKERS, MAX_SUBMITTERS, MAX_TASKS, MAX_EVENTS}
 use Rattle.fj_model.specs.declared.mode.Mode.{Mode}
 use Rattle.fj_model.specs.declared.step.Step.{Step}
 use Rattle.fj_model.specs.declared.said.Said.{Said}
@@ -27,9 +28,9 @@ limits_of numbers = record {
 -- whether each limit is in its range
 abbrev pub is_within : Bounds → Bool
 is_within l =
-    (nat_le 1 l.workers && nat_le l.workers 32)
-    && ((nat_le 1 l.submitters && nat_le l.submitters 32)
-    && ((nat_le 1 l.tasks && nat_le l.tasks 4096) && (nat_le 1 l.events && nat_le l.events 1048576)))
+    (nat_le 1 l.workers && nat_le l.workers MAX_WORKERS)
+    && ((nat_le 1 l.submitters && nat_le l.submitters MAX_SUBMITTERS)
+    && ((nat_le 1 l.tasks && nat_le l.tasks MAX_TASKS) && (nat_le 1 l.events && nat_le l.events MAX_EVENTS)))
 
 -- the pool of a heading, if its limits are in their ranges
 abbrev pub pool_of : Mode × List ℕ → Option Pool

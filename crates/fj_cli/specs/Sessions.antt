@@ -1,6 +1,7 @@
 -- What a session keeps, and what one byte does to it.
 use Rattle.std.specs.Prelude.{ℕ, ⊤, ◌≡◌, ◌≢◌, ◌+◌, ◌≤◌, ◌==◌, ◌⊎◌, if◌then◌else◌, List, [], ◌∷◌, ◌++◌, Option, Some, None, true, is_some, length}
 use Rattle.std.specs.Io.KnownBytes.{Appends}
+use Rattle.fj_model.specs.declared.read.TheConstants.{LINE_FEED, MAX_LINE}
 use Rattle.fj_model.specs.declared.step.Step.{Step}
 use Rattle.fj_model.specs.Bounds.{Pool}
 use Rattle.fj_model.specs.Answers.{answer}
@@ -10,7 +11,7 @@ use Rattle.fj_cli.specs.declared.fault.ReplayFault.{ReplayFault}
 use Rattle.fj_cli.specs.declared.fault.ReplayFault.TheVariants.{Line, Limits, Memory, Read, Write}
 use Rattle.fj_cli.specs.Cuts.{lines, rest, AppendsSome}
 use Rattle.fj_cli.specs.Scripts.{pool_in, is_good, pool, steps, after, start, text}
-use Rattle.fj_cli.specs.Faults.{IsOutOfLimits}
+use Rattle.fj_cli.specs.Faults.{FaultOf, IsOutOfLimits}
 
 -- what a session keeps: the number of whole lines, the line that goes on, and the machine's past once there is a heading
 pub record Kept : Type 0 where
@@ -34,10 +35,20 @@ past_of ls = opened (pool ls) (steps ls)
 pub record IsAt (b : List ℕ) (v : Kept) (start now : Option (List ℕ)) : Type 0 where
   pub count : v.count ≡ length (lines b)
   pub line : v.line ≡ rest b
-  pub short : length v.line ≤ 64
+  pub short : length v.line ≤ MAX_LINE
   pub past : v.past ≡ past_of (lines b)
   pub good : is_good (lines b) ≡ true
   pub written : Appends start now (text b)
+
+-- after any good bytes of which the old is kept, these bytes more are good too, and of them all the new is kept
+abbrev pub GoesOnBy : List ℕ → Kept → Kept → Option (List ℕ) → Option (List ℕ) → Type 0
+GoesOnBy bytes old new written now =
+    (b : List ℕ) (start : Option (List ℕ)) → IsAt b old start written → IsAt (b ++ bytes) new start now
+
+-- after any good bytes of which the old is kept, these bytes more end the replay by this fault
+abbrev pub EndsInside : ReplayFault → List ℕ → Kept → Option (List ℕ) → Option (List ℕ) → Type 0
+EndsInside fault bytes old written now =
+    (b : List ℕ) (start ahead : Option (List ℕ)) → IsAt b old start written → FaultOf fault (b ++ bytes) ahead start now
 
 -- ---- the end of a line
 
@@ -68,25 +79,25 @@ IsFaulty (Some past) line = step_in line ≡ None
 
 -- the line may go on with the byte, or is good if the byte ends it
 abbrev pub Goes : Kept → ℕ → Type 0
-Goes v x = (x ≡ 10 × (is_some (past_after v.past v.line) ≡ true)) ⊎ ((x ≢ 10) × (length v.line + 1 ≤ 64))
+Goes v x = (x ≡ LINE_FEED × (is_some (past_after v.past v.line) ≡ true)) ⊎ ((x ≢ LINE_FEED) × (length v.line + 1 ≤ MAX_LINE))
 
 -- what is kept after one byte more
 abbrev pub next_kept : Kept → ℕ → Kept
 next_kept v x =
-    if x == 10 then record { count = v.count + 1; line = []; past = past_after v.past v.line }
+    if x == LINE_FEED then record { count = v.count + 1; line = []; past = past_after v.past v.line }
     else record { count = v.count; line = v.line ++ x ∷ []; past = v.past }
 
 -- what is written at the byte
 abbrev pub fed : Kept → ℕ → List ℕ
-fed v x = if x == 10 then line_text v.past v.line else []
+fed v x = if x == LINE_FEED then line_text v.past v.line else []
 
 -- what a fault at a byte says
 abbrev pub FaultAt : ReplayFault → Kept → ℕ → Option (List ℕ) → Option (List ℕ) → Type 0
-FaultAt (Line n) v x old new = (n ≡ v.count + 1) × (((x ≡ 10) × IsFaulty v.past v.line) ⊎ ((x ≢ 10) × (64 ≤ length v.line))) × Appends old new []
-FaultAt Limits v x old new = (x ≡ 10) × (v.past ≡ None) × IsOutOfLimits v.line × Appends old new []
-FaultAt Memory v x old new = (x ≡ 10) × AppendsSome old new (line_text v.past v.line)
+FaultAt (Line n) v x old new = (n ≡ v.count + 1) × (((x ≡ LINE_FEED) × IsFaulty v.past v.line) ⊎ ((x ≢ LINE_FEED) × (MAX_LINE ≤ length v.line))) × Appends old new []
+FaultAt Limits v x old new = (x ≡ LINE_FEED) × (v.past ≡ None) × IsOutOfLimits v.line × Appends old new []
+FaultAt Memory v x old new = (x ≡ LINE_FEED) × AppendsSome old new (line_text v.past v.line)
 FaultAt Read v x old new = ⊥
-FaultAt Write v x old new = (x ≡ 10) × AppendsSome old new (line_text v.past v.line)
+FaultAt Write v x old new = (x ≡ LINE_FEED) × AppendsSome old new (line_text v.past v.line)
 
 -- what a fault at a heading says
 abbrev pub IsHeadFault : ReplayFault → List ℕ → Type 0

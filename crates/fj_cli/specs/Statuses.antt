@@ -1,10 +1,12 @@
 -- What an exit status says.
-use Rattle.std.specs.Prelude.{ℕ, ◌≡◌, ◌≢◌, List, Option}
+use Rattle.std.specs.Prelude.{ℕ, ◌≡◌, ◌≢◌, ◌⊎◌, List, Option}
+use Rattle.clap.specs.Words.{Text}
 use Rattle.std.specs.declared.io.ErrorKind.{ErrorKind}
 use Rattle.std.specs.declared.io.ErrorKind.TheVariants.{InvalidData}
 use Rattle.fj_cli.specs.declared.fault.ReplayFault.{ReplayFault}
 use Rattle.fj_cli.specs.declared.fault.ReplayFault.TheVariants.{Line, Limits, Memory, Read, Write}
-use Rattle.fj_cli.specs.Faults.{Ends}
+use Rattle.fj_cli.specs.Commands.{AsksToShow}
+use Rattle.fj_cli.specs.Faults.{Begins, Ends, Replays}
 
 -- the exit status of a fault: 3 for the input, 4 for memory, 5 for a read or a write
 abbrev pub status_of : ReplayFault → ℕ
@@ -22,3 +24,15 @@ EndsBy status before ahead start now =
 -- the exit status where the words could not be had: 2 where one is no text, 4 for any other error
 abbrev pub StatusOfNoWords : ErrorKind → ℕ → Type 0
 StatusOfNoWords kind status = (kind ≡ InvalidData → status ≡ 2) × (kind ≢ InvalidData → status ≡ 4)
+
+-- what status 0 says: a script was replayed, or what the words ask for of the command line was shown and nothing was read
+abbrev pub EndsWell : List Text → Option (List ℕ) → Option (List ℕ) → Option (List ℕ) → Option (List ℕ) → Type 0
+EndsWell words before ahead start now = Replays before ahead start now ⊎ (AsksToShow words × (ahead ≡ before))
+
+-- what status 4 says: a replay ended so, or nothing was read and nothing written
+abbrev pub LacksMemory : Option (List ℕ) → Option (List ℕ) → Option (List ℕ) → Option (List ℕ) → Type 0
+LacksMemory before ahead start now = EndsBy 4 before ahead start now ⊎ ((ahead ≡ before) × (now ≡ start))
+
+-- what each status says: what was written is a beginning of the replies to what was read, or nothing was read
+abbrev pub BeginsAtMost : Option (List ℕ) → Option (List ℕ) → Option (List ℕ) → Option (List ℕ) → Type 0
+BeginsAtMost before ahead start now = Begins before ahead start now ⊎ (ahead ≡ before)

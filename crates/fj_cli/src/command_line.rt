@@ -1,3 +1,4 @@
+//! The command line: what its arguments ask for, and its help.
 ghost use Rattle.std.specs.Prelude.{◌≡◌, ◌↔◌, Some, IfOk, IfErr, MatchResult, codes, map};
 ghost use Rattle.clap.specs.Words.{HasKind, app_of, kind_of};
 ghost use Rattle.fj_cli.specs.Commands.{whole_line, replay_words, command_in, faults_in};
@@ -6,7 +7,7 @@ use clap::error::ErrorKind;
 use clap::{Command, Error};
 use std::alloc::{AllocError, Global};
 
-// What help says last: the form of the input, an example, the exit statuses.
+/// What help says last: the form of the input, an example, the exit statuses.
 const INPUT: &str =
     "Input of fj replay: a script on standard input, a heading and then one step a line; each line ends with a line feed
   async WORKERS SUBMITTERS TASKS EVENTS      or joining, with the same four limits

@@ -7,7 +7,7 @@ use std::mem;
 
 /// A reader of bytes in memory. No read of it fails, and no more reads than bytes come before the end.
 #[derive(Drop)]
-pub(crate) struct InMemory<'a> {
+pub struct InMemory<'a> {
     rest: &'a [u8],
     again: Tally,
     ghost few: { again + length rest.now ≤ 2 ^ 63 },
@@ -15,7 +15,7 @@ pub(crate) struct InMemory<'a> {
 
 impl<'a> InMemory<'a> {
     /// At the first of these bytes.
-    pub(crate) fn new(bytes: &'a [u8]) -> InMemory<'a>
+    pub fn new(bytes: &'a [u8]) -> InMemory<'a>
         ensures rest { result.rest.now ≡ bytes.now }
         ensures again { result.again ≡ 0 }
     {

@@ -1,9 +1,9 @@
-ghost use Rattle.std.specs.Prelude.{◌≡◌, ◌≢◌, ◌⊎◌, ℕ, List, Some, codes, map};
+ghost use Rattle.std.specs.Prelude.{◌≡◌, ◌≢◌, ◌⊎◌, Some, codes, map};
 ghost use Rattle.clap.specs.Words.{kind_of};
 ghost use Rattle.std.specs.IoError.{error_kind};
-ghost use Rattle.fj_cli.specs.Commands.{command_in, replay_words, AsksToShow, IsAtFault};
-ghost use Rattle.fj_cli.specs.Faults.{IsBegun, IsReplayed};
-ghost use Rattle.fj_cli.specs.Statuses.{EndsBy, StatusOfNoWords};
+ghost use Rattle.fj_cli.specs.Commands.{command_in, replay_words, IsAtFault};
+ghost use Rattle.fj_cli.specs.Faults.{Replays};
+ghost use Rattle.fj_cli.specs.Statuses.{BeginsAtMost, EndsBy, EndsWell, LacksMemory, StatusOfNoWords};
 
 use crate::command_line::{Subcommand, read};
 use crate::replay_command::run_replay;
@@ -29,17 +29,19 @@ pub fn fj<R: Read, W: Write, E: Write>(
     ensures status { (result ≡ 0) ⊎ ((result ≡ 2) ⊎ ((result ≡ 3) ⊎ ((result ≡ 4) ⊎ (result ≡ 5)))) }
     // The arguments of a replay run one, which is to its end at 0.
     ensures known { map (λ word. word.now) words.entry.now ≡ replay_words → result ≢ 2 }
-    ensures replayed { map (λ word. word.now) words.entry.now ≡ replay_words → result ≡ 0 → (b : List ℕ) × IsReplayed b (R.remaining input.old) (R.remaining input.new) (W.contents out.old) (W.contents out.new) }
+    ensures replayed { map (λ word. word.now) words.entry.now ≡ replay_words → result ≡ 0 →
+        Replays (R.remaining input.old) (R.remaining input.new) (W.contents out.old) (W.contents out.new) }
     // Arguments that name no replay read nothing.
     ensures unread { command_in (map (λ word. word.now) words.entry.now) ≢ Some (codes "replay") → R.remaining input.new ≡ R.remaining input.old }
     // What else each status says.
-    ensures done { result ≡ 0 → ((b : List ℕ) × IsReplayed b (R.remaining input.old) (R.remaining input.new) (W.contents out.old) (W.contents out.new)) ⊎ (AsksToShow (map (λ word. word.now) words.entry.now) × (R.remaining input.new ≡ R.remaining input.old)) }
+    ensures done { result ≡ 0 → EndsWell (map (λ word. word.now) words.entry.now)
+        (R.remaining input.old) (R.remaining input.new) (W.contents out.old) (W.contents out.new) }
     ensures words { result ≡ 2 → (R.remaining input.new ≡ R.remaining input.old) × (W.contents out.new ≡ W.contents out.old) }
     ensures fault_of_words { result ≡ 2 → IsAtFault (map (λ word. word.now) words.entry.now) ⊎ (command_in (map (λ word. word.now) words.entry.now) ≢ Some (codes "replay")) }
     ensures fault_of_input { result ≡ 3 → EndsBy 3 (R.remaining input.old) (R.remaining input.new) (W.contents out.old) (W.contents out.new) }
-    ensures memory { result ≡ 4 → EndsBy 4 (R.remaining input.old) (R.remaining input.new) (W.contents out.old) (W.contents out.new) ⊎ ((R.remaining input.new ≡ R.remaining input.old) × (W.contents out.new ≡ W.contents out.old)) }
+    ensures memory { result ≡ 4 → LacksMemory (R.remaining input.old) (R.remaining input.new) (W.contents out.old) (W.contents out.new) }
     // Whatever the status: what was written is a beginning of the replies to what was read, or nothing was read.
-    ensures begun { ((b : List ℕ) × IsBegun b (R.remaining input.old) (R.remaining input.new) (W.contents out.old) (W.contents out.new)) ⊎ (R.remaining input.new ≡ R.remaining input.old) }
+    ensures begun { BeginsAtMost (R.remaining input.old) (R.remaining input.new) (W.contents out.old) (W.contents out.new) }
 {
     match read(alloc, words) {
         Ok(Some(Subcommand::Replay)) => run_replay(alloc, input, out, err),
@@ -64,7 +66,7 @@ pub fn without_words<E: Write>(error: &io::Error, err: &mut E) -> u8
     }
 }
 
-// Tells why the arguments name no command, or what they ask for of the command line itself.
+/// Tells why the arguments name no command, or what they ask for of the command line itself.
 fn answered<W: Write, E: Write>(error: &Error, out: &mut W, err: &mut E) -> u8
     ensures status { (result ≡ 0) ⊎ ((result ≡ 2) ⊎ ((result ≡ 4) ⊎ (result ≡ 5))) }
     ensures out_of_memory { kind_of error.now ≡ ErrorKind.OutOfMemory → result ≡ 4 }
@@ -89,7 +91,7 @@ fn answered<W: Write, E: Write>(error: &Error, out: &mut W, err: &mut E) -> u8
     }
 }
 
-// Writes a text on standard error. No exit status tells that this failed too.
+/// Writes a text on standard error. No exit status tells that this failed too.
 fn told<E: Write>(err: &mut E, text: &str, status: u8) -> u8
     ensures { result ≡ status }
 {

@@ -1,5 +1,5 @@
-ghost use Rattle.std.specs.Prelude.{◌≡◌, ◌⊎◌, ℕ, List};
-ghost use Rattle.fj_cli.specs.Faults.{IsBegun, IsReplayed};
+ghost use Rattle.std.specs.Prelude.{◌≡◌, ◌⊎◌};
+ghost use Rattle.fj_cli.specs.Faults.{Begins, Replays};
 ghost use Rattle.fj_cli.specs.Statuses.{EndsBy, status_of};
 
 use crate::fault::ReplayFault;
@@ -28,11 +28,11 @@ pub fn run_replay<R: Read, W: Write, E: Write>(
     err: &mut E,
 ) -> u8
     ensures status { (result ≡ 0) ⊎ ((result ≡ 3) ⊎ ((result ≡ 4) ⊎ (result ≡ 5))) }
-    ensures done { result ≡ 0 → (b : List ℕ) × IsReplayed b (R.remaining input.old) (R.remaining input.new) (W.contents out.old) (W.contents out.new) }
+    ensures done { result ≡ 0 → Replays (R.remaining input.old) (R.remaining input.new) (W.contents out.old) (W.contents out.new) }
     ensures fault { result ≡ 3 → EndsBy 3 (R.remaining input.old) (R.remaining input.new) (W.contents out.old) (W.contents out.new) }
     ensures memory { result ≡ 4 → EndsBy 4 (R.remaining input.old) (R.remaining input.new) (W.contents out.old) (W.contents out.new) }
     // Whatever the status.
-    ensures begun { (b : List ℕ) × IsBegun b (R.remaining input.old) (R.remaining input.new) (W.contents out.old) (W.contents out.new) }
+    ensures begun { Begins (R.remaining input.old) (R.remaining input.new) (W.contents out.old) (W.contents out.new) }
 {
     let ended = replay(alloc, input, out);
     let flushed = flush_whole(out).is_ok();

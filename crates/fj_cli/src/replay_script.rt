@@ -1,7 +1,8 @@
+//! The replay of a script, from a reader to a writer or in memory.
 ghost use Rattle.std.specs.Prelude.{◌≡◌, ◌≢◌, ℕ, OnOk, IfOk, IfErr, List, [], Option, Some};
 ghost use Rattle.fj_cli.specs.Calls.{FaultTells, IsFine};
 ghost use Rattle.fj_cli.specs.Scripts.{text};
-ghost use Rattle.fj_cli.specs.Faults.{IsScript, IsReplayed, Ends};
+ghost use Rattle.fj_cli.specs.Faults.{IsScript, Replays, Ends};
 
 use crate::fault::ReplayFault;
 use crate::in_memory::InMemory;
@@ -19,9 +20,10 @@ use std::io::ErrorKind;
 /// each further read, so that who sends one line at a time has each reply; a flush that fails there is `Write`. It is not flushed at the
 /// end. An interrupted read, write or flush is tried again.
 pub fn replay<R: Source, W: Sink>(alloc: Global, r: &mut R, w: &mut W) -> Result<(), ReplayFault>
-    ensures ok { OnOk result ((b : List ℕ) × IsReplayed b (R.remaining r.old) (R.remaining r.new) (W.contents w.old) (W.contents w.new)) }
+    ensures ok { OnOk result (Replays (R.remaining r.old) (R.remaining r.new) (W.contents w.old) (W.contents w.new)) }
     ensures fine { OnOk result (IsFine (R.calls r.old) (R.calls r.new) × IsFine (W.calls w.old) (W.calls w.new)) }
-    ensures err { IfErr result (λ fault. (b : List ℕ) × Ends fault b (R.remaining r.old) (R.remaining r.new) (W.contents w.old) (W.contents w.new) × FaultTells fault b (R.calls r.old) (R.calls r.new) (W.calls w.old) (W.calls w.new)) }
+    ensures err { IfErr result (λ fault. (b : List ℕ) × Ends fault b (R.remaining r.old) (R.remaining r.new) (W.contents w.old) (W.contents w.new)
+        × FaultTells fault b (R.calls r.old) (R.calls r.new) (W.calls w.old) (W.calls w.new)) }
 {
     let Ok(mut session) = Session::new(alloc) else {
         return Err(ReplayFault::Memory);

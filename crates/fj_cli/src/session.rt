@@ -1,19 +1,18 @@
-ghost use Rattle.std.specs.Prelude.{◌≡◌, ℕ, ◌+◌, ◌-◌, ◌^◌, nat_le, ◌<◌, ◌≤◌, ◌++◌, [], length, OnOk, IfOk, IfErr, List, Option, true, is_some};
+ghost use Rattle.std.specs.Prelude.{◌≡◌, ◌+◌, ◌-◌, ◌^◌, nat_le, ◌<◌, [], length, OnOk, IfOk, IfErr, true, is_some};
 ghost use Rattle.std.specs.Io.KnownBytes.{Appends};
 ghost use Rattle.fj_cli.specs.Calls.{IsFine, WriterTells};
 ghost use Rattle.fj_cli.specs.Cuts.{lines};
-ghost use Rattle.fj_cli.specs.Faults.{FaultOf};
-ghost use Rattle.fj_cli.specs.Sessions.{Kept, nothing_kept, next_kept, fed, Goes, FaultAt, EndsEarly, IsAt};
+ghost use Rattle.fj_cli.specs.Sessions.{Kept, nothing_kept, next_kept, fed, Goes, GoesOnBy, FaultAt, EndsEarly, EndsInside};
 
 use crate::fault::ReplayFault;
 use crate::responder::Responder;
 use crate::streams::Sink;
-use fj_model::read_step;
+use fj_model::{LINE_FEED, MAX_LINE, read_step};
 use std::alloc::{AllocError, Global};
 use std::marker::Model;
 
 /// How many bytes are read at once.
-pub(crate) const CHUNK: usize = 8192;
+pub const CHUNK: usize = 8192;
 
 /// What is kept of the bytes so far.
 #[derive(Drop)]
@@ -28,13 +27,14 @@ pub struct Session {
 
 impl Model for Session {
     ghost use Rattle.std.specs.Prelude.{◌≡◌, ◌≤◌, None, vec_capacity, vec_len};
+    ghost use Rattle.fj_model.specs.declared.read.TheConstants.{MAX_LINE};
     ghost use Rattle.fj_cli.specs.Sessions.{Kept};
 
     ghost Value = { Kept };
 
     ghost view = { λ s. record { count = s.count; line = s.line.items; past = s.responder } };
 
-    ghost invariant = { λ s. (64 ≤ vec_capacity s.line) × (vec_len s.line ≤ 64) × (s.responder ≡ None → s.count ≡ 0) };
+    ghost invariant = { λ s. (MAX_LINE ≤ vec_capacity s.line) × (vec_len s.line ≤ MAX_LINE) × (s.responder ≡ None → s.count ≡ 0) };
 }
 
 impl Session {
@@ -42,7 +42,7 @@ impl Session {
     pub fn new(alloc: Global) -> Result<Session, AllocError>
         ensures { IfOk result (λ s. s ≡ nothing_kept) }
     {
-        let line = Vec::with_capacity(alloc, 64)?;
+        let line = Vec::with_capacity(alloc, MAX_LINE)?;
         Ok(Session {
             count: 0,
             line,
@@ -52,7 +52,7 @@ impl Session {
 
     /// Whether the lines of a chunk more might be more than 64 bits count.
     pub fn is_full(&self) -> bool
-        ensures { result ≡ nat_le (2 ^ 64 - 8193) self.now.count }
+        ensures { result ≡ nat_le (2 ^ 64 - 1 - CHUNK) self.now.count }
     {
         self.count >= u64::MAX - CHUNK as u64
     }
@@ -60,10 +60,10 @@ impl Session {
     /// Ends the line: opens the machine at the heading, and replies to any other line.
     fn end_line<W: Sink>(&mut self, alloc: Global, w: &mut W) -> Result<(), ReplayFault>
         requires { self.old.count + 1 < 2 ^ 64 }
-        ensures goes { OnOk result (Goes self.old 10) }
-        ensures next { OnOk result (self.new ≡ next_kept self.old 10) }
-        ensures wrote { OnOk result (Appends (W.contents w.old) (W.contents w.new) (fed self.old 10)) }
-        ensures err { IfErr result (λ fault. FaultAt fault self.old 10 (W.contents w.old) (W.contents w.new)) }
+        ensures goes { OnOk result (Goes self.old LINE_FEED) }
+        ensures next { OnOk result (self.new ≡ next_kept self.old LINE_FEED) }
+        ensures wrote { OnOk result (Appends (W.contents w.old) (W.contents w.new) (fed self.old LINE_FEED)) }
+        ensures err { IfErr result (λ fault. FaultAt fault self.old LINE_FEED (W.contents w.old) (W.contents w.new)) }
         ensures fine { OnOk result (IsFine (W.calls w.old) (W.calls w.new)) }
         ensures told { IfErr result (λ fault. WriterTells fault (W.calls w.old) (W.calls w.new)) }
     {
@@ -81,7 +81,7 @@ impl Session {
         Ok(())
     }
 
-    /// Takes one byte. A line is ended by a line feed, and is at fault as soon as it has more than 64 bytes.
+    /// Takes one byte. A line is ended by a line feed, and is at fault as soon as it has more than `MAX_LINE` bytes.
     fn feed<W: Sink>(&mut self, alloc: Global, byte: u8, w: &mut W) -> Result<(), ReplayFault>
         requires { self.old.count + 1 < 2 ^ 64 }
         ensures goes { OnOk result (Goes self.old byte) }
@@ -91,10 +91,10 @@ impl Session {
         ensures fine { OnOk result (IsFine (W.calls w.old) (W.calls w.new)) }
         ensures told { IfErr result (λ fault. WriterTells fault (W.calls w.old) (W.calls w.new)) }
     {
-        if byte == b'\n' {
+        if byte == LINE_FEED {
             return self.end_line(alloc, w);
         }
-        if self.line.len() == 64 {
+        if self.line.len() == MAX_LINE {
             return Err(ReplayFault::Line(self.count + 1));
         }
         self.line.push_reserved(byte);
@@ -109,8 +109,8 @@ impl Session {
         w: &mut W,
     ) -> Result<(), ReplayFault>
         requires { self.old.count + length bytes.now < 2 ^ 64 }
-        ensures ok { OnOk result ((b : List ℕ) (start : Option (List ℕ)) → IsAt b self.old start (W.contents w.old) → IsAt (b ++ bytes.now) self.new start (W.contents w.new)) }
-        ensures err { IfErr result (λ fault. (b : List ℕ) (start ahead : Option (List ℕ)) → IsAt b self.old start (W.contents w.old) → FaultOf fault (b ++ bytes.now) ahead start (W.contents w.new)) }
+        ensures ok { OnOk result (GoesOnBy bytes.now self.old self.new (W.contents w.old) (W.contents w.new)) }
+        ensures err { IfErr result (λ fault. EndsInside fault bytes.now self.old (W.contents w.old) (W.contents w.new)) }
         ensures fine { OnOk result (IsFine (W.calls w.old) (W.calls w.new)) }
         ensures told { IfErr result (λ fault. WriterTells fault (W.calls w.old) (W.calls w.new)) }
     {

@@ -8,7 +8,7 @@ use std::alloc::{AllocError, Global};
 use std::io::{self, ErrorKind, Read, Write};
 use std::test::Fail;
 
-// Gives one byte at each second read, is interrupted at the others, and fails at the end.
+/// Gives one byte at each second read, is interrupted at the others, and fails at the end.
 #[derive(Drop)]
 struct Halting {
     bytes: Vec<u8>,
@@ -38,7 +38,7 @@ impl Read for Halting {
     }
 }
 
-// How a writer ends.
+/// How a writer ends.
 #[derive(Clone, Copy, Debug)]
 enum End {
     Fails,
@@ -46,7 +46,7 @@ enum End {
     DoesNotFlush,
 }
 
-// Takes one byte at each second write, is interrupted at the others, and ends after as many bytes as it has room for.
+/// Takes one byte at each second write, is interrupted at the others, and ends after as many bytes as it has room for.
 #[derive(Drop)]
 struct Narrow {
     taken: Vec<u8>,
@@ -109,7 +109,7 @@ fn interruptions_change_nothing(rt: HostRuntime) -> Result<(), Fail> {
     Ok(())
 }
 
-// Whether a reader that fails behind a script is told, with the replies to the whole lines of it.
+/// Whether a reader that fails behind a script is told, with the replies to the whole lines of it.
 fn is_read_failed(alloc: Global, script: &str) -> Result<bool, Fail> {
     let mut input = Halting {
         bytes: bytes(alloc, script)?,
@@ -133,7 +133,7 @@ fn a_reader_that_fails(rt: HostRuntime) -> Result<(), Fail> {
     Ok(())
 }
 
-// What a command gave that wrote into this sink.
+/// What a command gave that wrote into this sink.
 fn poured(alloc: Global, words: &[&str], script: &str, to: Narrow) -> Result<Ran, AllocError> {
     let given = bytes(alloc, script)?;
     let mut out = to;
@@ -143,13 +143,13 @@ fn poured(alloc: Global, words: &[&str], script: &str, to: Narrow) -> Result<Ran
     Ok(Ran { status, out, err })
 }
 
-// Whether these bytes were written and the failed write was told.
+/// Whether these bytes were written and the failed write was told.
 fn is_write_failed(ran: &Ran, written: &[u8]) -> bool {
     let is_told = ran.err.as_slice() == b"write failed\n".as_slice() && ran.status == 5;
     is_told && ran.out.as_slice() == written
 }
 
-// Whether a writer that ends after so many bytes is told, with the replies up to there.
+/// Whether a writer that ends after so many bytes is told, with the replies up to there.
 fn is_full_at(alloc: Global, room: usize, end: End) -> Result<bool, AllocError> {
     let ran = poured(alloc, REPLAY.as_slice(), SCRIPT, sink(alloc, room, end))?;
     let replies = bytes(alloc, REPLIES)?;
@@ -169,7 +169,7 @@ fn a_writer_that_fails(rt: HostRuntime) -> Result<(), Fail> {
     Ok(())
 }
 
-// Whether a flush that fails is told, with all the text written.
+/// Whether a flush that fails is told, with all the text written.
 fn is_unflushed(
     alloc: Global,
     words: &[&str],
@@ -201,7 +201,7 @@ fn a_flush_that_fails(rt: HostRuntime) -> Result<(), Fail> {
     Ok(())
 }
 
-// Whether so many letters behind these lines are a fault of this line, with these replies.
+/// Whether so many letters behind these lines are a fault of this line, with these replies.
 fn is_too_long(
     alloc: Global,
     lines: &str,

@@ -1,3 +1,4 @@
+//! Readers and writers of which contracts may know which calls failed.
 ghost use Rattle.std.specs.Prelude.{◌≡◌, ℕ, Option, None, List, length, MatchResult};
 ghost use Rattle.std.specs.Io.{ReadsAtMost, WritesAtMost};
 ghost use Rattle.std.specs.Io.KnownBytes.{Keeps, ReadConsumes, WriteAppends};

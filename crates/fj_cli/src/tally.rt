@@ -5,7 +5,7 @@ use std::snapshot::Snapshot;
 
 /// A number that contracts alone see. Nothing is counted when the program runs, so no count overflows.
 #[derive(Drop)]
-pub(crate) struct Tally {
+pub struct Tally {
     // the count as it was before the last one: a value without bytes
     before: Option<Snapshot<Tally>>,
 }
@@ -24,14 +24,14 @@ impl Model for Tally {
 
 impl Tally {
     /// None so far.
-    pub(crate) fn new() -> Tally
+    pub fn new() -> Tally
         ensures { result ≡ 0 }
     {
         Tally { before: None }
     }
 
     /// One more.
-    pub(crate) fn add_one(&mut self)
+    pub fn add_one(&mut self)
         ensures { self.new ≡ self.old + 1 }
     {
         let before = Snapshot::of(&*self);

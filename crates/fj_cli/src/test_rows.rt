@@ -4,7 +4,7 @@ use std::io::Read;
 use std::str;
 use std::test::Fail;
 
-// What a command gave.
+/// What a command gave.
 #[derive(Drop)]
 pub struct Ran {
     pub status: u8,
@@ -21,7 +21,7 @@ pub fn command<R: Read>(alloc: Global, words: &[&str], input: &mut R) -> Ran {
 
 pub const REPLAY: [&str; 2] = ["fj", "replay"];
 
-// The bytes of a text in which `;` stands for a line feed.
+/// The bytes of a text in which `;` stands for a line feed.
 pub fn bytes(alloc: Global, text: &str) -> Result<Vec<u8>, AllocError> {
     let mut all = Vec::new(alloc);
     for byte in text.as_bytes() {
@@ -32,8 +32,8 @@ pub fn bytes(alloc: Global, text: &str) -> Result<Vec<u8>, AllocError> {
 
 // What a script gives: the replies, the text on standard error and the exit status.
 //
-// As text, a row has ` | ` between its parts: its name, a script, the replies to it; and at a fault what is on standard error and the
-// status. `;` stands for a line feed.
+/// As text, a row has ` | ` between its parts: its name, a script, the replies to it; and at a fault what is on standard error and the
+/// status. `;` stands for a line feed.
 #[derive(Clone, Copy)]
 pub struct Row<'a> {
     pub name: &'a str,
@@ -44,7 +44,7 @@ pub struct Row<'a> {
 }
 
 impl<'a> Row<'a> {
-    // A row without a fault.
+    /// A row without a fault.
     pub fn good(name: &'a str, script: &'a str, replies: &'a str) -> Row<'a> {
         Row {
             name,
@@ -56,7 +56,7 @@ impl<'a> Row<'a> {
     }
 }
 
-// The first part of a row, and the others.
+/// The first part of a row, and the others.
 pub fn cut(row: &str) -> (&str, &str) {
     row.split_once(" | ").unwrap_or((row, ""))
 }
@@ -75,7 +75,7 @@ fn read(text: &str) -> Row<'_> {
     }
 }
 
-// What a script gave in place of what its row says; empty where it gave that.
+/// What a script gave in place of what its row says; empty where it gave that.
 pub fn other(alloc: Global, row: Row<'_>) -> Result<String, Fail> {
     let given = bytes(alloc, row.script)?;
     let ran = command(alloc, REPLAY.as_slice(), &mut given.as_slice());
@@ -98,7 +98,7 @@ fn is_as_told(alloc: Global, ran: &Ran, row: Row<'_>) -> Result<bool, AllocError
     Ok(is_said && ran.status == row.status)
 }
 
-// The same of the first row that gave something else.
+/// The same of the first row that gave something else.
 pub fn first_other(alloc: Global, rows: &[&str]) -> Result<String, Fail> {
     for row in rows {
         let other = other(alloc, read(row))?;

@@ -7,7 +7,7 @@ pub const SCRIPT: &str =
 
 pub const REPLIES: &str = "task 0;task 1;task 2;run 0;run 2;done;run 1;done;none;";
 
-// Inputs that end by a fault, and a heading alone.
+/// Inputs that end by a fault, and a heading alone.
 const ROWS: [&str; 12] = [
     "a heading alone | async 1 1 1 4; | ",
     "no bytes at all |  |  | fault: line 1; | 3",
@@ -23,7 +23,7 @@ const ROWS: [&str; 12] = [
     "a second heading | async 1 1 1 4;async 1 1 1 4; |  | fault: line 2; | 3",
 ];
 
-// What no script has as a line.
+/// What no script has as a line.
 const NO_STEPS: [&str; 22] = [
     "",
     " poll 0 0",
@@ -49,7 +49,7 @@ const NO_STEPS: [&str; 22] = [
     "pppppppppppppppppppppppppppppppppppppppppppppppppppppppppppppppppp",
 ];
 
-// What a script with a faulty third line gave in place of that fault.
+/// What a script with a faulty third line gave in place of that fault.
 fn other_fault(alloc: Global, line: &str) -> Result<String, Fail> {
     let script = format!(in alloc; "async 1 1 1 4;submit 0;{line};submit 0;")?;
     let row = Row {
@@ -62,12 +62,12 @@ fn other_fault(alloc: Global, line: &str) -> Result<String, Fail> {
     other(alloc, row)
 }
 
-// How many lines end in the text.
+/// How many lines end in the text.
 pub fn ended(text: &str) -> usize {
     text.as_bytes().iter().filter(|byte| **byte == b';').count()
 }
 
-// The first lines of the text.
+/// The first lines of the text.
 pub fn first_lines(alloc: Global, text: &str, count: usize) -> Result<String, Fail> {
     let mut all = String::new(alloc);
     for line in text.split_inclusive(';').take(count) {
@@ -76,7 +76,7 @@ pub fn first_lines(alloc: Global, text: &str, count: usize) -> Result<String, Fa
     Ok(all)
 }
 
-// What the beginning of a script gave in place of the replies to its whole lines, and of a fault where it ends within a line.
+/// What the beginning of a script gave in place of the replies to its whole lines, and of a fault where it ends within a line.
 fn other_beginning(alloc: Global, script: &str) -> Result<String, Fail> {
     let whole = ended(script);
     let replies = first_lines(alloc, REPLIES, usize::saturating_sub(whole, 1))?;

@@ -5,8 +5,8 @@ use std::io::{self, ErrorKind};
 use std::str;
 use std::test::Fail;
 
-// Whether words without input end with this status, and show how `fj` is used: on standard output at 0, else on standard error. Nothing
-// else is written.
+/// Whether words without input end with this status, and show how `fj` is used: on standard output at 0, else on standard error. Nothing
+/// else is written.
 fn shows_usage(alloc: Global, words: &[&str], status: u8) -> Result<bool, Fail> {
     let ran = command(alloc, words, &mut b"".as_slice());
     let (told, silent) = if status == 0 {

@@ -1,3 +1,4 @@
+//! Whole writes and flushes: one that was interrupted is tried again.
 ghost use Rattle.std.specs.Prelude.{◌<◌, ◌≤◌, OnOk, OnErr, IfOk, length, take};
 ghost use Rattle.std.specs.Io.KnownBytes.{Appends, Keeps, WriteAppends};
 ghost use Rattle.fj_cli.specs.Calls.{HasFailed, IsFine};
@@ -6,7 +7,7 @@ ghost use Rattle.fj_cli.specs.Cuts.{AppendsSome};
 use crate::streams::Sink;
 use std::io::{self, ErrorKind};
 
-// Writes some of the bytes, and tries again where that was interrupted. A writer that takes nothing has failed.
+/// Writes some of the bytes, and tries again where that was interrupted. A writer that takes nothing has failed.
 #[tactic(auto, using(crate::proofs::Bytes::keeps_self, crate::proofs::Bytes::keeps_twice))]
 fn write_some<W: Sink>(w: &mut W, bytes: &[u8]) -> io::Result<usize>
     requires { 0 < length bytes.now }

@@ -1,5 +1,5 @@
 -- The two kinds of end of a gate as their callers see them, and what looks and closes do to them.
-use Rattle.std.specs.Prelude.{◌≡◌, ℕ, ◌≤◌, List, [], Bool, true, false, Option, Some, None, IsSome, flat_map}
+use Rattle.std.specs.Prelude.{◌≡◌, ℕ, ◌+◌, ◌≤◌, List, [], ◌∷◌, ◌++◌, Bool, true, false, Option, Some, None, IsSome, flat_map}
 use Rattle.atomic_table.specs.Seated.{TableId}
 use Rattle.fj_gate.specs.declared.closer.Closing.{Closing}
 use Rattle.fj_gate.specs.declared.closer.Closing.TheVariants.{First, Already}
@@ -32,6 +32,10 @@ new_closer gate submitters = record { gate = gate; closed = None; seen = 0; subm
 -- the tickets that these entrants drew, joined
 abbrev pub drawn_by : List EntrantState → List ℕ
 drawn_by entrants = flat_map (λ e. e.drawn) entrants
+
+-- The entrant draws a ticket. It was not told Closed, and the ticket is not below what it has seen
+abbrev pub Draws : EntrantState → ℕ → EntrantState → Type 0
+Draws e ticket e' = (e.told ≡ false) × (e.seen ≤ ticket) × (e' ≡ record e { drawn = e.drawn ++ ticket ∷ []; seen = ticket + 1 })
 
 -- An entrant's look. A count is not below what it has seen, and comes only to one that was not told Closed; Closed is remembered
 abbrev pub Looked : EntrantState → Look → EntrantState → Type 0

@@ -3,6 +3,8 @@ use Rattle.std.specs.Prelude.{◌≡◌, ◌⊎◌, ℕ, ◌+◌, ◌*◌, ◌�
 use mathlib.Core.Option.{some}
 use lib.ListN.{get_elem?}
 use Rattle.atomic_table.specs.Table.{State}
+use Rattle.fj_model.specs.declared.limits.TheConstants.{MAX_SUBMITTERS}
+use Rattle.fj_gate.specs.declared.new_gate.TheConstants.{MAX_TICKETS}
 use Rattle.fj_gate.specs.Numbers.{IsNumbersBelow}
 use Rattle.fj_gate.specs.declared.word.View.{View}
 
@@ -36,16 +38,16 @@ IsClosed word views =
     (word ≡ 2 * (admitted views + turned_away views) + 1)
     × (closer : View) × (get_elem? views 0 ≡ some closer) × (closer.closed ≡ Some (admitted views))
 
--- It has seen no more admissions than there were. A part is the right of one entrant: to draw 65,536 tickets at most, and to be told Closed once
+-- It has seen no more admissions than there were. A part is the right of one entrant: to draw so many tickets at most, and to be told Closed once
 abbrev pub Fits : ℕ → View → Type 0
-Fits count v = (v.seen ≤ count) × (length v.drawn ≤ 65536 * v.parts) × (v.told ≤ v.parts)
+Fits count v = (v.seen ≤ count) × (length v.drawn ≤ MAX_TICKETS * v.parts) × (v.told ≤ v.parts)
 
--- The tickets drawn are the numbers below the count of admissions, each once. All seats together have 32 parts
+-- The tickets drawn are the numbers below the count of admissions, each once. All seats together have a part for each submitter that there may be
 abbrev pub IsGate : ℕ → List View → Type 0
 IsGate word views =
     (IsOpen word views ⊎ IsClosed word views)
     × IsNumbersBelow (admitted views) (joined views)
-    × (sum_by (λ v. v.parts) views ≡ 32)
+    × (sum_by (λ v. v.parts) views ≡ MAX_SUBMITTERS)
     × EachSeat (Fits (admitted views)) views
 
 -- the same of a table, which has one word

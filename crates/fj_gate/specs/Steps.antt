@@ -1,6 +1,7 @@
 -- What a seat knows, and what each step on the word tells it. The word found is twice a count while the gate is open, and odd once it is closed.
 use Rattle.std.specs.Prelude.{◌≡◌, ◌≢◌, ℕ, ◌+◌, ◌-◌, ◌/◌, ◌%◌, ◌≤◌, max, [], ◌∷◌, ◌++◌, Some, None, IfSome, IsSome}
 use Rattle.atomic_table.specs.Table.{Me, Step}
+use Rattle.fj_model.specs.declared.limits.TheConstants.{MAX_SUBMITTERS}
 use Rattle.fj_gate.specs.Numbers.{IsNumbersBelow}
 use Rattle.fj_gate.specs.declared.word.View.{View}
 
@@ -59,7 +60,7 @@ Closes st m found m' =
 -- the last look, by the closer with everybody's part and everybody's tickets
 abbrev pub Meets : Step (Unit {0}) → Seated → ℕ → Seated → Type 0
 Meets st m found m' =
-    m.0.parts ≡ 32
+    m.0.parts ≡ MAX_SUBMITTERS
     → (found % 2 ≡ 0 → (m.0.closed ≡ None) × IsNumbersBelow (found / 2) m.0.drawn × (m.0.seen ≤ found / 2) × (m.0.told ≡ 0) × (m.0.heard ≡ 0))
     × (found % 2 ≢ 0 → (n : ℕ) × (m.0.closed ≡ Some n) × IsNumbersBelow n m.0.drawn × (m.0.seen ≤ n))
 

@@ -28,19 +28,20 @@ pub struct Closer {
 impl Model for Closer {
     ghost use Rattle.std.specs.Prelude.{◌≡◌, ◌-◌, ◌≤◌, []};
     ghost use Rattle.std.specs.Arc.{arc_value};
+    ghost use Rattle.fj_model.specs.declared.limits.TheConstants.{MAX_SUBMITTERS};
     ghost use Rattle.fj_gate.specs.Ends.{CloserState};
 
     ghost Value = { CloserState };
 
-    // Each part of the 32 that it does not have is an entrant's.
-    ghost view = { λ c. record { gate = c.token.table_id; closed = c.closed; seen = c.token.me.0.seen; submitters = 32 - c.token.me.0.parts } };
+    // Each part that it does not have is an entrant's.
+    ghost view = { λ c. record { gate = c.token.table_id; closed = c.closed; seen = c.token.me.0.seen; submitters = MAX_SUBMITTERS - c.token.me.0.parts } };
 
     ghost invariant = { λ c. record {
       place : (arc_value c.table).shared.table_id ≡ c.token.table_id;
       one_word : c.token.table_id.words ≡ 1;
       first_seat : c.token.id ≡ 0;
       no_slot : c.token.me.1 ≡ [];
-      parts : c.token.me.0.parts ≤ 32;
+      parts : c.token.me.0.parts ≤ MAX_SUBMITTERS;
       draws_nothing : c.token.me.0.drawn ≡ [];
       closed : c.token.me.0.closed ≡ c.closed;
     } };

@@ -1,5 +1,5 @@
-ghost use Rattle.std.specs.Prelude.{◌≡◌, ◌+◌, ◌<◌, ◌≤◌, true, false, [], ◌∷◌, ◌++◌, length, IfOk, IfErr};
-ghost use Rattle.fj_gate.specs.Ends.{Looked};
+ghost use Rattle.std.specs.Prelude.{◌≡◌, ◌<◌, true, length, IfOk, IfErr};
+ghost use Rattle.fj_gate.specs.Ends.{Draws, Looked};
 
 use crate::look::Look;
 use crate::ticket::{Closed, Ticket};
@@ -21,6 +21,7 @@ pub struct Entrant {
 impl Model for Entrant {
     ghost use Rattle.std.specs.Prelude.{◌≡◌, ◌+◌, ◌<◌, ◌≤◌, true, false, []};
     ghost use Rattle.std.specs.Arc.{arc_value};
+    ghost use Rattle.fj_gate.specs.declared.new_gate.TheConstants.{MAX_TICKETS};
     ghost use Rattle.fj_gate.specs.Ends.{EntrantState};
 
     ghost Value = { EntrantState };
@@ -32,7 +33,7 @@ impl Model for Entrant {
       one_word : e.token.table_id.words ≡ 1;
       no_slot : e.token.me.1 ≡ [];
       own_part : e.token.me.0.parts ≡ 1;
-      most : e.each ≤ 65536;
+      most : e.each ≤ MAX_TICKETS;
       untold : e.told ≡ false → (e.token.me.0.told ≡ 0) × (e.token.me.0.heard ≡ 0);
       told : e.told ≡ true → 0 < e.token.me.0.told + e.token.me.0.heard;
     } };
@@ -48,7 +49,7 @@ impl Entrant {
     pub fn admit(&mut self) -> Result<Ticket, Closed>
         requires { length self.old.drawn < self.old.each }
         ensures stays { (self.new.gate ≡ self.old.gate) × (self.new.each ≡ self.old.each) }
-        ensures ticket { IfOk result (λ t. (self.old.told ≡ false) × (self.old.seen ≤ t) × (self.new ≡ record self.old { drawn = self.old.drawn ++ t ∷ []; seen = t + 1 })) }
+        ensures ticket { IfOk result (λ t. Draws self.old t self.new) }
         ensures closed { IfErr result (λ _. self.new ≡ record self.old { told = true }) }
     {
         if self.told {

@@ -28,7 +28,7 @@ mod word;
 pub use closer::{Closer, Closing};
 pub use entrant::Entrant;
 pub use look::Look;
-pub use new_gate::gate;
+pub use new_gate::{MAX_TICKETS, gate};
 pub use ticket::{Closed, Ticket};
 pub use tickets::{Tickets, meet};
 

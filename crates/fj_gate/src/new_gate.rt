@@ -1,5 +1,6 @@
 ghost use Rattle.std.specs.Prelude.{◌≡◌, ◌≤◌, ◌+◌, ℕ, [], All, IfOk, vec_len};
 ghost use Rattle.std.specs.Arc.{arc_value};
+ghost use Rattle.fj_model.specs.declared.limits.TheConstants.{MAX_SUBMITTERS};
 ghost use Rattle.fj_gate.specs.Ends.{new_entrant, new_closer};
 ghost use Rattle.fj_gate.specs.Steps.{fresh, less_one};
 
@@ -10,18 +11,22 @@ use fj_model::OutOfMemory;
 use std::alloc::{AllocError, Global};
 use std::sync::Arc;
 
+/// The most tickets that one entrant may draw.
+pub const MAX_TICKETS: u32 = 65_536;
+
 /// An open gate: an entrant for each submitter, and its closer. Nobody has drawn a ticket. Java has no counterpart.
 ///
 /// `OutOfMemory` where memory is refused, and no other error. No other call of this crate takes memory.
 ///
-/// Precondition: 1 to 32 submitters, and `each`, the number of tickets that each of them may draw, from 1 to 65,536.
+/// Precondition: 1 to `MAX_SUBMITTERS` submitters, and `each`, the number of tickets that each of them may draw, from 1 to
+/// [`MAX_TICKETS`].
 pub fn gate(
     alloc: Global,
     submitters: u32,
     each: u32,
 ) -> Result<(Vec<Entrant>, Closer), OutOfMemory>
-    requires submitters { (1 ≤ submitters) × (submitters ≤ 32) }
-    requires each { (1 ≤ each) × (each ≤ 65536) }
+    requires submitters { (1 ≤ submitters) × (submitters ≤ MAX_SUBMITTERS) }
+    requires each { (1 ≤ each) × (each ≤ MAX_TICKETS) }
     ensures closer { IfOk result (λ r. r.1 ≡ new_closer r.1.gate submitters) }
     ensures entrants { IfOk result (λ r. (vec_len r.0 ≡ submitters) × All (λ e. e ≡ new_entrant r.1.gate each) r.0.items) }
 {
@@ -40,11 +45,11 @@ pub fn gate(
     Ok((entrants, closer))
 }
 
-// One more entrant: its part is cut off from the closer's token.
+/// One more entrant: its part is cut off from the closer's token.
 fn cut_off(table: &Arc<Word>, token: &mut Token, each: u32) -> Result<Entrant, AllocError>
     requires table { ((arc_value table.now).shared.table_id ≡ token.old.table_id) × (token.old.table_id.words ≡ 1) }
     requires token { (token.old.id ≡ 0) × (token.old.me.1 ≡ []) × ((parts : ℕ) × (token.old.me.0 ≡ fresh (parts + 1))) }
-    requires each { each ≤ 65536 }
+    requires each { each ≤ MAX_TICKETS }
     ensures token { IfOk result (λ e. (token.new.table_id ≡ token.old.table_id) × (token.new.id ≡ 0) × (token.new.me ≡ (less_one token.old.me.0, []))) }
     ensures entrant { IfOk result (λ e. e ≡ new_entrant token.old.table_id each) }
 {

@@ -49,7 +49,7 @@ pub fn meet(entrants: Vec<Entrant>, closer: Closer) -> Tickets
     Tickets { drawn, closed }
 }
 
-// The closer's token takes in what an entrant drew, saw and was told.
+/// The closer's token takes in what an entrant drew, saw and was told.
 fn take_in(table: &Arc<Word>, token: &mut Token, entrant: Entrant)
     requires table { ((arc_value table.now).shared.table_id ≡ token.old.table_id) × (token.old.table_id.words ≡ 1) × (entrant.gate ≡ token.old.table_id) }
     requires token { (token.old.id ≡ 0) × (token.old.me.1 ≡ []) }

@@ -14,14 +14,14 @@
 //!
 //! The addition and its answer are one exchange. Were they two, a close between them would hand out a ticket after N.
 //!
-//! An entrant that was told Closed makes no exchange for an admission any more, so a is at most 32 and the word never wraps.
+//! An entrant that was told Closed makes no exchange for an admission any more, so a is at most `MAX_SUBMITTERS` and the word never wraps.
 use atomic_table::{Join, Play, Seat, Split, Table, TableRule};
 use std::alloc::Global;
 use std::collections::LinkedList;
 
 /// What one end of the gate knows. It exists in proofs alone: no value of it is made.
 pub struct View {
-    /// The entrants' parts that stand behind it. All ends together have 32, so one that has 32 knows of everybody.
+    /// The entrants' parts that stand behind it. All ends together have `MAX_SUBMITTERS`, so one that has all knows of everybody.
     pub parts: u64,
     /// The tickets that it drew.
     pub drawn: LinkedList<u64>,
@@ -39,22 +39,23 @@ pub struct View {
 pub struct GateRule;
 
 impl TableRule<(), View, ()> for GateRule {
+    ghost use Rattle.fj_model.specs.declared.limits.TheConstants.{MAX_SUBMITTERS};
     ghost use Rattle.fj_gate.specs.Rule.{IsRuled};
     ghost use Rattle.fj_gate.specs.Steps.{fresh};
 
     ghost holds = { λ _. IsRuled };
 
-    ghost first = { λ _. fresh 32 };
+    ghost first = { λ _. fresh MAX_SUBMITTERS };
 }
 
 /// The word. It needs no slots beside it.
-pub(crate) type Word = Table<(), View, (), GateRule, Global>;
+pub type Word = Table<(), View, (), GateRule, Global>;
 
 /// The right to step on the word, with what its holder knows. It has no bytes.
-pub(crate) type Token = Seat<(), View>;
+pub type Token = Seat<(), View>;
 
 /// An admission.
-pub(crate) struct Admit;
+pub struct Admit;
 
 impl Play<(), View> for Admit {
     ghost use Rattle.fj_gate.specs.Steps.{Admits};
@@ -63,7 +64,7 @@ impl Play<(), View> for Admit {
 }
 
 /// A look by an entrant.
-pub(crate) struct EntrantLook;
+pub struct EntrantLook;
 
 impl Play<(), View> for EntrantLook {
     ghost use Rattle.fj_gate.specs.Steps.{Looks};
@@ -72,7 +73,7 @@ impl Play<(), View> for EntrantLook {
 }
 
 /// A look by the closer, which knows whether it has closed the gate.
-pub(crate) struct CloserLook;
+pub struct CloserLook;
 
 impl Play<(), View> for CloserLook {
     ghost use Rattle.fj_gate.specs.Steps.{Watches};
@@ -81,7 +82,7 @@ impl Play<(), View> for CloserLook {
 }
 
 /// A close.
-pub(crate) struct Close;
+pub struct Close;
 
 impl Play<(), View> for Close {
     ghost use Rattle.fj_gate.specs.Steps.{Closes};
@@ -90,7 +91,7 @@ impl Play<(), View> for Close {
 }
 
 /// The last look, by the closer with every entrant's part.
-pub(crate) struct LastLook;
+pub struct LastLook;
 
 impl Play<(), View> for LastLook {
     ghost use Rattle.fj_gate.specs.Steps.{Meets};
@@ -99,7 +100,7 @@ impl Play<(), View> for LastLook {
 }
 
 /// An entrant's part is cut off from the closer's token, or taken back into it. Each costs one load.
-pub(crate) struct Part;
+pub struct Part;
 
 impl Split<View> for Part {
     ghost use Rattle.fj_gate.specs.Steps.{fresh, less_one};

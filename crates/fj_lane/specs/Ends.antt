@@ -1,5 +1,5 @@
 -- The two ends of a lane as their callers see them.
-use Rattle.std.specs.Prelude.{ℕ, List, []}
+use Rattle.std.specs.Prelude.{ℕ, ◌≡◌, ◌+◌, ◌<◌, List, [], ◌∷◌, ◌++◌, length, Option, MatchOption}
 use Rattle.std.specs.declared.alloc.Global.{Global}
 use Rattle.fj_lane.specs.declared.parcel.Parcel.{Parcel}
 
@@ -28,3 +28,11 @@ module _ {B : Type 0} where
   -- a drain that has done nothing
   abbrev pub new_drain : LaneId → ℕ → DrainState B
   new_drain lane capacity = record { lane = lane; drained = []; missed = 0; capacity = capacity }
+
+  -- the feed pushes a parcel behind the others, for which there was room
+  abbrev pub Pushes : FeedState B → Parcel B → FeedState B → Type 0
+  Pushes f parcel f' = (length f.fed < f.capacity) × (f' ≡ record f { fed = f.fed ++ parcel ∷ [] })
+
+  -- the drain takes a parcel; or it takes none, which is one miss more
+  abbrev pub Takes : DrainState B → Option (Parcel B) → DrainState B → Type 0
+  Takes d taken d' = MatchOption taken (d' ≡ record d { missed = d.missed + 1 }) (λ parcel. d' ≡ record d { drained = d.drained ++ parcel ∷ [] })

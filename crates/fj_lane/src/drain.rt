@@ -1,4 +1,5 @@
-ghost use Rattle.std.specs.Prelude.{◌≡◌, ◌+◌, ◌≤◌, [], ◌∷◌, ◌++◌, length, MatchOption};
+ghost use Rattle.std.specs.Prelude.{◌≤◌, length};
+ghost use Rattle.fj_lane.specs.Ends.{Takes};
 
 use crate::misses::Misses;
 use crate::parcel::Parcel;
@@ -23,6 +24,7 @@ pub struct Drain<B> {
 impl<B> Model for Drain<B> {
     ghost use Rattle.std.specs.Prelude.{◌≡◌, ◌≤◌, true, length};
     ghost use Rattle.crossbeam_deque.specs.Handles.{stealer_deque, stealer_flavor, view as pass_view, IsPassOf};
+    ghost use Rattle.fj_lane.specs.declared.new_lane.TheConstants.{MAX_CAPACITY};
     ghost use Rattle.fj_lane.specs.Ends.{DrainState};
 
     ghost Value = { DrainState B };
@@ -35,7 +37,7 @@ impl<B> Model for Drain<B> {
       oldest_first : stealer_flavor d.stealer ≡ 0;
       counted : d.taken ≡ length (pass_view d.pass).drained;
       within : d.taken ≤ d.capacity;
-      most : d.capacity ≤ 65536;
+      most : d.capacity ≤ MAX_CAPACITY;
     } };
 }
 
@@ -47,7 +49,7 @@ impl<B> Drain<B> {
     /// nothing else has changed. It never gives more parcels than the capacity of the lane.
     pub fn take(&mut self) -> Option<Parcel<B>>
         ensures within { length self.new.drained ≤ self.new.capacity }
-        ensures taken { MatchOption result (self.new ≡ record self.old { missed = self.old.missed + 1 }) (λ p. self.new ≡ record self.old { drained = self.old.drained ++ p ∷ [] }) }
+        ensures taken { Takes self.old result self.new }
     {
         // All that may be pushed was taken: the lane is empty for good.
         if self.taken == self.capacity {

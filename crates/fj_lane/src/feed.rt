@@ -1,4 +1,5 @@
-ghost use Rattle.std.specs.Prelude.{◌≡◌, ◌<◌, ◌≤◌, ◌↔◌, [], ◌∷◌, ◌++◌, length, IsTrue, IfOk, IfErr};
+ghost use Rattle.std.specs.Prelude.{◌≡◌, ◌<◌, ◌≤◌, ◌↔◌, length, IsTrue, IfOk, IfErr};
+ghost use Rattle.fj_lane.specs.Ends.{Pushes};
 
 use crate::parcel::{LaneSpent, Parcel};
 use crate::rule::{LaneRule, Push, View};
@@ -6,7 +7,7 @@ use crossbeam_deque::Worker;
 use std::alloc::Global;
 use std::marker::Model;
 
-/// The end of a lane that pushes. There is one. Java has no counterpart of it, nor of its capacity, from 1 to 65,536.
+/// The end of a lane that pushes. There is one. Java has no counterpart of it, nor of its capacity, from 1 to [`MAX_CAPACITY`](crate::MAX_CAPACITY).
 #[derive(Drop)]
 pub struct Feed<B> {
     pub(crate) worker: Worker<Parcel<B>, Global, View<B>, LaneRule>,
@@ -19,6 +20,7 @@ pub struct Feed<B> {
 impl<B> Model for Feed<B> {
     ghost use Rattle.std.specs.Prelude.{◌≡◌, ◌≤◌, true, length};
     ghost use Rattle.crossbeam_deque.specs.Handles.{worker_deque, worker_view, worker_flavor, worker_index, worker_capacity};
+    ghost use Rattle.fj_lane.specs.declared.new_lane.TheConstants.{MAX_CAPACITY};
     ghost use Rattle.fj_lane.specs.Ends.{FeedState};
 
     ghost Value = { FeedState B };
@@ -31,7 +33,7 @@ impl<B> Model for Feed<B> {
       counted : f.pushed ≡ length (worker_view f.worker).fed;
       placed : worker_index f.worker ≡ f.pushed;
       within : f.pushed ≤ f.capacity;
-      most : f.capacity ≤ 65536;
+      most : f.capacity ≤ MAX_CAPACITY;
       room : f.capacity ≤ worker_capacity f.worker;
     } };
 }
@@ -50,7 +52,7 @@ impl<B> Feed<B> {
     /// The first `capacity` pushes succeed. Every later one is refused by `LaneSpent`, which hands its parcel back; nothing has
     /// changed then. The capacity counts pushes over the lane's life, so a take makes no room.
     pub fn push(&mut self, parcel: Parcel<B>) -> Result<(), (LaneSpent, Parcel<B>)>
-        ensures pushed { IfOk result (λ _. (length self.old.fed < self.old.capacity) × (self.new ≡ record self.old { fed = self.old.fed ++ parcel ∷ [] })) }
+        ensures pushed { IfOk result (λ _. Pushes self.old parcel self.new) }
         ensures spent { IfErr result (λ e. (length self.old.fed ≡ self.old.capacity) × (e.1 ≡ parcel) × (self.new ≡ self.old)) }
     {
         if self.pushed == self.capacity {

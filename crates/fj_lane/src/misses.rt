@@ -1,14 +1,15 @@
-//! A count that proofs alone see. It has no bytes, and its calls do nothing at run time: a counter could overflow.
 ghost use Rattle.std.specs.Prelude.{◌≡◌, ℕ, ◌+◌};
 ghost use Rattle.std.specs.Borrow.{ftrue};
 
 use std::marker::{Model, PhantomData};
 
 /// How many takes gave none.
+///
+/// Proofs alone see this count. It has no bytes, and its calls do nothing at run time: a counter could overflow.
 #[derive(Drop)]
-pub(crate) struct Misses {
+pub struct Misses {
     of: PhantomData<()>,
-    pub(crate) ghost number: { ℕ },
+    pub ghost number: { ℕ },
 }
 
 impl Model for Misses {
@@ -20,14 +21,14 @@ unsafe impl Send for Misses {}
 
 impl Misses {
     /// 0: no take yet.
-    pub(crate) fn zero() -> Misses
+    pub fn zero() -> Misses
         ensures { result.number ≡ 0 }
     {
         Misses { of: PhantomData }
     }
 
     /// One more: a take has given none.
-    pub(crate) fn next(&self) -> Misses
+    pub fn next(&self) -> Misses
         ensures { result.number ≡ self.now.number + 1 }
     {
         Misses { of: PhantomData }

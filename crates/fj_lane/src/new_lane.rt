@@ -10,13 +10,16 @@ use crossbeam_deque::Worker;
 use fj_model::OutOfMemory;
 use std::alloc::Global;
 
+/// The most parcels that may be pushed into one lane.
+pub const MAX_CAPACITY: u32 = 65_536;
+
 /// An empty lane, as its two ends: nothing was pushed and nothing taken. Java has no counterpart.
 ///
 /// `OutOfMemory` where memory is refused, and no other error. No other call of this crate is refused for that.
 ///
-/// Precondition: `capacity`, the number of parcels that may be pushed in all, is from 1 to 65,536.
+/// Precondition: `capacity`, the number of parcels that may be pushed in all, is from 1 to [`MAX_CAPACITY`].
 pub fn lane<B: Drop>(alloc: Global, capacity: u32) -> Result<(Feed<B>, Drain<B>), OutOfMemory>
-    requires capacity { (1 ≤ capacity) × (capacity ≤ 65536) }
+    requires capacity { (1 ≤ capacity) × (capacity ≤ MAX_CAPACITY) }
     ensures feed { IfOk result (λ r. r.0 ≡ new_feed r.1.lane capacity) }
     ensures drain { IfOk result (λ r. r.1 ≡ new_drain r.1.lane capacity) }
 {

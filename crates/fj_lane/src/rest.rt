@@ -8,7 +8,7 @@ use crossbeam_deque::Worker;
 use std::alloc::Global;
 use std::marker::Model;
 
-/// What was pushed into a lane and not taken: at most 65,536 parcels. Java has no counterpart.
+/// What was pushed into a lane and not taken: at most [`MAX_CAPACITY`](crate::MAX_CAPACITY) parcels. Java has no counterpart.
 #[derive(Drop)]
 pub struct Rest<B> {
     pub(crate) worker: Worker<Parcel<B>, Global, View<B>, LaneRule>,

@@ -36,7 +36,7 @@ impl<B> Protocol<Parcel<B>, View<B>> for LaneRule {
 }
 
 /// The right to take is cut off for the drain, or taken back.
-pub(crate) struct Ends;
+pub struct Ends;
 
 impl<B> Split<View<B>> for Ends {
     ghost use Rattle.std.specs.Prelude.{true, false, []};
@@ -57,7 +57,7 @@ impl<B> Join<View<B>> for Ends {
 }
 
 /// A push.
-pub(crate) struct Push;
+pub struct Push;
 
 impl<B> Outcome<Parcel<B>, View<B>> for Push {
     ghost use Rattle.std.specs.Prelude.{◌≡◌};
@@ -67,7 +67,7 @@ impl<B> Outcome<Parcel<B>, View<B>> for Push {
 }
 
 /// A take.
-pub(crate) struct Take;
+pub struct Take;
 
 impl<B> Outcome<Parcel<B>, View<B>> for Take {
     ghost use Rattle.std.specs.Prelude.{◌≡◌};
@@ -78,7 +78,7 @@ impl<B> Outcome<Parcel<B>, View<B>> for Take {
 
 /// A take by the one that has both ends: it takes the next of those fed and not drained, and finds none only where all were
 /// drained.
-pub(crate) struct TakeLeft;
+pub struct TakeLeft;
 
 impl<B> Outcome<Parcel<B>, View<B>> for TakeLeft {
     ghost use Rattle.std.specs.Prelude.{◌≡◌, ◌++◌, []};
@@ -90,7 +90,7 @@ impl<B> Outcome<Parcel<B>, View<B>> for TakeLeft {
 }
 
 /// What the one that has both ends concludes: nothing was lost, and nothing was added.
-pub(crate) struct Tally;
+pub struct Tally;
 
 impl<B> Lesson<Parcel<B>, View<B>> for Tally {
     ghost use Rattle.std.specs.Prelude.{◌≡◌, ◌++◌};

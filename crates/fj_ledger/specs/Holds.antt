@@ -16,7 +16,7 @@ use Rattle.fj_model.specs.Completers.{pending, fires_or_passes}
 use Rattle.fj_model.specs.Places.{place, open_tasks, gone}
 use Rattle.fj_model.specs.Climbs.{ClimbsCompleters}
 use Rattle.fj_model.specs.Allowed.{AllowedFrom, is_fired_by_complete}
-use Rattle.fj_model.specs.Epochs.{most_events}
+use Rattle.fj_model.specs.declared.epoch.TheConstants.{MAX_EVENTS_AND_SEALS}
 use Rattle.fj_queues.specs.Queues.{Lists as Waiting, queue_at}
 use Rattle.fj_tree.specs.declared.record.Record.{Record}
 use Rattle.fj_tree.specs.Records.{Records, record_at, handle_of, count}
@@ -102,7 +102,7 @@ pub record IsLawful (pool : Pool) (most : ℕ) (h : List Event) : Type 0 where
 pub record IsSealed (pool : Pool) (sealed h : List Event) : Type 0 where
   pub begins : (present : List Event) × (h ≡ sealed ++ present)
   -- task numbers have 64 bits
-  pub few : length sealed ≤ most_events
+  pub few : length sealed ≤ MAX_EVENTS_AND_SEALS
   -- at the seal each task was open or gone
   pub left : accepted sealed ≤ length (gone sealed) + pool.limits.tasks
 

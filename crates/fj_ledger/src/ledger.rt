@@ -1,4 +1,3 @@
-//! The history, and what stands where after it. The queries are here, and the updates in the modules below: each appends one event.
 ghost use Rattle.std.specs.Prelude.{◌≡◌, ◌≤◌, ◌<◌, ◌+◌, ◌↔◌, [], IfOk, IfSome, IsTrue, nat_lt, option_map, MatchOption, length, true, false, Some, option_copied, is_none, ◌||◌};
 ghost use Rattle.std.specs.List.{list_all};
 ghost use Rattle.fj_model.specs.Queues.{queue};
@@ -36,6 +35,8 @@ use std::alloc::Global;
 use std::marker::Model;
 
 /// The history, with all that is kept beside it. A contract sees what it was made with, and the history.
+///
+/// Its queries are here, and its updates in the modules below: each appends one event.
 #[derive(Drop)]
 pub struct Ledger {
     mode: Mode,

@@ -1,15 +1,11 @@
 ghost use Rattle.std.specs.Prelude.{◌≡◌, ◌<◌, ◌≤◌, ◌+◌, ◌∷◌, [], ◌++◌, length, nat_lt, vec_capacity, IfOk, OnOk, OnErr};
-ghost use Rattle.fj_model.specs.Epochs.{most_events};
 ghost use Rattle.fj_model.specs.Allowed.{is_close, is_stop, is_closed, is_stopped};
 
-use fj_model::{Event, How, Kind, Owner, Serial, Status, SubId, WorkerId};
+use fj_model::{Event, How, Kind, MAX_EVENTS_AND_SEALS, Owner, Serial, Status, SubId, WorkerId};
 use std::alloc::{AllocError, Global};
 use std::marker::Model;
 use std::mem;
 use std::snapshot::Snapshot;
-
-/// The greatest number to which the events and the seals may add up at a seal.
-const MOST_EVENTS: u64 = 4_611_686_018_427_387_904;
 
 /// A history, of which the part since the last seal is kept, with room for so many events since then.
 ///
@@ -29,6 +25,7 @@ pub struct Log {
 
 impl Model for Log {
     ghost use Rattle.std.specs.Prelude.{◌≡◌, ◌≤◌, ◌+◌, ◌++◌, length, vec_capacity, option_map};
+    ghost use Rattle.fj_model.specs.declared.epoch.TheConstants.{MAX_EVENTS_AND_SEALS};
     ghost use Rattle.fj_model.specs.Allowed.{is_closed, is_stopped};
     ghost use Rattle.fj_ledger.specs.Logs.{Logged, sealed_in, seals_in};
 
@@ -47,7 +44,7 @@ impl Model for Log {
         × (l.stopped ≡ is_stopped (sealed_in (option_map (λ s. s.value) l.before) ++ l.events.items))
         × (l.sealed ≡ length (sealed_in (option_map (λ s. s.value) l.before)))
         × (l.seals ≡ seals_in (option_map (λ s. s.value) l.before))
-        × (l.sealed + l.seals ≤ 4611686018427387905) };
+        × (l.sealed + l.seals ≤ MAX_EVENTS_AND_SEALS + 1) };
 
     // a log that was sealed had fewer seals
     ghost size = { λ v. v.seals };
@@ -92,17 +89,17 @@ impl Log {
 
     /// Whether the events and the seals are too many for one seal more.
     pub fn is_worn(&self) -> bool
-        ensures { result ≡ nat_lt most_events (length self.now.events + self.now.seals) }
+        ensures { result ≡ nat_lt MAX_EVENTS_AND_SEALS (length self.now.events + self.now.seals) }
     {
         let before = self.sealed + self.seals;
-        MOST_EVENTS < before || MOST_EVENTS - before < self.events.len() as u64
+        MAX_EVENTS_AND_SEALS < before || MAX_EVENTS_AND_SEALS - before < self.events.len() as u64
     }
 
     /// All events are sealed: those since the last seal are handed out, and the log goes on without any. An error changes nothing.
     pub fn seal(&mut self, alloc: Global) -> Result<Vec<Event>, AllocError>
-        requires few { length self.old.events + self.old.seals ≤ most_events }
+        requires few { length self.old.events + self.old.seals ≤ MAX_EVENTS_AND_SEALS }
         ensures part { IfOk result (λ part. self.old.events ≡ self.old.sealed ++ part.items) }
-        ensures sealed { OnOk result (self.new ≡ record { sealed = self.old.events; events = self.old.events; room = self.old.room; seals = self.old.seals + 1 }) }
+        ensures sealed { OnOk result (self.new ≡ record self.old { sealed = self.old.events; seals = self.old.seals + 1 }) }
         ensures stays { OnErr result (self.new ≡ self.old) }
     {
         let before = Snapshot::of(&*self);
@@ -130,7 +127,7 @@ impl Log {
     /// One event more. Precondition: there is room for it.
     pub fn push(&mut self, event: Event)
         requires { length self.old.events < length self.old.sealed + self.old.room }
-        ensures { self.new ≡ record { sealed = self.old.sealed; events = self.old.events ++ event ∷ []; room = self.old.room; seals = self.old.seals } }
+        ensures { self.new ≡ record self.old { events = self.old.events ++ event ∷ [] } }
     {
         // The check wants each type inside an event to be named where one is moved.
         let _inside: Option<(Owner, Kind, Status, How, Serial, SubId, WorkerId)> = None;

@@ -1,15 +1,17 @@
 -- What a check and a step come to: something found or said, or a refusal.
-use Rattle.std.specs.Prelude.{ℕ, ◌≡◌, ◌≤◌, ◌<◌, ◌+◌, Bool, true, not, Option, Some, None, Result, Ok, Err, length}
+use Rattle.std.specs.Prelude.{ℕ, ◌≡◌, ◌≤◌, ◌<◌, ◌+◌, Bool, true, not, List, [], ◌∷◌, Option, Some, None, Result, Ok, Err, length}
 use Rattle.fj_model.specs.declared.refusal.Refusal.{Refusal}
-use Rattle.fj_model.specs.declared.refusal.Refusal.TheVariants.{LogFull}
+use Rattle.fj_model.specs.declared.refusal.Refusal.TheVariants.{LogFull, NotCompleter, NotIdle, Unknown}
 use Rattle.fj_model.specs.declared.said.Said.{Said}
 use Rattle.fj_model.specs.declared.said.Said.TheVariants as says
 use Rattle.fj_model.specs.declared.step.Step.{Step}
 use Rattle.fj_model.specs.declared.step.Ending.{Ending}
 use Rattle.fj_model.specs.declared.step.Ending.TheVariants as ends
 use Rattle.fj_model.specs.declared.step.Step.TheVariants.{End}
+use Rattle.fj_model.specs.Lists.{is_empty}
+use Rattle.fj_model.specs.Stacks.{stack}
 use Rattle.fj_model.specs.Choices.{choice}
-use Rattle.fj_model.specs.Answers.{first_that_stands, refusals_of, running, taking, taking_says}
+use Rattle.fj_model.specs.Answers.{first_that_stands, refusals_of, hook_in_hand, is_plain_parent, is_unknown_parent, no_such_worker, nothing_running, running, taking, taking_says}
 use Rattle.fj_model.specs.Pasts.{limit}
 use Rattle.fj_model.specs.Runs.{Past, Steps, grown}
 use Rattle.fj_ledger.specs.Holds.{IsLawful}
@@ -18,6 +20,28 @@ use Rattle.fj_ledger.specs.Holds.{IsLawful}
 abbrev pub refusal_in : {A : Type 0} → Result A Refusal → Option Refusal
 refusal_in (Ok found) = None
 refusal_in (Err r) = Some r
+
+-- what a check answers: the first of the refusals that stands, and what it found exactly where none stands
+abbrev pub ChecksFirst : {A : Type 0} → List (Bool × Refusal) → Result A Refusal → Type 0
+ChecksFirst refusals result = refusal_in result ≡ first_that_stands refusals
+
+-- the same of all refusals of a step
+abbrev pub Checks : {A : Type 0} → Past → Step → Result A Refusal → Type 0
+Checks now asked result = ChecksFirst (refusals_of now.pool now.events asked) result
+
+-- what a worker is refused that has a hook in hand, that in addition runs no task, and that instead is not idle
+abbrev pub hand_refusals : Past → ℕ → List (Bool × Refusal)
+hand_refusals now w = no_such_worker now.pool w ∷ hook_in_hand now.events w ∷ []
+
+abbrev pub running_refusals : Past → ℕ → List (Bool × Refusal)
+running_refusals now w = no_such_worker now.pool w ∷ hook_in_hand now.events w ∷ nothing_running now.events w ∷ []
+
+abbrev pub idle_refusals : Past → ℕ → List (Bool × Refusal)
+idle_refusals now w = no_such_worker now.pool w ∷ hook_in_hand now.events w ∷ (not (is_empty (stack now.events w)), NotIdle) ∷ []
+
+-- why a fork under this parent is refused
+abbrev pub parent_refusals : Past → Option ℕ → List (Bool × Refusal)
+parent_refusals now p = (is_unknown_parent now.events p, Unknown) ∷ (is_plain_parent now.events p, NotCompleter) ∷ []
 
 -- the reply
 abbrev pub said_by : Result Said Refusal → Said

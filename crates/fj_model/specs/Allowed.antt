@@ -1,6 +1,7 @@
 -- When an event may follow a history.
 use Rattle.std.specs.Prelude.{ℕ, ◌≡◌, Bool, true, false, ◌&&◌, ◌||◌, ◌+◌, ◌-◌, ◌≤◌, ◌<◌, ◌==◌, ◌⊎◌, List, [], ◌∷◌, ◌++◌, length, Option, Some, None, slice_get, IfSome}
 use Rattle.std.specs.List.{list_any}
+use Rattle.fj_model.specs.declared.limits.TheConstants.{MAX_PENDING}
 use Rattle.fj_model.specs.declared.event.Event.{Event}
 use Rattle.fj_model.specs.declared.event.Event.TheVariants.{Acc, Make, Out, Skip, End, Add, Dec, Fire, Pass, Hooked, Settle, Close, Stop, Rel}
 use Rattle.fj_model.specs.declared.owner.Owner.{Owner}
@@ -74,7 +75,7 @@ pub record MayAccept (pool : Pool) (h : List Event) (t : ℕ) (k : Kind) : Type 
   pub number : t ≡ accepted h
   pub room : live h < pool.limits.tasks
   pub under : IfSome (parent_in (Some k)) (λ p. (is_kept h p ≡ true) × (is_completer h p ≡ true))
-  pub count : count_in (Some k) ≤ 65535
+  pub count : count_in (Some k) ≤ MAX_PENDING
 
 -- a worker without a hook may take this task by its choice
 pub record MayTake (pool : Pool) (h : List Event) (t w : ℕ) : Type 0 where
@@ -97,7 +98,7 @@ Allowed pool h (Make t k) = MayAccept pool h t k × (is_completer_kind (Some k) 
 Allowed pool h (Out t w) = MayTake pool h t w × (is_undone (status h t) ≡ true)
 Allowed pool h (Skip t w) = MayTake pool h t w × (is_undone (status h t) ≡ false)
 Allowed pool h (End t w) = (last_of (stack h w) ≡ Some t) × (hand h w ≡ None)
-Allowed pool h (Add c n) = (is_kept h c ≡ true) × (is_completer h c ≡ true) × (pending h c + n ≤ 65535)
+Allowed pool h (Add c n) = (is_kept h c ≡ true) × (is_completer h c ≡ true) × (pending h c + n ≤ MAX_PENDING)
 Allowed pool h (Dec c) = arrival h c ≡ Counted
 Allowed pool h (Fire c Zero) = arrival h c ≡ Fires
 Allowed pool h (Fire c Complete) = (is_spent h c ≡ false) × (ends_task c (newest h) ≡ true)

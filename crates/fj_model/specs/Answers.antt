@@ -1,6 +1,7 @@
 -- What the machine answers to a step, and which events it appends.
 use Rattle.std.specs.Prelude.{ℕ, Bool, true, false, ◌&&◌, ◌||◌, not, ◌+◌, ◌==◌, nat_lt, nat_le, if◌then◌else◌, List, [], ◌∷◌, ◌++◌, length, drop, map, Option, Some, None, is_some, is_none}
 use Rattle.std.specs.List.{list_all}
+use Rattle.fj_model.specs.declared.limits.TheConstants.{MAX_PENDING}
 use Rattle.fj_model.specs.declared.event.Event.{Event}
 use Rattle.fj_model.specs.declared.event.Event.TheVariants as event
 use Rattle.fj_model.specs.declared.event.Event.TheVariants.{Acc, Make, Out, Hooked, Dec, Settle, Rel}
@@ -274,7 +275,7 @@ abbrev pub not_a_completer : List Event → ℕ → Bool × Refusal
 not_a_completer h t = (not (is_completer h t), NotCompleter)
 
 abbrev pub count_too_large : ℕ → Bool × Refusal
-count_too_large count = (nat_lt 65535 count, CountTooLarge)
+count_too_large count = (nat_lt MAX_PENDING count, CountTooLarge)
 
 abbrev pub too_many_tasks : Pool → List Event → Bool × Refusal
 too_many_tasks pool h = (live h == pool.limits.tasks, TooManyTasks)

@@ -1,6 +1,7 @@
 -- What a pool is made with.
 use Rattle.std.specs.Prelude.{ℕ, ◌+◌, ◌-◌, ◌≤◌, ◌<◌, nat_lt, if◌then◌else◌, List, map}
 use Rattle.std.specs.List.{range_with_len}
+use Rattle.fj_model.specs.declared.limits.TheConstants.{MAX_WORKERS, MAX_SUBMITTERS, MAX_TASKS, MAX_EVENTS}
 use Rattle.fj_model.specs.declared.mode.Mode.{Mode}
 use Rattle.fj_model.specs.declared.owner.Owner.{Owner}
 use Rattle.fj_model.specs.declared.owner.Owner.TheVariants.{Sub, Work}
@@ -15,13 +16,13 @@ pub record Bounds : Type 0 where
 -- each limit is in its range
 pub record IsWithin (workers submitters tasks events : ℕ) : Type 0 where
   pub some_workers : 1 ≤ workers
-  pub few_workers : workers ≤ 32
+  pub few_workers : workers ≤ MAX_WORKERS
   pub some_submitters : 1 ≤ submitters
-  pub few_submitters : submitters ≤ 32
+  pub few_submitters : submitters ≤ MAX_SUBMITTERS
   pub some_tasks : 1 ≤ tasks
-  pub few_tasks : tasks ≤ 4096
+  pub few_tasks : tasks ≤ MAX_TASKS
   pub some_events : 1 ≤ events
-  pub few_events : events ≤ 1048576
+  pub few_events : events ≤ MAX_EVENTS
 
 -- a pool: the order in which a worker takes its own tasks, and the limits
 pub record Pool : Type 0 where

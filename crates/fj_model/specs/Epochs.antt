@@ -1,5 +1,6 @@
 -- Runs with seals, by which a machine hands its history out in parts.
-use Rattle.std.specs.Prelude.{ℕ, ◌≡◌, Bool, ◌||◌, not, ◌+◌, ◌⊎◌, nat_lt, List, [], ◌∷◌, length, Option, Some, None}
+use Rattle.std.specs.Prelude.{◌≡◌, Bool, ◌||◌, not, ◌+◌, ◌⊎◌, nat_lt, List, [], ◌∷◌, length, Option, Some, None}
+use Rattle.fj_model.specs.declared.epoch.TheConstants.{MAX_EVENTS_AND_SEALS}
 use Rattle.fj_model.specs.declared.refusal.Refusal.{Refusal}
 use Rattle.fj_model.specs.declared.refusal.Refusal.TheVariants.{Closed, LogFull, NotIdle, OutOfMemory}
 use Rattle.fj_model.specs.declared.said.Said.{Said as Reply}
@@ -12,16 +13,12 @@ use Rattle.fj_model.specs.Answers.{is_quiet, first_that_stands}
 use Rattle.fj_model.specs.Pasts.{Past, fresh, sealed_now}
 use Rattle.fj_model.specs.Runs.{Steps}
 
--- the greatest number to which the events and the seals may add up, so that task numbers have 64 bits
-abbrev pub most_events : ℕ
-most_events = 4611686018427387904
-
 -- each refusal that a seal can meet but out of memory, with whether it stands, in the order in which they are tested
 abbrev pub seal_refusals : Past → List (Bool × Refusal)
 seal_refusals past =
     (not (is_quiet past.pool.limits past.events), NotIdle)
     ∷ (is_closed past.events || is_stopped past.events, Closed)
-    ∷ (nat_lt most_events (length past.events + past.seals), LogFull) ∷ []
+    ∷ (nat_lt MAX_EVENTS_AND_SEALS (length past.events + past.seals), LogFull) ∷ []
 
 -- the first that stands
 unfoldable pub seal_refusal : Past → Option Refusal

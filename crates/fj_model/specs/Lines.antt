@@ -1,6 +1,7 @@
 -- The lines of a script and of its replies.
 use Rattle.std.specs.Prelude.{ℕ, Bool, true, false, ◌≡◌, ◌^◌, ◌<◌, List, [], ◌∷◌, ◌++◌, length, map, Option, Some, None, IfSome, codes, decimal}
 use Rattle.std.specs.List.{AllByRecursion}
+use Rattle.fj_model.specs.declared.read.TheConstants.{LINE_FEED}
 use Rattle.fj_model.specs.declared.mode.Mode.{Mode}
 use Rattle.fj_model.specs.declared.mode.Mode.TheVariants.{Async, Joining}
 use Rattle.fj_model.specs.declared.kind.Kind.{Kind}
@@ -156,4 +157,4 @@ head_in line = do
 
 -- the line of a reply, with its line feed
 unfoldable pub reply_line : Bounds → Said → List ℕ
-reply_line limits said = joined (reply_words limits said) ++ 10 ∷ []
+reply_line limits said = joined (reply_words limits said) ++ LINE_FEED ∷ []

@@ -1,16 +1,17 @@
 -- The words of a line: one space stands between each two of them, and none before the first or behind the last.
-use Rattle.std.specs.Prelude.{ℕ, Bool, true, false, ◌^◌, ◌==◌, ◌&&◌, nat_lt, if◌then◌else◌, List, [], ◌∷◌, Option, Some, None, decimal}
+use Rattle.std.specs.Prelude.{ℕ, Bool, true, false, ◌≡◌, ◌^◌, ◌==◌, ◌&&◌, nat_lt, if◌then◌else◌, List, [], ◌∷◌, Option, Some, None, Result, MatchResult, decimal}
 use Rattle.std.specs.List.{slice_split, join_with_byte}
 use Rattle.std.specs.Str.{bytes_eq}
 use Rattle.std.specs.Str.Parse.{digits_value}
+use Rattle.fj_model.specs.declared.read.words.TheConstants.{SPACE}
 
 -- the line that these words make
 abbrev pub joined : List (List ℕ) → List ℕ
-joined ws = join_with_byte 32 ws
+joined ws = join_with_byte SPACE ws
 
 -- the words of a line
 unfoldable pub words : List ℕ → List (List ℕ)
-words line = slice_split (λ b. b == 32) line
+words line = slice_split (λ b. b == SPACE) line
 
 -- the words of what stands behind a word: nothing, or a space and the words after it
 abbrev pub words_behind : List ℕ → List (List ℕ)
@@ -24,6 +25,10 @@ is_number word = nat_lt (digits_value 10 word) (2 ^ 32) && bytes_eq word (decima
 -- the number of such a word
 unfoldable pub number_in : List ℕ → Option ℕ
 number_in word = if is_number word then Some (digits_value 10 word) else None
+
+-- what a reader answers: what is said, and a fault exactly where nothing is said
+abbrev pub Reads : {A E : Type 0} → Option A → Result A E → Type 0
+Reads said result = MatchResult result (λ x. said ≡ Some x) (λ _. said ≡ None)
 
 -- ---- reading words, one after the other: these mirror the reader
 

@@ -1,8 +1,13 @@
+//! Runs with seals.
 use crate::event::Event;
 use crate::ids::Serial;
 use crate::refusal::Refusal;
 use crate::said::Said;
 use crate::step::Step;
+
+/// The greatest number to which the events of a history and the seals before them may add up at a seal, so that the numbers of tasks
+/// have 64 bits.
+pub const MAX_EVENTS_AND_SEALS: u64 = 4_611_686_018_427_387_904;
 
 /// What a machine is asked for in a run with seals.
 #[derive(Clone, Copy)]

@@ -1,3 +1,4 @@
+//! The numbers by which submitters, workers and tasks are named.
 use std::marker::Model;
 
 /// A submitter, by its number: `0..S` in a pool of `S` submitters.

@@ -9,7 +9,7 @@ pub enum Kind {
     Completer {
         /// Whether a code with which it fails is passed on to its parent.
         relay: bool,
-        /// The pending count that it is made with, 0 to 65,535.
+        /// The pending count that it is made with, 0 to [`MAX_PENDING`](crate::MAX_PENDING).
         count: u32,
         /// The completer that is arrived at when the completion action of this one has ended, or that a climb goes on to.
         parent: Option<Serial>,
@@ -70,7 +70,7 @@ pub enum SubmittedKind {
     Completer {
         /// The relay word, which a root never uses.
         relay: bool,
-        /// The pending count that it is made with, 0 to 65,535.
+        /// The pending count that it is made with, 0 to [`MAX_PENDING`](crate::MAX_PENDING).
         count: u32,
     },
 }

@@ -21,21 +21,27 @@ mod status;
 mod step;
 mod write;
 
-pub use epoch::{Answer, Move, Sealed};
+pub use epoch::{Answer, MAX_EVENTS_AND_SEALS, Move, Sealed};
 pub use event::{Event, How};
 pub use ids::{Serial, SubId, WorkerId};
 pub use kind::{Kind, SubmittedKind};
-pub use limits::{Limits, MAX_PENDING};
+pub use limits::{Limits, MAX_EVENTS, MAX_PENDING, MAX_SUBMITTERS, MAX_TASKS, MAX_WORKERS};
 pub use memory::OutOfMemory;
 pub use mode::Mode;
 pub use owner::Owner;
 pub use place::Place;
-pub use read::{LineFault, read_head, read_step};
+pub use read::{LINE_FEED, LineFault, MAX_LINE, read_head, read_step};
 pub use refusal::Refusal;
 pub use reply::Reply;
 pub use said::Said;
 pub use status::Status;
 pub use step::{Ending, Step};
 
+#[cfg(test)]
+mod fault_tests;
+#[cfg(test)]
+mod heading_tests;
+#[cfg(test)]
+mod step_tests;
 #[cfg(test)]
 mod tests;

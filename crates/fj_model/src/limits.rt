@@ -7,7 +7,19 @@ use std::marker::Model;
 /// The largest pending count of a completer. Java has no such bound.
 pub const MAX_PENDING: u64 = 65_535;
 
-/// How large a pool may grow: 1 to 32 workers, 1 to 32 submitters, 1 to 4,096 tasks kept at a time, 1 to 1,048,576 events in all.
+/// The most workers of a pool.
+pub const MAX_WORKERS: u32 = 32;
+
+/// The most submitters of a pool.
+pub const MAX_SUBMITTERS: u32 = 32;
+
+/// The most tasks that a pool may keep at a time.
+pub const MAX_TASKS: u32 = 4_096;
+
+/// The most events of a history between two seals.
+pub const MAX_EVENTS: u32 = 1_048_576;
+
+/// How large a pool may grow: each limit is from 1 to the constant that bounds it.
 #[derive(Clone, Copy, Debug, PartialEq)]
 pub struct Limits {
     workers: u32,
@@ -52,10 +64,10 @@ impl Limits {
         }) }
         ensures err { OnErr result (result ≡ Err Refusal.BadLimits) }
     {
-        if (1..=32).contains(&workers)
-            && (1..=32).contains(&submitters)
-            && (1..=4096).contains(&tasks)
-            && (1..=1_048_576).contains(&events)
+        if (1..=MAX_WORKERS).contains(&workers)
+            && (1..=MAX_SUBMITTERS).contains(&submitters)
+            && (1..=MAX_TASKS).contains(&tasks)
+            && (1..=MAX_EVENTS).contains(&events)
         {
             Ok(Limits {
                 workers,

@@ -1,3 +1,4 @@
+//! The reader of lines.
 mod fault;
 mod head;
 mod number;
@@ -9,5 +10,8 @@ pub use fault::LineFault;
 pub use head::read_head;
 pub use step::read_step;
 
-#[cfg(test)]
-mod tests;
+/// The byte that ends a line.
+pub const LINE_FEED: u8 = b'\n';
+
+/// The most bytes of a line, without its line feed: no step and no heading has a longer one.
+pub const MAX_LINE: usize = 64;

@@ -1,3 +1,4 @@
+//! The line of a reply.
 ghost use Rattle.std.specs.Prelude.{◌≡◌, ◌++◌, OnOk, string_bytes};
 ghost use Rattle.fj_model.specs.Lines.{reply_line};
 

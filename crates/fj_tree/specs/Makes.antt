@@ -1,5 +1,6 @@
 -- What a make does.
-use Rattle.std.specs.Prelude.{ℕ, ◌+◌, false, if◌then◌else◌, nat_lt, nat_le, Option, Some, None, option_map}
+use Rattle.std.specs.Prelude.{ℕ, ◌≡◌, ◌+◌, false, if◌then◌else◌, nat_lt, nat_le, Option, Some, None, option_map, Result, MatchResult}
+use Rattle.fj_model.specs.declared.limits.TheConstants.{MAX_PENDING}
 use Rattle.fj_model.specs.declared.kind.Kind.{Kind}
 use Rattle.fj_model.specs.declared.place.Place.{Place}
 use Rattle.fj_model.specs.declared.status.Status.TheVariants.{Undone}
@@ -10,6 +11,10 @@ use Rattle.fj_model.specs.Tasks.{parent_in, count_in, is_completer_kind}
 use Rattle.fj_tree.specs.declared.record.Record.{Record}
 use Rattle.fj_tree.specs.Handles.{Handle}
 use Rattle.fj_tree.specs.Records.{Records, count, record_of, entry_of, is_named}
+
+-- what a call answers: this refusal, and a value exactly where there is none
+abbrev pub IsRefusedBy : {A : Type 0} → Option Refusal → Result A Refusal → Type 0
+IsRefusedBy refusal result = MatchResult result (λ _. refusal ≡ None) (λ e. refusal ≡ Some e)
 
 -- a record must be there, and be a completer's
 abbrev pub completer_refusal : Option Record → Option Refusal
@@ -22,7 +27,7 @@ parent_refusal t None = None
 parent_refusal t (Some p) = completer_refusal (option_map (λ e. e.1) (entry_of t p))
 
 abbrev pub count_refusal : ℕ → Option Refusal
-count_refusal n = if nat_lt 65535 n then Some CountTooLarge else None
+count_refusal n = if nat_lt MAX_PENDING n then Some CountTooLarge else None
 
 abbrev pub room_refusal : Records → Option Refusal
 room_refusal t = if nat_le t.room (count t) then Some TooManyTasks else None

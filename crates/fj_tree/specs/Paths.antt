@@ -1,12 +1,11 @@
 -- The path from a task to its root.
-use Rattle.std.specs.Prelude.{ℕ, zero, suc, List, [], ◌∷◌, Option, Some, None, option_map, option_and_then}
-use Rattle.fj_model.specs.Tasks.{parent_in}
+use Rattle.std.specs.Prelude.{ℕ, zero, suc, List, [], ◌∷◌, Option, Some, None, option_and_then}
 use Rattle.fj_tree.specs.Handles.{Handle}
-use Rattle.fj_tree.specs.Records.{Records, record_of, handle_of}
+use Rattle.fj_tree.specs.Records.{Records, handle_of, parent_at}
 
 -- the parent that a record names, if it names one that is kept
 abbrev pub above : Records → Handle → Option Handle
-above t h = option_and_then (handle_of t) (parent_in (option_map (λ r. r.kind) (record_of t h)))
+above t h = option_and_then (handle_of t) (parent_at t h)
 
 -- where a path goes on to
 abbrev pub and_on : (Handle → List Handle) → Option Handle → List Handle

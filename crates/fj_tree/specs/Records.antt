@@ -1,7 +1,8 @@
 -- The records of the tasks that are kept, by key.
-use Rattle.std.specs.Prelude.{ℕ, Bool, true, false, ◌≡◌, ◌<◌, ◌≤◌, ◌+◌, ◌==◌, if◌then◌else◌, List, Option, Some, None, is_some, IsSome, IsSomeAnd, IsTrue, option_map, option_and_then, slice_index_or, slice_set}
+use Rattle.std.specs.Prelude.{ℕ, Bool, true, false, ◌≡◌, ◌≢◌, ◌<◌, ◌≤◌, ◌+◌, ◌==◌, if◌then◌else◌, List, Option, Some, None, is_some, IsSome, IsSomeAnd, IsTrue, option_map, option_and_then, slice_index_or, slice_set}
 use Rattle.std.specs.List.{count_by, find}
 use Rattle.slab.specs.Slab.{entries_from}
+use Rattle.fj_model.specs.declared.limits.TheConstants.{MAX_PENDING}
 use Rattle.fj_model.specs.declared.status.Status.{Status}
 use Rattle.fj_model.specs.declared.place.Place.{Place}
 use Rattle.fj_model.specs.Tasks.{parent_in, is_completer_kind}
@@ -49,6 +50,26 @@ handle_of t n = option_map (λ e. record { key = e.0; serial = n }) (entry_of t 
 abbrev pub changed : Records → ℕ → (Record → Record) → Records
 changed t key change = record t { slots = slice_set t.slots key (option_map change (record_at t key)) }
 
+-- each record is changed so
+abbrev pub ChangesEach : Records → Records → (Record → Record) → Type 0
+ChangesEach old new change = (key : ℕ) → record_at new key ≡ option_map change (record_at old key)
+
+-- each record but the one at this key is changed so
+abbrev pub ChangesOthers : Records → Records → ℕ → (Record → Record) → Type 0
+ChangesOthers old new key change = (other : ℕ) → other ≢ key → record_at new other ≡ option_map change (record_at old other)
+
+-- each record but the one at this key stays as it is
+abbrev pub KeepsOthers : Records → Records → ℕ → Type 0
+KeepsOthers old new key = (other : ℕ) → other ≢ key → record_at new other ≡ record_at old other
+
+-- no kept record has this number
+abbrev pub HasNone : Records → ℕ → Type 0
+HasNone t n = (key : ℕ) (r : Record) → record_at t key ≡ Some r → r.serial ≢ n
+
+-- the number of the parent that the record of a handle names
+abbrev pub parent_at : Records → Handle → Option ℕ
+parent_at t h = parent_in (option_map (λ r. r.kind) (record_of t h))
+
 abbrev pub with_status : Status → Record → Record
 with_status s r = record r { status = s }
 
@@ -65,7 +86,7 @@ made_spent r = record r { fired = true }
 pub record IsSoundRecord (made : ℕ) (r : Record) : Type 0 where
   pub number : r.serial < made
   pub parent : (p : ℕ) → parent_in (Some r.kind) ≡ Some p → p < r.serial
-  pub pending : r.pending ≤ 65535
+  pub pending : r.pending ≤ MAX_PENDING
   pub children : r.children ≤ made
 
 -- whether the number is the one that is named, if any is

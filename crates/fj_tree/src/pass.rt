@@ -1,3 +1,4 @@
+//! Where a climb without hooks ends.
 ghost use Rattle.std.specs.Prelude.{◌≡◌};
 ghost use Rattle.fj_tree.specs.Passes.{end_by};
 
@@ -41,7 +42,7 @@ impl Model for PassEnd {
 }
 
 /// What an arrival is as the end of a climb. None if the climb goes on.
-pub(crate) fn end_by(arrived: Arrived) -> Option<PassHow>
+pub fn end_by(arrived: Arrived) -> Option<PassHow>
     ensures { result ≡ end_by arrived }
 {
     match arrived {

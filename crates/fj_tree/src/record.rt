@@ -17,7 +17,7 @@ pub struct Record {
     pub place: Place,
     /// How far the task has come.
     pub status: Status,
-    /// How many arrivals a completer still waits for, at most 65,535. A plain task has 0.
+    /// How many arrivals a completer still waits for, at most `MAX_PENDING`. A plain task has 0.
     pub pending: u32,
     /// Whether the completer was fired, or passed by a climb. A done one is spent too, fired or not.
     pub fired: bool,

@@ -9,7 +9,7 @@ use std::alloc::Global;
 use std::test::Fail;
 use trial::Trial;
 
-// Records, handles, and what is written.
+/// Records, handles, and what is written.
 const MAKES: &str = "each make has the next number
 3; len > 0; make - 1 stop open > 0:0; make 0 65535 stop submitted > 1:1; len > 2;
 get 1 > Record { serial: Serial(1), kind: Completer { relay: false, count: 65535, parent: Some(Serial(0)) }, place: Queued(Sub(SubId(2))), status: Undone, pending: 65535, fired: false, children: 0 };
@@ -38,7 +38,7 @@ all open tasks go
 status 3 normal > done; close > done; state 0 > Gone undone 1 unspent 0; state 1 > Gone undone 0 unspent 0;
 state 2 > Held(WorkerId(3)) undone 0 unspent 0; state 3 > Gone normal 2 spent 0; state 4 > Queued(Sub(SubId(2))) undone 0 unspent 0; len > 5";
 
-// Arrivals and additions.
+/// Arrivals and additions.
 const ARRIVALS: &str = "a completer fires at the arrival after its last
 1; make - 1 stop forked > 0:0; arrive 0 > Counted; arrive 0 > Early; place 0 held > done; arrive 0 > Early; place 0 open > done;
 arrive 0 > Fire; arrive 0 > Spent
@@ -51,7 +51,7 @@ an addition is refused by the first cause
 2; make - 65530 stop open > 0:0; make plain open > 1:1; add 0 5 > 65535; add 0 1 > refused 10; add 0 4294967295 > refused 10;
 add 1 4294967295 > refused 8; add 0:9 4294967295 > refused 5; add 0 0 > 65535";
 
-// What climbs change.
+/// What climbs change.
 const CLIMBS: &str = "a climb makes the passed ones spent and lowers one count
 4; make - 2 stop open > 0:0; make 0 0 stop open > 1:1; make 1 0 stop open > 2:2; make 2 0 stop open > 3:3; pass 2 > 2 0 Counted;
 state 0 > Open undone 1 unspent 1; state 1 > Open undone 0 spent 1; state 2 > Open undone 0 spent 1;
@@ -69,7 +69,7 @@ a climb is not early at its own task, held
 4; make - 0 stop open > 0:0; make 0 0 stop open > 1:1; make 1 0 stop open > 2:2; make 2 0 stop open > 3:3; place 0 held > done;
 pass 0 > 1 0 Root";
 
-// Relays.
+/// Relays.
 const RELAYS: &str = "a relay goes up to the root
 3; make - 0 relay open > 0:0; make 0 0 relay gone > 1:1; make 1 0 relay open > 2:2; relay 1 7 > 2;
 state 0 > Open exceptional 7 0 spent 1; state 1 > Gone exceptional 7 0 spent 1; state 2 > Open undone 0 unspent 0; relay 2 8 > 1;
@@ -88,7 +88,7 @@ a plain task gets its status alone
 2; make - 0 relay open > 0:0; make plain open > 1:1; relay 1 3 > 1; state 1 > Open exceptional 3 0 spent 0;
 state 0 > Open undone 0 unspent 0";
 
-// Releases.
+/// Releases.
 const RELEASES: &str = "a release is refused by the first cause
 3; make - 0 stop open > 0:0; make plain held > 1:1; make - 0 stop gone > 2:2; release 0 > refused 9; release 1 > refused 9;
 release 0:9 > refused 5; len > 3; release 2 > done; release 2 > refused 5; len > 2
@@ -107,7 +107,7 @@ a key is used again but no number
 1; make plain gone > 0:0; make plain gone > refused 2; release 0 > done; find 0 > none; make plain gone > 0:1; get 0 > none;
 make 0 0 stop open > refused 5";
 
-// What a climb gave in place of this end, which began so many completers below the one at which this was done.
+/// What a climb gave in place of this end, which began so many completers below the one at which this was done.
 fn other_climb(
     alloc: Global,
     below: u32,
@@ -203,7 +203,7 @@ fn a_search_finds_each_number_and_no_other(rt: HostRuntime) -> Result<(), Fail> 
     Ok(())
 }
 
-// The guess for a number is that of the last one with the same rest by 16,384, so these are found by a search.
+/// The guess for a number is that of the last one with the same rest by 16,384, so these are found by a search.
 #[test]
 fn a_task_is_found_behind_thousands_that_were_released(rt: HostRuntime) -> Result<(), Fail> {
     for room in [2, 3, 4096] {

@@ -1,6 +1,6 @@
-ghost use Rattle.std.specs.Prelude.{◌≡◌, ◌≢◌, ◌⊎◌, ◌<◌, ◌≤◌, ◌+◌, ◌^◌, ℕ, [], Some, None, IfOk, IfSome, IfNone, OnOk, OnErr, IsSomeAnd, IsTrue, ◌↔◌, MatchResult, option_copied, option_and_then, option_map};
-ghost use Rattle.fj_tree.specs.Records.{count, record_at, record_of, handle_of, IsSound, IsGood, IsCompleter, changed, with_status, with_place, with_added, made_spent};
-ghost use Rattle.fj_tree.specs.Makes.{add_refusal, make_refusal, parent_refusal, fresh, with_child_of};
+ghost use Rattle.std.specs.Prelude.{◌≡◌, ◌⊎◌, ◌<◌, ◌≤◌, ◌+◌, ◌^◌, [], Some, None, IfOk, IfSome, IfNone, OnOk, OnErr, option_copied, option_and_then, option_map};
+ghost use Rattle.fj_tree.specs.Records.{count, record_at, record_of, handle_of, IsSound, IsGood, IsCompleter, ChangesOthers, HasNone, changed, with_status, with_place, with_added, made_spent};
+ghost use Rattle.fj_tree.specs.Makes.{IsRefusedBy, add_refusal, make_refusal, parent_refusal, fresh, with_child_of};
 ghost use Rattle.fj_model.specs.Tasks.{parent_in, count_in};
 ghost use Rattle.fj_tree.specs.Arrivals.{arrival_at, arrived};
 ghost use Rattle.fj_tree.specs.declared.arrive.Arrived.TheVariants.{Spent, Early};
@@ -47,7 +47,13 @@ impl Model for Tree {
 
     ghost view = { λ t. record { slots = t.records.slots; made = t.made; room = t.room } };
 
-    ghost invariant = { λ t. IsSound (record { slots = t.records.slots; made = t.made; room = t.room }) × (t.room ≤ t.records.capacity) × (t.room ≤ t.kept.room) × IsIndex t.records.slots t.kept × IsAbove t.kept.pairs t.made };
+    ghost invariant = { λ t. record {
+      sound : IsSound (record { slots = t.records.slots; made = t.made; room = t.room });
+      records_fit : t.room ≤ t.records.capacity;
+      numbers_fit : t.room ≤ t.kept.room;
+      indexed : IsIndex t.records.slots t.kept;
+      above : IsAbove t.kept.pairs t.made;
+    } };
 }
 
 impl Tree {
@@ -107,7 +113,7 @@ impl Tree {
     pub fn find(&self, serial: Serial) -> Option<Handle>
         ensures found { result ≡ handle_of self.now serial }
         ensures good { IfSome result (IsGood self.now) }
-        ensures absent { IfNone result ((key : ℕ) (r : Record) → record_at self.now key ≡ Some r → r.serial ≢ serial) }
+        ensures absent { IfNone result (HasNone self.now serial) }
         ensures sound { IsSound self.now }
     {
         let _ = &self.records;
@@ -187,10 +193,10 @@ impl Tree {
     }
 
     /// Raises a completer's pending count, and gives the new one. Refused, with nothing changed, by `Unknown` if the handle is not
-    /// good, `NotCompleter` if it names a plain task, and `CountTooLarge` if the count would pass 65,535, in this order. It is
+    /// good, `NotCompleter` if it names a plain task, and `CountTooLarge` if the count would pass [`MAX_PENDING`], in this order. It is
     /// `CountedCompleter.addToPendingCount`, with a bound.
     pub fn add(&mut self, h: Handle, n: u32) -> Result<u32, Refusal>
-        ensures refused { MatchResult result (λ _. add_refusal self.old h n ≡ None) (λ e. add_refusal self.old h n ≡ Some e) }
+        ensures refused { IsRefusedBy (add_refusal self.old h n) result }
         ensures added { OnOk result (self.new ≡ changed self.old h.key (with_added n)) }
         ensures count { IfOk result (λ count. option_map (λ r. r.pending + n) (record_of self.old h) ≡ Some count) }
         ensures stays { OnErr result (self.new ≡ self.old) }
@@ -203,10 +209,10 @@ impl Tree {
 
     /// The pending count that a completer would have after an addition.
     fn raised(&self, h: Handle, n: u32) -> Result<u32, Refusal>
-        ensures refused { MatchResult result (λ _. add_refusal self.now h n ≡ None) (λ e. add_refusal self.now h n ≡ Some e) }
+        ensures refused { IsRefusedBy (add_refusal self.now h n) result }
         ensures good { OnOk result (IsGood self.now h) }
         ensures count { IfOk result (λ count. option_map (λ r. r.pending + n) (record_of self.now h) ≡ Some count) }
-        ensures within { IfOk result (λ count. count ≤ 65535) }
+        ensures within { IfOk result (λ count. count ≤ MAX_PENDING) }
     {
         let Some(record) = self.get(h) else {
             return Err(Refusal::Unknown);
@@ -222,18 +228,18 @@ impl Tree {
     }
 
     /// Makes a task, with the next number. Refused, with nothing changed, by `Unknown` if the parent that the kind names is not
-    /// kept, `NotCompleter` if it is a plain task, `CountTooLarge` if the pending count is above 65,535, and `TooManyTasks` if there
+    /// kept, `NotCompleter` if it is a plain task, `CountTooLarge` if the pending count is above [`MAX_PENDING`], and `TooManyTasks` if there
     /// is no room, in this order. Precondition: fewer than 2^63 makes so far.
     pub fn make(&mut self, kind: Kind, place: Place) -> Result<Handle, Refusal>
         requires { self.old.made < 2 ^ 63 }
-        ensures refused { MatchResult result (λ _. make_refusal self.old kind ≡ None) (λ e. make_refusal self.old kind ≡ Some e) }
+        ensures refused { IsRefusedBy (make_refusal self.old kind) result }
         ensures stays { OnErr result (self.new ≡ self.old) }
         ensures number { IfOk result (λ h. h.serial ≡ self.old.made) }
         ensures made { OnOk result (self.new.made ≡ self.old.made + 1) }
         ensures room { self.new.room ≡ self.old.room }
         ensures vacant { IfOk result (λ h. record_at self.old h.key ≡ None) }
         ensures record { IfOk result (λ h. record_of self.new h ≡ Some (fresh self.old.made kind place)) }
-        ensures others { IfOk result (λ h. (key : ℕ) → key ≢ h.key → record_at self.new key ≡ option_map (with_child_of (parent_in (Some kind))) (record_at self.old key)) }
+        ensures others { IfOk result (λ h. ChangesOthers self.old self.new h.key (with_child_of (parent_in (Some kind)))) }
         ensures kept { OnOk result (count self.new ≡ count self.old + 1) }
     {
         let parent = self.parent(&kind)?;
@@ -248,7 +254,7 @@ impl Tree {
 
     /// The parent that a kind names, if it names one.
     fn parent(&self, kind: &Kind) -> Result<Option<Handle>, Refusal>
-        ensures refused { MatchResult result (λ _. parent_refusal self.now (parent_in (Some kind.now)) ≡ None) (λ e. parent_refusal self.now (parent_in (Some kind.now)) ≡ Some e) }
+        ensures refused { IsRefusedBy (parent_refusal self.now (parent_in (Some kind.now))) result }
         ensures completer { IfOk result (λ parent. IfSome parent (IsCompleter self.now)) }
         ensures named { IfOk result (λ parent. option_map (λ h. h.serial) parent ≡ parent_in (Some kind.now)) }
     {
@@ -269,7 +275,7 @@ impl Tree {
     pub fn insert(&mut self, kind: Kind, place: Place, parent: Option<Handle>) -> Handle
         requires made { self.old.made < 2 ^ 63 }
         requires room { count self.old < self.old.room }
-        requires pending { count_in (Some kind) ≤ 65535 }
+        requires pending { count_in (Some kind) ≤ MAX_PENDING }
         requires named { option_map (λ h. h.serial) parent ≡ parent_in (Some kind) }
         requires completer { IfSome parent (IsCompleter self.old) }
         ensures number { result.serial ≡ self.old.made }
@@ -277,7 +283,7 @@ impl Tree {
         ensures room { self.new.room ≡ self.old.room }
         ensures vacant { record_at self.old result.key ≡ None }
         ensures record { record_at self.new result.key ≡ Some (fresh self.old.made kind place) }
-        ensures others { (key : ℕ) → key ≢ result.key → record_at self.new key ≡ option_map (with_child_of (parent_in (Some kind))) (record_at self.old key) }
+        ensures others { ChangesOthers self.old self.new result.key (with_child_of (parent_in (Some kind))) }
         ensures kept { count self.new ≡ count self.old + 1 }
     {
         let serial = Serial(self.made);

@@ -3,6 +3,7 @@ use Rattle.std.proofs.Common.{ℕ, ◌≡◌, ◌+◌, ◌-◌, ◌<◌, true, f
 use Rattle.std.specs.Prelude.{option_map}
 use Rattle.std.proofs.lemmas.Bool.{eq-eqb, le-ltb}
 use Rattle.std.proofs.lemmas.Option.{same_Some}
+use Rattle.fj_model.specs.declared.limits.TheConstants.{MAX_PENDING}
 use Rattle.fj_model.specs.declared.event.Event.{Event}
 use Rattle.fj_model.specs.declared.event.Event.TheVariants.{Add, Dec}
 use Rattle.fj_model.specs.Bounds.{Pool}
@@ -141,4 +142,4 @@ addable pool h c n queues stacks hands tree opens gones at holds l may =
     let tells = holds.tree_kept.each at.key r l.at in
     let completer : is_completer_kind (Some r.kind) ≡ true = ap is_completer_kind (sym tells.kind) ∙ ap (is_completer h) number ∙ may.1 in
     let count : r.pending ≡ pending h c = sym tells.pending ∙ ap (pending h) number in
-    rw (there, completer, le-ltb 65535 (r.pending + n) (omega (arith, count, may.2))) refl
+    rw (there, completer, le-ltb MAX_PENDING (r.pending + n) (omega (arith, count, may.2))) refl

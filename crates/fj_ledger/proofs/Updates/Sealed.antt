@@ -5,7 +5,7 @@ use Rattle.fj_model.specs.declared.event.Event.{Event}
 use Rattle.fj_model.specs.Bounds.{Pool}
 use Rattle.fj_model.specs.Places.{gone}
 use Rattle.fj_model.specs.Answers.{is_quiet}
-use Rattle.fj_model.specs.Epochs.{most_events}
+use Rattle.fj_model.specs.declared.epoch.TheConstants.{MAX_EVENTS_AND_SEALS}
 use Rattle.fj_model.proofs.Headline.Sealing.{quiet_left}
 use Rattle.fj_queues.specs.Queues.{Lists as Waiting}
 use Rattle.fj_tree.specs.Records.{Records}
@@ -14,7 +14,7 @@ use Rattle.fj_ledger.specs.InHands.{InHand}
 use Rattle.fj_ledger.specs.Holds.{Holds}
 
 pub sealed_holds : {sealed : List Event} (pool : Pool) (h : List Event) (queues : Waiting) (stacks : Lists) (hands : List (Option InHand)) (tree : Records) (opens gones : List ℕ)
-    → Holds pool sealed h queues stacks hands tree opens gones → is_quiet pool.limits h ≡ true → length h ≤ most_events
+    → Holds pool sealed h queues stacks hands tree opens gones → is_quiet pool.limits h ≡ true → length h ≤ MAX_EVENTS_AND_SEALS
     → Holds pool h h queues stacks hands tree opens []
 sealed_holds pool h queues stacks hands tree opens gones holds quiet few = record {
   within = holds.within;

@@ -1,10 +1,9 @@
 //! Tasks are submitted, forked and made as triggers.
-ghost use Rattle.std.specs.Prelude.{◌≡◌, ◌∷◌, [], Some, IfOk, option_map};
-ghost use Rattle.fj_model.specs.declared.refusal.Refusal.TheVariants.{Unknown, NotCompleter};
+ghost use Rattle.std.specs.Prelude.{◌≡◌, Some, IfOk, option_map};
 ghost use Rattle.fj_model.specs.declared.step.Step.TheVariants.{Fork, Submit, Trigger};
 ghost use Rattle.fj_model.specs.Tasks.{parent_in};
-ghost use Rattle.fj_model.specs.Answers.{first_that_stands, refusal_of, refusals_of, is_unknown_parent, is_plain_parent};
-ghost use Rattle.fj_machine.specs.Outcomes.{Makes, refusal_in};
+ghost use Rattle.fj_model.specs.Answers.{refusal_of};
+ghost use Rattle.fj_machine.specs.Outcomes.{Checks, ChecksFirst, Makes, parent_refusals};
 
 use crate::steps::refuse::{known, room_for, running_task, task_room};
 use fj_ledger::Ledger;
@@ -12,7 +11,7 @@ use fj_model::{Kind, Owner, Refusal, Said, SubId, SubmittedKind, WorkerId};
 use fj_tree::Handle;
 
 /// A submitter hands in a task, which goes to the new end of its queue: `ForkJoinPool.submit`.
-pub(crate) fn submit(ledger: &mut Ledger, s: SubId, kind: &SubmittedKind) -> Result<Said, Refusal>
+pub fn submit(ledger: &mut Ledger, s: SubId, kind: &SubmittedKind) -> Result<Said, Refusal>
     ensures { Makes ledger.old (Submit s kind.now) result ledger.new }
 {
     may_submit(ledger, s, kind)?;
@@ -21,7 +20,7 @@ pub(crate) fn submit(ledger: &mut Ledger, s: SubId, kind: &SubmittedKind) -> Res
 }
 
 /// Why a submission would be refused now, if it would be.
-pub(crate) fn submit_refusal(ledger: &Ledger, s: SubId, kind: &SubmittedKind) -> Option<Refusal>
+pub fn submit_refusal(ledger: &Ledger, s: SubId, kind: &SubmittedKind) -> Option<Refusal>
     ensures { result ≡ refusal_of ledger.now (Submit s kind.now) }
 {
     if let Err(refusal) = may_submit(ledger, s, kind) {
@@ -31,7 +30,7 @@ pub(crate) fn submit_refusal(ledger: &Ledger, s: SubId, kind: &SubmittedKind) ->
 }
 
 /// The running task of a worker forks a task, which goes to the new end of the worker's queue: `ForkJoinTask.fork`.
-pub(crate) fn fork(ledger: &mut Ledger, w: WorkerId, kind: &Kind) -> Result<Said, Refusal>
+pub fn fork(ledger: &mut Ledger, w: WorkerId, kind: &Kind) -> Result<Said, Refusal>
     ensures { Makes ledger.old (Fork w kind.now) result ledger.new }
 {
     let parent = may_fork(ledger, w, kind)?;
@@ -40,7 +39,7 @@ pub(crate) fn fork(ledger: &mut Ledger, w: WorkerId, kind: &Kind) -> Result<Said
 }
 
 /// The running task of a worker makes a trigger: a completer without a parent that is never queued.
-pub(crate) fn trigger(ledger: &mut Ledger, w: WorkerId, count: u32) -> Result<Said, Refusal>
+pub fn trigger(ledger: &mut Ledger, w: WorkerId, count: u32) -> Result<Said, Refusal>
     ensures { Makes ledger.old (Trigger w count) result ledger.new }
 {
     may_trigger(ledger, w, count)?;
@@ -49,7 +48,7 @@ pub(crate) fn trigger(ledger: &mut Ledger, w: WorkerId, count: u32) -> Result<Sa
 }
 
 fn may_submit(ledger: &Ledger, s: SubId, kind: &SubmittedKind) -> Result<(), Refusal>
-    ensures { refusal_in result ≡ first_that_stands (refusals_of ledger.now.pool ledger.now.events (Submit s kind.now)) }
+    ensures { Checks ledger.now (Submit s kind.now) result }
 {
     if !ledger.has_submitter(s) {
         return Err(Refusal::NoSuch);
@@ -62,7 +61,7 @@ fn may_submit(ledger: &Ledger, s: SubId, kind: &SubmittedKind) -> Result<(), Ref
 
 /// The parent of the task that a worker may fork.
 fn may_fork(ledger: &Ledger, w: WorkerId, kind: &Kind) -> Result<Option<Handle>, Refusal>
-    ensures refusal { refusal_in result ≡ first_that_stands (refusals_of ledger.now.pool ledger.now.events (Fork w kind.now)) }
+    ensures refusal { Checks ledger.now (Fork w kind.now) result }
     ensures named { IfOk result (λ parent. option_map (λ p. p.serial) parent ≡ parent_in (Some kind.now)) }
 {
     running_task(ledger, w)?;
@@ -76,7 +75,7 @@ fn may_fork(ledger: &Ledger, w: WorkerId, kind: &Kind) -> Result<Option<Handle>,
 
 /// The parent that a kind names, if it names one: a kept completer.
 fn parent_of(ledger: &Ledger, kind: &Kind) -> Result<Option<Handle>, Refusal>
-    ensures refusal { refusal_in result ≡ first_that_stands ((is_unknown_parent ledger.now.events (parent_in (Some kind.now)), Unknown) ∷ (is_plain_parent ledger.now.events (parent_in (Some kind.now)), NotCompleter) ∷ []) }
+    ensures refusal { ChecksFirst (parent_refusals ledger.now (parent_in (Some kind.now))) result }
     ensures named { IfOk result (λ parent. option_map (λ p. p.serial) parent ≡ parent_in (Some kind.now)) }
 {
     let Some(parent) = kind.parent() else {
@@ -90,7 +89,7 @@ fn parent_of(ledger: &Ledger, kind: &Kind) -> Result<Option<Handle>, Refusal>
 }
 
 fn may_trigger(ledger: &Ledger, w: WorkerId, count: u32) -> Result<(), Refusal>
-    ensures { refusal_in result ≡ first_that_stands (refusals_of ledger.now.pool ledger.now.events (Trigger w count)) }
+    ensures { Checks ledger.now (Trigger w count) result }
 {
     running_task(ledger, w)?;
     if ledger.is_stopped() {

@@ -1,10 +1,9 @@
 //! Running tasks change completers.
 ghost use Rattle.std.specs.Prelude.{◌≡◌, IfOk};
 ghost use Rattle.fj_model.specs.declared.step.Step.TheVariants.{Add, QuietRoot};
-ghost use Rattle.fj_model.specs.Answers.{first_that_stands, refusals_of};
 ghost use Rattle.fj_model.specs.Pasts.{limit};
 ghost use Rattle.fj_ledger.specs.Holds.{IsLawful};
-ghost use Rattle.fj_machine.specs.Outcomes.{Makes, refusal_in};
+ghost use Rattle.fj_machine.specs.Outcomes.{Checks, Makes};
 
 use crate::steps::refuse::{known, room_for, running_task};
 use fj_ledger::Ledger;
@@ -12,7 +11,7 @@ use fj_model::{MAX_PENDING, Refusal, Said, Serial, Status, WorkerId};
 use fj_tree::Handle;
 
 /// Raises the pending count of a completer, spent or not: `CountedCompleter.addToPendingCount`.
-pub(crate) fn add(ledger: &mut Ledger, w: WorkerId, c: Serial, n: u32) -> Result<Said, Refusal>
+pub fn add(ledger: &mut Ledger, w: WorkerId, c: Serial, n: u32) -> Result<Said, Refusal>
     ensures { Makes ledger.old (Add w c n) result ledger.new }
 {
     let h = kept_completer(ledger, w, c)?;
@@ -26,7 +25,7 @@ pub(crate) fn add(ledger: &mut Ledger, w: WorkerId, c: Serial, n: u32) -> Result
 }
 
 /// Makes the root of a completer normal, if it is undone: `CountedCompleter.quietlyCompleteRoot`.
-pub(crate) fn quiet_root(ledger: &mut Ledger, w: WorkerId, t: Serial) -> Result<Said, Refusal>
+pub fn quiet_root(ledger: &mut Ledger, w: WorkerId, t: Serial) -> Result<Said, Refusal>
     ensures { Makes ledger.old (QuietRoot w t) result ledger.new }
 {
     let h = kept_completer(ledger, w, t)?;
@@ -41,7 +40,7 @@ pub(crate) fn quiet_root(ledger: &mut Ledger, w: WorkerId, t: Serial) -> Result<
 
 /// The kept completer of a number, for which a running task asks.
 fn kept_completer(ledger: &Ledger, w: WorkerId, t: Serial) -> Result<Handle, Refusal>
-    ensures refusal { refusal_in result ≡ first_that_stands (refusals_of ledger.now.pool ledger.now.events (QuietRoot w t)) }
+    ensures refusal { Checks ledger.now (QuietRoot w t) result }
     ensures number { IfOk result (λ h. h.serial ≡ t) }
     ensures lawful { IsLawful ledger.now.pool (limit ledger.now) ledger.now.events }
 {

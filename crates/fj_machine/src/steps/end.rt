@@ -5,7 +5,7 @@ ghost use Rattle.fj_model.specs.Answers.{first_that_stands, refusals_of};
 ghost use Rattle.fj_machine.specs.Outcomes.{Makes, MayEnd, suits};
 
 mod arrive;
-pub(crate) mod hook;
+pub mod hook;
 mod pass;
 
 use crate::steps::end::arrive::arrive;
@@ -17,7 +17,7 @@ use fj_model::{Ending, How, Refusal, Said, Status, WorkerId};
 use fj_tree::Handle;
 
 /// The body of a worker's running task ends.
-pub(crate) fn end(ledger: &mut Ledger, w: WorkerId, ending: Ending) -> Result<Said, Refusal>
+pub fn end(ledger: &mut Ledger, w: WorkerId, ending: Ending) -> Result<Said, Refusal>
     ensures { Makes ledger.old (End w ending) result ledger.new }
 {
     let t = ending_task(ledger, w, ending)?;

@@ -8,7 +8,7 @@ use fj_ledger::Ledger;
 use fj_model::{Refusal, Said, Serial};
 
 /// Whether nothing is queued or held and no completion action is in a hand: `ForkJoinPool.isQuiescent`.
-pub(crate) fn is_quiescent(ledger: &Ledger) -> Said
+pub fn is_quiescent(ledger: &Ledger) -> Said
     ensures { answer ledger.now IsQuiescent ≡ (result, []) }
 {
     if ledger.is_quiet() {
@@ -19,7 +19,7 @@ pub(crate) fn is_quiescent(ledger: &Ledger) -> Said
 }
 
 /// Where a task is, and how far it has come.
-pub(crate) fn state(ledger: &Ledger, t: Serial) -> Result<Said, Refusal>
+pub fn state(ledger: &Ledger, t: Serial) -> Result<Said, Refusal>
     ensures { answer ledger.now (State t) ≡ (said_by result, []) }
 {
     match ledger.find(t) {

@@ -1,17 +1,17 @@
 //! Why a step is refused.
 ghost use Rattle.std.specs.Prelude.{◌≡◌, ◌∷◌, [], Some, IfOk};
-ghost use Rattle.fj_model.specs.Answers.{first_that_stands, no_such_worker, hook_in_hand, nothing_running, count_too_large, too_many_tasks, running, unknown_task};
+ghost use Rattle.fj_model.specs.Answers.{count_too_large, too_many_tasks, running, unknown_task};
 ghost use Rattle.fj_model.specs.Pasts.{limit};
 ghost use Rattle.fj_ledger.specs.Holds.{IsLawful};
-ghost use Rattle.fj_machine.specs.Outcomes.{refusal_in, FindsRoom};
+ghost use Rattle.fj_machine.specs.Outcomes.{ChecksFirst, FindsRoom, hand_refusals, running_refusals};
 
 use fj_ledger::Ledger;
 use fj_model::{MAX_PENDING, Refusal, Serial, WorkerId};
 use fj_tree::Handle;
 
 /// A worker that can make a step: there is one, and it has no completion action in hand.
-pub(super) fn free_worker(ledger: &Ledger, w: WorkerId) -> Result<(), Refusal>
-    ensures refusal { refusal_in result ≡ first_that_stands (no_such_worker ledger.now.pool w ∷ hook_in_hand ledger.now.events w ∷ []) }
+pub fn free_worker(ledger: &Ledger, w: WorkerId) -> Result<(), Refusal>
+    ensures refusal { ChecksFirst (hand_refusals ledger.now w) result }
     ensures lawful { IsLawful ledger.now.pool (limit ledger.now) ledger.now.events }
 {
     if !ledger.has_worker(w) {
@@ -24,8 +24,8 @@ pub(super) fn free_worker(ledger: &Ledger, w: WorkerId) -> Result<(), Refusal>
 }
 
 /// The running task of a worker that can make a step.
-pub(super) fn running_task(ledger: &Ledger, w: WorkerId) -> Result<Serial, Refusal>
-    ensures refusal { refusal_in result ≡ first_that_stands (no_such_worker ledger.now.pool w ∷ hook_in_hand ledger.now.events w ∷ nothing_running ledger.now.events w ∷ []) }
+pub fn running_task(ledger: &Ledger, w: WorkerId) -> Result<Serial, Refusal>
+    ensures refusal { ChecksFirst (running_refusals ledger.now w) result }
     ensures running { IfOk result (λ t. running ledger.now.events w ≡ Some t) }
     ensures lawful { IsLawful ledger.now.pool (limit ledger.now) ledger.now.events }
 {
@@ -37,9 +37,9 @@ pub(super) fn running_task(ledger: &Ledger, w: WorkerId) -> Result<Serial, Refus
 }
 
 /// Room for one task more, with this pending count.
-pub(super) fn task_room(ledger: &Ledger, count: u32) -> Result<(), Refusal>
+pub fn task_room(ledger: &Ledger, count: u32) -> Result<(), Refusal>
     requires lawful { IsLawful ledger.now.pool (limit ledger.now) ledger.now.events }
-    ensures { refusal_in result ≡ first_that_stands (count_too_large count ∷ too_many_tasks ledger.now.pool ledger.now.events ∷ []) }
+    ensures { ChecksFirst (count_too_large count ∷ too_many_tasks ledger.now.pool ledger.now.events ∷ []) result }
 {
     if u64::from(count) > MAX_PENDING {
         return Err(Refusal::CountTooLarge);
@@ -51,7 +51,7 @@ pub(super) fn task_room(ledger: &Ledger, count: u32) -> Result<(), Refusal>
 }
 
 /// Room for so many events more.
-pub(super) fn room_for(ledger: &Ledger, events: u64) -> Result<(), Refusal>
+pub fn room_for(ledger: &Ledger, events: u64) -> Result<(), Refusal>
     ensures room { FindsRoom ledger.now events result }
     ensures lawful { IsLawful ledger.now.pool (limit ledger.now) ledger.now.events }
 {
@@ -62,8 +62,8 @@ pub(super) fn room_for(ledger: &Ledger, events: u64) -> Result<(), Refusal>
 }
 
 /// The kept task of a number.
-pub(super) fn known(ledger: &Ledger, t: Serial) -> Result<Handle, Refusal>
-    ensures refusal { refusal_in result ≡ first_that_stands (unknown_task ledger.now.events t ∷ []) }
+pub fn known(ledger: &Ledger, t: Serial) -> Result<Handle, Refusal>
+    ensures refusal { ChecksFirst (unknown_task ledger.now.events t ∷ []) result }
     ensures number { IfOk result (λ h. h.serial ≡ t) }
     ensures lawful { IsLawful ledger.now.pool (limit ledger.now) ledger.now.events }
 {

@@ -2,10 +2,9 @@
 ghost use Rattle.std.specs.Prelude.{◌≡◌, IfOk};
 ghost use Rattle.fj_model.specs.declared.step.Step.TheVariants.{Release};
 ghost use Rattle.fj_model.specs.Places.{is_gone};
-ghost use Rattle.fj_model.specs.Answers.{first_that_stands, refusals_of};
 ghost use Rattle.fj_model.specs.Pasts.{limit};
 ghost use Rattle.fj_ledger.specs.Holds.{IsLawful};
-ghost use Rattle.fj_machine.specs.Outcomes.{Makes, refusal_in};
+ghost use Rattle.fj_machine.specs.Outcomes.{Checks, Makes};
 
 use crate::steps::refuse::{known, room_for};
 use fj_ledger::Ledger;
@@ -13,7 +12,7 @@ use fj_model::{Place, Refusal, Said, Serial};
 use fj_tree::{Handle, Record};
 
 /// A task that is gone, and that no kept task names as its parent, is forgotten: its number stands for no task any more.
-pub(crate) fn release(ledger: &mut Ledger, t: Serial) -> Result<Said, Refusal>
+pub fn release(ledger: &mut Ledger, t: Serial) -> Result<Said, Refusal>
     ensures { Makes ledger.old (Release t) result ledger.new }
 {
     let t = releasable(ledger, t)?;
@@ -24,7 +23,7 @@ pub(crate) fn release(ledger: &mut Ledger, t: Serial) -> Result<Said, Refusal>
 
 /// The task of a number, if it can be released: it is kept and gone, and no kept task names it as its parent.
 fn releasable(ledger: &Ledger, t: Serial) -> Result<Handle, Refusal>
-    ensures refusal { refusal_in result ≡ first_that_stands (refusals_of ledger.now.pool ledger.now.events (Release t)) }
+    ensures refusal { Checks ledger.now (Release t) result }
     ensures number { IfOk result (λ h. h.serial ≡ t) }
     ensures lawful { IsLawful ledger.now.pool (limit ledger.now) ledger.now.events }
 {

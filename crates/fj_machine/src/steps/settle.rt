@@ -16,7 +16,7 @@ use fj_model::{Refusal, Said, Serial, Status};
 use fj_tree::Handle;
 
 /// An undone task becomes cancelled, wherever it is: `ForkJoinTask.cancel`.
-pub(crate) fn cancel(ledger: &mut Ledger, t: Serial) -> Result<Said, Refusal>
+pub fn cancel(ledger: &mut Ledger, t: Serial) -> Result<Said, Refusal>
     ensures { Makes ledger.old (Cancel t) result ledger.new }
 {
     let h = known(ledger, t)?;
@@ -31,7 +31,7 @@ pub(crate) fn cancel(ledger: &mut Ledger, t: Serial) -> Result<Said, Refusal>
 }
 
 /// An undone task becomes exceptional, and with it those to whom the code is relayed: `ForkJoinTask.completeExceptionally`.
-pub(crate) fn fault(ledger: &mut Ledger, t: Serial, code: u32) -> Result<Said, Refusal>
+pub fn fault(ledger: &mut Ledger, t: Serial, code: u32) -> Result<Said, Refusal>
     ensures { Makes ledger.old (Fault t code) result ledger.new }
 {
     let h = known(ledger, t)?;
@@ -45,7 +45,7 @@ pub(crate) fn fault(ledger: &mut Ledger, t: Serial, code: u32) -> Result<Said, R
 }
 
 /// So many tasks become exceptional: the task first, and then each parent to whom the code is relayed.
-pub(super) fn relay(ledger: &mut Ledger, t: Handle, count: u64, code: u32)
+pub fn relay(ledger: &mut Ledger, t: Handle, count: u64, code: u32)
     requires kept { is_kept ledger.old.events t.serial ≡ true }
     requires count { count ≡ length (relayed ledger.old.events t.serial) }
     requires may { AllowedFrom ledger.old.pool ledger.old.events (map (λ u. event.Settle u (Exceptional code)) (relayed ledger.old.events t.serial)) }

@@ -7,7 +7,7 @@ use fj_ledger::Ledger;
 use fj_model::{Refusal, Said};
 
 /// No submission is accepted from now on; what was accepted goes on, and forks are still accepted: `ForkJoinPool.shutdown`.
-pub(crate) fn shutdown(ledger: &mut Ledger) -> Result<Said, Refusal>
+pub fn shutdown(ledger: &mut Ledger) -> Result<Said, Refusal>
     ensures { Makes ledger.old Shutdown result ledger.new }
 {
     if ledger.is_shut() {
@@ -19,7 +19,7 @@ pub(crate) fn shutdown(ledger: &mut Ledger) -> Result<Said, Refusal>
 }
 
 /// Every undone task is cancelled, and neither submissions nor forks are accepted from now on: `ForkJoinPool.shutdownNow`.
-pub(crate) fn stop(ledger: &mut Ledger) -> Result<Said, Refusal>
+pub fn stop(ledger: &mut Ledger) -> Result<Said, Refusal>
     ensures { Makes ledger.old Stop result ledger.new }
 {
     if ledger.is_stopped() {

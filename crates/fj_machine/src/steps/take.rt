@@ -1,24 +1,21 @@
 //! Workers take tasks from the queues.
-ghost use Rattle.std.specs.Prelude.{◌≡◌, ◌<◌, ◌≤◌, ◌+◌, ◌↔◌, ◌∷◌, [], IsTrue, IfOk, length, not};
-ghost use Rattle.fj_model.specs.declared.refusal.Refusal.TheVariants.{NotIdle};
-ghost use Rattle.fj_model.specs.Lists.{is_empty};
-ghost use Rattle.fj_model.specs.Stacks.{stack};
+ghost use Rattle.std.specs.Prelude.{◌≡◌, ◌<◌, ◌↔◌, IsTrue, IfOk};
 ghost use Rattle.fj_model.specs.Statuses.{status};
 ghost use Rattle.fj_model.specs.declared.place.Place.TheVariants.{Held};
 ghost use Rattle.fj_model.specs.declared.step.Step.TheVariants.{Help, Join, Poll};
 ghost use Rattle.fj_model.specs.Choices.{choice};
 ghost use Rattle.fj_model.specs.Allowed.{AllowedFrom};
-ghost use Rattle.fj_model.specs.Answers.{taking, first_that_stands, refusals_of, no_such_worker, hook_in_hand};
+ghost use Rattle.fj_model.specs.Answers.{taking};
 ghost use Rattle.fj_model.specs.Pasts.{limit};
 ghost use Rattle.fj_ledger.specs.Holds.{IsLawful};
-ghost use Rattle.fj_machine.specs.Outcomes.{Makes, TakesChoice, refusal_in, said_by};
+ghost use Rattle.fj_machine.specs.Outcomes.{Checks, ChecksFirst, Makes, TakesChoice, idle_refusals, said_by};
 
 use crate::steps::refuse::{free_worker, known, room_for, running_task};
 use fj_ledger::Ledger;
 use fj_model::{Place, Refusal, Said, Serial, Status, WorkerId};
 
 /// An idle worker takes its choice, if there is one.
-pub(crate) fn poll(ledger: &mut Ledger, w: WorkerId, r: u32) -> Result<Said, Refusal>
+pub fn poll(ledger: &mut Ledger, w: WorkerId, r: u32) -> Result<Said, Refusal>
     ensures { Makes ledger.old (Poll w r) result ledger.new }
 {
     idle_worker(ledger, w)?;
@@ -26,7 +23,7 @@ pub(crate) fn poll(ledger: &mut Ledger, w: WorkerId, r: u32) -> Result<Said, Ref
 }
 
 /// A running task takes its worker's choice, if there is one: one turn of `ForkJoinTask.helpQuiesce`.
-pub(crate) fn help(ledger: &mut Ledger, w: WorkerId, r: u32) -> Result<Said, Refusal>
+pub fn help(ledger: &mut Ledger, w: WorkerId, r: u32) -> Result<Said, Refusal>
     ensures { Makes ledger.old (Help w r) result ledger.new }
 {
     running_task(ledger, w)?;
@@ -34,7 +31,7 @@ pub(crate) fn help(ledger: &mut Ledger, w: WorkerId, r: u32) -> Result<Said, Ref
 }
 
 /// A running task asks for the status of a task that is done, and helps while it is not: one turn of `ForkJoinTask.join`.
-pub(crate) fn join(ledger: &mut Ledger, w: WorkerId, t: Serial, r: u32) -> Result<Said, Refusal>
+pub fn join(ledger: &mut Ledger, w: WorkerId, t: Serial, r: u32) -> Result<Said, Refusal>
     ensures { Makes ledger.old (Join w t r) result ledger.new }
 {
     match joined(ledger, w, t)? {
@@ -47,7 +44,7 @@ pub(crate) fn join(ledger: &mut Ledger, w: WorkerId, t: Serial, r: u32) -> Resul
 
 /// A worker that can poll: it has no completion action in hand, and runs nothing.
 fn idle_worker(ledger: &Ledger, w: WorkerId) -> Result<(), Refusal>
-    ensures refusal { refusal_in result ≡ first_that_stands (no_such_worker ledger.now.pool w ∷ hook_in_hand ledger.now.events w ∷ (not (is_empty (stack ledger.now.events w)), NotIdle) ∷ []) }
+    ensures refusal { ChecksFirst (idle_refusals ledger.now w) result }
     ensures lawful { IsLawful ledger.now.pool (limit ledger.now) ledger.now.events }
 {
     free_worker(ledger, w)?;
@@ -59,7 +56,7 @@ fn idle_worker(ledger: &Ledger, w: WorkerId) -> Result<(), Refusal>
 
 /// The status of the task that a running task joins.
 fn joined(ledger: &Ledger, w: WorkerId, t: Serial) -> Result<Status, Refusal>
-    ensures refusal { refusal_in result ≡ first_that_stands (refusals_of ledger.now.pool ledger.now.events (Join w t 0)) }
+    ensures refusal { Checks ledger.now (Join w t 0) result }
     ensures status { IfOk result (λ s. status ledger.now.events t ≡ s) }
     ensures lawful { IsLawful ledger.now.pool (limit ledger.now) ledger.now.events }
 {

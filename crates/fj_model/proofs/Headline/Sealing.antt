@@ -19,7 +19,8 @@ use Rattle.fj_model.specs.declared.refusal.Refusal.TheVariants.{NotIdle, Closed,
 use Rattle.fj_model.specs.declared.epoch.Move.TheVariants as move
 use Rattle.fj_model.specs.declared.epoch.Answer.TheVariants as gives
 use Rattle.fj_model.specs.Pasts.{Past, sealed_now}
-use Rattle.fj_model.specs.Epochs.{IsPast, most_events, seal_refusals, seal_refusal}
+use Rattle.fj_model.specs.declared.epoch.TheConstants.{MAX_EVENTS_AND_SEALS}
+use Rattle.fj_model.specs.Epochs.{IsPast, seal_refusals, seal_refusal}
 use Rattle.fj_model.proofs.Steps.AnswersAllowed.{past_more}
 use Rattle.fj_model.proofs.Steps.Standing.{all_fail}
 use Rattle.fj_model.specs.Answers.{is_quiet}
@@ -112,7 +113,7 @@ gone_grows h (e ∷ more) =
 pub record MaySeal (past : Past) : Type 0 where
   pub quiet : is_quiet past.pool.limits past.events ≡ true
   pub unshut : (is_closed past.events || is_stopped past.events) ≡ false
-  pub few : length past.events + past.seals ≤ most_events
+  pub few : length past.events + past.seals ≤ MAX_EVENTS_AND_SEALS
 
 pub may_seal : (past : Past) → seal_refusal past ≡ None → MaySeal past
 unfolding seal_refusal
@@ -121,7 +122,7 @@ may_seal past none =
     record {
       quiet = not-false (is_quiet past.pool.limits past.events) tests.0;
       unshut = tests.1.0;
-      few = ltb-false most_events (length past.events + past.seals) tests.1.1.0;
+      few = ltb-false MAX_EVENTS_AND_SEALS (length past.events + past.seals) tests.1.1.0;
     }
 
 -- what is known before each test
@@ -135,7 +136,7 @@ unfolding seal_refusal
 refused_shut past quiet shut is calm also closed = rw (sym is ∙ calm, sym also ∙ closed) refl
 
 pub tested_worn : (past : Past) (quiet shut worn full : Bool) → quiet ≡ is_quiet past.pool.limits past.events → quiet ≡ true → shut ≡ (is_closed past.events || is_stopped past.events) → shut ≡ false
-    → worn ≡ nat_lt most_events (length past.events + past.seals) → worn ≡ full → (if full then Some LogFull else None) ≡ seal_refusal past
+    → worn ≡ nat_lt MAX_EVENTS_AND_SEALS (length past.events + past.seals) → worn ≡ full → (if full then Some LogFull else None) ≡ seal_refusal past
 unfolding seal_refusal
 tested_worn past quiet shut worn full is calm also opened tested worn_is = rw (sym is ∙ calm, sym also ∙ opened, sym tested ∙ worn_is) refl
 

@@ -7,12 +7,12 @@ use Rattle.fj_model.specs.declared.read.fault.LineFault.{LineFault}
 use Rattle.std.specs.List.{AllByRecursion}
 use Rattle.fj_model.specs.declared.mode.Mode.{Mode}
 use Rattle.fj_model.specs.declared.mode.Mode.TheVariants as mode
-use Rattle.fj_model.specs.Words.{joined, words, ◌>>=◌, number_first, if_last}
+use Rattle.fj_model.specs.Words.{joined, words, ◌>>=◌, number_first, if_last, Reads}
 use Rattle.fj_model.specs.Lines.{mode_word, head_words, head_line, HasHeadLine, head_in}
 use Rattle.fj_model.specs.Readings.{mode_in, head_said}
 use Rattle.fj_model.proofs.Reading.NumberLaws.{number_again}
 use Rattle.fj_model.proofs.Reading.WordLaws.{is_word, words_again, joined_words, number_is_word}
-use Rattle.fj_model.proofs.Reading.PartLaws.{some_is, number_then, word_then, last_then, some_then, chosen, is_text, Tells, told}
+use Rattle.fj_model.proofs.Reading.PartLaws.{some_is, number_then, word_then, last_then, some_then, chosen, is_text, told}
 
 mode_found : (word : List ℕ) (m : Mode) → mode_in word ≡ Some m → word ≡ mode_word m
 mode_found word m e =
@@ -77,15 +77,15 @@ head_again head fits = head_again_at head.0 head.1 fits.four fits.small
 
 -- ---- what a reader of headings answers
 
-pub head_tells : (line verb : List ℕ) (ws : List (List ℕ)) (result : Result (Mode × List ℕ) LineFault) → words line ≡ verb ∷ ws → Tells (head_said verb ws) result → Tells (head_in line) result
+pub head_tells : (line verb : List ℕ) (ws : List (List ℕ)) (result : Result (Mode × List ℕ) LineFault) → words line ≡ verb ∷ ws → Reads (head_said verb ws) result → Reads (head_in line) result
 unfolding head_in
 head_tells line verb ws result all tells = rw all tells
 
 -- what is read is written so
-pub head_written : (line : List ℕ) (result : Result (Mode × List ℕ) LineFault) → Tells (head_in line) result → IfOk result (λ head. HasHeadLine head × (line ≡ head_line head))
+pub head_written : (line : List ℕ) (result : Result (Mode × List ℕ) LineFault) → Reads (head_in line) result → IfOk result (λ head. HasHeadLine head × (line ≡ head_line head))
 head_written line (Ok head) tells = head_found line head tells
 head_written line (Err e) tells = tt
 
 -- what is written so is read
-pub head_read : (line : List ℕ) (result : Result (Mode × List ℕ) LineFault) → Tells (head_in line) result → (head : Mode × List ℕ) → HasHeadLine head → line ≡ head_line head → result ≡ Ok head
+pub head_read : (line : List ℕ) (result : Result (Mode × List ℕ) LineFault) → Reads (head_in line) result → (head : Mode × List ℕ) → HasHeadLine head → line ≡ head_line head → result ≡ Ok head
 head_read line result tells head fits is = told (head_in line) head result (ap head_in is ∙ head_again head fits) tells

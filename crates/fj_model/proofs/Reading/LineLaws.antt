@@ -1,7 +1,8 @@
--- A line that is read has at most 64 bytes.
+-- A line that is read has at most as many bytes as a line may have.
 use Rattle.std.proofs.Common.{◌≡◌, ℕ, ◌*◌, ◌^◌, ◌<◌, ◌≤◌, Bool, true, false, List, [], ◌∷◌, length, Option, Some, None, ap, arith}
 use Rattle.std.specs.Prelude.{IfSome, map, Result, Ok, Err, OnOk}
 use Rattle.std.specs.Fmt.{decimal}
+use Rattle.fj_model.specs.declared.read.TheConstants.{MAX_LINE}
 use Rattle.fj_model.specs.declared.read.fault.LineFault.{LineFault}
 use Rattle.std.specs.List.{AllByRecursion}
 use Rattle.fj_model.specs.declared.mode.Mode.{Mode}
@@ -15,11 +16,11 @@ use Rattle.fj_model.specs.declared.kind.Kind.TheVariants as kind
 use Rattle.fj_model.specs.declared.kind.SubmittedKind.{SubmittedKind}
 use Rattle.fj_model.specs.declared.kind.SubmittedKind.TheVariants as submitted
 use Rattle.fj_model.specs.Lines.{relay_word, parent_word, submitted_words, kind_words, ending_words, step_words, IsSmall, HasSmallSubmitted, HasSmallKind, HasSmallEnding, HasLine, step_in, mode_word, head_in}
+use Rattle.fj_model.specs.Words.{Reads}
 use Rattle.fj_model.proofs.Reading.NumberLaws.{number_text}
 use Rattle.fj_model.proofs.Reading.WordLaws.{lengths, length-joined-le}
 use Rattle.fj_model.proofs.Reading.StepLaws.{step_found}
 use Rattle.fj_model.proofs.Reading.HeadLaws.{head_found}
-use Rattle.fj_model.proofs.Reading.PartLaws.{Tells}
 
 number_len : (n : ℕ) → n < 2 ^ 32 → length (decimal n) ≤ 10
 number_len n small = (number_text n small).short
@@ -51,7 +52,7 @@ ending_short ending.Complete fits = omega arith
 ending_short (ending.Fail code) fits = omega (arith, number_len code fits)
 
 -- the words of a step are short
-step_words_short : (s : Step) → HasLine s → lengths (step_words s) ≤ 64
+step_words_short : (s : Step) → HasLine s → lengths (step_words s) ≤ MAX_LINE
 step_words_short (step.Submit s k) fits = omega (arith, number_len s fits.0, submitted_short k fits.1)
 step_words_short (step.Fork w k) fits = omega (arith, number_len w fits.0, kind_short k fits.1)
 step_words_short (step.Trigger w n) fits = omega (arith, number_len w fits.0, number_len n fits.1)
@@ -71,13 +72,13 @@ step_words_short (step.State t) fits = omega (arith, number_len t fits)
 step_words_short (step.Release t) fits = omega (arith, number_len t fits)
 
 -- the line of a step has few bytes
-pub step_short : (line : List ℕ) (s : Step) → step_in line ≡ Some s → length line ≤ 64
+pub step_short : (line : List ℕ) (s : Step) → step_in line ≡ Some s → length line ≤ MAX_LINE
 step_short line s e =
     let found = step_found line s e in
     let same = ap length found.1 in
     omega (arith, same, length-joined-le (step_words s), step_words_short s found.0)
 
-pub step_read_short : (line : List ℕ) (result : Result Step LineFault) → Tells (step_in line) result → OnOk result (length line ≤ 64)
+pub step_read_short : (line : List ℕ) (result : Result Step LineFault) → Reads (step_in line) result → OnOk result (length line ≤ MAX_LINE)
 step_read_short line (Ok s) tells = step_short line s tells
 step_read_short line (Err e) tells = tt
 
@@ -90,7 +91,7 @@ mode_len mode.Async = omega arith
 mode_len mode.Joining = omega arith
 
 -- the line of a heading has few bytes
-pub head_short : (line : List ℕ) (head : Mode × List ℕ) → head_in line ≡ Some head → length line ≤ 64
+pub head_short : (line : List ℕ) (head : Mode × List ℕ) → head_in line ≡ Some head → length line ≤ MAX_LINE
 head_short line head e =
     let found = head_found line head e in
     let same = ap length found.1 in
@@ -98,6 +99,6 @@ head_short line head e =
     let four = found.0.four in
     omega (arith, same, length-joined-le (mode_word head.0 ∷ map decimal head.1), numbers_short head.1 found.0.small)
 
-pub head_read_short : (line : List ℕ) (result : Result (Mode × List ℕ) LineFault) → Tells (head_in line) result → OnOk result (length line ≤ 64)
+pub head_read_short : (line : List ℕ) (result : Result (Mode × List ℕ) LineFault) → Reads (head_in line) result → OnOk result (length line ≤ MAX_LINE)
 head_read_short line (Ok head) tells = head_short line head tells
 head_read_short line (Err e) tells = tt

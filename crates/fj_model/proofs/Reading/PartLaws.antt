@@ -1,11 +1,11 @@
 -- What one part of a line says, and what follows where the rest says something too.
 use Rattle.std.proofs.Common.{◌≡◌, ℕ, ◌^◌, ◌<◌, Bool, true, false, cond, List, [], ◌∷◌, Option, Some, None, refl, ap}
-use Rattle.std.specs.Prelude.{Result, Ok, Err, MatchResult}
+use Rattle.std.specs.Prelude.{Result, Ok, Err}
 use Rattle.std.specs.Fmt.{decimal}
 use Rattle.std.specs.Str.{bytes_eq}
 use Rattle.std.proofs.lemmas.Slice.Eq.{bytes_eq-Decides}
 use Rattle.fj_model.specs.declared.read.fault.LineFault.{LineFault}
-use Rattle.fj_model.specs.Words.{number_in, ◌>>=◌, word_first, number_first, if_last}
+use Rattle.fj_model.specs.Words.{number_in, ◌>>=◌, word_first, number_first, if_last, Reads}
 use Rattle.fj_model.proofs.Reading.NumberLaws.{number_found}
 
 pub some_is : {A : Type 0} (x y : A) → ◌≡◌ {A = Option A} (Some x) (Some y) → x ≡ y
@@ -48,10 +48,6 @@ chosen false x y z e yes_is no_is = no_is e
 pub is_text : (word text : List ℕ) → bytes_eq word text ≡ true → word ≡ text
 is_text word text e = (bytes_eq-Decides word text).0 e
 
--- what is read, if anything is, is what the line says
-abbrev pub Tells : {A : Type 0} → Option A → Result A LineFault → Type 0
-Tells said result = MatchResult result (λ x. said ≡ Some x) (λ _. said ≡ None)
-
-pub told : {A : Type 0} (said : Option A) (x : A) (result : Result A LineFault) → said ≡ Some x → Tells said result → result ≡ Ok x
+pub told : {A : Type 0} (said : Option A) (x : A) (result : Result A LineFault) → said ≡ Some x → Reads said result → result ≡ Ok x
 told said x (Ok y) is tells = cc
 told said x (Err e) is tells = absurd cc

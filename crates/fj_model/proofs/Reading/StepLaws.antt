@@ -7,7 +7,7 @@ use Rattle.std.specs.Str.{bytes_eq}
 use Rattle.fj_model.specs.declared.read.fault.LineFault.{LineFault}
 use Rattle.fj_model.specs.declared.step.Step.{Step}
 use Rattle.fj_model.specs.declared.step.Step.TheVariants as step
-use Rattle.fj_model.specs.Words.{joined, words, ◌>>=◌, word_first}
+use Rattle.fj_model.specs.Words.{joined, words, ◌>>=◌, word_first, Reads}
 use Rattle.fj_model.specs.Lines.{step_words, step_line, HasLine, step_in, submitted_words, kind_words, ending_words}
 use Rattle.fj_model.specs.Readings.{step_said, worker_said, task_said, pool_said}
 use Rattle.fj_model.specs.Readings.Accept.{submit_in, fork_in, trigger_in}
@@ -19,7 +19,7 @@ use Rattle.fj_model.specs.Readings.Shut.{shutdown_in, stop_in}
 use Rattle.fj_model.specs.Readings.Query.{quiet_in, state_in}
 use Rattle.fj_model.specs.Readings.Release.{release_in}
 use Rattle.fj_model.proofs.Reading.WordLaws.{is_word, words_again, joined_words, one_is_words, two_are_words, three_are_words}
-use Rattle.fj_model.proofs.Reading.PartLaws.{word_then, chosen, Tells, told}
+use Rattle.fj_model.proofs.Reading.PartLaws.{word_then, chosen, told}
 use Rattle.fj_model.proofs.Reading.FormLaws.{AreWordsOf, with_verb}
 use Rattle.fj_model.proofs.Reading.StepLaws.Accept.{submit_found, submit_again, submit_are_words, fork_found, fork_again, fork_are_words, trigger_found, trigger_again}
 use Rattle.fj_model.proofs.Reading.StepLaws.Take.{poll_found, poll_again, help_found, help_again, join_found, join_again}
@@ -116,15 +116,15 @@ step_again (step.Release t) fits = said_again (codes "release") (decimal t ∷ [
 
 -- ---- what a reader of steps answers
 
-pub step_tells : (line verb : List ℕ) (ws : List (List ℕ)) (result : Result Step LineFault) → words line ≡ verb ∷ ws → Tells (step_said verb ws) result → Tells (step_in line) result
+pub step_tells : (line verb : List ℕ) (ws : List (List ℕ)) (result : Result Step LineFault) → words line ≡ verb ∷ ws → Reads (step_said verb ws) result → Reads (step_in line) result
 unfolding step_in
 step_tells line verb ws result all tells = rw all tells
 
 -- what is read is written so
-pub step_written : (line : List ℕ) (result : Result Step LineFault) → Tells (step_in line) result → IfOk result (λ s. HasLine s × (line ≡ step_line s))
+pub step_written : (line : List ℕ) (result : Result Step LineFault) → Reads (step_in line) result → IfOk result (λ s. HasLine s × (line ≡ step_line s))
 step_written line (Ok s) tells = step_found line s tells
 step_written line (Err e) tells = tt
 
 -- what is written so is read
-pub step_read : (line : List ℕ) (result : Result Step LineFault) → Tells (step_in line) result → (s : Step) → HasLine s → line ≡ step_line s → result ≡ Ok s
+pub step_read : (line : List ℕ) (result : Result Step LineFault) → Reads (step_in line) result → (s : Step) → HasLine s → line ≡ step_line s → result ≡ Ok s
 step_read line result tells s fits is = told (step_in line) s result (ap step_in is ∙ step_again s fits) tells

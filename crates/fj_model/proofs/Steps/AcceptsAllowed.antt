@@ -2,6 +2,7 @@
 use Rattle.std.proofs.Common.{ℕ, ◌≡◌, true, false, List, [], Option, Some, None, refl, arith}
 use Rattle.std.specs.Prelude.{◌==◌, nat_lt, IfSome}
 use Rattle.std.proofs.lemmas.Bool.{eqb-false, leb-false, ltb-false, not-false}
+use Rattle.fj_model.specs.declared.limits.TheConstants.{MAX_PENDING}
 use Rattle.fj_model.specs.declared.kind.SubmittedKind.{SubmittedKind}
 use Rattle.fj_model.specs.declared.kind.SubmittedKind.TheVariants as submitted
 use Rattle.fj_model.specs.declared.kind.Kind.{Kind}
@@ -21,13 +22,13 @@ IsUnder h parent = IfSome parent (λ p. (is_kept h p ≡ true) × (is_completer 
 
 -- the next number may be given to a task of this kind
 may_accept : (pool : Pool) (h : List Event) (k : Kind) → AllowedFrom pool [] h
-    → (live h == pool.limits.tasks) ≡ false → nat_lt 65535 (count_in (Some k)) ≡ false → IsUnder h (parent_in (Some k)) → MayAccept pool h (accepted h) k
+    → (live h == pool.limits.tasks) ≡ false → nat_lt MAX_PENDING (count_in (Some k)) ≡ false → IsUnder h (parent_in (Some k)) → MayAccept pool h (accepted h) k
 may_accept pool h k so room count under =
     record {
       number = refl;
       room = omega (arith, few_live pool h so, eqb-false (live h) pool.limits.tasks room);
       under = under;
-      count = ltb-false 65535 (count_in (Some k)) count;
+      count = ltb-false MAX_PENDING (count_in (Some k)) count;
     }
 
 submitted_under : (h : List Event) (k : SubmittedKind) → IsUnder h (parent_in (Some (submitted_kind k)))

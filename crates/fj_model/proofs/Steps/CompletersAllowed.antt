@@ -1,6 +1,7 @@
 -- The events of Add and QuietRoot are allowed.
 use Rattle.std.proofs.Common.{ℕ, ◌≡◌, ◌+◌, List, [], length, ◌-◌, Option, Some, None, refl}
 use Rattle.std.proofs.lemmas.Bool.{not-false, ltb-false}
+use Rattle.fj_model.specs.declared.limits.TheConstants.{MAX_PENDING}
 use Rattle.fj_model.specs.declared.event.Event.{Event}
 use Rattle.fj_model.specs.declared.step.Step.TheVariants.{Add, QuietRoot}
 use Rattle.fj_model.specs.Bounds.{Pool}
@@ -18,7 +19,7 @@ pub add_allowed : (pool : Pool) (h : List Event) (w c n : ℕ) → Stands pool h
 unfolding events_of
 add_allowed pool h w c n st =
     let later = st.tests.1.1.1 in
-    ((not-false (is_kept h c) later.0, not-false (is_completer h c) later.1.0, ltb-false 65535 (pending h c + n) later.1.1.0), tt)
+    ((not-false (is_kept h c) later.0, not-false (is_completer h c) later.1.0, ltb-false MAX_PENDING (pending h c + n) later.1.1.0), tt)
 
 pub quiet_root_allowed : (pool : Pool) (h : List Event) (w t : ℕ) → AllowedFrom pool [] h → Stands pool h (QuietRoot w t) → AllowedFrom pool h (events_of pool h (QuietRoot w t))
 unfolding events_of

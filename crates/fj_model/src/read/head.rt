@@ -1,7 +1,8 @@
-ghost use Rattle.std.specs.Prelude.{◌≡◌, ◌≤◌, ℕ, List, length, Some, None, Ok, MatchResult, IfOk, OnOk};
+ghost use Rattle.std.specs.Prelude.{◌≡◌, ◌≤◌, ℕ, List, length, Some, Ok, IfOk, OnOk};
 ghost use Rattle.fj_model.specs.Lines.{HasHeadLine, head_line, head_in};
 ghost use Rattle.fj_model.specs.Readings.{head_said, mode_in};
-ghost use Rattle.fj_model.specs.Words.{words_behind};
+ghost use Rattle.fj_model.specs.declared.read.TheConstants.{MAX_LINE};
+ghost use Rattle.fj_model.specs.Words.{words_behind, Reads};
 ghost use Rattle.fj_model.specs.declared.mode.Mode.{Mode};
 
 use crate::mode::Mode;
@@ -11,12 +12,12 @@ use crate::read::words::{first_word, next_number, no_more};
 /// Reads a heading, without its line feed: the mode, and the numbers of workers, submitters, tasks and events.
 /// A fault where no heading has this line. Whether the numbers lie in their limits is not looked at.
 pub fn read_head(line: &[u8]) -> Result<(Mode, [u32; 4]), LineFault>
-    ensures value { MatchResult result (λ head. head_in line.now ≡ Some head) (λ _. head_in line.now ≡ None) }
+    ensures value { Reads (head_in line.now) result }
     // What is read is written so.
     ensures written { IfOk result (λ head. HasHeadLine head × (line.now ≡ head_line head)) }
     // What is written so is read.
     ensures read { (head : Mode × List ℕ) → HasHeadLine head → line.now ≡ head_line head → result ≡ Ok head }
-    ensures short { OnOk result (length line.now ≤ 64) }
+    ensures short { OnOk result (length line.now ≤ MAX_LINE) }
     // The line of each heading is read as that heading.
     ensures again { (head : Mode × List ℕ) → HasHeadLine head → head_in (head_line head) ≡ Some head }
 {
@@ -27,9 +28,7 @@ pub fn read_head(line: &[u8]) -> Result<(Mode, [u32; 4]), LineFault>
 /// The heading that a first word and what stands behind it say.
 #[tactic(auto, unfolding(crate::specs::Readings::head_said))]
 fn head_said(verb: &[u8], behind: &[u8]) -> Result<(Mode, [u32; 4]), LineFault>
-    ensures { MatchResult result
-        (λ head. head_said verb.now (words_behind behind.now) ≡ Some head)
-        (λ _. head_said verb.now (words_behind behind.now) ≡ None) }
+    ensures { Reads (head_said verb.now (words_behind behind.now)) result }
 {
     let mode = read_mode(verb)?;
     let (workers, behind) = next_number(behind)?;
@@ -41,7 +40,7 @@ fn head_said(verb: &[u8], behind: &[u8]) -> Result<(Mode, [u32; 4]), LineFault>
 }
 
 fn read_mode(word: &[u8]) -> Result<Mode, LineFault>
-    ensures { MatchResult result (λ mode. mode_in word.now ≡ Some mode) (λ _. mode_in word.now ≡ None) }
+    ensures { Reads (mode_in word.now) result }
 {
     if word == b"async".as_slice() {
         Ok(Mode::Async)

@@ -1,13 +1,13 @@
-ghost use Rattle.std.specs.Prelude.{◌≡◌, ◌↔◌, ◌<◌, ◌≤◌, length, slice_index, IsTrue, Some, None, MatchResult};
+ghost use Rattle.std.specs.Prelude.{◌≡◌, ◌↔◌, ◌<◌, ◌≤◌, length, slice_index, IsTrue, None, MatchResult};
 ghost use Rattle.std.specs.Str.Parse.{AllDigits, digits_value};
-ghost use Rattle.fj_model.specs.Words.{number_in};
+ghost use Rattle.fj_model.specs.Words.{number_in, Reads};
 
 use crate::read::fault::LineFault;
 
 /// The number that a word is the decimal text of: 0 to 4,294,967,295, without a sign and without leading zeros.
 /// A fault where it is something else.
 pub fn read_number(word: &[u8]) -> Result<u32, LineFault>
-    ensures { MatchResult result (λ n. number_in word.now ≡ Some n) (λ _. number_in word.now ≡ None) }
+    ensures { Reads (number_in word.now) result }
 {
     if word.is_empty() || word.len() > 10 {
         return Err(LineFault);

@@ -1,5 +1,5 @@
-ghost use Rattle.std.specs.Prelude.{◌≡◌, Some, None, MatchResult};
-ghost use Rattle.fj_model.specs.Words.{words_behind, one_number, two_numbers, three_numbers};
+//! Numbers that are all that stands behind a word.
+ghost use Rattle.fj_model.specs.Words.{words_behind, one_number, two_numbers, three_numbers, Reads};
 
 use crate::read::fault::LineFault;
 use crate::read::words::{next_number, no_more};
@@ -7,7 +7,7 @@ use crate::read::words::{next_number, no_more};
 /// The number that is all that stands behind a word. A fault where something else stands there.
 #[tactic(auto, unfolding(crate::specs::Words::one_number))]
 pub fn one_number(behind: &[u8]) -> Result<u32, LineFault>
-    ensures { MatchResult result (λ n. one_number (words_behind behind.now) ≡ Some n) (λ _. one_number (words_behind behind.now) ≡ None) }
+    ensures { Reads (one_number (words_behind behind.now)) result }
 {
     let (a, behind) = next_number(behind)?;
     no_more(behind)?;
@@ -18,7 +18,7 @@ pub fn one_number(behind: &[u8]) -> Result<u32, LineFault>
 #[tactic(auto, unfolding(crate::specs::Words::two_numbers))]
 #[inline]
 pub fn two_numbers(behind: &[u8]) -> Result<(u32, u32), LineFault>
-    ensures { MatchResult result (λ p. two_numbers (words_behind behind.now) ≡ Some p) (λ _. two_numbers (words_behind behind.now) ≡ None) }
+    ensures { Reads (two_numbers (words_behind behind.now)) result }
 {
     let (a, behind) = next_number(behind)?;
     let (b, behind) = next_number(behind)?;
@@ -29,7 +29,7 @@ pub fn two_numbers(behind: &[u8]) -> Result<(u32, u32), LineFault>
 /// The three numbers that are all that stands behind a word. A fault where something else stands there.
 #[tactic(auto, unfolding(crate::specs::Words::three_numbers))]
 pub fn three_numbers(behind: &[u8]) -> Result<(u32, u32, u32), LineFault>
-    ensures { MatchResult result (λ p. three_numbers (words_behind behind.now) ≡ Some p) (λ _. three_numbers (words_behind behind.now) ≡ None) }
+    ensures { Reads (three_numbers (words_behind behind.now)) result }
 {
     let (a, behind) = next_number(behind)?;
     let (b, behind) = next_number(behind)?;

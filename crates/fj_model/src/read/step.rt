@@ -1,5 +1,6 @@
-ghost use Rattle.std.specs.Prelude.{◌≡◌, ◌≤◌, length, Some, None, Ok, MatchResult, IfOk, OnOk};
-ghost use Rattle.fj_model.specs.Words.{words_behind};
+ghost use Rattle.std.specs.Prelude.{◌≡◌, ◌≤◌, length, Some, Ok, IfOk, OnOk};
+ghost use Rattle.fj_model.specs.declared.read.TheConstants.{MAX_LINE};
+ghost use Rattle.fj_model.specs.Words.{words_behind, Reads};
 ghost use Rattle.fj_model.specs.Lines.{HasLine, step_line, step_in};
 ghost use Rattle.fj_model.specs.Readings.{step_said, worker_said, task_said, pool_said};
 ghost use Rattle.fj_model.specs.declared.step.Step.{Step};
@@ -20,12 +21,12 @@ mod take;
 /// Reads the line of a step, without its line feed. A fault where no step has this line.
 /// Whether the numbers lie in the pool's limits is not looked at.
 pub fn read_step(line: &[u8]) -> Result<Step, LineFault>
-    ensures value { MatchResult result (λ step. step_in line.now ≡ Some step) (λ _. step_in line.now ≡ None) }
+    ensures value { Reads (step_in line.now) result }
     // What is read is written so.
     ensures written { IfOk result (λ step. HasLine step × (line.now ≡ step_line step)) }
     // What is written so is read.
     ensures read { (step : Step) → HasLine step → line.now ≡ step_line step → result ≡ Ok step }
-    ensures short { OnOk result (length line.now ≤ 64) }
+    ensures short { OnOk result (length line.now ≤ MAX_LINE) }
     // The line of each step is read as that step.
     ensures again { (step : Step) → HasLine step → step_in (step_line step) ≡ Some step }
 {
@@ -36,9 +37,7 @@ pub fn read_step(line: &[u8]) -> Result<Step, LineFault>
 /// The step that a first word and what stands behind it say. What most lines say comes first: one each of accept, take and end.
 #[tactic(auto, unfolding(crate::specs::Readings::step_said))]
 fn step_said(verb: &[u8], behind: &[u8]) -> Result<Step, LineFault>
-    ensures { MatchResult result
-        (λ step. step_said verb.now (words_behind behind.now) ≡ Some step)
-        (λ _. step_said verb.now (words_behind behind.now) ≡ None) }
+    ensures { Reads (step_said verb.now (words_behind behind.now)) result }
 {
     if verb == b"submit".as_slice() {
         accept::submit(behind)
@@ -55,9 +54,7 @@ fn step_said(verb: &[u8], behind: &[u8]) -> Result<Step, LineFault>
 #[tactic(auto, unfolding(crate::specs::Readings::worker_said))]
 #[inline(never)]
 fn worker_said(verb: &[u8], behind: &[u8]) -> Result<Step, LineFault>
-    ensures { MatchResult result
-        (λ step. worker_said verb.now (words_behind behind.now) ≡ Some step)
-        (λ _. worker_said verb.now (words_behind behind.now) ≡ None) }
+    ensures { Reads (worker_said verb.now (words_behind behind.now)) result }
 {
     if verb == b"fork".as_slice() {
         accept::fork(behind)
@@ -77,9 +74,7 @@ fn worker_said(verb: &[u8], behind: &[u8]) -> Result<Step, LineFault>
 /// Completer and settle, and what is below.
 #[tactic(auto, unfolding(crate::specs::Readings::task_said))]
 fn task_said(verb: &[u8], behind: &[u8]) -> Result<Step, LineFault>
-    ensures { MatchResult result
-        (λ step. task_said verb.now (words_behind behind.now) ≡ Some step)
-        (λ _. task_said verb.now (words_behind behind.now) ≡ None) }
+    ensures { Reads (task_said verb.now (words_behind behind.now)) result }
 {
     if verb == b"add".as_slice() {
         completer::add(behind)
@@ -97,9 +92,7 @@ fn task_said(verb: &[u8], behind: &[u8]) -> Result<Step, LineFault>
 /// Shut, query and release.
 #[tactic(auto, unfolding(crate::specs::Readings::pool_said))]
 fn pool_said(verb: &[u8], behind: &[u8]) -> Result<Step, LineFault>
-    ensures { MatchResult result
-        (λ step. pool_said verb.now (words_behind behind.now) ≡ Some step)
-        (λ _. pool_said verb.now (words_behind behind.now) ≡ None) }
+    ensures { Reads (pool_said verb.now (words_behind behind.now)) result }
 {
     if verb == b"shutdown".as_slice() {
         shut::shutdown(behind)

@@ -1,3 +1,4 @@
+//! The words of a line, one after the other.
 ghost use Rattle.std.specs.Prelude.{◌≡◌, ◌==◌, ◌∷◌, true, false, Some, None, MatchResult};
 ghost use Rattle.std.specs.List.{position_or_len};
 ghost use Rattle.fj_model.specs.Words.{words, words_behind, word_first, number_first, is_last};
@@ -5,12 +6,15 @@ ghost use Rattle.fj_model.specs.Words.{words, words_behind, word_first, number_f
 use crate::read::fault::LineFault;
 use crate::read::number::read_number;
 
+/// The byte that stands between two words of a line.
+const SPACE: u8 = b' ';
+
 /// How many bytes the first word of a line has.
 fn word_len(line: &[u8]) -> usize
-    ensures { result ≡ position_or_len (λ b. b == 32) line.now }
+    ensures { result ≡ position_or_len (λ b. b == SPACE) line.now }
 {
     line.iter()
-        .position(|byte| *byte == b' ')
+        .position(|byte| *byte == SPACE)
         .unwrap_or(line.len())
 }
 

@@ -4,6 +4,7 @@ use Rattle.std.proofs.Common.{arith, cond, nat_eq, Bool, true, false, Option, So
 use Rattle.std.proofs.lemmas.Bool.{cases_eq, eqb-true}
 use Rattle.std.proofs.lemmas.Option.{same_Some, none-some}
 use Rattle.slab.specs.Slab.{Slab, Updates, get, slab_len}
+use Rattle.fj_model.specs.declared.limits.TheConstants.{MAX_PENDING}
 use Rattle.fj_model.specs.declared.kind.Kind.{Kind}
 use Rattle.fj_model.specs.declared.place.Place.{Place}
 use Rattle.fj_model.specs.declared.status.Status.TheVariants.{Undone}
@@ -30,7 +31,7 @@ pub record HasGrown (t now : Records) (key : ℕ) (kind : Kind) (place : Place) 
   pub others : (k : ℕ) → k ≢ key → record_at now k ≡ option_map (with_child_of (parent_in (Some kind))) (record_at t k)
   pub made : now.made ≡ t.made + 1
   pub room : count now ≤ now.room
-  pub pending : count_in (Some kind) ≤ 65535
+  pub pending : count_in (Some kind) ≤ MAX_PENDING
   pub parent : (p : ℕ) → parent_in (Some kind) ≡ Some p → HasCompleter t p
 
 -- a record with the child counted
@@ -192,7 +193,7 @@ pub record IsPutIn (t u : Records) (key : ℕ) (kind : Kind) (place : Place) : T
   pub others : (k : ℕ) → k ≢ key → record_at u k ≡ record_at t k
   pub made : u.made ≡ t.made + 1
   pub room : count u ≤ u.room
-  pub pending : count_in (Some kind) ≤ 65535
+  pub pending : count_in (Some kind) ≤ MAX_PENDING
 
 -- without a parent that is all
 pub grown_alone : (t u : Records) (key : ℕ) (kind : Kind) (place : Place) → IsPutIn t u key kind place → parent_in (Some kind) ≡ None → HasGrown t u key kind place
@@ -229,7 +230,7 @@ grown_below t u key kind place p sound put named is = record {
 -- an insert into the slab puts it in
 pub put_in : (old new : Slab Record) (made room key pending : ℕ) (kind : Kind) (place : Place) → get old key ≡ None
     → Updates old new key (Some (record { serial = made; kind = kind; place = place; status = Undone; pending = pending; fired = false; children = 0 })) → slab_len new ≡ slab_len old + 1 → slab_len old < room
-    → pending ≡ count_in (Some kind) → count_in (Some kind) ≤ 65535
+    → pending ≡ count_in (Some kind) → count_in (Some kind) ≤ MAX_PENDING
     → IsPutIn (record { slots = old.slots; made = made; room = room }) (record { slots = new.slots; made = made + 1; room = room }) key kind place
 put_in old new made room key pending kind place vacant updates more few counts small = record {
   vacant = vacant;

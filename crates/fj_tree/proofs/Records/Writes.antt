@@ -1,4 +1,5 @@
 -- One record is read or changed.
+use Rattle.fj_model.specs.declared.limits.TheConstants.{MAX_PENDING}
 use Rattle.fj_model.specs.declared.place.Place.{Place}
 use Rattle.fj_model.specs.declared.status.Status.{Status}
 use Rattle.fj_tree.specs.declared.record.Record.{Record}
@@ -147,7 +148,7 @@ sound_arrived t key r a sound is = sound_written t key r (arrived a r) sound is 
     same_children Early = refl
 
 -- and where its pending count is written
-pub sound_counted : (t : Records) (key : ℕ) (r : Record) (count : ℕ) → IsSound t → record_at t key ≡ Some r → count ≤ 65535
+pub sound_counted : (t : Records) (key : ℕ) (r : Record) (count : ℕ) → IsSound t → record_at t key ≡ Some r → count ≤ MAX_PENDING
     → IsSound (record t { slots = set t.slots key (Some (record r { pending = count })) })
 sound_counted t key r count sound is small =
     let old = sound.each key r is in

@@ -16,8 +16,8 @@ use std::test::Fail;
 //
 // A PLACE is `open`, `gone`, `submitted`, `forked` or `held`; a STATUS `normal`, `cancelled` or a code.
 
-// What the rows gave in place of what stands there: the name, the call and what it gave, a line a row. It is empty where each row gave
-// what it must.
+/// What the rows gave in place of what stands there: the name, the call and what it gave, a line a row. It is empty where each row gave
+/// what it must.
 pub fn wrong(alloc: Global, table: &str) -> Result<String, Fail> {
     let mut all = String::new(alloc);
     for row in table.split("\n\n") {
@@ -33,7 +33,7 @@ pub fn wrong(alloc: Global, table: &str) -> Result<String, Fail> {
     Ok(all)
 }
 
-// The first call that did not give what stands behind it, and what it gave.
+/// The first call that did not give what stands behind it, and what it gave.
 pub fn first_other(alloc: Global, script: &str) -> Result<String, Fail> {
     let (room, calls) = script.split_once(';').unwrap_or((script, ""));
     let mut trial = Trial::new(alloc, room.parse()?)?;
@@ -47,7 +47,7 @@ pub fn first_other(alloc: Global, script: &str) -> Result<String, Fail> {
     Ok(String::new(alloc))
 }
 
-// The answer to a call.
+/// The answer to a call.
 fn answer(alloc: Global, trial: &mut Trial, asked: &str) -> Result<String, Fail> {
     let words: Vec<&str> = asked.split(' ').collect(alloc)?;
     match words.as_slice() {
@@ -106,7 +106,7 @@ fn refused(alloc: Global, refusal: Refusal) -> Result<String, Fail> {
     Ok(format!(in alloc; "refused {}", refusal.number())?)
 }
 
-// A call that asks for a handle alone.
+/// A call that asks for a handle alone.
 fn at_handle(alloc: Global, trial: &mut Trial, verb: &str, h: Handle) -> Result<String, Fail> {
     match verb {
         "get" => record(alloc, trial.get(h)),
@@ -121,7 +121,7 @@ fn at_handle(alloc: Global, trial: &mut Trial, verb: &str, h: Handle) -> Result<
     }
 }
 
-// A call that asks for one thing more.
+/// A call that asks for one thing more.
 fn with_more(
     alloc: Global,
     trial: &mut Trial,
@@ -145,7 +145,7 @@ fn record(alloc: Global, record: Option<Record>) -> Result<String, Fail> {
     }
 }
 
-// The place, the status, the count, whether it is spent, and the number of children of a record.
+/// The place, the status, the count, whether it is spent, and the number of children of a record.
 fn state(alloc: Global, record: Option<Record>) -> Result<String, Fail> {
     let Some(record) = record else {
         return word(alloc, "none");
@@ -175,7 +175,7 @@ fn arrived(alloc: Global, arrived: Option<Arrived>) -> Result<String, Fail> {
     }
 }
 
-// How many were passed, where the climb ends and how.
+/// How many were passed, where the climb ends and how.
 fn passed(alloc: Global, end: Option<PassEnd>) -> Result<String, Fail> {
     match end {
         Some(end) => Ok(format!(in alloc; "{} {} {:?}", end.passed, end.at.serial.0, end.how)?),

@@ -1,7 +1,7 @@
 //! The cancelling of all undone tasks.
-ghost use Rattle.std.specs.Prelude.{◌≡◌, ◌≢◌, ℕ, option_map};
+ghost use Rattle.std.specs.Prelude.{◌≡◌, option_map};
 ghost use Rattle.fj_tree.specs.Cancels.{if_undone_cancelled};
-ghost use Rattle.fj_tree.specs.Records.{count, record_at};
+ghost use Rattle.fj_tree.specs.Records.{ChangesEach, KeepsOthers, count, record_at};
 
 use crate::tree::Tree;
 use fj_model::Status;
@@ -9,7 +9,7 @@ use fj_model::Status;
 impl Tree {
     /// Makes every undone record cancelled, as `ForkJoinPool.shutdownNow` does. All else stays.
     pub fn cancel_undone(&mut self)
-        ensures records { (key : ℕ) → record_at self.new key ≡ option_map if_undone_cancelled (record_at self.old key) }
+        ensures records { ChangesEach self.old self.new if_undone_cancelled }
         ensures kept { count self.new ≡ count self.old }
         ensures made { self.new.made ≡ self.old.made }
         ensures room { self.new.room ≡ self.old.room }
@@ -23,7 +23,7 @@ impl Tree {
     /// Makes the record at a key cancelled, if there is one and it is undone.
     fn cancel_at(&mut self, key: usize)
         ensures here { record_at self.new key ≡ option_map if_undone_cancelled (record_at self.old key) }
-        ensures others { (other : ℕ) → other ≢ key → record_at self.new other ≡ record_at self.old other }
+        ensures others { KeepsOthers self.old self.new key }
         ensures kept { count self.new ≡ count self.old }
         ensures made { self.new.made ≡ self.old.made }
         ensures room { self.new.room ≡ self.old.room }

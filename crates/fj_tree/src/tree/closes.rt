@@ -1,8 +1,8 @@
 //! The closing of all open tasks.
-ghost use Rattle.std.specs.Prelude.{◌≡◌, ◌≢◌, ℕ, option_map};
+ghost use Rattle.std.specs.Prelude.{◌≡◌, option_map};
 ghost use Rattle.fj_model.specs.Places.{is_open};
 ghost use Rattle.fj_tree.specs.Closes.{if_open_gone};
-ghost use Rattle.fj_tree.specs.Records.{count, record_at};
+ghost use Rattle.fj_tree.specs.Records.{ChangesEach, KeepsOthers, count, record_at};
 
 use crate::tree::Tree;
 use fj_model::Place;
@@ -10,7 +10,7 @@ use fj_model::Place;
 impl Tree {
     /// Makes every open record gone. All else stays.
     pub fn close_open(&mut self)
-        ensures records { (key : ℕ) → record_at self.new key ≡ option_map if_open_gone (record_at self.old key) }
+        ensures records { ChangesEach self.old self.new if_open_gone }
         ensures kept { count self.new ≡ count self.old }
         ensures made { self.new.made ≡ self.old.made }
         ensures room { self.new.room ≡ self.old.room }
@@ -24,7 +24,7 @@ impl Tree {
     /// Makes the record at a key gone, if there is one and it is open.
     fn close_at(&mut self, key: usize)
         ensures here { record_at self.new key ≡ option_map if_open_gone (record_at self.old key) }
-        ensures others { (other : ℕ) → other ≢ key → record_at self.new other ≡ record_at self.old other }
+        ensures others { KeepsOthers self.old self.new key }
         ensures kept { count self.new ≡ count self.old }
         ensures made { self.new.made ≡ self.old.made }
         ensures room { self.new.room ≡ self.old.room }

@@ -40,7 +40,7 @@ impl Tree {
     }
 
     /// What ends a climb from `h` at a record of its path. None if the climb passes the record.
-    pub(super) fn stop(&self, h: Handle, at: Handle) -> Option<PassHow>
+    pub(crate) fn stop(&self, h: Handle, at: Handle) -> Option<PassHow>
         requires begins { IsGood self.now h }
         requires good { IsGood self.now at }
         ensures ends { result ≡ stop_at self.now h at }

@@ -1,9 +1,9 @@
 //! Climbs without hooks.
-ghost use Rattle.std.specs.Prelude.{◌≡◌, ◌<◌, ℕ, IsSomeAnd, length, option_map};
+ghost use Rattle.std.specs.Prelude.{◌≡◌, ◌<◌, IsSomeAnd, length};
 ghost use Rattle.fj_tree.specs.Arrivals.{arrived};
 ghost use Rattle.fj_tree.specs.Handles.{numbers_of};
 ghost use Rattle.fj_tree.specs.Passes.{EndsAs, after_climb, passed};
-ghost use Rattle.fj_tree.specs.Records.{IsCompleter, IsGood, changed, count, made_spent, record_at, record_of};
+ghost use Rattle.fj_tree.specs.Records.{IsCompleter, IsGood, ChangesEach, changed, count, made_spent, record_of};
 ghost use Rattle.fj_tree.specs.declared.arrive.Arrived.TheVariants.{Counted};
 
 use crate::handle::Handle;
@@ -21,7 +21,7 @@ impl Tree {
         ensures passed { result.passed ≡ length (passed self.old h) }
         ensures ends { EndsAs self.old h result }
         ensures good { IsGood self.new result.at }
-        ensures records { (key : ℕ) → record_at self.new key ≡ option_map (after_climb (numbers_of (passed self.old h)) result) (record_at self.old key) }
+        ensures records { ChangesEach self.old self.new (after_climb (numbers_of (passed self.old h)) result) }
         ensures kept { count self.new ≡ count self.old }
         ensures made { self.new.made ≡ self.old.made }
         ensures room { self.new.room ≡ self.old.room }

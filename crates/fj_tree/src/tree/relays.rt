@@ -1,7 +1,7 @@
 //! The relay of a code to the parents.
-ghost use Rattle.std.specs.Prelude.{◌≡◌, ◌<◌, ℕ, IfSome, length, option_map};
+ghost use Rattle.std.specs.Prelude.{◌≡◌, ◌<◌, IfSome, length};
 ghost use Rattle.fj_tree.specs.Handles.{numbers_of};
-ghost use Rattle.fj_tree.specs.Records.{IsGood, count, record_at};
+ghost use Rattle.fj_tree.specs.Records.{IsGood, ChangesEach, count};
 ghost use Rattle.fj_tree.specs.Relays.{after_relay, is_undone_at, next_relayed, relayed};
 
 use crate::handle::Handle;
@@ -39,7 +39,7 @@ impl Tree {
     pub fn relay_up(&mut self, h: Handle, status: Status) -> u64
         requires { IsGood self.old h }
         ensures relayed { result ≡ length (relayed self.old h) }
-        ensures records { (key : ℕ) → record_at self.new key ≡ option_map (after_relay (numbers_of (relayed self.old h)) status) (record_at self.old key) }
+        ensures records { ChangesEach self.old self.new (after_relay (numbers_of (relayed self.old h)) status) }
         ensures kept { count self.new ≡ count self.old }
         ensures made { self.new.made ≡ self.old.made }
         ensures room { self.new.room ≡ self.old.room }

@@ -1,8 +1,8 @@
 //! The release of tasks.
-ghost use Rattle.std.specs.Prelude.{◌≡◌, ◌≢◌, ◌+◌, ℕ, IfSome, IsSomeAnd, MatchResult, None, OnErr, OnOk, Some, option_map};
-ghost use Rattle.fj_model.specs.Tasks.{parent_in};
+ghost use Rattle.std.specs.Prelude.{◌≡◌, ◌+◌, IsSomeAnd, None, OnErr, OnOk};
+ghost use Rattle.fj_tree.specs.Makes.{IsRefusedBy};
 ghost use Rattle.fj_tree.specs.Paths.{above};
-ghost use Rattle.fj_tree.specs.Records.{IsGood, count, record_at, record_of};
+ghost use Rattle.fj_tree.specs.Records.{ChangesOthers, count, parent_at, record_at, record_of};
 ghost use Rattle.fj_tree.specs.Releases.{release_refusal, without_child_of};
 
 use crate::handle::Handle;
@@ -16,10 +16,10 @@ impl Tree {
     /// The number of the task is not used again, and its handle is never good again. Its parent has one child fewer. Java has no such
     /// call: it collects what nobody names.
     pub fn release(&mut self, h: Handle) -> Result<(), Refusal>
-        ensures refused { MatchResult result (λ _. release_refusal (record_of self.old h) ≡ None) (λ e. release_refusal (record_of self.old h) ≡ Some e) }
+        ensures refused { IsRefusedBy (release_refusal (record_of self.old h)) result }
         ensures stays { OnErr result (self.new ≡ self.old) }
         ensures removed { OnOk result (record_at self.new h.key ≡ None) }
-        ensures others { OnOk result ((key : ℕ) → key ≢ h.key → record_at self.new key ≡ option_map (without_child_of (parent_in (option_map (λ r. r.kind) (record_of self.old h)))) (record_at self.old key)) }
+        ensures others { OnOk result (ChangesOthers self.old self.new h.key (without_child_of (parent_at self.old h))) }
         ensures kept { OnOk result (count self.new + 1 ≡ count self.old) }
         ensures made { self.new.made ≡ self.old.made }
         ensures room { self.new.room ≡ self.old.room }
@@ -40,7 +40,7 @@ impl Tree {
         requires good { IsSomeAnd (record_of self.old h) (λ r. r.children ≡ 0) }
         requires parent { parent ≡ above self.old h }
         ensures removed { record_at self.new h.key ≡ None }
-        ensures others { (key : ℕ) → key ≢ h.key → record_at self.new key ≡ option_map (without_child_of (parent_in (option_map (λ r. r.kind) (record_of self.old h)))) (record_at self.old key) }
+        ensures others { ChangesOthers self.old self.new h.key (without_child_of (parent_at self.old h)) }
         ensures kept { count self.new + 1 ≡ count self.old }
         ensures made { self.new.made ≡ self.old.made }
         ensures room { self.new.room ≡ self.old.room }

@@ -1,5 +1,6 @@
 use Rattle.std.proofs.Common.{◌<◌, ◌++◌, ◌≡◌, ◌-◌, ◌^◌, ◌∙◌, nat_le, true, ap, sym, length, take, rules, inl, inr}
 use Rattle.std.proofs.lemmas.Result.{MatchResult-weaker, err_from_is_err_and, on_ok_weaker}
+use Rattle.fj_cli.specs.declared.session.TheConstants.{CHUNK}
 use Rattle.fj_cli.specs.Calls.{HasFailed, IsFine}
 use Rattle.fj_cli.specs.Cuts.{lines}
 use Rattle.std.proofs.lemmas.Bool.{leb-true}
@@ -40,7 +41,7 @@ returns-in-Ok-eq0-clause-err g c =
 pub returns-then-is_full-clause-err : goal.returns-then-is_full-clause-err
 returns-then-is_full-clause-err g c =
     let so_far = c.loop-reads.invariant.0 in
-    let full : nat_le (2 ^ 64 - 8193) (length (lines so_far.0)) ≡ true = ap (nat_le (2 ^ 64 - 8193)) (sym so_far.2.count) ∙ sym c.is_full.ensures ∙ c.if-is_full.true in (
+    let full : nat_le (2 ^ 64 - 1 - CHUNK) (length (lines so_far.0)) ≡ true = ap (nat_le (2 ^ 64 - 1 - CHUNK)) (sym so_far.2.count) ∙ sym c.is_full.ensures ∙ c.if-is_full.true in (
       so_far.0,
       record {
         read = so_far.1;

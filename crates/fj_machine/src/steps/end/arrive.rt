@@ -16,7 +16,7 @@ use fj_model::{How, Said, WorkerId};
 use fj_tree::{Arrived, Handle};
 
 /// What an arrival at a completer would do. One that was released is spent.
-pub(super) fn arrival(ledger: &Ledger, c: Handle) -> Arrived
+pub fn arrival(ledger: &Ledger, c: Handle) -> Arrived
     requires completer { is_completer ledger.now.events c.serial ≡ true }
     ensures arrival { as_arrival result ≡ arrival ledger.now.events c.serial }
     ensures lawful { IsLawful ledger.now.pool (limit ledger.now) ledger.now.events }
@@ -28,7 +28,7 @@ pub(super) fn arrival(ledger: &Ledger, c: Handle) -> Arrived
 }
 
 /// Arrives at a completer. If it fires, its completion action goes into the hand of the worker: to whom the history gives it.
-pub(super) fn arrive(ledger: &mut Ledger, c: Handle, w: WorkerId) -> Said
+pub fn arrive(ledger: &mut Ledger, c: Handle, w: WorkerId) -> Said
     requires worker { w < ledger.old.pool.limits.workers }
     requires completer { is_completer ledger.old.events c.serial ≡ true }
     requires free { hand ledger.old.events w ≡ None }
@@ -53,7 +53,7 @@ pub(super) fn arrive(ledger: &mut Ledger, c: Handle, w: WorkerId) -> Said
 }
 
 /// How many events an arrival appends.
-pub(super) fn arrival_events(arrived: Arrived) -> u64
+pub fn arrival_events(arrived: Arrived) -> u64
     ensures { result ≡ length (arriving 0 (as_arrival arrived)) }
 {
     match arrived {

@@ -7,8 +7,7 @@ ghost use Rattle.fj_model.specs.Allowed.{is_fired_by_complete};
 ghost use Rattle.fj_model.specs.Pasts.{limit};
 ghost use Rattle.fj_ledger.specs.Holds.{IsLawful, TellsHook, is_complete};
 ghost use Rattle.fj_model.specs.declared.step.Step.TheVariants.{HookDone};
-ghost use Rattle.fj_model.specs.Answers.{first_that_stands, refusals_of};
-ghost use Rattle.fj_machine.specs.Outcomes.{Makes, refusal_in};
+ghost use Rattle.fj_machine.specs.Outcomes.{Checks, Makes};
 
 use crate::steps::end::arrive::{arrival, arrival_events, arrive};
 use crate::steps::refuse::room_for;
@@ -19,7 +18,7 @@ use fj_tree::Handle;
 /// The completion action in a worker's hand ends, and the parent of its completer is arrived at.
 ///
 /// A completer that was fired by `complete` becomes normal first, and so does a root.
-pub(crate) fn hook_done(ledger: &mut Ledger, w: WorkerId) -> Result<Said, Refusal>
+pub fn hook_done(ledger: &mut Ledger, w: WorkerId) -> Result<Said, Refusal>
     ensures { Makes ledger.old (HookDone w) result ledger.new }
 {
     let hook = hook_in_hand(ledger, w)?;
@@ -36,7 +35,7 @@ pub(crate) fn hook_done(ledger: &mut Ledger, w: WorkerId) -> Result<Said, Refusa
 
 /// The completion action in the hand of a worker.
 fn hook_in_hand(ledger: &Ledger, w: WorkerId) -> Result<Hook, Refusal>
-    ensures refusal { refusal_in result ≡ first_that_stands (refusals_of ledger.now.pool ledger.now.events (HookDone w)) }
+    ensures refusal { Checks ledger.now (HookDone w) result }
     ensures hand { IfOk result (λ k. hand ledger.now.events w ≡ Some k.completer) }
     ensures tells { IfOk result (TellsHook ledger.now.events) }
     ensures lawful { IsLawful ledger.now.pool (limit ledger.now) ledger.now.events }

@@ -17,7 +17,7 @@ use fj_tree::{Handle, PassHow};
 
 /// The end of a completer's body, after which a climb passes each completer that would fire, up to the first that would not:
 /// `CountedCompleter.propagateCompletion`.
-pub(super) fn end_pass(ledger: &mut Ledger, t: Handle, w: WorkerId) -> Result<Said, Refusal>
+pub fn end_pass(ledger: &mut Ledger, t: Handle, w: WorkerId) -> Result<Said, Refusal>
     requires { MayEnd ledger.old w Ending.Pass t.serial }
     ensures { Makes ledger.old (End w Ending.Pass) result ledger.new }
 {

@@ -1,5 +1,5 @@
-ghost use Rattle.std.specs.Prelude.{◌≡◌, Some, None, MatchResult};
-ghost use Rattle.fj_model.specs.Words.{words_behind};
+//! The lines of the steps of `accept`.
+ghost use Rattle.fj_model.specs.Words.{words_behind, Reads};
 ghost use Rattle.fj_model.specs.Readings.Accept.{submit_in, fork_in, trigger_in, submitted_said, submitted_completer, kind_said, forked_completer, count_and_relay, parent_said, relay_said};
 
 use crate::ids::{Serial, SubId, WorkerId};
@@ -13,7 +13,7 @@ use crate::step::Step;
 /// Reads what stands behind `submit`: the submitter, and of a completer its count and relay word.
 #[tactic(auto, unfolding(crate::specs::Readings::Accept::submit_in))]
 pub fn submit(behind: &[u8]) -> Result<Step, LineFault>
-    ensures { MatchResult result (λ step. submit_in (words_behind behind.now) ≡ Some step) (λ _. submit_in (words_behind behind.now) ≡ None) }
+    ensures { Reads (submit_in (words_behind behind.now)) result }
 {
     let (s, behind) = next_number(behind)?;
     let kind = submitted_kind(behind)?;
@@ -23,7 +23,7 @@ pub fn submit(behind: &[u8]) -> Result<Step, LineFault>
 /// Reads what stands behind `fork`: the worker, and of a completer its parent or `-`, its count and its relay word.
 #[tactic(auto, unfolding(crate::specs::Readings::Accept::fork_in))]
 pub fn fork(behind: &[u8]) -> Result<Step, LineFault>
-    ensures { MatchResult result (λ step. fork_in (words_behind behind.now) ≡ Some step) (λ _. fork_in (words_behind behind.now) ≡ None) }
+    ensures { Reads (fork_in (words_behind behind.now)) result }
 {
     let (w, behind) = next_number(behind)?;
     let kind = kind(behind)?;
@@ -36,7 +36,7 @@ pub fn fork(behind: &[u8]) -> Result<Step, LineFault>
 /// Reads what stands behind `trigger`: the worker and the count.
 #[tactic(auto, unfolding(crate::specs::Readings::Accept::trigger_in))]
 pub fn trigger(behind: &[u8]) -> Result<Step, LineFault>
-    ensures { MatchResult result (λ step. trigger_in (words_behind behind.now) ≡ Some step) (λ _. trigger_in (words_behind behind.now) ≡ None) }
+    ensures { Reads (trigger_in (words_behind behind.now)) result }
 {
     let (w, count) = two_numbers(behind)?;
     Ok(Step::Trigger {
@@ -47,7 +47,7 @@ pub fn trigger(behind: &[u8]) -> Result<Step, LineFault>
 
 #[tactic(auto, unfolding(crate::specs::Readings::Accept::submitted_said))]
 fn submitted_kind(behind: &[u8]) -> Result<SubmittedKind, LineFault>
-    ensures { MatchResult result (λ kind. submitted_said (words_behind behind.now) ≡ Some kind) (λ _. submitted_said (words_behind behind.now) ≡ None) }
+    ensures { Reads (submitted_said (words_behind behind.now)) result }
 {
     if at_end(behind) {
         Ok(SubmittedKind::Plain)
@@ -58,7 +58,7 @@ fn submitted_kind(behind: &[u8]) -> Result<SubmittedKind, LineFault>
 
 #[tactic(auto, unfolding(crate::specs::Readings::Accept::submitted_completer))]
 fn submitted_completer(behind: &[u8]) -> Result<SubmittedKind, LineFault>
-    ensures { MatchResult result (λ kind. submitted_completer (words_behind behind.now) ≡ Some kind) (λ _. submitted_completer (words_behind behind.now) ≡ None) }
+    ensures { Reads (submitted_completer (words_behind behind.now)) result }
 {
     let (count, relay) = count_and_relay(behind)?;
     Ok(SubmittedKind::Completer { relay, count })
@@ -66,7 +66,7 @@ fn submitted_completer(behind: &[u8]) -> Result<SubmittedKind, LineFault>
 
 #[tactic(auto, unfolding(crate::specs::Readings::Accept::kind_said))]
 fn kind(behind: &[u8]) -> Result<Kind, LineFault>
-    ensures { MatchResult result (λ kind. kind_said (words_behind behind.now) ≡ Some kind) (λ _. kind_said (words_behind behind.now) ≡ None) }
+    ensures { Reads (kind_said (words_behind behind.now)) result }
 {
     if at_end(behind) {
         Ok(Kind::Plain)
@@ -77,7 +77,7 @@ fn kind(behind: &[u8]) -> Result<Kind, LineFault>
 
 #[tactic(auto, unfolding(crate::specs::Readings::Accept::forked_completer))]
 fn forked_completer(behind: &[u8]) -> Result<Kind, LineFault>
-    ensures { MatchResult result (λ kind. forked_completer (words_behind behind.now) ≡ Some kind) (λ _. forked_completer (words_behind behind.now) ≡ None) }
+    ensures { Reads (forked_completer (words_behind behind.now)) result }
 {
     let (word, behind) = next_word(behind)?;
     let parent = parent(word)?;
@@ -91,7 +91,7 @@ fn forked_completer(behind: &[u8]) -> Result<Kind, LineFault>
 
 #[tactic(auto, unfolding(crate::specs::Readings::Accept::count_and_relay))]
 fn count_and_relay(behind: &[u8]) -> Result<(u32, bool), LineFault>
-    ensures { MatchResult result (λ p. count_and_relay (words_behind behind.now) ≡ Some p) (λ _. count_and_relay (words_behind behind.now) ≡ None) }
+    ensures { Reads (count_and_relay (words_behind behind.now)) result }
 {
     let (count, behind) = next_number(behind)?;
     let (word, behind) = next_word(behind)?;
@@ -103,7 +103,7 @@ fn count_and_relay(behind: &[u8]) -> Result<(u32, bool), LineFault>
 /// A task, or `-` for none.
 #[tactic(auto, unfolding(crate::specs::Readings::Accept::parent_said))]
 fn parent(word: &[u8]) -> Result<Option<Serial>, LineFault>
-    ensures { MatchResult result (λ parent. parent_said word.now ≡ Some parent) (λ _. parent_said word.now ≡ None) }
+    ensures { Reads (parent_said word.now) result }
 {
     if word == b"-".as_slice() {
         Ok(None)
@@ -114,7 +114,7 @@ fn parent(word: &[u8]) -> Result<Option<Serial>, LineFault>
 }
 
 fn relay(word: &[u8]) -> Result<bool, LineFault>
-    ensures { MatchResult result (λ relay. relay_said word.now ≡ Some relay) (λ _. relay_said word.now ≡ None) }
+    ensures { Reads (relay_said word.now) result }
 {
     if word == b"relay".as_slice() {
         Ok(true)

@@ -1,5 +1,5 @@
-ghost use Rattle.std.specs.Prelude.{◌≡◌, Some, None, MatchResult};
-ghost use Rattle.fj_model.specs.Words.{words_behind};
+//! The lines of the steps of `completer`.
+ghost use Rattle.fj_model.specs.Words.{words_behind, Reads};
 ghost use Rattle.fj_model.specs.Readings.Completer.{add_in, root_in};
 
 use crate::ids::{Serial, WorkerId};
@@ -10,7 +10,7 @@ use crate::step::Step;
 /// Reads what stands behind `add`: the worker, the completer and what is added.
 #[tactic(auto, unfolding(crate::specs::Readings::Completer::add_in))]
 pub fn add(behind: &[u8]) -> Result<Step, LineFault>
-    ensures { MatchResult result (λ step. add_in (words_behind behind.now) ≡ Some step) (λ _. add_in (words_behind behind.now) ≡ None) }
+    ensures { Reads (add_in (words_behind behind.now)) result }
 {
     let (w, t, n) = three_numbers(behind)?;
     Ok(Step::Add {
@@ -23,7 +23,7 @@ pub fn add(behind: &[u8]) -> Result<Step, LineFault>
 /// Reads what stands behind `root`: the worker and the task.
 #[tactic(auto, unfolding(crate::specs::Readings::Completer::root_in))]
 pub fn root(behind: &[u8]) -> Result<Step, LineFault>
-    ensures { MatchResult result (λ step. root_in (words_behind behind.now) ≡ Some step) (λ _. root_in (words_behind behind.now) ≡ None) }
+    ensures { Reads (root_in (words_behind behind.now)) result }
 {
     let (w, t) = two_numbers(behind)?;
     Ok(Step::QuietRoot {

@@ -1,5 +1,5 @@
-ghost use Rattle.std.specs.Prelude.{◌≡◌, Some, None, MatchResult};
-ghost use Rattle.fj_model.specs.Words.{words_behind};
+//! The lines of the steps of `end`.
+ghost use Rattle.fj_model.specs.Words.{words_behind, Reads};
 ghost use Rattle.fj_model.specs.Readings.End.{end_in, hook_in, ending_said, failure_said, word_alone_said, ending_word_said};
 
 use crate::ids::WorkerId;
@@ -11,7 +11,7 @@ use crate::step::{Ending, Step};
 /// Reads what stands behind `end`: the worker and the ending, which is one word or `fail` and a code.
 #[tactic(auto, unfolding(crate::specs::Readings::End::end_in))]
 pub fn end(behind: &[u8]) -> Result<Step, LineFault>
-    ensures { MatchResult result (λ step. end_in (words_behind behind.now) ≡ Some step) (λ _. end_in (words_behind behind.now) ≡ None) }
+    ensures { Reads (end_in (words_behind behind.now)) result }
 {
     let (w, behind) = next_number(behind)?;
     let ending = ending(behind)?;
@@ -23,7 +23,7 @@ pub fn end(behind: &[u8]) -> Result<Step, LineFault>
 
 #[tactic(auto, unfolding(crate::specs::Readings::End::ending_said))]
 fn ending(behind: &[u8]) -> Result<Ending, LineFault>
-    ensures { MatchResult result (λ ending. ending_said (words_behind behind.now) ≡ Some ending) (λ _. ending_said (words_behind behind.now) ≡ None) }
+    ensures { Reads (ending_said (words_behind behind.now)) result }
 {
     let (word, behind) = next_word(behind)?;
     if word == b"fail".as_slice() {
@@ -35,7 +35,7 @@ fn ending(behind: &[u8]) -> Result<Ending, LineFault>
 
 #[tactic(auto, unfolding(crate::specs::Readings::End::failure_said))]
 fn failure(behind: &[u8]) -> Result<Ending, LineFault>
-    ensures { MatchResult result (λ ending. failure_said (words_behind behind.now) ≡ Some ending) (λ _. failure_said (words_behind behind.now) ≡ None) }
+    ensures { Reads (failure_said (words_behind behind.now)) result }
 {
     let code = one_number(behind)?;
     Ok(Ending::Fail(code))
@@ -43,9 +43,7 @@ fn failure(behind: &[u8]) -> Result<Ending, LineFault>
 
 #[tactic(auto, unfolding(crate::specs::Readings::End::word_alone_said))]
 fn word_alone(word: &[u8], behind: &[u8]) -> Result<Ending, LineFault>
-    ensures { MatchResult result
-        (λ ending. word_alone_said word.now (words_behind behind.now) ≡ Some ending)
-        (λ _. word_alone_said word.now (words_behind behind.now) ≡ None) }
+    ensures { Reads (word_alone_said word.now (words_behind behind.now)) result }
 {
     let ending = ending_word(word)?;
     no_more(behind)?;
@@ -53,7 +51,7 @@ fn word_alone(word: &[u8], behind: &[u8]) -> Result<Ending, LineFault>
 }
 
 fn ending_word(word: &[u8]) -> Result<Ending, LineFault>
-    ensures { MatchResult result (λ ending. ending_word_said word.now ≡ Some ending) (λ _. ending_word_said word.now ≡ None) }
+    ensures { Reads (ending_word_said word.now) result }
 {
     if word == b"ok".as_slice() {
         Ok(Ending::Ok)
@@ -73,7 +71,7 @@ fn ending_word(word: &[u8]) -> Result<Ending, LineFault>
 /// Reads what stands behind `hook`: the worker.
 #[tactic(auto, unfolding(crate::specs::Readings::End::hook_in))]
 pub fn hook(behind: &[u8]) -> Result<Step, LineFault>
-    ensures { MatchResult result (λ step. hook_in (words_behind behind.now) ≡ Some step) (λ _. hook_in (words_behind behind.now) ≡ None) }
+    ensures { Reads (hook_in (words_behind behind.now)) result }
 {
     let w = one_number(behind)?;
     Ok(Step::HookDone { w: WorkerId(w) })

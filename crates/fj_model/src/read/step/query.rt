@@ -1,5 +1,5 @@
-ghost use Rattle.std.specs.Prelude.{◌≡◌, Some, None, MatchResult};
-ghost use Rattle.fj_model.specs.Words.{words_behind};
+//! The lines of the steps of `query`.
+ghost use Rattle.fj_model.specs.Words.{words_behind, Reads};
 ghost use Rattle.fj_model.specs.Readings.Query.{quiet_in, state_in};
 
 use crate::ids::Serial;
@@ -10,7 +10,7 @@ use crate::step::Step;
 
 /// Reads what stands behind `quiet`: nothing.
 pub fn quiet(behind: &[u8]) -> Result<Step, LineFault>
-    ensures { MatchResult result (λ step. quiet_in (words_behind behind.now) ≡ Some step) (λ _. quiet_in (words_behind behind.now) ≡ None) }
+    ensures { Reads (quiet_in (words_behind behind.now)) result }
 {
     no_more(behind)?;
     Ok(Step::IsQuiescent)
@@ -19,7 +19,7 @@ pub fn quiet(behind: &[u8]) -> Result<Step, LineFault>
 /// Reads what stands behind `state`: the task.
 #[tactic(auto, unfolding(crate::specs::Readings::Query::state_in))]
 pub fn state(behind: &[u8]) -> Result<Step, LineFault>
-    ensures { MatchResult result (λ step. state_in (words_behind behind.now) ≡ Some step) (λ _. state_in (words_behind behind.now) ≡ None) }
+    ensures { Reads (state_in (words_behind behind.now)) result }
 {
     let t = one_number(behind)?;
     Ok(Step::State {

@@ -1,5 +1,5 @@
-ghost use Rattle.std.specs.Prelude.{◌≡◌, Some, None, MatchResult};
-ghost use Rattle.fj_model.specs.Words.{words_behind};
+//! The lines of the steps of `release`.
+ghost use Rattle.fj_model.specs.Words.{words_behind, Reads};
 ghost use Rattle.fj_model.specs.Readings.Release.{release_in};
 
 use crate::ids::Serial;
@@ -10,7 +10,7 @@ use crate::step::Step;
 /// Reads what stands behind `release`: the task.
 #[tactic(auto, unfolding(crate::specs::Readings::Release::release_in))]
 pub fn release(behind: &[u8]) -> Result<Step, LineFault>
-    ensures { MatchResult result (λ step. release_in (words_behind behind.now) ≡ Some step) (λ _. release_in (words_behind behind.now) ≡ None) }
+    ensures { Reads (release_in (words_behind behind.now)) result }
 {
     let t = one_number(behind)?;
     Ok(Step::Release {

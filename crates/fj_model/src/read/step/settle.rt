@@ -1,5 +1,5 @@
-ghost use Rattle.std.specs.Prelude.{◌≡◌, Some, None, MatchResult};
-ghost use Rattle.fj_model.specs.Words.{words_behind};
+//! The lines of the steps of `settle`.
+ghost use Rattle.fj_model.specs.Words.{words_behind, Reads};
 ghost use Rattle.fj_model.specs.Readings.Settle.{fault_in, cancel_in};
 
 use crate::ids::Serial;
@@ -10,7 +10,7 @@ use crate::step::Step;
 /// Reads what stands behind `fault`: the task and the code.
 #[tactic(auto, unfolding(crate::specs::Readings::Settle::fault_in))]
 pub fn fault(behind: &[u8]) -> Result<Step, LineFault>
-    ensures { MatchResult result (λ step. fault_in (words_behind behind.now) ≡ Some step) (λ _. fault_in (words_behind behind.now) ≡ None) }
+    ensures { Reads (fault_in (words_behind behind.now)) result }
 {
     let (t, code) = two_numbers(behind)?;
     Ok(Step::Fault {
@@ -22,7 +22,7 @@ pub fn fault(behind: &[u8]) -> Result<Step, LineFault>
 /// Reads what stands behind `cancel`: the task.
 #[tactic(auto, unfolding(crate::specs::Readings::Settle::cancel_in))]
 pub fn cancel(behind: &[u8]) -> Result<Step, LineFault>
-    ensures { MatchResult result (λ step. cancel_in (words_behind behind.now) ≡ Some step) (λ _. cancel_in (words_behind behind.now) ≡ None) }
+    ensures { Reads (cancel_in (words_behind behind.now)) result }
 {
     let t = one_number(behind)?;
     Ok(Step::Cancel {

@@ -1,5 +1,5 @@
-ghost use Rattle.std.specs.Prelude.{◌≡◌, Some, None, MatchResult};
-ghost use Rattle.fj_model.specs.Words.{words_behind};
+//! The lines of the steps of `shut`.
+ghost use Rattle.fj_model.specs.Words.{words_behind, Reads};
 ghost use Rattle.fj_model.specs.Readings.Shut.{shutdown_in, stop_in};
 
 use crate::read::fault::LineFault;
@@ -8,7 +8,7 @@ use crate::step::Step;
 
 /// Reads what stands behind `shutdown`: nothing.
 pub fn shutdown(behind: &[u8]) -> Result<Step, LineFault>
-    ensures { MatchResult result (λ step. shutdown_in (words_behind behind.now) ≡ Some step) (λ _. shutdown_in (words_behind behind.now) ≡ None) }
+    ensures { Reads (shutdown_in (words_behind behind.now)) result }
 {
     no_more(behind)?;
     Ok(Step::Shutdown)
@@ -16,7 +16,7 @@ pub fn shutdown(behind: &[u8]) -> Result<Step, LineFault>
 
 /// Reads what stands behind `stop`: nothing.
 pub fn stop(behind: &[u8]) -> Result<Step, LineFault>
-    ensures { MatchResult result (λ step. stop_in (words_behind behind.now) ≡ Some step) (λ _. stop_in (words_behind behind.now) ≡ None) }
+    ensures { Reads (stop_in (words_behind behind.now)) result }
 {
     no_more(behind)?;
     Ok(Step::Stop)

@@ -1,5 +1,5 @@
-ghost use Rattle.std.specs.Prelude.{◌≡◌, Some, None, MatchResult};
-ghost use Rattle.fj_model.specs.Words.{words_behind};
+//! The lines of the steps of `take`.
+ghost use Rattle.fj_model.specs.Words.{words_behind, Reads};
 ghost use Rattle.fj_model.specs.Readings.Take.{poll_in, help_in, join_in};
 
 use crate::ids::{Serial, WorkerId};
@@ -10,7 +10,7 @@ use crate::step::Step;
 /// Reads what stands behind `poll`: the worker and the scan word.
 #[tactic(auto, unfolding(crate::specs::Readings::Take::poll_in))]
 pub fn poll(behind: &[u8]) -> Result<Step, LineFault>
-    ensures { MatchResult result (λ step. poll_in (words_behind behind.now) ≡ Some step) (λ _. poll_in (words_behind behind.now) ≡ None) }
+    ensures { Reads (poll_in (words_behind behind.now)) result }
 {
     let (w, r) = two_numbers(behind)?;
     Ok(Step::Poll { w: WorkerId(w), r })
@@ -19,7 +19,7 @@ pub fn poll(behind: &[u8]) -> Result<Step, LineFault>
 /// Reads what stands behind `help`: the worker and the scan word.
 #[tactic(auto, unfolding(crate::specs::Readings::Take::help_in))]
 pub fn help(behind: &[u8]) -> Result<Step, LineFault>
-    ensures { MatchResult result (λ step. help_in (words_behind behind.now) ≡ Some step) (λ _. help_in (words_behind behind.now) ≡ None) }
+    ensures { Reads (help_in (words_behind behind.now)) result }
 {
     let (w, r) = two_numbers(behind)?;
     Ok(Step::Help { w: WorkerId(w), r })
@@ -28,7 +28,7 @@ pub fn help(behind: &[u8]) -> Result<Step, LineFault>
 /// Reads what stands behind `join`: the worker, the task and the scan word.
 #[tactic(auto, unfolding(crate::specs::Readings::Take::join_in))]
 pub fn join(behind: &[u8]) -> Result<Step, LineFault>
-    ensures { MatchResult result (λ step. join_in (words_behind behind.now) ≡ Some step) (λ _. join_in (words_behind behind.now) ≡ None) }
+    ensures { Reads (join_in (words_behind behind.now)) result }
 {
     let (w, t, r) = three_numbers(behind)?;
     Ok(Step::Join {

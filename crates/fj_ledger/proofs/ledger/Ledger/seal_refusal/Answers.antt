@@ -1,13 +1,13 @@
 use Rattle.std.proofs.Common.{◌≡◌, ◌+◌, true, false, length, ap, ◌∙◌}
 use Rattle.std.specs.Prelude.{nat_lt}
 use Rattle.fj_model.specs.Pasts.{Past}
-use Rattle.fj_model.specs.Epochs.{most_events}
+use Rattle.fj_model.specs.declared.epoch.TheConstants.{MAX_EVENTS_AND_SEALS}
 use Rattle.fj_model.proofs.Headline.Sealing.{refused_busy, refused_shut, tested_worn}
 use Rattle.fj_ledger.proofs.ledger.Ledger.seal_refusal.Goals as goal
 use Rattle.fj_ledger.proofs.ledger.Ledger.seal_refusal.Goals.{After-is_worn}
 
-worn : (c : After-is_worn) → c.is_worn.result ≡ nat_lt most_events (length c.args.self.now.events + c.args.self.now.seals)
-worn c = c.is_worn.ensures ∙ ap (λ (p : Past). nat_lt most_events (length p.events + p.seals)) c.self.view_is
+worn : (c : After-is_worn) → c.is_worn.result ≡ nat_lt MAX_EVENTS_AND_SEALS (length c.args.self.now.events + c.args.self.now.seals)
+worn c = c.is_worn.ensures ∙ ap (λ (p : Past). nat_lt MAX_EVENTS_AND_SEALS (length p.events + p.seals)) c.self.view_is
 
 pub returns-then-not-is_quiet : goal.returns-then-not-is_quiet
 returns-then-not-is_quiet c = refused_busy c.args.self.now c.is_quiet.result c.is_quiet.ensures.quiet c.if-not-is_quiet.true

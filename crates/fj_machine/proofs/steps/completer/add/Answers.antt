@@ -1,6 +1,7 @@
 use Rattle.std.proofs.Common.{[], ◌∷◌, ◌≡◌, ◌+◌, ◌≤◌, None, true, false, refl, ap, sym, ◌∙◌, arith}
 use Rattle.std.specs.Prelude.{nat_lt}
 use Rattle.std.proofs.lemmas.Bool.{le-ltb, lt-ltb}
+use Rattle.fj_model.specs.declared.limits.TheConstants.{MAX_PENDING}
 use Rattle.fj_model.specs.declared.refusal.Refusal.TheVariants.{CountTooLarge}
 use Rattle.fj_model.specs.declared.said.Said.TheVariants as says
 use Rattle.fj_model.specs.declared.step.Step.TheVariants.{Add, QuietRoot}
@@ -37,14 +38,14 @@ pub returns-then-count-gt-MAX_PENDING : goal.returns-then-count-gt-MAX_PENDING
 returns-then-count-gt-MAX_PENDING c =
     let at = (goal.at.returns-then-count-gt-MAX_PENDING c).After-from-2 in
     let now = c.args.ledger.now in
-    let large : nat_lt 65535 (pending now.events c.args.c + c.args.n) ≡ true = lt-ltb 65535 (pending now.events c.args.c + c.args.n) (omega (arith, c.if-count-gt-MAX_PENDING.true, c.from.ensures, c.from-2.ensures, read at)) in
+    let large : nat_lt MAX_PENDING (pending now.events c.args.c + c.args.n) ≡ true = lt-ltb MAX_PENDING (pending now.events c.args.c + c.args.n) (omega (arith, c.if-count-gt-MAX_PENDING.true, c.from.ensures, c.from-2.ensures, read at)) in
     steps_refused now (Add c.args.w c.args.c c.args.n) CountTooLarge (decides at ∙ rw large refl)
 
 -- and nothing stands against a small one
-stands : (c : After-from-2) → c.from.result + c.from-2.result ≤ 65535 → c.from.result ≡ c.record.result.now.pending → c.from-2.result ≡ c.args.n
+stands : (c : After-from-2) → c.from.result + c.from-2.result ≤ MAX_PENDING → c.from.result ≡ c.record.result.now.pending → c.from-2.result ≡ c.args.n
     → first_that_stands (refusals_of c.args.ledger.now.pool c.args.ledger.now.events (Add c.args.w c.args.c c.args.n)) ≡ None
 stands c few first other =
-    let small : nat_lt 65535 (pending c.args.ledger.now.events c.args.c + c.args.n) ≡ false = le-ltb 65535 (pending c.args.ledger.now.events c.args.c + c.args.n) (omega (arith, few, first, other, read c)) in
+    let small : nat_lt MAX_PENDING (pending c.args.ledger.now.events c.args.c + c.args.n) ≡ false = le-ltb MAX_PENDING (pending c.args.ledger.now.events c.args.c + c.args.n) (omega (arith, few, first, other, read c)) in
     decides c ∙ rw small refl
 
 pub returns-in_err-room_for : goal.returns-in_err-room_for

@@ -1,12 +1,11 @@
 -- What the words of the line say is what the line says.
 use Rattle.fj_model.specs.Lines.{head_in}
-use Rattle.fj_model.specs.Words.{words_behind}
-use Rattle.fj_model.proofs.Reading.PartLaws.{Tells}
+use Rattle.fj_model.specs.Words.{words_behind, Reads}
 use Rattle.fj_model.proofs.Reading.HeadLaws.{head_tells, head_written, head_read, head_again}
 use Rattle.fj_model.proofs.Reading.LineLaws.{head_read_short}
 use Rattle.fj_model.proofs.read.head.read_head.Goals as goal
 
-tells : (c : goal.After-head_said) → Tells (head_in c.args.line.now) c.head_said.result
+tells : (c : goal.After-head_said) → Reads (head_in c.args.line.now) c.head_said.result
 tells c = head_tells c.args.line.now c.first_word.result.0.now (words_behind c.first_word.result.1.now) c.head_said.result c.first_word.ensures c.head_said.ensures
 
 pub returns-clause-value : goal.returns-clause-value

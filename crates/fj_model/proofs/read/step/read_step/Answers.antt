@@ -1,12 +1,11 @@
 -- What the words of the line say is what the line says.
 use Rattle.fj_model.specs.Lines.{step_in}
-use Rattle.fj_model.specs.Words.{words_behind}
-use Rattle.fj_model.proofs.Reading.PartLaws.{Tells}
+use Rattle.fj_model.specs.Words.{words_behind, Reads}
 use Rattle.fj_model.proofs.Reading.StepLaws.{step_tells, step_written, step_read, step_again}
 use Rattle.fj_model.proofs.Reading.LineLaws.{step_read_short}
 use Rattle.fj_model.proofs.read.step.read_step.Goals as goal
 
-tells : (c : goal.After-step_said) → Tells (step_in c.args.line.now) c.step_said.result
+tells : (c : goal.After-step_said) → Reads (step_in c.args.line.now) c.step_said.result
 tells c = step_tells c.args.line.now c.first_word.result.0.now (words_behind c.first_word.result.1.now) c.step_said.result c.first_word.ensures c.step_said.ensures
 
 pub returns-clause-value : goal.returns-clause-value

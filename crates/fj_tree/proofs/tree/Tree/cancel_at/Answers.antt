@@ -4,10 +4,10 @@ use Rattle.fj_tree.proofs.Records.Writes.{sound_marked}
 use Rattle.fj_tree.proofs.tree.Tree.cancel_at.Goals as goal
 
 pub invariant_of-self : goal.invariant_of-self
-invariant_of-self c = (
-  sound_marked _ c.args.key c.index_mut.result.now _ _ _ c.self.invariant.0 c.index_mut.ensures.value,
-  c.self.invariant.1,
-  c.self.invariant.2,
-  index_written _ _ c.args.key c.index_mut.result.now _ c.self.invariant.3 c.index_mut.ensures.value refl,
-  c.self.invariant.4,
-)
+invariant_of-self c = record {
+  sound = sound_marked _ c.args.key c.index_mut.result.now _ _ _ c.self.invariant.sound c.index_mut.ensures.value;
+  records_fit = c.self.invariant.records_fit;
+  numbers_fit = c.self.invariant.numbers_fit;
+  indexed = index_written _ _ c.args.key c.index_mut.result.now _ c.self.invariant.indexed c.index_mut.ensures.value refl;
+  above = c.self.invariant.above;
+}

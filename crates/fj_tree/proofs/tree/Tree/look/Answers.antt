@@ -10,5 +10,5 @@ returns-in-Some-clause-found c =
     let there : Some c.in-Some.record.now ≡ record_of c.args.self.now c.args.h = ap option_copied (sym c.in-Some.is) ∙ c.get.ensures in
     let good : IsGood c.args.self.now c.args.h = subst IsSome there refl in
     let named = named_record c.args.self.now c.args.h good in
-    let found = found_there c.args.self.now c.args.h.serial c.args.h.key (subst IsSound c.self.view_is c.self.invariant.0) (rw named.1 named.2) in
+    let found = found_there c.args.self.now c.args.h.serial c.args.h.key (subst IsSound c.self.view_is c.self.invariant.sound) (rw named.1 named.2) in
     there ∙ ap (option_and_then (record_of c.args.self.now)) (sym found)

@@ -27,7 +27,7 @@ returns-in-Some-clause-ends c =
 pub overflow_add-passed : goal.overflow_add-passed
 overflow_add-passed c =
     let t = c.args.self.now in
-    let few = number_of t c.args.h (subst (λ (t : Records). IsSound t) c.self.view_is c.self.invariant.0) (good_completer t c.args.h c.requires) in
+    let few = number_of t c.args.h (subst (λ (t : Records). IsSound t) c.self.view_is c.self.invariant.sound) (good_completer t c.args.h c.requires) in
     omega (arith, few, c.loop-how.invariant.climbs.climbs.falls, c.loop-how.invariant.climbs.counted, ap (λ (t : Records). t.made) c.self.view_is)
 
 pub returns-in_default-above-clause-passed : goal.returns-in_default-above-clause-passed

@@ -17,7 +17,7 @@ loop-how-init c =
 pub overflow_add-passed : goal.overflow_add-passed
 overflow_add-passed c =
     let t = c.args.self.now in
-    let few = number_of t c.args.h (subst (λ (t : Records). IsSound t) c.self.view_is c.self.invariant.0) (good_completer t c.args.h c.requires) in
+    let few = number_of t c.args.h (subst (λ (t : Records). IsSound t) c.self.view_is c.self.invariant.sound) (good_completer t c.args.h c.requires) in
     omega (arith, few, c.loop-how.invariant.passing.climbs.falls, c.loop-how.invariant.passing.counted, ap (λ (t : Records). t.made) c.self.view_is)
 
 pub returns-in-Some-clause-passed : goal.returns-in-Some-clause-passed
@@ -37,7 +37,7 @@ returns-in-Some-clause-records c = λ key.
     let good = c.loop-how.invariant.old_good in
     let end : PassEnd = record { passed = c.loop-how.passed; at = c.loop-how.at; how = c.in-Some.how } in
     let ended = passing_stops t c.loop-how.self c.args.h c.loop-how.at c.loop-how.passed c.in-Some.how so_far good (sym c.stop.ensures.ends ∙ c.in-Some.is) in
-    let sound : IsSound t = subst (λ (t : Records). IsSound t) c.self.view_is c.self.invariant.0 in
+    let sound : IsSound t = subst (λ (t : Records). IsSound t) c.self.view_is c.self.invariant.sound in
     let all = ap (λ (ns : List ℕ). option_map (after_climb ns end) (record_at t key)) ended.0 in
     elim c.match-how.branch [
       | in-Counted w ↦
@@ -51,13 +51,13 @@ pub returns-in_default-above-clause-passed : goal.returns-in_default-above-claus
 returns-in_default-above-clause-passed c =
     let so_far = c.loop-how.invariant.passing in
     let at = c.loop-how.at in
-    let sound : IsSound c.args.self.now = subst (λ (t : Records). IsSound t) c.self.view_is c.self.invariant.0 in
+    let sound : IsSound c.args.self.now = subst (λ (t : Records). IsSound t) c.self.view_is c.self.invariant.sound in
     let ended = passing_ends c.args.self.now c.loop-how.self c.args.h at c.loop-how.passed sound so_far c.loop-how.invariant.old_good c.in_default.ensures.passes (sym c.above-above.ensures.parent ∙ c.in_default-above.is) in
     omega (arith, so_far.counted, length-append so_far.done (at.serial ∷ []), counted_all c.args.self.now c.args.h (so_far.done ++ at.serial ∷ []) ended.0)
 
 pub returns-in_default-above-clause-ends : goal.returns-in_default-above-clause-ends
 returns-in_default-above-clause-ends c =
-    let sound : IsSound c.args.self.now = subst (λ (t : Records). IsSound t) c.self.view_is c.self.invariant.0 in
+    let sound : IsSound c.args.self.now = subst (λ (t : Records). IsSound t) c.self.view_is c.self.invariant.sound in
     (passing_ends c.args.self.now c.loop-how.self c.args.h c.loop-how.at c.loop-how.passed sound c.loop-how.invariant.passing c.loop-how.invariant.old_good c.in_default.ensures.passes (sym c.above-above.ensures.parent ∙ c.in_default-above.is)).1
 
 pub returns-in_default-above-clause-records : goal.returns-in_default-above-clause-records
@@ -66,7 +66,7 @@ returns-in_default-above-clause-records c = λ key.
     let so_far = c.loop-how.invariant.passing in
     let at = c.loop-how.at in
     let end : PassEnd = record { passed = c.loop-how.passed + 1; at = at; how = Root } in
-    let sound : IsSound t = subst (λ (t : Records). IsSound t) c.self.view_is c.self.invariant.0 in
+    let sound : IsSound t = subst (λ (t : Records). IsSound t) c.self.view_is c.self.invariant.sound in
     let ended = passing_ends t c.loop-how.self c.args.h at c.loop-how.passed sound so_far c.loop-how.invariant.old_good c.in_default.ensures.passes (sym c.above-above.ensures.parent ∙ c.in_default-above.is) in
     ap (λ (u : Records). record_at u key) c.spend.ensures ∙ (spends t c.loop-how.self c.args.h at c.loop-how.passed sound so_far c.loop-how.invariant.old_good).records key
     ∙ after_uncounted (record_at t key) (so_far.done ++ at.serial ∷ []) end refl
@@ -78,7 +78,7 @@ loop-how-preserved c =
     let so_far = c.loop-how.invariant.passing in
     let at = c.loop-how.at in
     let up = c.in-Some-above.up in
-    let sound : IsSound t = subst (λ (t : Records). IsSound t) c.self.view_is c.self.invariant.0 in
+    let sound : IsSound t = subst (λ (t : Records). IsSound t) c.self.view_is c.self.invariant.sound in
     let on = passing_goes_on t c.loop-how.self c.args.h at up c.loop-how.passed sound so_far c.loop-how.invariant.old_good c.in_default.ensures.passes (sym c.above-above.ensures.parent ∙ c.in-Some-above.is) c.in-Some-above.ensures.smaller in
     let good = passing_was_good t c.loop-how.self c.args.h at up c.loop-how.passed so_far c.in-Some-above.ensures.good in
     rw c.spend.ensures (record {

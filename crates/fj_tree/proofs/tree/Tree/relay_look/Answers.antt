@@ -9,7 +9,7 @@ loop-at-init c = record { good = c.requires; relays = record { done = []; relays
 
 pub overflow_add-relayed : goal.overflow_add-relayed
 overflow_add-relayed c =
-    let few = number_of c.args.self.now c.args.h (subst (λ (t : Records). IsSound t) c.self.view_is c.self.invariant.0) c.requires in
+    let few = number_of c.args.self.now c.args.h (subst (λ (t : Records). IsSound t) c.self.view_is c.self.invariant.sound) c.requires in
     omega (arith, few, c.loop-at.invariant.relays.relays.falls, c.loop-at.invariant.relays.counted, ap (λ (t : Records). t.made) c.self.view_is)
 
 pub returns-in_default : goal.returns-in_default

@@ -11,7 +11,7 @@ loop-status-init c = record { good = c.requires; old_good = c.requires; relays =
 
 pub overflow_add-relayed : goal.overflow_add-relayed
 overflow_add-relayed c =
-    let few = number_of c.args.self.now c.args.h (subst (λ (t : Records). IsSound t) c.self.view_is c.self.invariant.0) c.requires in
+    let few = number_of c.args.self.now c.args.h (subst (λ (t : Records). IsSound t) c.self.view_is c.self.invariant.sound) c.requires in
     omega (arith, few, c.loop-status.invariant.relays.relays.falls, c.loop-status.invariant.relays.counted, ap (λ (t : Records). t.made) c.self.view_is)
 
 pub returns-in_default-clause-relayed : goal.returns-in_default-clause-relayed
@@ -19,7 +19,7 @@ returns-in_default-clause-relayed c =
     let t = c.args.self.now in
     let so_far = c.loop-status.invariant.relays in
     let at = c.loop-status.at in
-    let sound : IsSound t = subst (λ (t : Records). IsSound t) c.self.view_is c.self.invariant.0 in
+    let sound : IsSound t = subst (λ (t : Records). IsSound t) c.self.view_is c.self.invariant.sound in
     let ended = relayed_ends_at c.args.status t c.loop-status.self c.args.h at c.loop-status.relayed sound so_far c.loop-status.invariant.old_good (sym c.is_undone.ensures ∙ c.loop-status-test.true) (sym c.next_relayed-next.ensures.next ∙ c.in_default.is) in
     omega (arith, so_far.counted, length-append so_far.done (at.serial ∷ []), relayed_all t c.args.h (so_far.done ++ at.serial ∷ []) ended)
 
@@ -28,7 +28,7 @@ returns-in_default-clause-records c = λ key.
     let t = c.args.self.now in
     let so_far = c.loop-status.invariant.relays in
     let at = c.loop-status.at in
-    let sound : IsSound t = subst (λ (t : Records). IsSound t) c.self.view_is c.self.invariant.0 in
+    let sound : IsSound t = subst (λ (t : Records). IsSound t) c.self.view_is c.self.invariant.sound in
     let ended = relayed_ends_at c.args.status t c.loop-status.self c.args.h at c.loop-status.relayed sound so_far c.loop-status.invariant.old_good (sym c.is_undone.ensures ∙ c.loop-status-test.true) (sym c.next_relayed-next.ensures.next ∙ c.in_default.is) in
     ap (λ (u : Records). record_at u key) c.set_status.ensures ∙ (settles_one c.args.status t c.loop-status.self c.args.h at c.loop-status.relayed sound so_far c.loop-status.invariant.old_good).records key
     ∙ ap (λ (ns : List ℕ). option_map (after_relay ns c.args.status) (record_at t key)) ended
@@ -39,7 +39,7 @@ loop-status-preserved c =
     let so_far = c.loop-status.invariant.relays in
     let at = c.loop-status.at in
     let up = c.in-Some.up in
-    let sound : IsSound t = subst (λ (t : Records). IsSound t) c.self.view_is c.self.invariant.0 in
+    let sound : IsSound t = subst (λ (t : Records). IsSound t) c.self.view_is c.self.invariant.sound in
     let on = relayed_goes_on c.args.status t c.loop-status.self c.args.h at up c.loop-status.relayed sound so_far c.loop-status.invariant.old_good (sym c.is_undone.ensures ∙ c.loop-status-test.true)
     (sym c.next_relayed-next.ensures.next ∙ c.in-Some.is) c.in-Some.ensures.smaller in
     let good = relayed_was_good c.args.status t c.loop-status.self c.args.h at up c.loop-status.relayed so_far c.in-Some.ensures.good in

@@ -17,4 +17,4 @@ good c = subst IsSome c.get.ensures (some_copied c.get.result (sym c.is_some.ens
 pub returns-then-is_some-clause-found : goal.returns-then-is_some-clause-found
 returns-then-is_some-clause-found c =
     let named = named_record c.args.self.now c.args.h (good c) in
-    sym (found_there c.args.self.now c.args.h.serial c.args.h.key (subst IsSound c.self.view_is c.self.invariant.0) (rw named.1 named.2))
+    sym (found_there c.args.self.now c.args.h.serial c.args.h.key (subst IsSound c.self.view_is c.self.invariant.sound) (rw named.1 named.2))
