@@ -1,0 +1,8 @@
+-- Half of the blocks of a range.
+pub mod Blocks
+-- Numbers in a row, in two parts.
+pub mod Stretches
+-- Sums of numbers in a row.
+pub mod Sums
+-- Least values and first hits.
+pub mod Residues
