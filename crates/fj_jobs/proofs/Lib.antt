@@ -6,3 +6,5 @@ pub mod Stretches
 pub mod Sums
 -- Least values and first hits.
 pub mod Residues
+-- How many numbers in a row pass a test.
+pub mod Counts

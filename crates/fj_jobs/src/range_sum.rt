@@ -1,5 +1,5 @@
 ghost use Rattle.std.specs.Prelude.{◌≡◌, ◌+◌, ◌%◌, ◌^◌};
-ghost use Rattle.fj_jobs.specs.Ranges.{range_sum, same_range_sum};
+ghost use Rattle.fj_jobs.specs.Ranges.{range_sum, same_interval};
 
 use crate::blocked_range::BlockedRange;
 use crate::divide::Divide;
@@ -49,5 +49,5 @@ impl Divide for RangeSum {
         left.wrapping_add(right)
     }
 
-    ghost same_value = { λ a b e. same_range_sum a.from a.count b.from b.count e };
+    ghost same_value = { λ a b e. same_interval range_sum a.from a.count b.from b.count e };
 }
