@@ -8,3 +8,11 @@ pub mod Sums
 pub mod Residues
 -- How many numbers in a row pass a test.
 pub mod Counts
+-- Bytes up to a separator.
+pub mod Splits
+-- The lines of nodes.
+pub mod NodeLines
+-- The bytes of a tree, read one after another.
+pub mod TreeBytes
+-- Bytes that are read in parts.
+pub mod Inputs

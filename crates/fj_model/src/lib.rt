@@ -30,7 +30,7 @@ pub use memory::OutOfMemory;
 pub use mode::Mode;
 pub use owner::Owner;
 pub use place::Place;
-pub use read::{LINE_FEED, LineFault, MAX_LINE, read_head, read_step};
+pub use read::{LINE_FEED, LineFault, MAX_LINE, read_head, read_number, read_step};
 pub use refusal::Refusal;
 pub use reply::Reply;
 pub use said::Said;

@@ -8,6 +8,7 @@ mod words;
 
 pub use fault::LineFault;
 pub use head::read_head;
+pub use number::read_number;
 pub use step::read_step;
 
 /// The byte that ends a line.

@@ -1,0 +1,8 @@
+use Rattle.std.proofs.Common.{ℕ, List}
+use Rattle.std.specs.Io.KnownBytes.{Consumes}
+use Rattle.fj_jobs.specs.TreeReaders.{IsAt}
+use Rattle.fj_jobs.proofs.tree_input.read_tree.Given as goal
+
+-- what was read so far is kept
+abbrev pub invariant-loop-reads : goal.invariant-loop-reads
+invariant-loop-reads g l = (b : List ℕ) × Consumes (g.R.Read.remaining l.fn.r) (g.R.Read.remaining l.r) b × IsAt b l.reader
