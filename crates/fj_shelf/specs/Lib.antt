@@ -1,0 +1,4 @@
+pub mod Aside
+pub mod Slots
+pub mod Shelves
+pub mod Hands

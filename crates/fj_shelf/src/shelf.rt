@@ -1,0 +1,83 @@
+ghost use Rattle.std.specs.Prelude.{ℕ, ◌≡◌, ◌<◌, IfOk, None};
+ghost use Rattle.fj_shelf.specs.Shelves.{AreFewer, entries, is_there, no_entries, with_entry, without_entry, without_entries};
+
+use crate::aside::Aside;
+use crate::slots::{clear, empty_slots, fill, guess, has_number, is_free};
+use fj_model::Serial;
+use std::alloc::{AllocError, Global};
+use std::marker::Model;
+
+/// Entries under task numbers, with room that is taken when it is made.
+///
+/// An entry is looked for in the slot at its number modulo the room. What finds that slot filled by another number stands aside in a list,
+/// which is empty as long as no two numbers are as far apart as there is room.
+#[derive(Drop)]
+pub struct Shelf<T> {
+    slots: Vec<Option<(Serial, T)>>,
+    aside: Aside<T>,
+}
+
+impl<T> Model for Shelf<T> {
+    ghost use Rattle.std.specs.Prelude.{◌≡◌, ◌<◌, length};
+    ghost use Rattle.fj_shelf.specs.Shelves.{Shelved};
+    ghost use Rattle.fj_shelf.specs.Slots.{IsShelf};
+
+    ghost Value = { Shelved T };
+
+    ghost view = { λ s. record { slots = s.slots.items; aside = s.aside.items; room = s.aside.room } };
+
+    ghost invariant = { λ s. (0 < length s.slots.items) × IsShelf s.slots.items s.aside.items };
+}
+
+impl<T: Drop> Shelf<T> {
+    /// An empty shelf. Precondition: there is room for one entry at least.
+    pub fn new(alloc: Global, room: usize) -> Result<Shelf<T>, AllocError>
+        requires { 0 < room }
+        ensures entries { IfOk result (λ s. entries s ≡ no_entries) }
+        ensures room { IfOk result (λ s. s.room ≡ room) }
+    {
+        Ok(Shelf {
+            slots: empty_slots(alloc, room)?,
+            aside: Aside::new(alloc, room)?,
+        })
+    }
+
+    /// Puts an entry under a number. Precondition: nothing stands there, and there is room.
+    pub fn put(&mut self, number: Serial, item: T)
+        requires free { entries self.old number ≡ None }
+        requires room { AreFewer (entries self.old) self.old.room }
+        ensures entries { entries self.new ≡ with_entry (entries self.old) number item }
+        ensures room { self.new.room ≡ self.old.room }
+    {
+        let at = guess(&self.slots, number);
+        if is_free(&self.slots, at) {
+            fill(&mut self.slots, at, number, item);
+        } else {
+            self.aside.put(number, item);
+        }
+    }
+
+    /// Takes out what stands under a number.
+    pub fn take(&mut self, number: Serial) -> Option<T>
+        ensures taken { result ≡ entries self.old number }
+        ensures entries { entries self.new ≡ without_entry (entries self.old) number }
+        ensures room { self.new.room ≡ self.old.room }
+    {
+        let at = guess(&self.slots, number);
+        if has_number(&self.slots, at, number) {
+            clear(&mut self.slots, at)
+        } else {
+            self.aside.take(number)
+        }
+    }
+
+    /// Drops what stands under these numbers.
+    pub fn sweep(&mut self, numbers: &[Serial])
+        ensures entries { entries self.new ≡ without_entries (entries self.old) numbers.now }
+        ensures room { self.new.room ≡ self.old.room }
+    {
+        for number in numbers {
+            let _swept = self.take(*number);
+        }
+    }
+}
