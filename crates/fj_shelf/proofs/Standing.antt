@@ -1,6 +1,6 @@
 -- What stands under each number of a shelf, from how it is kept.
 use Rattle.std.proofs.Common.{ℕ, suc, ◌≡◌, ◌≢◌, ◌+◌, ◌≤◌, ◌<◌, ◌%◌, Bool, true, false, cond, List, [], ◌∷◌, ◌++◌, length, take, Option, Some, None, get_or, set, refl, ⊎_elim, ap, sym, ◌∙◌, subst, arith, length-set}
-use Rattle.std.specs.Prelude.{◌==◌, ◌||◌, if◌then◌else◌, MatchOption, is_some, replicate, slice_get, option_map}
+use Rattle.std.specs.Prelude.{◌==◌, ◌||◌, if◌then◌else◌, MatchOption, is_some, replicate, slice_get, option_map, IfNone}
 use Rattle.std.proofs.lemmas.Bool.{eq-eqb, eqb-true, ne_eqb, or_parts, true≢false, cases_eq, or_cases}
 use Rattle.std.proofs.lemmas.List.{map-append, take_more, get_or-set_same, get_or-set_other, get_or-replicate, length-replicate}
 use Rattle.std.proofs.lemmas.Nat.{mod_below}
@@ -10,7 +10,7 @@ use Rattle.fj_model.proofs.Lists.Members.{is_in_append, times_in_append, times_i
 use Rattle.fj_model.proofs.Places.KeptPlaces.{few_within}
 use Rattle.fj_shelf.specs.Aside.{Listed, numbers, Without, entry_in}
 use Rattle.fj_shelf.specs.Slots.{in_slot, guessed, entry_of, IsShelf}
-use Rattle.fj_shelf.specs.Shelves.{Entries, no_entries, with_entry, without_entry, without_entries, AreFewer}
+use Rattle.fj_shelf.specs.Shelves.{Entries, Shelved, no_entries, with_entry, without_entry, without_entries, AreFewer}
 
 -- functions that agree everywhere are the same
 pub same_everywhere : {A B : Type 0} (f g : A → B) → ((x : A) → f x ≡ g x) → f ≡ g
@@ -382,6 +382,24 @@ take_rest {T} slots old new n None was none took =
     let same : new.items ≡ old.items = ap (λ l. l.items) took.0 in
     let nothing = take_nothing slots old.items n none took.1 in
     (subst (IsShelf slots) (sym same) was, ap (entry_of slots) same ∙ nothing.0, nothing.1)
+
+-- nothing came out, and so nothing has changed
+pub nothing_changes : {T : Type 0} (slots : List (Option (ℕ × T))) (old new : Listed T) (n : ℕ) (result : Option T) (shelf : Shelved T) → MatchOption result ((new ≡ old) × (is_in n (numbers old.items) ≡ false)) (λ x. Without old.items n x new.items)
+    → record { slots = slots; aside = old.items; room = old.room } ≡ shelf → IfNone result (record { slots = slots; aside = new.items; room = new.room } ≡ shelf)
+nothing_changes {T} slots old new n None shelf took was = ap (λ (l : Listed T). let s : Shelved T = record { slots = slots; aside = l.items; room = l.room } in s) took.0 ∙ was
+nothing_changes slots old new n (Some x) shelf took was = tt
+
+-- what the slot of the guess has came out
+pub came_out : {T : Type 0} (P : Type 0) (slots again : List (Option (ℕ × T))) (n i : ℕ) (result : Option T) (b : Bool) → again ≡ slots → b ≡ is_some (in_slot (slice_get again i) n) → b ≡ true
+    → result ≡ option_map (λ x. x.1) (get_or slots i None) → IfNone result P
+came_out {T} P slots again n i result b same test held gives =
+    let has : is_some (in_slot (slice_get slots i) n) ≡ true = rw (same, held) at (sym test) in
+    let there = in_slot_is (slice_get slots i) n has in
+    some_out result there.0 (gives ∙ ap (option_map (λ x. x.1)) (get_or_from_slice_get slots i (Some (n, there.0)) None there.1))
+  where
+    some_out : (o : Option T) (x : T) → o ≡ Some x → IfNone o P
+    some_out (Some y) x is = tt
+    some_out None x is = absurd cc
 
 -- ---- a sweep
 

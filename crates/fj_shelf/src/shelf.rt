@@ -1,4 +1,4 @@
-ghost use Rattle.std.specs.Prelude.{ℕ, ◌≡◌, ◌<◌, IfOk, None};
+ghost use Rattle.std.specs.Prelude.{ℕ, ◌≡◌, ◌<◌, IfOk, IfNone, None};
 ghost use Rattle.fj_shelf.specs.Shelves.{AreFewer, entries, is_there, no_entries, with_entry, without_entry, without_entries};
 
 use crate::aside::Aside;
@@ -62,6 +62,7 @@ impl<T: Drop> Shelf<T> {
         ensures taken { result ≡ entries self.old number }
         ensures entries { entries self.new ≡ without_entry (entries self.old) number }
         ensures room { self.new.room ≡ self.old.room }
+        ensures stays { IfNone result (self.new ≡ self.old) }
     {
         let at = guess(&self.slots, number);
         if has_number(&self.slots, at, number) {

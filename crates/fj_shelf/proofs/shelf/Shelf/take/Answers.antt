@@ -1,6 +1,6 @@
 use Rattle.std.proofs.Common.{ap, ◌∙◌}
 use Rattle.fj_shelf.specs.Shelves.{entries, without_entry}
-use Rattle.fj_shelf.proofs.Standing.{take_read, take_rest, not_guessed}
+use Rattle.fj_shelf.proofs.Standing.{take_read, take_rest, not_guessed, came_out, nothing_changes}
 use Rattle.fj_shelf.proofs.shelf.Shelf.take.Goals as goal
 
 pub invariant_of-self : goal.invariant_of-self
@@ -41,3 +41,11 @@ returns-else-has_number-clause-entries g c =
     (not_guessed c.self.inside.slots.items c.deref.result.now c.deref-2.result.now c.args.number c.guess-at.result c.has_number.result c.deref.ensures.value c.guess-at.ensures.guess c.deref-2.ensures.value c.has_number.ensures c.if-has_number.false)
     c.take.ensures.taken).1
     ∙ ap (λ s. without_entry (entries s) c.args.number) c.self.view_is
+
+pub returns-then-has_number-clause-stays : goal.returns-then-has_number-clause-stays
+returns-then-has_number-clause-stays g c =
+    came_out _ c.self.inside.slots.items c.deref-2.result.now c.args.number c.guess-at.result c.clear.result c.has_number.result c.deref-2.ensures.value c.has_number.ensures c.if-has_number.true c.clear.ensures.taken
+
+pub returns-else-has_number-clause-stays : goal.returns-else-has_number-clause-stays
+returns-else-has_number-clause-stays g c =
+    nothing_changes c.self.inside.slots.items c.self.inside.aside c.take.new.self c.args.number c.take.result c.args.self.now c.take.ensures.taken c.self.view_is

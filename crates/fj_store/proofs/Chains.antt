@@ -1,0 +1,34 @@
+-- One task after another is released.
+use Rattle.std.proofs.Common.{ℕ, ◌≡◌, ◌<◌, ◌||◌, not, Bool, true, false, cond, List, [], ◌∷◌, ◌++◌, length, map, refl, ap, arith, append_assoc}
+use Rattle.std.specs.List.{filter}
+use Rattle.std.proofs.lemmas.List.{append-nil, map-append}
+use Rattle.fj_model.specs.declared.event.Event.{Event}
+use Rattle.fj_model.specs.declared.event.Event.TheVariants.{Rel}
+use Rattle.fj_model.specs.Lists.{is_in, without}
+use Rattle.fj_model.proofs.Lists.Members.{is_in_append, times_in_some, length_without}
+use Rattle.fj_model.proofs.Events.Growth.{without_none}
+use Rattle.fj_store.specs.Stores.{StoreState}
+use Rattle.fj_store.specs.Releases.{can_go, CanAllGo, released_of}
+
+without_twice : (xs ts us : List ℕ) → without (without xs ts) us ≡ without xs (ts ++ us)
+without_twice [] ts us = refl
+without_twice (x ∷ xs) ts us = rw (is_in_append x ts us) (go (is_in x ts) (is_in x us) refl (without_twice xs ts us))
+  where
+    go : (a b : Bool) → is_in x us ≡ b → without (without xs ts) us ≡ without xs (ts ++ us)
+        → filter (λ t. not (is_in t us)) (cond (not a) (x ∷ without xs ts) (without xs ts)) ≡ cond (not (a || b)) (x ∷ without xs (ts ++ us)) (without xs (ts ++ us))
+    go true b at rest = rest
+    go false true at rest = rw at rest
+    go false false at rest = rw at (ap (λ ys. x ∷ ys) rest)
+
+pub none_released : {B K O : Type 0} (s : StoreState B K O) → s ≡ released_of s []
+none_released s = rw (append-nil s.past.events, without_none s.taken) refl
+
+pub one_more : (h : List Event) (ts : List ℕ) (t : ℕ) → CanAllGo h ts → can_go (h ++ map Rel ts) t ≡ true → CanAllGo h (ts ++ t ∷ [])
+one_more h [] t all can = (rw (append-nil h) at can, tt)
+one_more h (u ∷ ts) t all can = (all.0, one_more (h ++ Rel u ∷ []) ts t all.1 (rw append_assoc can))
+
+pub released_twice : {B K O : Type 0} (s : StoreState B K O) (ts : List ℕ) (t : ℕ) → released_of (released_of s ts) (t ∷ []) ≡ released_of s (ts ++ t ∷ [])
+released_twice s ts t = rw (map-append Rel ts (t ∷ []), ← append_assoc s.past.events (map Rel ts) (Rel t ∷ []), without_twice s.taken ts (t ∷ [])) refl
+
+pub fewer : (ts : List ℕ) (t : ℕ) → is_in t ts ≡ true → length (without ts (t ∷ [])) < length ts
+fewer ts t there = omega (arith, length_without t ts, times_in_some t ts there)

@@ -1,0 +1,24 @@
+-- A run after one step more, and how long its history is.
+pub mod Full
+-- What an answer of the machine says, step by step.
+pub mod Steps
+-- Which bodies no worker holds, event by event.
+pub mod Bodies
+-- A task whose completion action is in a hand is not released.
+pub mod InHands
+-- Where a body goes when its task ends, is settled, fires or is passed.
+pub mod Closes
+-- The bodies of open tasks that went are dropped.
+pub mod Sweeps
+-- What holds of every store, step by step.
+pub mod Stored
+-- Results are kept, and taken out.
+pub mod Results
+-- A task is released.
+pub mod Releases
+-- One task after another is released.
+pub mod Chains
+-- A task is taken from its queue.
+pub mod Taking
+-- What a poll and a help hear of a choice.
+pub mod Polling

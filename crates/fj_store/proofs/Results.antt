@@ -1,0 +1,132 @@
+-- Results are kept, and taken out.
+use Rattle.std.proofs.Common.{ℕ, ◌≡◌, ◌⊎◌, inl, inr, ◌≤◌, ◌<◌, Bool, true, false, List, [], ◌∷◌, ◌++◌, length, Option, Some, None, refl, ap, sym, ◌∙◌, subst, arith, length-append, ⊎_elim}
+use Rattle.std.specs.Prelude.{if◌then◌else◌, ◌==◌, is_some}
+use Rattle.std.proofs.lemmas.Bool.{eq-eqb, eqb-true, or_cases, true≢false}
+use Rattle.fj_model.specs.declared.event.Event.{Event}
+use Rattle.fj_model.specs.Lists.{is_in}
+use Rattle.fj_model.specs.Tasks.{is_kept}
+use Rattle.fj_model.specs.Epochs.{IsPast}
+use Rattle.fj_model.specs.Runs.{Past}
+use Rattle.fj_model.proofs.Lists.Members.{is_in_append, once_more}
+use Rattle.fj_model.proofs.Places.FewLive.{few_live}
+use Rattle.fj_model.proofs.Places.KeptPlaces.{few_kept}
+use Rattle.fj_model.proofs.Steps.AnswersAllowed.{history_allowed}
+use Rattle.fj_shelf.specs.Shelves.{Entries, with_entry, without_entry, AreFewer}
+use Rattle.fj_shelf.proofs.Standing.{same_everywhere}
+use Rattle.fj_store.specs.Stores.{StoreState, AreKept, IsStored}
+use Rattle.fj_store.specs.Results.{Keeps, KeepsUnless}
+use Rattle.fj_store.proofs.Bodies.{fewer_kept}
+
+-- ---- lists of kept tasks
+
+pub few_are_kept : (past : Past) (ts : List ℕ) → IsPast past → AreKept past.events ts → length ts ≤ past.pool.limits.tasks
+few_are_kept past ts run are =
+    let so = history_allowed past run in
+    omega (arith, few_live past.pool past.events so, few_kept past.pool past.events ts so are.once are.kept)
+
+pub one_more_kept : (h : List Event) (ts : List ℕ) (t : ℕ) → AreKept h ts → is_kept h t ≡ true → is_in t ts ≡ false → AreKept h (ts ++ t ∷ [])
+one_more_kept h ts t are kept new = record {
+  kept = λ u there. ⊎_elim (are.kept u) (λ here. same u (⊎_elim (λ at. at) (λ none. absurd cc) (or_cases (t == u) false here))) (or_cases (is_in u ts) (is_in u (t ∷ [])) (rw is_in_append at there));
+  once = once_more ts t new are.once;
+}
+  where
+    same : (u : ℕ) → (t == u) ≡ true → is_kept h u ≡ true
+    same u at = subst (λ v. is_kept h v ≡ true) (eqb-true t u at) kept
+
+-- ---- a result more
+
+pub result_stored : {B R : Type 0} (past : Past) (bodies : Entries B) (results results' : Entries R) (ts : List ℕ) (t : ℕ) (x : R) → IsStored past bodies results ts → is_kept past.events t ≡ true → is_in t ts ≡ false
+    → results' ≡ with_entry (without_entry results t) t x → IsStored past bodies results' ts
+result_stored {B} {R} past bodies results results' ts t x is kept free more = rw more (record {
+  run = is.run;
+  bodies_held = is.bodies_held;
+  results_kept = λ u there. known u (t == u) refl there;
+  taken_kept = is.taken_kept;
+  apart = λ u there. none u (t == u) refl there;
+  hooks_kept = is.hooks_kept;
+})
+  where
+    known : (u : ℕ) (b : Bool) → (t == u) ≡ b → is_some (if b then Some x else (if b then None else results u)) ≡ true → is_kept past.events u ≡ true
+    known u true same there = subst (λ v. is_kept past.events v ≡ true) (eqb-true t u same) kept
+    known u false same there = is.results_kept u there
+
+    none : (u : ℕ) (b : Bool) → (t == u) ≡ b → is_in u ts ≡ true → (if b then Some x else (if b then None else results u)) ≡ None
+    none u true same there = absurd (true≢false (sym there ∙ ap (λ v. is_in v ts) (sym (eqb-true t u same)) ∙ free))
+    none u false same there = is.apart u there
+
+-- an entry that takes the place of another
+pub with_again : {R : Type 0} (results : Entries R) (t : ℕ) (x : R) → with_entry (without_entry results t) t x ≡ with_entry results t x
+with_again {R} results t x = same_everywhere (with_entry (without_entry results t) t x) (with_entry results t x) (λ u. go u (t == u))
+  where
+    go : (u : ℕ) (b : Bool) → (if b then Some x else (if b then None else results u)) ≡ (if b then Some x else results u)
+    go u true = refl
+    go u false = refl
+
+pub free_again : {R : Type 0} (results : Entries R) (t : ℕ) → without_entry results t t ≡ None
+free_again results t = rw (eq-eqb t t refl) refl
+
+pub result_room : {B R : Type 0} (past : Past) (bodies : Entries B) (results : Entries R) (ts : List ℕ) (t room : ℕ) → IsStored past bodies results ts → is_kept past.events t ≡ true → past.pool.limits.tasks ≤ room
+    → AreFewer (without_entry results t) room
+result_room {B} {R} past bodies results ts t room is kept within =
+    fewer_kept past.pool past.events (without_entry results t) t room (history_allowed past is.run) (λ u there. known u (t == u) there) kept (free_again results t) within
+  where
+    known : (u : ℕ) (b : Bool) → is_some (if b then None else results u) ≡ true → is_kept past.events u ≡ true
+    known u true there = absurd cc
+    known u false there = is.results_kept u there
+
+-- ---- a result is taken out
+
+in_one_more : (u t : ℕ) (ts : List ℕ) → is_in u (ts ++ t ∷ []) ≡ true → (is_in u ts ≡ true) ⊎ (t ≡ u)
+in_one_more u t ts there =
+    ⊎_elim (λ old. inl old) (λ new. inr (eqb-true t u (⊎_elim (λ here. here) (λ none. absurd cc) (or_cases (t == u) false new)))) (or_cases (is_in u ts) (is_in u (t ∷ [])) (rw is_in_append at there))
+
+-- a task is marked, with its result taken out if it has one
+pub marked_stored : {B R : Type 0} (past : Past) (bodies : Entries B) (results results' : Entries R) (ts : List ℕ) (t : ℕ) → IsStored past bodies results ts → is_kept past.events t ≡ true → is_in t ts ≡ false
+    → results' ≡ without_entry results t → IsStored past bodies results' (ts ++ t ∷ [])
+marked_stored {B} {R} past bodies results results' ts t is kept free less = rw less (record {
+  run = is.run;
+  bodies_held = is.bodies_held;
+  results_kept = λ u there. known u (t == u) there;
+  taken_kept = one_more_kept past.events ts t is.taken_kept kept free;
+  apart = λ u there. none u (t == u) refl (in_one_more u t ts there);
+  hooks_kept = is.hooks_kept;
+})
+  where
+    known : (u : ℕ) (b : Bool) → is_some (if b then None else results u) ≡ true → is_kept past.events u ≡ true
+    known u true there = absurd cc
+    known u false there = is.results_kept u there
+
+    none : (u : ℕ) (b : Bool) → (t == u) ≡ b → (is_in u ts ≡ true) ⊎ (t ≡ u) → (if b then None else results u) ≡ None
+    none u true same there = refl
+    none u false same (inl old) = is.apart u old
+    none u false same (inr at) = absurd (true≢false (sym (eq-eqb t u at) ∙ same))
+
+-- it was not marked, where it has a result
+pub result_free : {B R : Type 0} (past : Past) (bodies : Entries B) (results : Entries R) (ts : List ℕ) (t : ℕ) (x : R) → IsStored past bodies results ts → results t ≡ Some x → (is_kept past.events t ≡ true) × (is_in t ts ≡ false)
+result_free {B} {R} past bodies results ts t x is has = (is.results_kept t (ap is_some has), go (is_in t ts) refl)
+  where
+    go : (b : Bool) → is_in t ts ≡ b → b ≡ false
+    go false at = refl
+    go true at = absurd (differs (sym has ∙ is.apart t at))
+      where
+        differs : ◌≡◌ {A = Option R} (Some x) None → ⊥
+        differs eq = cc
+
+pub marked_room : {B R : Type 0} (past : Past) (bodies : Entries B) (results : Entries R) (ts : List ℕ) (t : ℕ) → IsStored past bodies results ts → is_kept past.events t ≡ true → is_in t ts ≡ false → length ts < past.pool.limits.tasks
+marked_room past bodies results ts t is kept free =
+    omega (arith, few_are_kept past (ts ++ t ∷ []) is.run (one_more_kept past.events ts t is.taken_kept kept free), length-append ts (t ∷ []))
+
+-- nothing is taken out where nothing stands
+pub without_nothing : {R : Type 0} (results : Entries R) (t : ℕ) → results t ≡ None → without_entry results t ≡ results
+without_nothing {R} results t none = same_everywhere (without_entry results t) results (λ u. go u (t == u) refl)
+  where
+    go : (u : ℕ) (b : Bool) → (t == u) ≡ b → (if b then None else results u) ≡ results u
+    go u true same = sym (ap results (sym (eqb-true t u same)) ∙ none)
+    go u false same = refl
+
+pub keeps_past : {B K O : Type 0} (old : StoreState B K O) (t : ℕ) (kept : K × O) (new : StoreState B K O) → Keeps old t kept new → new.past ≡ old.past
+keeps_past old t kept new is = go (is_in t old.taken) is
+  where
+    go : (b : Bool) → KeepsUnless b old t kept new → new.past ≡ old.past
+    go true same = ap (λ s. s.past) same
+    go false more = ap (λ s. s.past) more.1

@@ -1,0 +1,20 @@
+use Rattle.std.proofs.Common.{map, ap, subst, ◌∙◌}
+use Rattle.fj_model.specs.declared.event.Event.TheVariants.{Rel}
+use Rattle.fj_model.specs.declared.step.Step.TheVariants.{Join}
+use Rattle.fj_model.specs.Answers.{answer}
+use Rattle.fj_model.specs.Runs.{grown}
+use Rattle.fj_store.specs.Choosing.{TakesChoice}
+use Rattle.fj_store.proofs.Steps.{join_takes}
+use Rattle.fj_store.proofs.Taking.{released_fits}
+use Rattle.fj_store.proofs.store.Store.join.Goals as goal
+
+pub choose-requires-clause-takes : goal.choose-requires-clause-takes
+choose-requires-clause-takes g c =
+    let past = c.args.self.now.past in
+    let asked = Join c.worker.result c.args.t c.take_word-r.result in
+    subst (λ v. TakesChoice v (answer past asked).0 (answer past asked).1) c.worker.ensures (join_takes past c.worker.result c.args.t c.take_word-r.result)
+
+pub returns-in-Some-clause-fits : goal.returns-in-Some-clause-fits
+returns-in-Some-clause-fits g c =
+    released_fits c.choose.new.self.past c.release_all.new.self.past c.choose.new.hand c.release_all.ensures.tasks c.choose.ensures.fits
+    (ap (λ s. s.past) c.release_all.ensures.were ∙ ap (λ s. grown s.past (map Rel c.release_all.ensures.tasks)) c.in-Some.ensures.1.1)

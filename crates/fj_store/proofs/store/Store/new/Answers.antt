@@ -1,0 +1,13 @@
+use Rattle.std.proofs.Common.{arith}
+use Rattle.fj_store.proofs.Stored.{fresh_stored}
+use Rattle.fj_store.proofs.store.Store.new.Goals as goal
+
+pub invariant_of-result : goal.invariant_of-result
+invariant_of-result g c =
+    rw (c.in-Ok.ensures.ok, c.in_ok-with_capacity.ensures.items) (
+      fresh_stored c.args.mode c.args.limits _ _ c.in_ok-new.ensures.entries c.in_ok-new-2.ensures.entries,
+      omega (arith, c.tasks-room.ensures.number, c.in_ok-new.ensures.room),
+      omega (arith, c.tasks-room.ensures.number, c.in_ok-new-2.ensures.room),
+      omega (arith, c.tasks-room.ensures.number, c.in_ok-with_capacity.ensures.capacity),
+      c.workers-workers.ensures.within.few_tasks,
+    )

@@ -1,0 +1,10 @@
+use Rattle.std.proofs.Common.{◌≡◌, List, ℕ, length}
+use Rattle.fj_store.specs.Releases.{CanAllGo, released_of}
+use Rattle.fj_store.proofs.store.Store.release_all.Given as goal
+
+-- these were released
+abbrev pub invariant-loop : goal.invariant-loop
+invariant-loop g l = (ts : List ℕ) × CanAllGo l.fn.self.past.events ts × (l.self ≡ released_of l.fn.self ts)
+
+abbrev pub decreases-loop : goal.decreases-loop
+decreases-loop g l = length l.self.taken

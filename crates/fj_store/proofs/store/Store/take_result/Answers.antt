@@ -1,0 +1,15 @@
+use Rattle.std.proofs.Common.{sym, arith}
+use Rattle.fj_shelf.specs.Shelves.{entries}
+use Rattle.fj_store.proofs.Results.{marked_stored, marked_room, result_free}
+use Rattle.fj_store.proofs.store.Store.take_result.Goals as goal
+
+pub push_reserved-requires : goal.push_reserved-requires
+push_reserved-requires g c =
+    let has = result_free c.self.inside.machine _ (entries c.self.inside.results) _ c.args.t c.in-Some.kept c.self.invariant.0 (sym c.in-Some.ensures.taken) in
+    omega (arith, marked_room c.self.inside.machine _ (entries c.self.inside.results) _ c.args.t c.self.invariant.0 has.0 has.1, c.self.invariant.3, c.self.inside.taken.ok)
+
+pub invariant_of-self : goal.invariant_of-self
+invariant_of-self g c =
+    let has = result_free c.self.inside.machine _ (entries c.self.inside.results) _ c.args.t c.in-Some.kept c.self.invariant.0 (sym c.in-Some.ensures.taken) in
+    rw (c.push_reserved.ensures.items, c.push_reserved.ensures.capacity, c.take.ensures.room)
+    (marked_stored c.self.inside.machine _ (entries c.self.inside.results) _ _ c.args.t c.self.invariant.0 has.0 has.1 c.take.ensures.entries, c.self.invariant.1, c.self.invariant.2, c.self.invariant.3, c.self.invariant.4)

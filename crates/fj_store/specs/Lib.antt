@@ -1,0 +1,20 @@
+-- What a body hears, asks and is told.
+pub mod Turns
+-- A store, and what holds of it.
+pub mod Stores
+-- A hand that fits.
+pub mod Fitting
+-- Tasks are released.
+pub mod Releases
+-- Tasks are accepted.
+pub mod Accepting
+-- The worker takes its choice.
+pub mod Choosing
+-- Results and outcomes.
+pub mod Results
+-- Bodies end.
+pub mod Endings
+-- Hooks end.
+pub mod HookEndings
+-- Steps that end no body and hand none out.
+pub mod Asking

@@ -1,0 +1,50 @@
+-- Tasks whose result or outcome was taken are released as soon as they can be.
+use Rattle.std.specs.Prelude.{ℕ, ◌≡◌, ◌≤◌, ◌⊎◌, Bool, true, false, ◌&&◌, not, map, length, List, [], ◌∷◌, ◌++◌}
+use Rattle.fj_model.specs.declared.event.Event.{Event}
+use Rattle.fj_model.specs.declared.event.Event.TheVariants.{Rel}
+use Rattle.fj_model.specs.Lists.{is_in, without}
+use Rattle.fj_model.specs.Tasks.{is_kept}
+use Rattle.fj_model.specs.Places.{place, is_gone}
+use Rattle.fj_model.specs.Allowed.{has_kept_child}
+use Rattle.fj_model.specs.Pasts.{grown, limit}
+use Rattle.fj_store.specs.declared.tries.Tried.{Tried}
+use Rattle.fj_store.specs.declared.tries.Tried.TheVariants as tried
+use Rattle.fj_store.specs.Stores.{StoreState, is_hooked}
+
+-- whether the task can be released: kept, gone, with no kept child, and its completion action in no hand
+unfoldable pub can_go : List Event → ℕ → Bool
+can_go h t = is_kept h t && is_gone (place h t) && not (has_kept_child h t) && not (is_hooked h t)
+
+-- each of these can be released after those before it
+abbrev pub CanAllGo : List Event → List ℕ → Type 0
+CanAllGo h [] = Unit {0}
+CanAllGo h (t ∷ ts) = (can_go h t ≡ true) × CanAllGo (h ++ Rel t ∷ []) ts
+
+module _ {B K O : Type 0} where
+  -- no task that was taken can be released any more; or one could be, and the store is stuck, since the history is full
+  abbrev pub Rests : Bool → StoreState B K O → Type 0
+  Rests stuck s =
+      ((s.stuck ≡ stuck) × ((t : ℕ) → is_in t s.taken ≡ true → can_go s.past.events t ≡ false))
+      ⊎ ((s.stuck ≡ true) × ((t : ℕ) × (is_in t s.taken ≡ true) × (can_go s.past.events t ≡ true)) × (limit s.past ≤ length s.past.events))
+
+  -- with these tasks released
+  abbrev pub released_of : StoreState B K O → List ℕ → StoreState B K O
+  released_of s ts = record s { past = grown s.past (map Rel ts); taken = without s.taken ts }
+
+  -- some taken tasks were released, each as it could be, and no other can be now; or the history was full
+  pub record Releases (old : StoreState B K O) (new : StoreState B K O) : Type 0 where
+    pub tasks : List ℕ
+    pub could : CanAllGo old.past.events tasks
+    pub were : new ≡ record (released_of old tasks) { stuck = new.stuck }
+    pub rests : Rests old.stuck new
+
+  -- the try to release a task
+  abbrev pub Tries : StoreState B K O → ℕ → Tried → StoreState B K O → Type 0
+  Tries old t tried.Released new = (can_go old.past.events t ≡ true) × (new ≡ released_of old (t ∷ []))
+  Tries old t tried.Full new = (can_go old.past.events t ≡ true) × (limit old.past ≤ length old.past.events) × (new ≡ record old { stuck = true })
+  Tries old t tried.Needed new = (can_go old.past.events t ≡ false) × (new ≡ old)
+
+  -- one was released; or none can be, or the history is full
+  abbrev pub ReleasesOne : StoreState B K O → Bool → StoreState B K O → Type 0
+  ReleasesOne old true new = (t : ℕ) × (is_in t old.taken ≡ true) × (can_go old.past.events t ≡ true) × (new ≡ released_of old (t ∷ []))
+  ReleasesOne old false new = (new ≡ record old { stuck = new.stuck }) × Rests old.stuck new

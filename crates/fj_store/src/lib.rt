@@ -1,0 +1,17 @@
+//! A machine with the bodies that no worker holds and the results that were not taken: each action of a pool as one step, with the moving of
+//! its body.
+#![tactic(auto)]
+
+mod body;
+mod choices;
+mod hooked;
+mod kept;
+mod moves;
+mod outcomes;
+mod store;
+mod tries;
+
+pub use body::{Ask, Body, Heard, Told};
+pub use kept::Kept;
+pub use outcomes::Outcome;
+pub use store::Store;

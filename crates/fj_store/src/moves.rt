@@ -1,0 +1,22 @@
+ghost use Rattle.std.specs.Prelude.{◌≡◌};
+ghost use Rattle.fj_model.specs.Runs.{Steps};
+ghost use Rattle.fj_model.specs.Epochs.{IsPast};
+ghost use Rattle.fj_shelf.specs.Shelves.{entries, without_entries};
+ghost use Rattle.fj_store.specs.Stores.{went};
+
+use fj_machine::Machine;
+use fj_model::{Said, Step};
+use fj_shelf::Shelf;
+
+/// Makes a step, and drops the bodies of the tasks that come to be gone by it.
+pub(crate) fn make<B: Drop>(machine: &mut Machine, bodies: &mut Shelf<B>, asked: &Step) -> Said
+    requires { IsPast machine.old }
+    ensures step { Steps machine.old asked.now result machine.new }
+    ensures bodies { entries bodies.new ≡ without_entries (entries bodies.old) (went machine.old machine.new) }
+    ensures room { bodies.new.room ≡ bodies.old.room }
+{
+    let before = machine.gone().len();
+    let said = machine.step(asked);
+    bodies.sweep(&machine.gone()[before..]);
+    said
+}

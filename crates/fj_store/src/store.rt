@@ -1,0 +1,89 @@
+ghost use Rattle.std.specs.Prelude.{◌≡◌, IfOk, [], true, false};
+ghost use Rattle.fj_model.specs.Pasts.{fresh};
+ghost use Rattle.fj_shelf.specs.Shelves.{entries, no_entries};
+
+mod accept;
+mod choose;
+mod collect;
+mod release;
+
+use crate::body::Body;
+use crate::kept::Kept;
+use fj_machine::Machine;
+use fj_model::{Limits, Mode, OutOfMemory, Serial};
+use fj_shelf::Shelf;
+use std::alloc::Global;
+use std::marker::Model;
+
+/// A machine, the bodies that no worker holds, the results that were not taken, and the tasks that wait for their release.
+#[derive(Drop)]
+pub struct Store<B: Body> {
+    machine: Machine,
+    bodies: Shelf<B>,
+    results: Shelf<Kept<B>>,
+    /// Kept tasks whose outcome or result was taken: each goes as soon as it can.
+    taken: Vec<Serial>,
+    stuck: bool,
+}
+
+impl<B: Body> Model for Store<B> {
+    ghost use Rattle.std.specs.Prelude.{◌≡◌, ◌≤◌, vec_capacity};
+    ghost use Rattle.fj_shelf.specs.Shelves.{entries};
+    ghost use Rattle.fj_store.specs.Stores.{StoreState, IsStored};
+
+    ghost Value = { StoreState B B.Key B.Out };
+
+    ghost view = { λ s. record {
+      past = s.machine;
+      bodies = s.bodies;
+      results = s.results;
+      taken = s.taken.items;
+      stuck = s.stuck;
+    } };
+
+    ghost invariant = { λ s.
+        IsStored s.machine (entries s.bodies) (entries s.results) s.taken.items
+        × (s.machine.pool.limits.tasks ≤ s.bodies.room)
+        × (s.machine.pool.limits.tasks ≤ s.results.room)
+        × (s.machine.pool.limits.tasks ≤ vec_capacity s.taken)
+        × (s.machine.pool.limits.tasks ≤ 4096) };
+}
+
+impl<B: Body> Store<B> {
+    /// Nothing has happened. All the memory that is needed later is taken here.
+    pub fn new(alloc: Global, mode: Mode, limits: Limits) -> Result<Store<B>, OutOfMemory>
+        ensures past { IfOk result (λ s. s.past ≡ fresh mode limits) }
+        ensures bodies { IfOk result (λ s. entries s.bodies ≡ no_entries) }
+        ensures results { IfOk result (λ s. entries s.results ≡ no_entries) }
+        ensures taken { IfOk result (λ s. s.taken ≡ []) }
+        ensures free { IfOk result (λ s. s.stuck ≡ false) }
+    {
+        let room = limits.tasks() as usize;
+        // Tells that the limits are within their ranges.
+        let _workers = limits.workers();
+        let Ok(machine) = Machine::new(alloc, mode, limits) else {
+            return Err(OutOfMemory);
+        };
+        Ok(Store {
+            machine,
+            bodies: Shelf::new(alloc, room)?,
+            results: Shelf::new(alloc, room)?,
+            taken: Vec::with_capacity(alloc, room)?,
+            stuck: false,
+        })
+    }
+
+    /// Whether it is stuck: something that has to be made found no room in the history.
+    pub fn is_stuck(&self) -> bool
+        ensures { result ≡ self.now.stuck }
+    {
+        self.stuck
+    }
+
+    /// It is stuck from now on.
+    pub fn stick(&mut self)
+        ensures { self.new ≡ record self.old { stuck = true } }
+    {
+        self.stuck = true;
+    }
+}

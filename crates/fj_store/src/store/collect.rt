@@ -1,0 +1,77 @@
+ghost use Rattle.std.specs.Prelude.{◌≡◌, true, false};
+ghost use Rattle.fj_model.specs.Lists.{is_in};
+ghost use Rattle.fj_model.specs.Tasks.{is_kept};
+ghost use Rattle.fj_store.specs.Results.{Keeps, Marks, TakesOut, Collects};
+ghost use Rattle.fj_shelf.specs.Shelves.{entries};
+
+use crate::body::Body;
+use crate::kept::Kept;
+use crate::outcomes::{Outcome, told_outcome};
+use crate::store::Store;
+use fj_model::{Owner, Place, Refusal, Said, Serial, Status, Step, SubId, WorkerId};
+use fj_shelf::has;
+
+impl<B: Body> Store<B> {
+    // Keeps a result under a task's number, or drops it where the task's result was taken.
+    pub(crate) fn keep(&mut self, t: Serial, kept: Kept<B>)
+        requires { is_kept self.old.past.events t ≡ true }
+        ensures kept { Keeps self.old t kept self.new }
+        ensures past { self.new.past ≡ self.old.past }
+    {
+        if has(self.taken.as_slice(), t) {
+            return;
+        }
+        let _old = self.results.take(t);
+        self.results.put(t, kept);
+    }
+
+    // Takes a result out, and marks its task for its release.
+    pub(crate) fn take_result(&mut self, t: Serial) -> Option<Kept<B>>
+        ensures { TakesOut self.old t result self.new }
+    {
+        match self.results.take(t) {
+            Some(kept) => {
+                self.taken.push_reserved(t);
+                Some(kept)
+            }
+            None => None,
+        }
+    }
+
+    // Takes the result of a kept task out, if there is one, and marks the task for its release.
+    fn take_away(&mut self, t: Serial) -> Option<Kept<B>>
+        requires kept { is_kept self.old.past.events t ≡ true }
+        requires free { is_in t self.old.taken ≡ false }
+        ensures kept { result ≡ entries self.old.results t }
+        ensures marks { Marks self.old t self.new }
+    {
+        let kept = self.results.take(t);
+        self.taken.push_reserved(t);
+        kept
+    }
+
+    /// The outcome of a task, which is taken out: the task is released as soon as it can be.
+    ///
+    /// None while it is undone. `Unknown` where it was taken out before, or is not kept.
+    pub fn collect(&mut self, t: Serial) -> Option<Result<Outcome<B>, Refusal>>
+        ensures { Collects self.old t result self.new }
+    {
+        // The check wants each type inside a reply to be named where one is moved.
+        let _inside: Option<(Place, Owner, Status, Refusal, Serial, SubId, WorkerId)> = None;
+        if has(self.taken.as_slice(), t) {
+            return Some(Err(Refusal::Unknown));
+        }
+        match self.machine.step(&Step::State { t }) {
+            Said::State(_, status) => {
+                if status.is_undone() {
+                    return None;
+                }
+                let kept = self.take_away(t);
+                self.release_all();
+                Some(Ok(told_outcome(status, kept)))
+            }
+            Said::Refused(_) => Some(Err(Refusal::Unknown)),
+            _ => unreachable!(),
+        }
+    }
+}

@@ -1,0 +1,10 @@
+/// What came of the try to release a task.
+#[derive(Clone, Copy)]
+pub(crate) enum Tried {
+    /// It was released.
+    Released,
+    /// It is needed yet.
+    Needed,
+    /// It could be released, but the history is full.
+    Full,
+}
