@@ -16,7 +16,7 @@ fn main(rt: HostRuntime) -> ExitCode {
     ExitCode::from(status)
 }
 
-// Only the words and the buffer of the output can fail here.
+/// Only the words and the buffer of the output can fail here.
 fn run(rt: &HostRuntime, err: &mut Stderr) -> io::Result<u8> {
     let alloc = rt.alloc();
     let args: Vec<String> = env::args(rt)?.collect(alloc)?;

@@ -1,3 +1,4 @@
+//! The answers to a script, by each of the calls that make its steps.
 use crate::script::Line;
 use crate::shown::{part, shown};
 use anyhow::Result;
@@ -11,8 +12,8 @@ use std::alloc::Global;
 use std::fmt::Write;
 use std::str;
 
-// How the lines of a script are handed on: one by one to a machine, which also shows what stands there; in one list to `run_epochs`; or
-// as text to `replayed`.
+/// How the lines of a script are handed on: one by one to a machine, which also shows what stands there; in one list to `run_epochs`; or
+/// as text to `replayed`.
 #[derive(Clone, Copy, Debug, PartialEq)]
 pub enum Way {
     Machine,
@@ -21,7 +22,7 @@ pub enum Way {
 }
 
 impl Way {
-    // Whether it answers such a line.
+    /// Whether it answers such a line.
     pub fn takes(self, asked: &str) -> bool {
         match self {
             Way::Machine => true,
@@ -30,7 +31,7 @@ impl Way {
         }
     }
 
-    // The answers to the lines that it takes, a line each.
+    /// The answers to the lines that it takes, a line each.
     pub fn answers(
         self,
         alloc: Global,
@@ -52,7 +53,7 @@ impl Way {
     }
 }
 
-// What a heading says, if it is one.
+/// What a heading says, if it is one.
 pub fn heading(head: &str) -> Option<(Mode, Limits)> {
     let (mode, numbers) = read_head(head.as_bytes()).ok()?;
     let [workers, submitters, tasks, events] = numbers;
@@ -73,7 +74,7 @@ fn of_machine(alloc: Global, mode: Mode, limits: Limits, lines: &[Line<'_>]) -> 
     Ok(text)
 }
 
-// The reply to a step or a seal, or what the machine shows.
+/// The reply to a step or a seal, or what the machine shows.
 fn answer(alloc: Global, machine: &mut Machine, limits: &Limits, asked: &str) -> Result<String> {
     match move_of(asked) {
         Some(Move::Step(step)) => {
@@ -87,7 +88,7 @@ fn answer(alloc: Global, machine: &mut Machine, limits: &Limits, asked: &str) ->
     }
 }
 
-// The move that a line asks for, if it is one.
+/// The move that a line asks for, if it is one.
 fn move_of(asked: &str) -> Option<Move> {
     // The check wants each type inside a step to be named where one is moved.
     let _inside: Option<(Kind, SubmittedKind, Ending, Serial, SubId, WorkerId)> = None;
@@ -131,7 +132,7 @@ fn of_run_epochs(alloc: Global, mode: Mode, limits: Limits, moves: &[Move]) -> R
     Ok(text)
 }
 
-// The heading, and the steps among the lines.
+/// The heading, and the steps among the lines.
 fn script_of(alloc: Global, head: &str, lines: &[Line<'_>]) -> Result<String> {
     let mut text = String::new(alloc);
     writeln!(text, "{head}")?;

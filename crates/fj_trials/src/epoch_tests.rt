@@ -2,7 +2,7 @@ use fj_machine::Machine;
 use fj_model::{Ending, Limits, Mode, Refusal, Serial, Step, SubId, SubmittedKind, WorkerId};
 use std::test::*;
 
-// A machine with an open completer and a gone task, both kept: 7 events, 1 open, 1 gone.
+/// A machine with an open completer and a gone task, both kept: 7 events, 1 open, 1 gone.
 fn made(rt: &HostRuntime) -> Result<Machine, Fail> {
     let mut machine = Machine::new(rt.alloc(), Mode::Async, Limits::new(1, 1, 4, 7)?)?;
     let w = WorkerId(0);
@@ -31,7 +31,7 @@ fn made(rt: &HostRuntime) -> Result<Machine, Fail> {
     Ok(machine)
 }
 
-// Whether it is as it was made.
+/// Whether it is as it was made.
 fn is_as_made(machine: &Machine) -> bool {
     machine.history().len() == 7
         && machine.gone() == [Serial(1)].as_slice()
@@ -39,7 +39,7 @@ fn is_as_made(machine: &Machine) -> bool {
         && machine.epoch() == 0
 }
 
-// `tests/refused_memory/seal.sh` refuses each allocation of this test in turn, and reads what it prints.
+/// `tests/refused_memory/seal.sh` refuses each allocation of this test in turn, and reads what it prints.
 #[test]
 fn a_seal_without_memory_changes_nothing(rt: HostRuntime) -> Result<(), Fail> {
     let mut machine = made(&rt)?;

@@ -9,7 +9,7 @@ const SEEDS: u64 = 8;
 
 const TURNS: u32 = 1000;
 
-// A machine whose one worker makes triggers and cancels them again, and the numbers of those that it did not cancel, in order.
+/// A machine whose one worker makes triggers and cancels them again, and the numbers of those that it did not cancel, in order.
 #[derive(Drop)]
 struct Triggers {
     machine: Machine,
@@ -58,7 +58,7 @@ impl Triggers {
         }
     }
 
-    // Makes one more or cancels one: the first, the last or any.
+    /// Makes one more or cancels one: the first, the last or any.
     fn turn(&mut self) -> Result<(), Fail> {
         let word = self.rng.next_word();
         let any = (word / 8) as usize;
@@ -81,7 +81,7 @@ impl Triggers {
     }
 }
 
-// The first turn after which the open tasks were not those that were not canceled, and how many were.
+/// The first turn after which the open tasks were not those that were not canceled, and how many were.
 fn first_wrong(alloc: Global, seed: u64) -> Result<(Option<u32>, u32), Fail> {
     let mut triggers = Triggers::new(alloc, seed)?;
     for i in 0..TURNS {

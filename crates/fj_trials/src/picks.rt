@@ -1,21 +1,22 @@
+//! Steps picked at random.
 use fj_model::{Ending, Kind, Serial, Step, SubId, SubmittedKind, WorkerId};
 use rand_core::utils::NextWord;
 use rand_pcg::Pcg32;
 
-// Four workers and three submitters.
+/// Four workers and three submitters.
 const WORKERS: u32 = 4;
 
 const SUBMITTERS: u32 = 3;
 
-// A number below `n`, or 0 where there is none.
+/// A number below `n`, or 0 where there is none.
 fn below(rng: &mut Pcg32, n: u32) -> u32 {
     rng.next_word().checked_rem(n).unwrap_or(0)
 }
 
-// How far back a task is picked.
+/// How far back a task is picked.
 const RECENT: u32 = 200;
 
-// One of the tasks accepted last, mostly, and now and then the number after them.
+/// One of the tasks accepted last, mostly, and now and then the number after them.
 fn task(rng: &mut Pcg32, accepted: u32) -> Serial {
     let back = below(rng, accepted.min(RECENT).saturating_add(1));
     Serial(u64::from(accepted.saturating_sub(back)))

@@ -9,7 +9,7 @@ const SEEDS: u64 = 16;
 
 const STEPS: u32 = 1000;
 
-// What the steps of the trials did, so that it is seen if nothing happens.
+/// What the steps of the trials did, so that it is seen if nothing happens.
 #[derive(Clone, Copy)]
 struct Tally {
     accepted: u32,
@@ -38,7 +38,7 @@ impl Tally {
         self.released = self.released.saturating_add(more.released);
     }
 
-    // Whether each of them was done at least so often.
+    /// Whether each of them was done at least so often.
     fn is_each(&self, least: u32) -> bool {
         let all = [
             self.accepted,
@@ -62,7 +62,7 @@ impl Tally {
     }
 }
 
-// The tasks in all places, one list after another.
+/// The tasks in all places, one list after another.
 pub fn placed(alloc: Global, machine: &Machine) -> Result<Vec<u64>, Fail> {
     let mut all = Vec::new(alloc);
     for s in 0..3 {
@@ -88,13 +88,13 @@ fn extend(all: &mut Vec<u64>, more: &[Serial]) -> Result<(), Fail> {
     Ok(())
 }
 
-// Whether these are the numbers of so many accepted tasks, each once.
+/// Whether these are the numbers of so many accepted tasks, each once.
 pub fn are_each_once(mut numbers: Vec<u64>, accepted: u32) -> bool {
     numbers.sort_unstable();
     numbers.iter().copied().eq(0..u64::from(accepted))
 }
 
-// A trial of so many steps of one seed, with as much of a history as they may need.
+/// A trial of so many steps of one seed, with as much of a history as they may need.
 #[derive(Drop)]
 struct Trial {
     machine: Machine,
@@ -112,7 +112,7 @@ impl Trial {
         })
     }
 
-    // Makes a step, and tells whether each accepted task is in one place after it.
+    /// Makes a step, and tells whether each accepted task is in one place after it.
     fn step(&mut self, alloc: Global) -> Result<bool, Fail> {
         let asked = step(&mut self.rng, self.tally.accepted);
         let said = self.machine.step(&asked);
@@ -124,7 +124,7 @@ impl Trial {
     }
 }
 
-// The number of the first step after which some task is not in one place, and what was done.
+/// The number of the first step after which some task is not in one place, and what was done.
 fn first_wrong(alloc: Global, mode: Mode, seed: u64) -> Result<(Option<u32>, Tally), Fail> {
     let mut trial = Trial::new(alloc, mode, seed)?;
     for i in 0..STEPS {

@@ -10,12 +10,12 @@ use std::test::Fail;
 
 const SEEDS: u64 = 8;
 
-// Over all seeds 1,000 epochs.
+/// Over all seeds 1,000 epochs.
 const EPOCHS: u64 = 125;
 
 const STEPS: u32 = 40;
 
-// A machine that is sealed again and again, with what its seals handed out, joined.
+/// A machine that is sealed again and again, with what its seals handed out, joined.
 #[derive(Drop)]
 struct Epochs {
     machine: Machine,
@@ -90,7 +90,7 @@ impl Epochs {
         said
     }
 
-    // Some random steps. A machine that is shut is never sealed again, so it is not shut.
+    /// Some random steps. A machine that is shut is never sealed again, so it is not shut.
     fn act(&mut self) {
         for _ in 0..STEPS {
             let asked = step(&mut self.rng, self.accepted);
@@ -100,7 +100,7 @@ impl Epochs {
         }
     }
 
-    // All that was begun is brought to its end.
+    /// All that was begun is brought to its end.
     fn finish(&mut self) {
         for _ in 0..200 {
             if self.make(&Step::IsQuiescent) == Said::Yes {
@@ -117,7 +117,7 @@ impl Epochs {
         }
     }
 
-    // One open task in two is cancelled, so that there is room for others.
+    /// One open task in two is cancelled, so that there is room for others.
     fn thin_out(&mut self, alloc: Global) -> Result<(), Fail> {
         let open: Vec<Serial> = self.machine.open().iter().copied().collect(alloc)?;
         for t in open.iter().copied() {
@@ -128,7 +128,7 @@ impl Epochs {
         Ok(())
     }
 
-    // What is gone is released, the youngest first, which are no parents of older ones. What may not go yet is tried again later.
+    /// What is gone is released, the youngest first, which are no parents of older ones. What may not go yet is tried again later.
     fn release(&mut self, alloc: Global) -> Result<(), Fail> {
         self.kept.extend_from_slice(self.machine.gone())?;
         let kept = mem::replace(&mut self.kept, Vec::new(alloc));
@@ -140,7 +140,7 @@ impl Epochs {
         Ok(())
     }
 
-    // The machine is sealed: what it showed is what is handed out, and it goes on with an empty history and the open tasks that it had.
+    /// The machine is sealed: what it showed is what is handed out, and it goes on with an empty history and the open tasks that it had.
     fn seal(&mut self, alloc: Global) -> Result<bool, Fail> {
         let (events, gone) = (self.machine.history().len(), self.machine.gone().len());
         let (epoch, open) = (self.machine.epoch(), self.machine.open().len());
@@ -160,7 +160,7 @@ impl Epochs {
         )
     }
 
-    // Whether each accepted task is in one place, over all epochs.
+    /// Whether each accepted task is in one place, over all epochs.
     fn are_in_one_place(&self, alloc: Global) -> Result<bool, Fail> {
         let mut all = placed(alloc, &self.machine)?;
         all.extend_from_slice(self.gone.as_slice())?;
@@ -168,7 +168,7 @@ impl Epochs {
     }
 }
 
-// The first epoch at whose end something is wrong, and what was counted.
+/// The first epoch at whose end something is wrong, and what was counted.
 fn first_wrong(alloc: Global, mode: Mode, seed: u64) -> Result<(Option<u64>, Epochs), Fail> {
     let mut epochs = Epochs::new(alloc, mode, seed)?;
     for epoch in 0..EPOCHS {

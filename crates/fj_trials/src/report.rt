@@ -4,14 +4,14 @@ use anyhow::Result;
 use std::alloc::Global;
 use std::fmt::Write;
 
-// How many scripts a text has, and a line for each that did not give what it must.
+/// How many scripts a text has, and a line for each that did not give what it must.
 #[derive(Drop)]
 pub struct Report {
     pub scripts: usize,
     pub mismatches: String,
 }
 
-// Runs each script of a text, once for each of its headings, in each way. A text without scripts is a mismatch too.
+/// Runs each script of a text, once for each of its headings, in each way. A text without scripts is a mismatch too.
 pub fn report_on(alloc: Global, file: &str, text: &str, form: Form) -> Result<Report> {
     let all = scripts(alloc, text, form)?;
     let mut mismatches = String::new(alloc);
@@ -30,7 +30,7 @@ pub fn report_on(alloc: Global, file: &str, text: &str, form: Form) -> Result<Re
     })
 }
 
-// The place of the first answer of a script that is another one, and what it is; empty where there is none.
+/// The place of the first answer of a script that is another one, and what it is; empty where there is none.
 fn first_mismatch(alloc: Global, script: &Script<'_>) -> Result<String> {
     if script.lines.is_empty() {
         return Ok(format!(in alloc; "{}: {}: no steps", script.number, script.title)?);
@@ -51,7 +51,7 @@ fn first_mismatch(alloc: Global, script: &Script<'_>) -> Result<String> {
     Ok(String::new(alloc))
 }
 
-// The same of one way, with one of the headings.
+/// The same of one way, with one of the headings.
 pub fn mismatch(alloc: Global, script: &Script<'_>, k: usize, way: Way) -> Result<String> {
     let head = alternative(script.headings, k);
     let Some((mode, limits)) = heading(head) else {

@@ -4,7 +4,7 @@ use crate::script::{Form, scripts};
 use std::alloc::Global;
 use std::test::Fail;
 
-// How many scripts are told of a text, and what does not fit.
+/// How many scripts are told of a text, and what does not fit.
 fn told(alloc: Global, text: &str, form: Form) -> Result<String, Fail> {
     let report = report_on(alloc, "file", text, form)?;
     Ok(format!(in alloc; "{} {}", report.scripts, report.mismatches)?)
@@ -29,7 +29,7 @@ fn good_scripts_are_counted(rt: HostRuntime) -> Result<(), Fail> {
     Ok(())
 }
 
-// Texts in which something does not fit, and what is told of them.
+/// Texts in which something does not fit, and what is told of them.
 const FAULTY: [(&str, &str); 8] = [
     ("# Nothing", "0 file: no script\n"),
     (
@@ -67,7 +67,7 @@ fn what_does_not_fit_is_told_with_its_place(rt: HostRuntime) -> Result<(), Fail>
     Ok(())
 }
 
-// The second heading and the last one have room for one event alone.
+/// The second heading and the last one have room for one event alone.
 const ALTERNATIVES: &str = "async 1 1 1 2 or async 1 1 1 1 or joining 1 1 1 1
 submit 0 > task 0
 poll 0 0 > run 0 or refused 3

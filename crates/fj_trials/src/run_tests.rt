@@ -14,7 +14,7 @@ const fn poll(w: u32, r: u32) -> Step {
     Step::Poll { w: WorkerId(w), r }
 }
 
-// The replies of a run, and how many tasks are gone at its end.
+/// The replies of a run, and how many tasks are gone at its end.
 fn ran(alloc: Global, steps: &[Step]) -> Result<(Vec<Said>, usize), Fail> {
     let limits = Limits::new(1, 1, 1, 4)?;
     let (machine, replies) = run(alloc, Mode::Async, limits, steps)?;
@@ -33,14 +33,14 @@ fn a_run_gives_the_replies_and_the_machine(rt: HostRuntime) -> Result<(), Fail> 
     Ok(())
 }
 
-// The last submitter hands in as many tasks as there may be.
+/// The last submitter hands in as many tasks as there may be.
 fn fill(machine: &mut Machine) {
     for _ in 0..4096 {
         machine.step(&submit(31));
     }
 }
 
-// The words of a script's largest limits, and a scan word that must not wrap.
+/// The words of a script's largest limits, and a scan word that must not wrap.
 #[test]
 fn the_largest_limits_hold(rt: HostRuntime) -> Result<(), Fail> {
     let alloc = rt.alloc();

@@ -1,12 +1,13 @@
+//! What a machine shows, as the lines of a script ask for it.
 use anyhow::Result;
 use fj_machine::Machine;
 use fj_model::{Limits, Owner, Sealed, Serial, SubId, SubmittedKind, WorkerId};
 use std::alloc::Global;
 use std::fmt::Write;
 
-// What a machine shows, where a line asks for it: the lists of tasks, the oldest first; `hand W`, the completer whose action a worker
-// has in hand; `parent T`, a task's parent; `limits`; `submission S`, what a plain task of a submitter would be refused with; `epoch`,
-// the number of seals; `events N`, the events of the present history but for the first N.
+/// What a machine shows, where a line asks for it: the lists of tasks, the oldest first; `hand W`, the completer whose action a worker
+/// has in hand; `parent T`, a task's parent; `limits`; `submission S`, what a plain task of a submitter would be refused with; `epoch`,
+/// the number of seals; `events N`, the events of the present history but for the first N.
 pub fn shown(alloc: Global, machine: &Machine, asked: &str) -> Result<String> {
     let (word, number) = asked.split_once(' ').unwrap_or((asked, "0"));
     let Ok(number) = number.parse::<u32>() else {
@@ -29,13 +30,13 @@ pub fn shown(alloc: Global, machine: &Machine, asked: &str) -> Result<String> {
     Ok(tasks)
 }
 
-// How many events a part has that was sealed, and its gone tasks.
+/// How many events a part has that was sealed, and its gone tasks.
 pub fn part(alloc: Global, sealed: &Sealed) -> Result<String> {
     let gone = numbers(alloc, sealed.gone.as_slice())?;
     Ok(format!(in alloc; "sealed {} events, gone {gone}", sealed.events.len())?)
 }
 
-// Asked of a worker that is not there, a machine answers nothing.
+/// Asked of a worker that is not there, a machine answers nothing.
 fn hand(alloc: Global, machine: &Machine, worker: u32) -> Result<String> {
     if worker < machine.limits().workers() {
         maybe(alloc, machine.hook(WorkerId(worker)))
@@ -44,7 +45,7 @@ fn hand(alloc: Global, machine: &Machine, worker: u32) -> Result<String> {
     }
 }
 
-// A task's number, or `none`.
+/// A task's number, or `none`.
 fn maybe(alloc: Global, task: Option<Serial>) -> Result<String> {
     match task {
         Some(t) => Ok(format!(in alloc; "{}", t.0)?),
@@ -74,7 +75,7 @@ fn queue(alloc: Global, machine: &Machine, owner: Owner) -> Result<String> {
     numbers(alloc, tasks.as_slice())
 }
 
-// The numbers of tasks.
+/// The numbers of tasks.
 fn numbers(alloc: Global, tasks: &[Serial]) -> Result<String> {
     let mut text = String::new(alloc);
     for task in tasks {
@@ -83,7 +84,7 @@ fn numbers(alloc: Global, tasks: &[Serial]) -> Result<String> {
     list(alloc, &text)
 }
 
-// The events but for the first ones, as they are printed by `{:?}`.
+/// The events but for the first ones, as they are printed by `{:?}`.
 fn events(alloc: Global, machine: &Machine, first: u32) -> Result<String> {
     let mut text = String::new(alloc);
     for event in machine.history().iter().skip(first as usize) {
@@ -92,7 +93,7 @@ fn events(alloc: Global, machine: &Machine, first: u32) -> Result<String> {
     list(alloc, &text)
 }
 
-// A list without the space at its end, or `none`.
+/// A list without the space at its end, or `none`.
 fn list(alloc: Global, text: &str) -> Result<String> {
     let words = if text.is_empty() {
         "none"

@@ -21,7 +21,7 @@ fn submit_each(rt: &impl Wait, machine: &Mutex<Machine>, s: u32) {
     }
 }
 
-// Polls, and ends what it was handed.
+/// Polls, and ends what it was handed.
 fn turn(rt: &impl Wait, machine: &Mutex<Machine>, r: u32) -> Said {
     let w = WorkerId(0);
     let said = machine.lock(rt).step(&Step::Poll { w, r });
@@ -40,7 +40,7 @@ fn work(rt: &impl Wait, machine: &Mutex<Machine>) {
     }
 }
 
-// The tasks that were accepted into the owner's queue, in order.
+/// The tasks that were accepted into the owner's queue, in order.
 fn pushed(alloc: Global, history: &[Event], owner: Owner) -> Result<Vec<Serial>, AllocError> {
     let mut tasks = Vec::new(alloc);
     for event in history {
@@ -53,7 +53,7 @@ fn pushed(alloc: Global, history: &[Event], owner: Owner) -> Result<Vec<Serial>,
     Ok(tasks)
 }
 
-// Those of the tasks that left their queue, in order.
+/// Those of the tasks that left their queue, in order.
 fn left(alloc: Global, history: &[Event], tasks: &[Serial]) -> Result<Vec<Serial>, AllocError> {
     let mut taken = Vec::new(alloc);
     for event in history {
@@ -80,7 +80,7 @@ fn share<R: Threads + Wait + Sync>(rt: &R, machine: &Mutex<Machine>) {
     );
 }
 
-// The worker takes what is left.
+/// The worker takes what is left.
 fn finish(rt: &impl Wait, machine: &Mutex<Machine>) {
     for r in 0..=2 * EACH as u32 {
         if turn(rt, machine, r) == Said::None {
@@ -89,7 +89,7 @@ fn finish(rt: &impl Wait, machine: &Mutex<Machine>) {
     }
 }
 
-// How many tasks were pushed into the queue of a submitter, and whether all of them left in the order pushed.
+/// How many tasks were pushed into the queue of a submitter, and whether all of them left in the order pushed.
 fn flow(alloc: Global, machine: &Machine, s: u32) -> Result<(usize, bool), AllocError> {
     let owner = Owner::Sub(SubId(s));
     let tasks = pushed(alloc, machine.history(), owner)?;
@@ -98,7 +98,7 @@ fn flow(alloc: Global, machine: &Machine, s: u32) -> Result<(usize, bool), Alloc
     Ok((tasks.len(), in_order && machine.queue(owner).next() == None))
 }
 
-// The machine that two submitters and a worker have shared behind a lock, which each step takes once.
+/// The machine that two submitters and a worker have shared behind a lock, which each step takes once.
 fn shared<R: Threads + Wait + Sync>(rt: &R, alloc: Global) -> Result<Machine, Refusal> {
     let limits = Limits::new(1, 2, 4096, 4096)?;
     let machine = Mutex::new(Machine::new(alloc, Mode::Async, limits)?);
