@@ -1,0 +1,2 @@
+-- bookings, and which task stands under a ticket
+pub mod Booked
