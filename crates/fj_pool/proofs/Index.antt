@@ -5,25 +5,11 @@ use Rattle.std.specs.List.{find}
 use Rattle.std.proofs.lemmas.Bool.{eq-eqb, ne_eqb}
 use Rattle.std.proofs.lemmas.List.Folds.{find-append}
 use Rattle.std.proofs.lemmas.Option.{slice_get-get_or}
+use Rattle.fj_pool.proofs.SetAt.{SetAt, Here, There, set_at}
 use Rattle.fj_pool.specs.declared.booking.Booking.{Booking}
 use Rattle.fj_pool.specs.Booked.{IsIndex, is_under, booked_under, mark_if}
 
 -- ---- places of a list
-
-data SetAt {X : Type 0} (xs : List X) (i k : ℕ) (x y : X) : Type 0 where
-  Here : k ≡ i → y ≡ x → SetAt xs i k x y
-  There : (k ≡ i → ⊥) → slice_get xs k ≡ Some y → SetAt xs i k x y
-
-set_at : {X : Type 0} (xs : List X) (i k : ℕ) (x y : X) → slice_get (slice_set xs i x) k ≡ Some y → SetAt xs i k x y
-set_at [] i k x y is = absurd (let no : ◌≡◌ {A = Option _} None (Some y) = is in cc)
-set_at (z ∷ xs) zero zero x y is = Here refl (let same : x ≡ y = cc in sym same)
-set_at (z ∷ xs) zero (suc k) x y is = There (λ same. absurd (omega (arith, same))) is
-set_at (z ∷ xs) (suc i) zero x y is = There (λ same. absurd (omega (arith, same))) is
-set_at (z ∷ xs) (suc i) (suc k) x y is = go (set_at xs i k x y is)
-  where
-    go : SetAt xs i k x y → SetAt (z ∷ xs) (suc i) (suc k) x y
-    go (Here at same) = Here (ap suc at) same
-    go (There other at) = There (λ same. other (omega (arith, same))) at
 
 front_at : {X : Type 0} (xs ys : List X) (k : ℕ) (x : X) → slice_get xs k ≡ Some x → slice_get (xs ++ ys) k ≡ Some x
 front_at [] ys k x is = absurd (let no : ◌≡◌ {A = Option _} None (Some x) = is in cc)

@@ -1,2 +1,8 @@
+-- an entry of a list after one was set
+mod SetAt
 -- the table of first bookings
 mod Index
+-- the bookings beside the lanes
+mod Lanes
+-- where the closing number is reached
+mod Reached

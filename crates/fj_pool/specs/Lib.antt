@@ -1,2 +1,4 @@
--- bookings, and which task stands under a ticket
+-- what was taken in, and which task stands under a ticket
 pub mod Booked
+-- the closing number
+pub mod Closings

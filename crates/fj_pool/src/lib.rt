@@ -1,8 +1,10 @@
-//! The core of a pool: the bookings.
+//! The core of a pool: the bookings, and the closing number.
 #![tactic(auto)]
 
 mod booking;
 mod bookings;
+mod closing;
 
 pub use booking::Booking;
 pub use bookings::Bookings;
+pub use closing::Closing;
