@@ -1,7 +1,8 @@
 -- What was taken in, lane by lane.
-use Rattle.std.proofs.Common.{ℕ, ◌≡◌, ◌+◌, ◌≤◌, ◌<◌, List, [], ◌∷◌, ◌++◌, map, length, Option, Some, None, refl, ap, sym, ◌∙◌, subst, arith, get_or, length-append, zero, suc}
+use Rattle.std.proofs.Common.{ℕ, ◌≡◌, ◌+◌, ◌*◌, ◌≤◌, ◌<◌, List, [], ◌∷◌, ◌++◌, map, length, Option, Some, None, refl, ap, sym, ◌∙◌, subst, arith, get_or, length-append, zero, suc}
 use Rattle.std.specs.Prelude.{slice_get, slice_set, All, ◌==◌}
 use Rattle.std.specs.List.{sum_by}
+use Rattle.std.proofs.Math.Nat.{suc-mul, zero-mul}
 use Rattle.std.proofs.lemmas.Bool.{eq-eqb, ne_eqb}
 use Rattle.std.proofs.lemmas.List.{length-set, append-nil, map-append}
 use Rattle.std.proofs.lemmas.List.Sums.{sum_by-set, sum_by-cons}
@@ -125,3 +126,32 @@ module _ {B : Type 0} where
 
   pub same_capacity : (lanes : List (DrainState B)) (s room : ℕ) (d e : DrainState B) → slice_get lanes s ≡ Some d → e.capacity ≡ d.capacity → sum_by (λ d. d.capacity) lanes ≤ room → sum_by (λ d. d.capacity) (slice_set lanes s e) ≤ room
   same_capacity lanes s room d e at capacity enough = omega (arith, enough, set_sum (λ d. d.capacity) lanes s d e at, capacity)
+
+  -- ---- before anything was taken in
+
+  is_empty : (lanes : List (DrainState B)) (s : ℕ) (d : DrainState B) → All (λ d. d.drained ≡ []) lanes → slice_get lanes s ≡ Some d → d.drained ≡ []
+  is_empty lanes s d all at = subst (λ (d : DrainState B). d.drained ≡ []) (get_or_from_slice_get lanes s d d at) (all s d (slice_get_within lanes s d at))
+
+  none_drained : (lanes : List (DrainState B)) → All (λ d. d.drained ≡ []) lanes → sum_by (λ d. length d.drained) lanes ≡ 0
+  none_drained [] all = refl
+  none_drained (d ∷ lanes) all =
+      let first : d.drained ≡ [] = all zero d (omega arith) in
+      let left : sum_by (λ d. length d.drained) (d ∷ lanes) ≡ length d.drained + sum_by (λ d. length d.drained) lanes = sum_by-cons (λ d. length d.drained) d lanes in
+      omega (arith, left, ap (λ ps. length ps) first, none_drained lanes (λ k e within. all (suc k) e (omega (arith, within))))
+
+  pub new_booked : (past : Past) (lanes : List (DrainState B)) → past.events ≡ [] → length lanes ≡ past.pool.limits.submitters → All (λ d. d.drained ≡ []) lanes → AreBooked past lanes []
+  unfolding pushed
+  new_booked past lanes none count all = record {
+    lane_each = count;
+    each = λ s d at. record { tickets = ap (map (λ p. p.ticket)) (sym (is_empty lanes s d all at)); tasks = ap (λ h. pushed h (Sub s)) (sym none) };
+    all = sym (none_drained lanes all);
+    within = λ k d within. let gone : length (get_or lanes k d).drained ≡ 0 = ap (λ ps. length ps) (all k d within) in omega (arith, gone); }
+
+  -- lanes of one capacity
+  pub equal_capacities : (capacity : ℕ) (lanes : List (DrainState B)) → All (λ d. d.capacity ≡ capacity) lanes → sum_by (λ d. d.capacity) lanes ≡ length lanes * capacity
+  equal_capacities capacity [] all = sym (zero-mul capacity)
+  equal_capacities capacity (d ∷ lanes) all =
+      let first : d.capacity ≡ capacity = all zero d (omega arith) in
+      let left : sum_by (λ d. d.capacity) (d ∷ lanes) ≡ d.capacity + sum_by (λ d. d.capacity) lanes = sum_by-cons (λ d. d.capacity) d lanes in
+      let rest : sum_by (λ d. d.capacity) lanes ≡ length lanes * capacity = equal_capacities capacity lanes (λ k e within. all (suc k) e (omega (arith, within))) in
+      omega (arith, left, first, rest, suc-mul (length lanes) capacity)
