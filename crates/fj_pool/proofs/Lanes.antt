@@ -63,7 +63,8 @@ module _ {B : Type 0} where
     lane_each = is.lane_each ∙ ap (λ p. p.limits.submitters) (sym none.pool);
     each = λ s d at. let was = is.each s d at in record { tickets = was.tickets; tasks = was.tasks ∙ sym (none.pushes s) };
     all = is.all;
-    within = is.within; }
+    within = is.within;
+  }
 
   lane_within : (lanes : List (DrainState B)) (s : ℕ) (d : DrainState B) → All (λ d. length d.drained ≤ d.capacity) lanes → slice_get lanes s ≡ Some d → length d.drained ≤ d.capacity
   lane_within lanes s d all at = subst (λ (d : DrainState B). length d.drained ≤ d.capacity) (get_or_from_slice_get lanes s d d at) (all s d (slice_get_within lanes s d at))
@@ -75,7 +76,8 @@ module _ {B : Type 0} where
     lane_each = length-set lanes s e ∙ is.lane_each;
     each = λ u x there. here_or_there u x (set_at lanes s u e x there);
     all = is.all ∙ omega (arith, set_sum (λ d. length d.drained) lanes s d e at, ap (λ ps. length ps) drained);
-    within = All-set (λ d. length d.drained ≤ d.capacity) lanes s e (omega (arith, ap (λ ps. length ps) drained, capacity, lane_within lanes s d is.within at)) is.within; }
+    within = All-set (λ d. length d.drained ≤ d.capacity) lanes s e (omega (arith, ap (λ ps. length ps) drained, capacity, lane_within lanes s d is.within at)) is.within;
+  }
     where
       here_or_there : (u : ℕ) (x : DrainState B) → SetAt lanes s u e x → IsBooked past.events bookings u x
       here_or_there u x (There other there) = is.each u x there
@@ -83,7 +85,8 @@ module _ {B : Type 0} where
           let was = is.each s d at in
           record {
             tickets = rw (here, same) (was.tickets ∙ ap (map (λ p. p.ticket)) (sym drained));
-            tasks = rw here was.tasks; }
+            tasks = rw here was.tasks;
+          }
 
   -- a parcel was taken in
   pub took_booked : (past past' : Past) (lanes : List (DrainState B)) (bookings : List Booking) (s t : ℕ) (k : Kind) (d e : DrainState B) (p : Parcel B)
@@ -93,7 +96,8 @@ module _ {B : Type 0} where
     lane_each = length-set lanes s e ∙ is.lane_each ∙ ap (λ p. p.limits.submitters) (sym none.pool);
     each = λ u x there. here_or_there u x (set_at lanes s u e x there);
     all = one_more ∙ omega (arith, is.all, set_sum (λ d. length d.drained) lanes s d e at, ap (λ ps. length ps) drained, length-append d.drained (p ∷ []));
-    within = All-set (λ d. length d.drained ≤ d.capacity) lanes s e few is.within; }
+    within = All-set (λ d. length d.drained ≤ d.capacity) lanes s e few is.within;
+  }
     where
       b : Booking
       b = record { ticket = p.ticket; serial = t; by = s }
@@ -106,23 +110,33 @@ module _ {B : Type 0} where
           let was = is.each u x there in
           record {
             tickets = ap (map (λ b. b.ticket)) (booked_same bookings b u (λ same. other (sym same))) ∙ was.tickets;
-            tasks = ap (map (λ b. b.serial)) (booked_same bookings b u (λ same. other (sym same))) ∙ was.tasks ∙ sym (none.pushes u ∙ pushed_there past.events t s u k other); }
+            tasks = ap (map (λ b. b.serial)) (booked_same bookings b u (λ same. other (sym same))) ∙ was.tasks ∙ sym (none.pushes u ∙ pushed_there past.events t s u k other);
+          }
       here_or_there u x (Here here same) =
           let was = is.each s d at in
           rw (here, same) (record {
             tickets = ap (map (λ b. b.ticket)) (booked_more bookings b s refl) ∙ map-append (λ b. b.ticket) (booked_by bookings s) (b ∷ []) ∙ ap (λ ns. ns ++ p.ticket ∷ []) was.tickets
-              ∙ sym (ap (map (λ p. p.ticket)) drained ∙ map-append (λ p. p.ticket) d.drained (p ∷ []));
+                ∙ sym (ap (map (λ p. p.ticket)) drained ∙ map-append (λ p. p.ticket) d.drained (p ∷ []));
             tasks = ap (map (λ b. b.serial)) (booked_more bookings b s refl) ∙ map-append (λ b. b.serial) (booked_by bookings s) (b ∷ []) ∙ ap (λ ns. ns ++ t ∷ []) was.tasks
-              ∙ sym (none.pushes s ∙ pushed_here past.events t s k); })
+                ∙ sym (none.pushes s ∙ pushed_here past.events t s k);
+          })
 
   -- there is room for one booking more
   pub booking_room : (past : Past) (lanes : List (DrainState B)) (bookings : List Booking) (s room : ℕ) (d e : DrainState B) (p : Parcel B)
       → slice_get lanes s ≡ Some d → e.drained ≡ d.drained ++ p ∷ [] → e.capacity ≡ d.capacity → length e.drained ≤ e.capacity → sum_by (λ d. d.capacity) lanes ≤ room → AreBooked past lanes bookings
       → length bookings < room
   booking_room past lanes bookings s room d e p at drained capacity few enough is =
-      omega (arith, is.all, enough, set_sum (λ d. length d.drained) lanes s d e at, ap (λ ps. length ps) drained, length-append d.drained (p ∷ []),
-        set_sum (λ d. d.capacity) lanes s d e at, capacity,
-        sum_within (λ d. length d.drained) (λ d. d.capacity) (slice_set lanes s e) (All-set (λ d. length d.drained ≤ d.capacity) lanes s e few is.within))
+      omega (
+        arith,
+        is.all,
+        enough,
+        set_sum (λ d. length d.drained) lanes s d e at,
+        ap (λ ps. length ps) drained,
+        length-append d.drained (p ∷ []),
+        set_sum (λ d. d.capacity) lanes s d e at,
+        capacity,
+        sum_within (λ d. length d.drained) (λ d. d.capacity) (slice_set lanes s e) (All-set (λ d. length d.drained ≤ d.capacity) lanes s e few is.within),
+      )
 
   pub same_capacity : (lanes : List (DrainState B)) (s room : ℕ) (d e : DrainState B) → slice_get lanes s ≡ Some d → e.capacity ≡ d.capacity → sum_by (λ d. d.capacity) lanes ≤ room → sum_by (λ d. d.capacity) (slice_set lanes s e) ≤ room
   same_capacity lanes s room d e at capacity enough = omega (arith, enough, set_sum (λ d. d.capacity) lanes s d e at, capacity)
@@ -145,7 +159,8 @@ module _ {B : Type 0} where
     lane_each = count;
     each = λ s d at. record { tickets = ap (map (λ p. p.ticket)) (sym (is_empty lanes s d all at)); tasks = ap (λ h. pushed h (Sub s)) (sym none) };
     all = sym (none_drained lanes all);
-    within = λ k d within. let gone : length (get_or lanes k d).drained ≡ 0 = ap (λ ps. length ps) (all k d within) in omega (arith, gone); }
+    within = λ k d within. let gone : length (get_or lanes k d).drained ≡ 0 = ap (λ ps. length ps) (all k d within) in omega (arith, gone);
+  }
 
   -- lanes of one capacity
   pub equal_capacities : (capacity : ℕ) (lanes : List (DrainState B)) → All (λ d. d.capacity ≡ capacity) lanes → sum_by (λ d. d.capacity) lanes ≡ length lanes * capacity

@@ -7,8 +7,8 @@ use Rattle.fj_pool.specs.declared.closing.Closing.{Closing}
 use Rattle.fj_pool.specs.Closings.{IsClosing, IsReached, first_set, is_due, is_over}
 
 pub due_there : (number : Option ℕ) (k : ℕ) → IsReached number k → is_due number k ≡ true
-due_there None k (n , is , few) = absurd (let no : ◌≡◌ {A = Option ℕ} None (Some n) = is in cc)
-due_there (Some m) k (n , is , few) = let same : m ≡ n = cc in le-leb m k (omega (arith, same, few))
+due_there None k (n, is, few) = absurd (let no : ◌≡◌ {A = Option ℕ} None (Some n) = is in cc)
+due_there (Some m) k (n, is, few) = let same : m ≡ n = cc in le-leb m k (omega (arith, same, few))
 
 pub due_reached : (number : Option ℕ) (k : ℕ) → is_due number k ≡ true → IsReached number k
 due_reached None k is = absurd (let no : false ≡ true = is in cc)

@@ -1,4 +1,4 @@
-ghost use Rattle.std.specs.Prelude.{◌≡◌, ◌<◌, ◌∷◌, ◌++◌, [], length, IfOk, slice_get};
+ghost use Rattle.std.specs.Prelude.{◌≡◌, ◌<◌, ◌∷◌, ◌++◌, [], length, IfOk, IsTrue, ◌↔◌, slice_get};
 ghost use Rattle.fj_pool.specs.Booked.{booked_under, marked};
 
 use crate::booking::Booking;
@@ -44,6 +44,13 @@ impl Bookings {
         ensures { result ≡ length self.now.bookings }
     {
         self.list.len()
+    }
+
+    /// Whether there is room for one more.
+    pub fn has_room(&self) -> bool
+        ensures { IsTrue result ↔ (length self.now.bookings < self.now.room) }
+    {
+        self.list.len() < self.room as usize
     }
 
     /// One more, at the end. Precondition: there is room.

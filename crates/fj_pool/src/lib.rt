@@ -8,3 +8,6 @@ mod closing;
 pub use booking::Booking;
 pub use bookings::Bookings;
 pub use closing::Closing;
+
+#[cfg(test)]
+mod tests;

@@ -1,5 +1,3 @@
-use Rattle.fj_pool.proofs.Lanes.{took_booked}
-use Rattle.fj_pool.proofs.Reached.{due_there}
 use Rattle.std.proofs.Common.{rules, ◌∙◌, refl}
 use Rattle.std.specs.Prelude.{slice_get}
 use Rattle.fj_pool.proofs.Index.{more_index}
