@@ -16,3 +16,7 @@ pub mod NodeLines
 pub mod TreeBytes
 -- Bytes that are read in parts.
 pub mod Inputs
+-- The values of the nodes of a tree.
+pub mod TreeValues
+-- The sums over the children of each node, the last node first.
+pub mod TreeSums

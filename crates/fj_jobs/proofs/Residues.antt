@@ -24,7 +24,7 @@ first_or_later a n y in_range = elim (cases_lt a y) [
   | inr le ↦ inl (let low = in_range.0 in omega arith)
 ]
 
-same_or_not : (m n : ℕ) → (m ≡ n) ⊎ (m ≢ n)
+pub same_or_not : (m n : ℕ) → (m ≡ n) ⊎ (m ≢ n)
 same_or_not m n = elim (cases_lt m n) [
   | inl lt ↦ inr (λ e. omega arith)
   | inr le ↦ elim (cases_lt n m) [
@@ -33,7 +33,7 @@ same_or_not m n = elim (cases_lt m n) [
   ]
 ]
 
-not-eqb : (m n : ℕ) → m ≢ n → (m == n) ≡ false
+pub not-eqb : (m n : ℕ) → m ≢ n → (m == n) ≡ false
 not-eqb m n other = grind (arith, nat_tests)
 
 -- ---- least values

@@ -1,4 +1,4 @@
-ghost use Rattle.std.specs.Prelude.{◌≡◌};
+ghost use Rattle.std.specs.Prelude.{◌≡◌, ◌<◌, length};
 
 use crate::node::Node;
 use std::marker::Model;
@@ -23,7 +23,8 @@ impl Model for Nodes {
 }
 
 impl Nodes {
-    ghost use Rattle.fj_jobs.specs.Trees.{IsTree};
+    ghost use Rattle.fj_jobs.specs.Trees.{IsNodeAt, IsTree};
+    ghost use Rattle.fj_jobs.specs.TreeValues.{node_at};
 
     /// The tree of these nodes.
     pub(crate) fn new(nodes: Vec<Node>) -> Nodes
@@ -39,5 +40,14 @@ impl Nodes {
         ensures tree { IsTree self.now }
     {
         self.nodes.as_slice()
+    }
+    /// The node with this number. Precondition: there is one.
+    pub fn node(&self, number: usize) -> Node
+        requires { number < length self.now }
+        ensures node { result ≡ node_at self.now number }
+        ensures good { IsNodeAt number result }
+    {
+        let nodes = self.as_slice();
+        nodes[number]
     }
 }

@@ -190,3 +190,20 @@ fn faults_are_shown(rt: HostRuntime) -> Result<(), Fail> {
     }
     Ok(())
 }
+
+/// The values of the nodes, each its own and k times that of its k-th child, modulo 1,000,000,007.
+#[test]
+fn values_of_nodes(rt: HostRuntime) -> Result<(), Fail> {
+    let trees: [(&[u8], &[u64]); 4] = [
+        (b"- 5\n0 2\n0 3\n1 4\n", &[17, 6, 3, 4]),
+        (b"- 1000000006\n0 1\n", &[0, 1]),
+        (b"- 7\n", &[7]),
+        (b"- 1\n0 10\n0 20\n0 30\n", &[141, 10, 20, 30]),
+    ];
+    for (text, values) in trees {
+        let tree = read(rt.alloc(), text)?;
+        assert_eq!(rt; tree_values(rt.alloc(), &tree)?.as_slice(), values);
+        assert_eq!(rt; tree.node(0).parent, None);
+    }
+    Ok(())
+}
