@@ -1,15 +1,14 @@
 -- The lines of nodes.
-use Rattle.std.proofs.Common.{ℕ, zero, suc, ◌≡◌, ◌≢◌, ◌+◌, ◌<◌, ◌≤◌, ◌^◌, ◌∙◌, List, [], ◌∷◌, ◌++◌, length, slice_index, Some, None, refl, sym, ap, arith, length-append, append_assoc}
+use Rattle.std.proofs.Common.{ℕ, zero, suc, ◌≡◌, ◌≢◌, ◌+◌, ◌<◌, ◌≤◌, ◌^◌, ◌∙◌, List, [], ◌∷◌, ◌++◌, Some, None, refl, sym, arith}
 use Rattle.std.specs.Prelude.{Option}
 use Rattle.std.specs.Fmt.{decimal}
-use Rattle.std.proofs.lemmas.List.{append_cancel_left}
 use Rattle.fj_model.specs.Lines.{parent_word}
 use Rattle.fj_model.specs.Words.{number_in}
 use Rattle.fj_model.proofs.Reading.NumberLaws.{number_text, number_found, number_again}
 use Rattle.fj_jobs.specs.declared.node.Node.{Node}
 use Rattle.fj_jobs.specs.Separators.{Without}
-use Rattle.fj_jobs.specs.Trees.{HasParentAt, IsNodeAt, IsNoNode, BeginsWithNoNode, node_line}
-use Rattle.fj_jobs.proofs.Splits.{split_same, split_behind, uncut, digits_without}
+use Rattle.fj_jobs.specs.Trees.{HasParentAt, IsNodeAt, IsNoNode, node_line}
+use Rattle.fj_jobs.proofs.Splits.{split_same, uncut, digits_without}
 
 pub number_without : (s n : ℕ) → s < 48 → n < 2 ^ 32 → Without s (decimal n)
 number_without s n low small = digits_without s (decimal n) low (number_text n small).digits

@@ -1,5 +1,5 @@
 -- Least values and first hits.
-use Rattle.std.proofs.Common.{ℕ, zero, suc, ◌≡◌, ◌≢◌, ◌+◌, ◌-◌, ◌⊎◌, inl, inr, ◌*◌, ◌<◌, ◌≤◌, ◌^◌, ◌∙◌, List, [], ◌∷◌, ◌++◌, Bool, true, false, sym, ap, refl, rules, arith, Option, Some, None}
+use Rattle.std.proofs.Common.{ℕ, zero, suc, ◌≡◌, ◌≢◌, ◌+◌, ◌-◌, ◌⊎◌, inl, inr, ◌*◌, ◌<◌, ◌≤◌, ◌^◌, ◌∙◌, List, [], ◌∷◌, ◌++◌, false, sym, ap, refl, arith, Option, Some, None}
 use Rattle.std.proofs.lemmas.Bool.Decides.{nat_tests}
 use Rattle.std.proofs.Math.Nat.{mul-le-mul_left}
 use Rattle.std.specs.List.{range_with_len}
@@ -8,7 +8,7 @@ use Rattle.std.specs.Prelude.{◌==◌, if◌then◌else◌}
 use Rattle.std.proofs.lemmas.List.Folds.{find-append}
 use Rattle.std.proofs.lemmas.Bool.{cases_lt, lt-ltb, le-ltb, eq-eqb}
 use Rattle.std.proofs.Math.Numerals.{suc-eq-add-one}
-use Rattle.fj_jobs.specs.Ranges.{IsAmong, pick, better, least, residue, residues_least, IsLeast, IsLeastAt, first_hit, residues_hit, IsFirst, IsFirstAt}
+use Rattle.fj_jobs.specs.Ranges.{IsAmong, pick, better, least, residue, residues_least, IsLeast, first_hit, residues_hit, IsFirst}
 use Rattle.fj_jobs.proofs.Stretches.{range-append}
 
 pub product_small : (x y z : ℕ) → x < 2 ^ 32 → y < 2 ^ 32 → z < 2 ^ 32 → x * y + z < 2 ^ 64

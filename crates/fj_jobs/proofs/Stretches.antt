@@ -1,5 +1,5 @@
 -- Numbers in a row, in two parts.
-use Rattle.std.proofs.Common.{ℕ, zero, suc, ◌≡◌, ◌+◌, List, [], ◌∷◌, ◌++◌, refl, arith, zero-add, add-zero}
+use Rattle.std.proofs.Common.{ℕ, zero, suc, ◌≡◌, ◌+◌, ◌++◌, refl, arith, zero-add, add-zero}
 use Rattle.std.proofs.Math.Nat.{suc-add}
 use Rattle.std.specs.List.{range_with_len}
 

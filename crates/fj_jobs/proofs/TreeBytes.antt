@@ -1,8 +1,8 @@
 -- The bytes of a tree, read one after another.
 use Rattle.std.specs.Prelude.{Option, Some, None}
-use Rattle.std.proofs.Common.{ℕ, zero, suc, ◌≡◌, ◌≢◌, ◌+◌, ◌<◌, ◌≤◌, ◌^◌, ◌∙◌, ◌⊎◌, inl, inr, List, [], ◌∷◌, ◌++◌, length, take, drop, slice_index, get_or, refl, sym, ap, arith, length-append, append_assoc, add-one}
-use Rattle.std.proofs.lemmas.List.{append-nil, take-append-drop}
-use Rattle.std.proofs.Math.Seq.{take-suc, drop-cons}
+use Rattle.std.proofs.Common.{ℕ, zero, suc, ◌≡◌, ◌≢◌, ◌+◌, ◌<◌, ◌≤◌, ◌∙◌, ◌⊎◌, inl, inr, List, [], ◌∷◌, ◌++◌, length, take, drop, get_or, refl, sym, ap, arith, length-append, append_assoc, add-one}
+use Rattle.std.proofs.lemmas.List.{append-nil}
+use Rattle.std.proofs.Math.Seq.{take-suc}
 use Rattle.std.specs.Fmt.{decimal}
 use Rattle.std.proofs.lemmas.Fmt.{length-decimal-le}
 use Rattle.fj_model.specs.Lines.{parent_word}
@@ -10,7 +10,7 @@ use Rattle.fj_jobs.specs.declared.node.Node.{Node}
 use Rattle.fj_jobs.specs.declared.tree_fault.TreeFault.{TreeFault}
 use Rattle.fj_jobs.specs.declared.tree_fault.TreeFault.TheVariants.{Line, Memory, Read}
 use Rattle.fj_jobs.specs.Separators.{Without}
-use Rattle.fj_jobs.specs.Trees.{HasParentAt, IsNodeAt, AreNodes, IsTree, IsNoNode, BeginsWithNoNode, IsFirstFault, FaultOf, node_line, tree_text}
+use Rattle.fj_jobs.specs.Trees.{HasParentAt, IsNodeAt, AreNodes, IsNoNode, BeginsWithNoNode, FaultOf, node_line, tree_text}
 use Rattle.fj_jobs.specs.TreeReaders.{Kept, IsAt, Goes, FaultAt, nothing_kept}
 use Rattle.fj_jobs.proofs.Splits.{split_same, split_behind, uncut, cut_at}
 use Rattle.fj_jobs.proofs.NodeLines.{number_without, parent_without}

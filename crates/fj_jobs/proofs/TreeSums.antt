@@ -1,12 +1,12 @@
 -- The sums over the children of each node, the last node first.
-use Rattle.std.specs.Prelude.{Option, Some, None, ◌==◌, slice_set, replicate}
-use Rattle.std.proofs.Common.{ℕ, zero, suc, ◌≡◌, ◌≢◌, ◌+◌, ◌-◌, ◌*◌, ◌%◌, ◌<◌, ◌≤◌, ◌∙◌, ◌⊎◌, inl, inr, true, false, cond, List, [], ◌∷◌, length, map, get_or, slice_index, refl, sym, ap, arith}
+use Rattle.std.specs.Prelude.{Some, None, slice_set, replicate}
+use Rattle.std.proofs.Common.{ℕ, ◌≡◌, ◌≢◌, ◌+◌, ◌*◌, ◌%◌, ◌<◌, ◌≤◌, ◌∙◌, inl, inr, List, [], ◌∷◌, length, map, slice_index, refl, sym, ap, arith}
 use Rattle.std.proofs.Math.Nat.{add-mul}
 use Rattle.std.proofs.lemmas.Bool.{eq-eqb}
 use Rattle.std.proofs.lemmas.List.{get_or-set_same, get_or-set_other, get_or-replicate, length-set, length-replicate}
 use Rattle.fj_jobs.specs.declared.node.Node.{Node}
 use Rattle.fj_jobs.specs.Trees.{AreNodes}
-use Rattle.fj_jobs.specs.TreeValues.{AreValues, node_at, names, children_from, children, weighted, combined_value, node_value}
+use Rattle.fj_jobs.specs.TreeValues.{AreValues, node_at, children_from, children, weighted, node_value}
 use Rattle.fj_jobs.specs.TreeSums.{IsSummed, total}
 use Rattle.fj_jobs.proofs.Residues.{same_or_not, not-eqb}
 use Rattle.fj_jobs.proofs.TreeValues.{children_step, children_end, children_later, good_at, value_combined}

@@ -1,12 +1,11 @@
 -- The values of the nodes of a tree.
-use Rattle.std.specs.Prelude.{Option, Some, None, ◌==◌}
-use Rattle.std.proofs.Common.{ℕ, zero, suc, ◌≡◌, ◌≢◌, ◌+◌, ◌-◌, ◌*◌, ◌<◌, ◌≤◌, ◌∙◌, Bool, true, false, cond, List, [], ◌∷◌, length, map, get_or, refl, sym, ap, rules, arith, add-zero}
-use Rattle.std.proofs.Math.Numerals.{suc-eq-add-one}
+use Rattle.std.specs.Prelude.{Option, Some, None}
+use Rattle.std.proofs.Common.{ℕ, zero, suc, ◌≡◌, ◌≢◌, ◌+◌, ◌-◌, ◌<◌, ◌≤◌, ◌∙◌, Bool, true, false, cond, List, [], ◌∷◌, length, map, refl, arith}
 use Rattle.std.proofs.lemmas.Bool.Decides.{nat_tests}
 use Rattle.std.specs.List.{AllByRecursion, filter, range_with_len}
 use Rattle.fj_jobs.specs.declared.node.Node.{Node}
 use Rattle.fj_jobs.specs.Trees.{HasParentAt, IsNodeAt, AreNodes}
-use Rattle.fj_jobs.specs.TreeValues.{node_at, names, children_from, children, weighted, combined_value, value_within, node_value}
+use Rattle.fj_jobs.specs.TreeValues.{node_at, names, children_from, children, combined_value, value_within, node_value}
 
 -- ---- a node's parent is an earlier node
 

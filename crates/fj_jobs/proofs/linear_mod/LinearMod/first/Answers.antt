@@ -1,4 +1,4 @@
-use Rattle.std.proofs.Common.{◌≡◌, ◌+◌, ◌∙◌, Some, None, arith, sym, ap}
+use Rattle.std.proofs.Common.{◌≡◌, ◌∙◌, None, arith, sym}
 use Rattle.fj_jobs.proofs.Residues.{hit_found, hit_is_first}
 use Rattle.fj_jobs.proofs.linear_mod.LinearMod.first.Goals as goal
 

@@ -1,4 +1,4 @@
-use Rattle.std.proofs.Common.{◌≡◌, rules}
+use Rattle.std.proofs.Common.{rules}
 use Rattle.fj_jobs.proofs.TreeBytes.{ends_within}
 use Rattle.fj_jobs.proofs.tree_reader.TreeReader.finish.Goals as goal
 
