@@ -1,4 +1,4 @@
-ghost use Rattle.std.specs.Prelude.{ℕ, ◌≡◌, ◌<◌, IfOk, IfNone, None};
+ghost use Rattle.std.specs.Prelude.{[], ℕ, ◌≡◌, ◌<◌, IfOk, IfNone, None};
 ghost use Rattle.fj_shelf.specs.Shelves.{AreFewer, entries, is_there, no_entries, with_entry, without_entry, without_entries};
 
 use crate::aside::Aside;
@@ -76,6 +76,7 @@ impl<T: Drop> Shelf<T> {
     pub fn sweep(&mut self, numbers: &[Serial])
         ensures entries { entries self.new ≡ without_entries (entries self.old) numbers.now }
         ensures room { self.new.room ≡ self.old.room }
+        ensures stays { numbers.now ≡ [] → self.new ≡ self.old }
     {
         for number in numbers {
             let _swept = self.take(*number);

@@ -22,3 +22,7 @@ pub mod Chains
 pub mod Taking
 -- What a poll and a help hear of a choice.
 pub mod Polling
+-- What follows the end of a body or of a hook.
+pub mod Following
+-- Steps that hand no task out and end no body.
+pub mod Calms

@@ -12,7 +12,7 @@ use Rattle.fj_store.specs.declared.body.Told.TheVariants as told
 use Rattle.fj_shelf.specs.Shelves.{entries}
 use Rattle.fj_store.specs.Stores.{StoreState, still_held}
 use Rattle.fj_store.specs.Releases.{Releases}
-use Rattle.fj_store.specs.Choosing.{Refuses, WasStuck}
+use Rattle.fj_store.specs.Choosing.{Moves, Refuses, WasStuck}
 
 -- whether the step is of this kind
 abbrev pub is_calm : Step → Bool
@@ -64,7 +64,7 @@ module _ {B K O : Type 0} where
 
   -- where a task is, and how far it has come
   abbrev pub Shows : StoreState B K O → Step → Told B K O → StoreState B K O → Type 0
-  Shows old asked (told.Hear (hears.Is p s)) new = (old.stuck ≡ false) × Refuses old asked (says.State p s) new
+  Shows old asked (told.Hear (hears.Is p s)) new = (old.stuck ≡ false) × Moves old asked (says.State p s) new
   Shows old asked (told.Hear (hears.Refused r)) new = (old.stuck ≡ false) × Refuses old asked (says.Refused r) new
   Shows old asked (told.Stuck None) new = WasStuck old new
   Shows old asked _ new = ⊥

@@ -1,4 +1,5 @@
 ghost use Rattle.std.specs.Prelude.{◌≡◌};
+ghost use Rattle.fj_model.specs.declared.refusal.Refusal.{Refusal as RefusalCase};
 ghost use Rattle.fj_model.specs.Runs.{Steps};
 ghost use Rattle.fj_model.specs.Epochs.{IsPast};
 ghost use Rattle.fj_shelf.specs.Shelves.{entries, without_entries};
@@ -14,6 +15,7 @@ pub(crate) fn make<B: Drop>(machine: &mut Machine, bodies: &mut Shelf<B>, asked:
     ensures step { Steps machine.old asked.now result machine.new }
     ensures bodies { entries bodies.new ≡ without_entries (entries bodies.old) (went machine.old machine.new) }
     ensures room { bodies.new.room ≡ bodies.old.room }
+    ensures refused { (r : RefusalCase) → result ≡ Said.Refused r → (machine.new ≡ machine.old) × (bodies.new ≡ bodies.old) }
 {
     let before = machine.gone().len();
     let said = machine.step(asked);

@@ -3,6 +3,7 @@ ghost use Rattle.fj_model.specs.Pasts.{fresh};
 ghost use Rattle.fj_shelf.specs.Shelves.{entries, no_entries};
 
 mod accept;
+mod ask;
 mod choose;
 mod collect;
 mod release;
