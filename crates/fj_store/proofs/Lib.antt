@@ -26,3 +26,5 @@ pub mod Polling
 pub mod Following
 -- Steps that hand no task out and end no body.
 pub mod Calms
+-- A plain task's body ends.
+pub mod Endings

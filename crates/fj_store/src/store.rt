@@ -6,6 +6,7 @@ mod accept;
 mod ask;
 mod choose;
 mod collect;
+mod end;
 mod release;
 
 use crate::body::Body;

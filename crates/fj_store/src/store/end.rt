@@ -1,0 +1,45 @@
+ghost use Rattle.std.specs.Prelude.{◌≡◌, IfSome};
+ghost use Rattle.fj_shelf.specs.Hands.{asker};
+ghost use Rattle.fj_store.specs.Fitting.{Fits};
+ghost use Rattle.fj_store.specs.Endings.{EndsOk};
+
+use crate::body::{Body, Heard, Told};
+use crate::kept::Kept;
+use crate::store::Store;
+use fj_model::{Ending, Owner, Place, Refusal, Said, Serial, Status, Step, SubId, WorkerId};
+use fj_shelf::Hand;
+
+impl<B: Body> Store<B> {
+    /// The body of the running plain task ends, with its result. Preconditions: the hand fits, and the result is right for the key of its body.
+    pub fn ok(&mut self, hand: &mut Hand<B>, out: B::Out) -> Told<B>
+        requires fits { Fits self.old.past hand.old }
+        requires right { IfSome (asker hand.old) (λ b. ∥ B.right (B.key_of b.1) out ∥₁) }
+        ensures ends { EndsOk B.key_of self.old hand.old out result self.new hand.new }
+        ensures fits { Fits self.new.past hand.new }
+    {
+        // The check wants each type inside a reply to be named where one is moved.
+        let _inside: Option<(Place, Owner, Status, Refusal, Serial, SubId, WorkerId)> = None;
+        if self.stuck {
+            return Told::Stuck(None);
+        }
+        match self.machine.step(&Step::End {
+            w: hand.worker(),
+            ending: Ending::Ok,
+        }) {
+            Said::Done => {
+                let (t, body) = hand.pop();
+                self.keep(t, Kept::new(body.into_key(), out));
+                self.release_all();
+                Told::Over(None)
+            }
+            Said::Refused(refusal) => match refusal {
+                Refusal::LogFull => {
+                    self.stuck = true;
+                    Told::Stuck(None)
+                }
+                other => Told::Hear(Heard::Refused(other)),
+            },
+            _ => unreachable!(),
+        }
+    }
+}
