@@ -83,8 +83,8 @@ pub swept_stored : {B R : Type 0} (past new : Past) (asked : Step) (bodies bodie
 swept_stored {B} {R} past new asked bodies bodies' results ts is calm grew left =
     let still = calm_still past asked calm in
     stored_on past new asked (answer past asked).1 bodies bodies' results ts is grew refl still.1
-      (subst (λ (all : Entries B). HoldsBodies (past.events ++ (answer past asked).1) all) (sym (left ∙ ap (λ (p : Past). without_entries bodies (went past p)) grew))
-        (unmoved_bodies past.pool past.events (answer past asked).1 bodies (history_allowed past is.run) (answer_allowed past asked is.run) still.0 is.bodies_held))
+    (subst (λ (all : Entries B). HoldsBodies (past.events ++ (answer past asked).1) all) (sym (left ∙ ap (λ (p : Past). without_entries bodies (went past p)) grew))
+    (unmoved_bodies past.pool past.events (answer past asked).1 bodies (history_allowed past is.run) (answer_allowed past asked is.run) still.0 is.bodies_held))
 
 -- ---- a refused step
 

@@ -54,7 +54,7 @@ ok_stored past new w bodies results ts is grew done =
     let es = event.End t w ∷ settling (h ++ event.End t w ∷ []) t Normal in
     let all : AllowedFrom past.pool h es = rw done.made at (answer_allowed past (End w EndOk) is.run) in
     stored_on past new (End w EndOk) es bodies bodies results ts is grew done.made (none_released (h ++ event.End t w ∷ []) t w)
-      (ok_bodies past.pool h t w bodies (history_allowed past is.run) all done.plain is.bodies_held)
+    (ok_bodies past.pool h t w bodies (history_allowed past is.run) all done.plain is.bodies_held)
 
 -- ---- the hand
 

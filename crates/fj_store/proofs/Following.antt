@@ -46,7 +46,6 @@ use Rattle.fj_model.proofs.Steps.Standing.{stands, some_or_none, allowed_append}
 use Rattle.fj_model.proofs.Steps.AnswersAllowed.{history_allowed, answer_allowed}
 use Rattle.fj_ledger.proofs.Lists.HandParts.{hand_same, is_of_hook}
 use Rattle.fj_ledger.proofs.Lists.HookLists.{hand_after}
-
 use Rattle.fj_store.specs.Endings.{is_over}
 
 -- ---- what follows the end of a body
@@ -160,4 +159,3 @@ after_ended h t ending_is.Complete = go (is_spent h t)
     go true = Unfired refl refl
     go false = Fired how_is.Complete refl refl
 after_ended h t (ending_is.Fail code) = Unfired refl (failing_rest h t code)
-

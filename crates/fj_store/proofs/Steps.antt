@@ -395,6 +395,19 @@ state_shown past t reply p s fits is said = go (state_gives past t fits)
         differs : says.State p s ≡ says.Refused Unknown → ⊥
         differs eq = cc
 
+pub state_place : (past : Past) (t : ℕ) (reply : Said) (p : Place) (s : Status) → length past.events ≤ limit past → reply ≡ (answer past (State t)).0 → reply ≡ says.State p s → (is_kept past.events t ≡ true) × (p ≡ place past.events t)
+state_place past t reply p s fits is said = go (state_gives past t fits)
+  where
+    go : StateGives past.events t (answer past (State t)).0 → (is_kept past.events t ≡ true) × (p ≡ place past.events t)
+    go (Shows kept gives) = (kept, same (sym said ∙ is ∙ gives))
+      where
+        same : says.State p s ≡ says.State (place past.events t) (status past.events t) → p ≡ place past.events t
+        same eq = cc
+    go (NoTask kept gives) = absurd (differs (sym said ∙ is ∙ gives))
+      where
+        differs : says.State p s ≡ says.Refused Unknown → ⊥
+        differs eq = cc
+
 pub state_refused : (past : Past) (t : ℕ) (reply : Said) (r : Refusal) → length past.events ≤ limit past → reply ≡ (answer past (State t)).0 → reply ≡ says.Refused r → is_kept past.events t ≡ false
 state_refused past t reply r fits is said = go (state_gives past t fits)
   where

@@ -1,10 +1,12 @@
 ghost use Rattle.std.specs.Prelude.{◌≡◌, true, false};
 ghost use Rattle.fj_model.specs.Lists.{is_in};
 ghost use Rattle.fj_model.specs.Tasks.{is_kept};
-ghost use Rattle.fj_store.specs.Results.{Keeps, Marks, TakesOut, Collects};
+ghost use Rattle.fj_model.specs.Places.{is_gone as is_gone_at};
+ghost use Rattle.fj_store.specs.Turns.{ToldRight};
+ghost use Rattle.fj_store.specs.Results.{Keeps, Marks, TakesOut, TakesResult, Collects};
 ghost use Rattle.fj_shelf.specs.Shelves.{entries};
 
-use crate::body::Body;
+use crate::body::{Body, Heard, Told};
 use crate::kept::Kept;
 use crate::outcomes::{Outcome, told_outcome};
 use crate::store::Store;
@@ -50,6 +52,37 @@ impl<B: Body> Store<B> {
         kept
     }
 
+    /// A body takes the result of a task that is gone. `Unknown` of a task that is not kept, `NotDone` where it is not gone or has no result.
+    ///
+    /// The task is released as soon as it can be.
+    pub fn take(&mut self, t: Serial) -> Told<B>
+        ensures takes { TakesResult self.old t result self.new }
+        ensures right { ToldRight B.right result }
+    {
+        // The check wants each type inside a reply to be named where one is moved.
+        let _inside: Option<(Place, Owner, Status, Refusal, Serial, SubId, WorkerId)> = None;
+        if self.stuck {
+            return Told::Stuck(None);
+        }
+        match self.machine.step(&Step::State { t }) {
+            Said::State(place, _) => {
+                if !is_gone(place) {
+                    return Told::Hear(Heard::Refused(Refusal::NotDone));
+                }
+                match self.take_result(t) {
+                    Some(kept) => {
+                        self.release_all();
+                        let (key, out) = kept.into_parts();
+                        Told::Hear(Heard::Got(key, out))
+                    }
+                    None => Told::Hear(Heard::Refused(Refusal::NotDone)),
+                }
+            }
+            Said::Refused(_) => Told::Hear(Heard::Refused(Refusal::Unknown)),
+            _ => unreachable!(),
+        }
+    }
+
     /// The outcome of a task, which is taken out: the task is released as soon as it can be.
     ///
     /// None while it is undone. `Unknown` where it was taken out before, or is not kept.
@@ -73,5 +106,15 @@ impl<B: Body> Store<B> {
             Said::Refused(_) => Some(Err(Refusal::Unknown)),
             _ => unreachable!(),
         }
+    }
+}
+
+// Whether a task at this place is gone.
+fn is_gone(place: Place) -> bool
+    ensures { result ≡ is_gone_at place }
+{
+    match place {
+        Place::Gone => true,
+        Place::Queued(_) | Place::Held(_) | Place::Open => false,
     }
 }

@@ -21,9 +21,10 @@ returns-clause-bodies g c =
 
 pub returns-clause-refused : goal.returns-clause-refused
 returns-clause-refused g c = λ r is.
-    let same = c.step-said.ensures.refused r is in
-    (same,
+    let same = c.step-said.ensures.refused r is in (
+      same,
       c.sweep.ensures.stays
-        (whole_tail c.gone.result.now (length c.gone-before.result.now)
+          (whole_tail c.gone.result.now (length c.gone-before.result.now)
           ∙ rw (c.gone-before.ensures, c.gone.ensures) (went_shown c.args.machine.now c.step-said.new.self (answer c.args.machine.now c.args.asked.now).1 c.step-said.ensures.step.1 c.requires)
-          ∙ nothing_went c.args.machine.now c.step-said.new.self same))
+          ∙ nothing_went c.args.machine.now c.step-said.new.self same),
+    )

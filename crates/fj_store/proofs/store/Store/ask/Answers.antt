@@ -8,15 +8,23 @@ make-requires g c = c.self.invariant.0.run
 
 pub invariant_of-self : goal.invariant_of-self
 invariant_of-self g c =
-    let past = c.self.inside.machine in
-    (swept_stored past c.make.new.machine c.args.asked.now _ _ _ _ c.self.invariant.0 c.requires c.make.ensures.step.1 c.make.ensures.bodies,
-      rw (c.make.ensures.room, c.make.ensures.step.1) c.self.invariant.1, rw c.make.ensures.step.1 c.self.invariant.2, rw c.make.ensures.step.1 c.self.invariant.3, rw c.make.ensures.step.1 c.self.invariant.4)
+    let past = c.self.inside.machine in (
+      swept_stored past c.make.new.machine c.args.asked.now _ _ _ _ c.self.invariant.0 c.requires c.make.ensures.step.1 c.make.ensures.bodies,
+      rw (c.make.ensures.room, c.make.ensures.step.1) c.self.invariant.1,
+      rw c.make.ensures.step.1 c.self.invariant.2,
+      rw c.make.ensures.step.1 c.self.invariant.3,
+      rw c.make.ensures.step.1 c.self.invariant.4,
+    )
 
 pub invariant_of-self-in_default : goal.invariant_of-self-in_default
 invariant_of-self-in_default g c =
-    let past = c.self.inside.machine in
-    (swept_stored past c.make.new.machine c.args.asked.now _ _ _ _ c.self.invariant.0 c.requires c.make.ensures.step.1 c.make.ensures.bodies,
-      rw (c.make.ensures.room, c.make.ensures.step.1) c.self.invariant.1, rw c.make.ensures.step.1 c.self.invariant.2, rw c.make.ensures.step.1 c.self.invariant.3, rw c.make.ensures.step.1 c.self.invariant.4)
+    let past = c.self.inside.machine in (
+      swept_stored past c.make.new.machine c.args.asked.now _ _ _ _ c.self.invariant.0 c.requires c.make.ensures.step.1 c.make.ensures.bodies,
+      rw (c.make.ensures.room, c.make.ensures.step.1) c.self.invariant.1,
+      rw c.make.ensures.step.1 c.self.invariant.2,
+      rw c.make.ensures.step.1 c.self.invariant.3,
+      rw c.make.ensures.step.1 c.self.invariant.4,
+    )
 
 pub returns-in-Refused : goal.returns-in-Refused
 returns-in-Refused g c =
@@ -26,5 +34,5 @@ returns-in-Refused g c =
 pub returns-in_default : goal.returns-in_default
 returns-in_default g c =
     rw (← c.self.view_is)
-      (made_by _ (record { past = c.make.new.machine; bodies = c.make.new.bodies; results = c.self.inside.results; taken = c.self.inside.taken.items; stuck = c.self.inside.stuck }) _ c.args.asked.now c.make.result
-        c.make.ensures.step c.make.ensures.bodies refl c.release_all.ensures c.in_default.not-Refused)
+    (made_by _ (record { past = c.make.new.machine; bodies = c.make.new.bodies; results = c.self.inside.results; taken = c.self.inside.taken.items; stuck = c.self.inside.stuck }) _ c.args.asked.now c.make.result
+    c.make.ensures.step c.make.ensures.bodies refl c.release_all.ensures c.in_default.not-Refused)

@@ -14,9 +14,13 @@ pop-t-requires g c =
 
 pub invariant_of-self : goal.invariant_of-self
 invariant_of-self g c =
-    let past = c.self.inside.machine in
-    (ok_stored past c.step.new.self c.worker.result _ _ _ c.self.invariant.0 c.step.ensures.step.1 (ok_done past c.worker.result c.step.result c.step.ensures.step.0 c.in-Done.is),
-      rw c.step.ensures.step.1 c.self.invariant.1, rw c.step.ensures.step.1 c.self.invariant.2, rw c.step.ensures.step.1 c.self.invariant.3, rw c.step.ensures.step.1 c.self.invariant.4)
+    let past = c.self.inside.machine in (
+      ok_stored past c.step.new.self c.worker.result _ _ _ c.self.invariant.0 c.step.ensures.step.1 (ok_done past c.worker.result c.step.result c.step.ensures.step.0 c.in-Done.is),
+      rw c.step.ensures.step.1 c.self.invariant.1,
+      rw c.step.ensures.step.1 c.self.invariant.2,
+      rw c.step.ensures.step.1 c.self.invariant.3,
+      rw c.step.ensures.step.1 c.self.invariant.4,
+    )
 
 pub new-requires : goal.new-requires
 new-requires g c =
@@ -31,17 +35,17 @@ keep-requires g c =
     let past = c.self.inside.machine in
     let fits : Fits past c.args.hand.now = subst (λ p. Fits p c.args.hand.now) (ap (λ s. s.past) (sym c.self.view_is)) c.requires.fits in
     rw c.step.ensures.step.1
-      (newest_kept past c.args.hand.now c.pop-t.new.self c.worker.result c.pop-t.result.0 c.pop-t.result.1 c.self.invariant.0.run fits c.worker.ensures c.pop-t.ensures
-        (ok_done past c.worker.result c.step.result c.step.ensures.step.0 c.in-Done.is))
+    (newest_kept past c.args.hand.now c.pop-t.new.self c.worker.result c.pop-t.result.0 c.pop-t.result.1 c.self.invariant.0.run fits c.worker.ensures c.pop-t.ensures
+    (ok_done past c.worker.result c.step.result c.step.ensures.step.0 c.in-Done.is))
 
 pub returns-in-Done-clause-fits : goal.returns-in-Done-clause-fits
 returns-in-Done-clause-fits g c =
     let past = c.self.inside.machine in
     let fits : Fits past c.args.hand.now = subst (λ p. Fits p c.args.hand.now) (ap (λ s. s.past) (sym c.self.view_is)) c.requires.fits in
     ok_fits past c.step.new.self _ c.args.hand.now c.pop-t.new.self c.worker.result c.pop-t.result.0 c.pop-t.result.1 _ c.release_all.ensures.tasks c.self.invariant.0.run fits
-      c.worker.ensures c.pop-t.ensures c.step.ensures.step.1
-      (ok_done past c.worker.result c.step.result c.step.ensures.step.0 c.in-Done.is)
-      (ap (λ s. s.past) c.release_all.ensures.were ∙ ap (λ p. grown p (map Rel c.release_all.ensures.tasks)) c.keep.ensures.past)
+    c.worker.ensures c.pop-t.ensures c.step.ensures.step.1
+    (ok_done past c.worker.result c.step.result c.step.ensures.step.0 c.in-Done.is)
+    (ap (λ s. s.past) c.release_all.ensures.were ∙ ap (λ p. grown p (map Rel c.release_all.ensures.tasks)) c.keep.ensures.past)
 
 pub unreachable-requires : goal.unreachable-requires
 unreachable-requires g c =
