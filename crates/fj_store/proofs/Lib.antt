@@ -28,3 +28,5 @@ pub mod Following
 pub mod Calms
 -- A plain task's body ends.
 pub mod Endings
+-- The end of the submissions, and quiescence.
+pub mod Shutting

@@ -8,6 +8,7 @@ mod choose;
 mod collect;
 mod end;
 mod release;
+mod shut;
 
 use crate::body::Body;
 use crate::kept::Kept;
