@@ -9,7 +9,7 @@ use std::marker::Model;
 
 /// Few entries in a list, each under its number.
 #[derive(Drop)]
-pub(crate) struct Aside<T> {
+pub struct Aside<T> {
     items: Vec<(Serial, T)>,
     room: usize,
 }
@@ -27,7 +27,7 @@ impl<T> Model for Aside<T> {
 
 impl<T: Drop> Aside<T> {
     /// An empty list with room for so many.
-    pub(crate) fn new(alloc: Global, room: usize) -> Result<Aside<T>, AllocError>
+    pub fn new(alloc: Global, room: usize) -> Result<Aside<T>, AllocError>
         ensures { IfOk result (λ s. s ≡ record { items = []; room = room }) }
     {
         Ok(Aside {
@@ -37,7 +37,7 @@ impl<T: Drop> Aside<T> {
     }
 
     /// Appends an entry. Precondition: there is room.
-    pub(crate) fn put(&mut self, number: Serial, item: T)
+    pub fn put(&mut self, number: Serial, item: T)
         requires { length self.old.items < self.old.room }
         ensures { self.new ≡ record { items = self.old.items ++ (number, item) ∷ []; room = self.old.room } }
     {
@@ -45,7 +45,7 @@ impl<T: Drop> Aside<T> {
     }
 
     /// Takes out the first entry under a number.
-    pub(crate) fn take(&mut self, number: Serial) -> Option<T>
+    pub fn take(&mut self, number: Serial) -> Option<T>
         ensures room { self.new.room ≡ self.old.room }
         ensures taken { MatchOption result ((self.new ≡ self.old) × (is_in number (numbers self.old.items) ≡ false)) (λ x. Without self.old.items number x self.new.items) }
     {
@@ -59,13 +59,13 @@ impl<T: Drop> Aside<T> {
     }
 
     /// Whether there is no entry.
-    pub(crate) fn is_empty(&self) -> bool
+    pub fn is_empty(&self) -> bool
         ensures { result ≡ (length self.now.items == 0) }
     {
         self.items.is_empty()
     }
 
-    // Where the first entry under this number stands.
+    /// Where the first entry under this number stands.
     fn find(&self, number: Serial) -> Option<usize>
         ensures { result ≡ position_from (λ x. x.0 == number) 0 self.now.items }
     {

@@ -5,7 +5,7 @@ use fj_model::Serial;
 use std::alloc::{AllocError, Global};
 
 /// The slot in which an entry under this number is looked for first. Precondition: there is a slot.
-pub(crate) fn guess<T>(slots: &[Option<(Serial, T)>], number: Serial) -> usize
+pub fn guess<T>(slots: &[Option<(Serial, T)>], number: Serial) -> usize
     requires { 0 < length slots.now }
     ensures guess { result ≡ number % length slots.now }
     ensures within { result < length slots.now }
@@ -14,7 +14,7 @@ pub(crate) fn guess<T>(slots: &[Option<(Serial, T)>], number: Serial) -> usize
 }
 
 /// Whether the slot is empty. Precondition: there is this slot.
-pub(crate) fn is_free<T>(slots: &[Option<(Serial, T)>], at: usize) -> bool
+pub fn is_free<T>(slots: &[Option<(Serial, T)>], at: usize) -> bool
     requires { at < length slots.now }
     ensures { IsTrue result ↔ (slice_get slots.now at ≡ Some None) }
 {
@@ -22,7 +22,7 @@ pub(crate) fn is_free<T>(slots: &[Option<(Serial, T)>], at: usize) -> bool
 }
 
 /// Whether the slot has the entry of this number. Precondition: there is this slot.
-pub(crate) fn has_number<T>(slots: &[Option<(Serial, T)>], at: usize, number: Serial) -> bool
+pub fn has_number<T>(slots: &[Option<(Serial, T)>], at: usize, number: Serial) -> bool
     requires { at < length slots.now }
     ensures { result ≡ is_some (in_slot (slice_get slots.now at) number) }
 {
@@ -33,12 +33,7 @@ pub(crate) fn has_number<T>(slots: &[Option<(Serial, T)>], at: usize, number: Se
 }
 
 /// Puts this into the slot. Precondition: there is this slot.
-pub(crate) fn fill<T: Drop>(
-    slots: &mut Vec<Option<(Serial, T)>>,
-    at: usize,
-    number: Serial,
-    item: T,
-)
+pub fn fill<T: Drop>(slots: &mut Vec<Option<(Serial, T)>>, at: usize, number: Serial, item: T)
     requires { at < length slots.old.items }
     ensures { slots.new.items ≡ set slots.old.items at (Some (number, item)) }
 {
@@ -46,7 +41,7 @@ pub(crate) fn fill<T: Drop>(
 }
 
 /// Takes out what the slot has. Precondition: there is this slot.
-pub(crate) fn clear<T: Drop>(slots: &mut Vec<Option<(Serial, T)>>, at: usize) -> Option<T>
+pub fn clear<T: Drop>(slots: &mut Vec<Option<(Serial, T)>>, at: usize) -> Option<T>
     requires { at < length slots.old.items }
     ensures taken { result ≡ option_map (λ x. x.1) (get_or slots.old.items at None) }
     ensures rest { slots.new.items ≡ set slots.old.items at None }
@@ -58,7 +53,7 @@ pub(crate) fn clear<T: Drop>(slots: &mut Vec<Option<(Serial, T)>>, at: usize) ->
 }
 
 /// So many empty slots.
-pub(crate) fn empty_slots<T: Drop>(
+pub fn empty_slots<T: Drop>(
     alloc: Global,
     count: usize,
 ) -> Result<Vec<Option<(Serial, T)>>, AllocError>

@@ -13,7 +13,7 @@ use Rattle.fj_model.specs.declared.status.Status.{Status}
 use Rattle.fj_model.specs.declared.status.Status.TheVariants as status_is
 use Rattle.fj_model.specs.declared.step.Step.{Step}
 use Rattle.fj_model.specs.declared.step.Step.TheVariants as ask
-use Rattle.fj_model.specs.Allowed.{is_closed, is_stopped, AllowedFrom}
+use Rattle.fj_model.specs.Allowed.{is_closed, is_stopped}
 use Rattle.fj_model.specs.Bounds.{Pool}
 use Rattle.fj_model.specs.Climbs.{path}
 use Rattle.fj_model.specs.Tasks.{released}

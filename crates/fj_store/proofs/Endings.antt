@@ -1,7 +1,7 @@
 -- A plain task's body ends.
-use Rattle.std.proofs.Common.{ℕ, suc, ◌≡◌, ◌+◌, ◌-◌, ◌≤◌, ◌<◌, ◌⊎◌, inr, Bool, true, false, List, [], ◌∷◌, ◌++◌, length, map, take, Option, Some, None, refl, ap, sym, ◌∙◌, subst, arith, append_assoc, length-append}
-use Rattle.std.specs.Prelude.{if◌then◌else◌, slice_get, IfSome}
-use Rattle.std.proofs.lemmas.List.{append-nil, map-append}
+use Rattle.std.proofs.Common.{ℕ, suc, ◌≡◌, ◌-◌, ◌<◌, Bool, true, false, List, [], ◌∷◌, ◌++◌, length, map, take, Option, Some, None, refl, ap, sym, ◌∙◌, arith, append_assoc, length-append}
+use Rattle.std.specs.Prelude.{if◌then◌else◌, slice_get}
+use Rattle.std.proofs.lemmas.List.{append-nil}
 use Rattle.std.proofs.lemmas.Bool.{eq-eqb, or_right}
 use Rattle.fj_model.specs.declared.event.Event.{Event}
 use Rattle.fj_model.specs.declared.event.Event.TheVariants.{Settle, Rel}
@@ -9,9 +9,6 @@ use Rattle.fj_model.specs.declared.event.Event.TheVariants as event
 use Rattle.fj_model.specs.declared.status.Status.TheVariants.{Normal}
 use Rattle.fj_model.specs.declared.step.Step.TheVariants.{End}
 use Rattle.fj_model.specs.declared.step.Ending.TheVariants.{Ok as EndOk}
-use Rattle.fj_model.specs.declared.said.Said.{Said}
-use Rattle.fj_model.specs.declared.said.Said.TheVariants as says
-use Rattle.fj_model.specs.declared.refusal.Refusal.TheVariants.{LogFull}
 use Rattle.fj_model.specs.Bounds.{Pool}
 use Rattle.fj_model.specs.Lists.{is_in, last_of}
 use Rattle.fj_model.specs.Tasks.{is_kept, released}
@@ -19,10 +16,10 @@ use Rattle.fj_model.specs.Statuses.{status, is_undone}
 use Rattle.fj_model.specs.Stacks.{stack}
 use Rattle.fj_model.specs.Hooks.{hand as hook_of}
 use Rattle.fj_model.specs.Allowed.{AllowedFrom}
-use Rattle.fj_model.specs.Answers.{answer, running, settling}
+use Rattle.fj_model.specs.Answers.{answer, settling}
 use Rattle.fj_model.specs.Epochs.{IsPast}
-use Rattle.fj_model.specs.Runs.{Past, Steps, grown}
-use Rattle.fj_model.proofs.Lists.Members.{is_in_append, get_is_in}
+use Rattle.fj_model.specs.Runs.{Past, grown}
+use Rattle.fj_model.proofs.Lists.Members.{is_in_append}
 use Rattle.fj_model.proofs.Places.PlaceLaws.{unmoved_stack}
 use Rattle.fj_model.proofs.Events.Ends.{stack_end}
 use Rattle.fj_model.proofs.Places.KeptPlaces.{held_kept}
@@ -30,9 +27,9 @@ use Rattle.fj_model.proofs.Steps.AnswersAllowed.{history_allowed, answer_allowed
 use Rattle.fj_ledger.proofs.Lists.HandParts.{hand_same}
 use Rattle.fj_shelf.specs.Aside.{numbers}
 use Rattle.fj_shelf.specs.Shelves.{Entries}
-use Rattle.fj_shelf.specs.Hands.{HandState, with_body, asker, newest_body, hook_number}
+use Rattle.fj_shelf.specs.Hands.{HandState, with_body, asker, hook_number}
 use Rattle.fj_store.specs.Fitting.{Fits}
-use Rattle.fj_store.specs.Stores.{StoreState, IsStored}
+use Rattle.fj_store.specs.Stores.{IsStored}
 use Rattle.fj_store.proofs.Stored.{stored_on, kept_on, numbers_more, numbers_long}
 use Rattle.fj_store.proofs.Steps.{OkDone}
 use Rattle.fj_store.proofs.Taking.{released_fits}

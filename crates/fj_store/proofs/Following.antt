@@ -1,51 +1,29 @@
 -- What follows the end of a body or of a hook.
-use Rattle.std.proofs.Common.{ℕ, suc, ◌≡◌, ◌≢◌, ◌⊎◌, inl, inr, ◌+◌, ◌-◌, ◌≤◌, ◌<◌, ◌&&◌, not, Bool, true, false, cond, List, [], ◌∷◌, ◌++◌, length, map, drop, take, Option, Some, None, refl, ap, sym, ◌∙◌, subst, arith, append_assoc, ⊎_elim}
-use Rattle.std.specs.Prelude.{if◌then◌else◌, ◌==◌, slice_get}
-use Rattle.std.specs.List.{filter_map, list_all, take_while, prefix_len}
-use Rattle.std.proofs.lemmas.Bool.{eq-eqb, eqb-true, ne_eqb, and_parts, true≢false, cases_eq}
-use Rattle.std.proofs.Math.Bool.{and-false}
-use Rattle.std.proofs.lemmas.List.{append-nil, map-append}
+use Rattle.std.proofs.Common.{ℕ, suc, ◌≡◌, ◌+◌, not, Bool, true, false, cond, List, [], ◌∷◌, ◌++◌, length, map, drop, take, Option, Some, None, refl, ap, sym, ◌∙◌, arith, append_assoc}
+use Rattle.std.specs.Prelude.{if◌then◌else◌}
+use Rattle.std.specs.List.{list_all, take_while, prefix_len}
+use Rattle.std.proofs.lemmas.Bool.{and_parts}
+use Rattle.std.proofs.lemmas.List.{append-nil}
 use Rattle.fj_model.specs.declared.event.Event.{Event}
 use Rattle.fj_model.specs.declared.event.Event.TheVariants as event
 use Rattle.fj_model.specs.declared.event.How.{How}
 use Rattle.fj_model.specs.declared.event.How.TheVariants as how_is
-use Rattle.fj_model.specs.declared.place.Place.{Place}
-use Rattle.fj_model.specs.declared.place.Place.TheVariants.{Queued, Held, Open, Gone}
 use Rattle.fj_model.specs.declared.status.Status.{Status}
 use Rattle.fj_model.specs.declared.status.Status.TheVariants as status_is
-use Rattle.fj_model.specs.declared.step.Step.TheVariants.{End}
 use Rattle.fj_model.specs.declared.step.Ending.{Ending}
 use Rattle.fj_model.specs.declared.step.Ending.TheVariants as ending_is
 use Rattle.fj_model.specs.declared.said.Said.{Said}
 use Rattle.fj_model.specs.declared.said.Said.TheVariants as says
-use Rattle.fj_model.specs.declared.refusal.Refusal.{Refusal}
-use Rattle.fj_model.specs.Bounds.{Pool}
-use Rattle.fj_model.specs.Lists.{is_in, times_in, is_empty, last_of}
-use Rattle.fj_model.specs.Tasks.{tasks, is_kept, released, released_by}
+use Rattle.fj_model.specs.Tasks.{released, released_by}
 use Rattle.fj_model.specs.Statuses.{status, is_undone}
 use Rattle.fj_model.specs.Completers.{is_spent}
 use Rattle.fj_model.specs.Stacks.{stack}
-use Rattle.fj_model.specs.Hooks.{Hook, hooks, hooks_after, hand as hook_of, receiver, completer_in, with_hook as hook_added}
-use Rattle.fj_model.specs.Places.{place, is_gone, gone}
+use Rattle.fj_model.specs.Hooks.{hand as hook_of}
 use Rattle.fj_model.specs.Climbs.{Arrival, arrival, does_fire, path, passed, relayed}
 use Rattle.fj_model.specs.Climbs as climb
-use Rattle.fj_model.specs.Allowed.{Allowed, AllowedFrom}
-use Rattle.fj_model.specs.Answers.{answer, running, settling, arriving, arriving_says, failing, settle_root, root_says, pass_end, pass_says, root_of, passing, after_end, end_says, ending_events, ending_says, reply_of, events_of}
-use Rattle.fj_model.specs.Epochs.{IsPast}
-use Rattle.fj_model.specs.Runs.{Past, Steps, grown}
-use Rattle.fj_model.proofs.Lists.Members.{is_in_append, times_in_append, times_in_cons, times_in_none}
-use Rattle.fj_model.proofs.Events.Growth.{hooks_more}
-use Rattle.fj_model.proofs.Events.Lawful.{allowed_more}
-use Rattle.fj_model.proofs.Events.KindsKept.{tasks_same}
+use Rattle.fj_model.specs.Answers.{settling, arriving, arriving_says, failing, pass_end, pass_says, root_of, after_end, end_says}
 use Rattle.fj_model.proofs.Places.PlaceLaws.{moves, unmoved_stack}
-use Rattle.fj_model.proofs.Places.PlacesKept.{place_held}
-use Rattle.fj_model.proofs.Events.Spending.{spent_place, closed}
-use Rattle.fj_model.proofs.Events.Opening.{ended_held, ended_place, ending_place, ended_accepted, opens}
-use Rattle.fj_model.proofs.Events.Ends.{stack_end}
-use Rattle.fj_model.proofs.Steps.Standing.{stands, some_or_none, allowed_append}
-use Rattle.fj_model.proofs.Steps.AnswersAllowed.{history_allowed, answer_allowed}
 use Rattle.fj_ledger.proofs.Lists.HandParts.{hand_same, is_of_hook}
-use Rattle.fj_ledger.proofs.Lists.HookLists.{hand_after}
 use Rattle.fj_store.specs.Endings.{is_over}
 
 -- ---- what follows the end of a body

@@ -1,5 +1,5 @@
 -- The end of the submissions, and quiescence.
-use Rattle.std.proofs.Common.{ℕ, ◌≡◌, ◌+◌, ◌≤◌, Bool, true, false, List, [], ◌∷◌, ◌++◌, length, Option, Some, None, refl, ap, sym, ◌∙◌, subst, arith}
+use Rattle.std.proofs.Common.{◌≡◌, ◌+◌, ◌≤◌, Bool, true, false, List, [], length, Some, None, refl, ap, sym, ◌∙◌, subst, arith}
 use Rattle.std.specs.Prelude.{if◌then◌else◌, nat_lt}
 use Rattle.std.proofs.lemmas.Bool.{le-ltb}
 use Rattle.std.proofs.lemmas.List.{append-nil}
@@ -9,12 +9,10 @@ use Rattle.fj_model.specs.declared.said.Said.{Said}
 use Rattle.fj_model.specs.declared.said.Said.TheVariants as says
 use Rattle.fj_model.specs.declared.refusal.Refusal.{Refusal}
 use Rattle.fj_model.specs.declared.refusal.Refusal.TheVariants.{LogFull}
-use Rattle.fj_model.specs.Bounds.{Pool}
 use Rattle.fj_model.specs.declared.event.Event.{Event}
-use Rattle.fj_model.specs.Lists.{or_else}
 use Rattle.fj_model.specs.Pasts.{Past, grown, limit}
 use Rattle.fj_model.specs.Epochs.{IsPast}
-use Rattle.fj_model.specs.Answers.{answer, answer_of, refusal_of, refusals_of, first_that_stands, does_not_fit, reply_of, events_of, is_quiet}
+use Rattle.fj_model.specs.Answers.{answer, answer_of, refusal_of, does_not_fit, reply_of, events_of, is_quiet}
 use Rattle.fj_store.specs.Stores.{StoreState}
 use Rattle.fj_store.specs.Asking.{Drops, Shuts}
 use Rattle.fj_store.specs.Asking as does

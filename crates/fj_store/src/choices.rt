@@ -3,7 +3,7 @@ use fj_model::{Refusal, Serial};
 
 /// What came of a step that takes the worker's choice, or of a join of a done task.
 #[derive(Drop)]
-pub(crate) enum Chosen<B: Body> {
+pub enum Chosen<B: Body> {
     Run(Serial),
     Skip(Serial, B),
     Idle,

@@ -6,7 +6,7 @@ use fj_machine::Machine;
 use fj_model::{Serial, WorkerId};
 
 /// Whether the completion action of a task is in some hand.
-pub(crate) fn is_hooked(machine: &Machine, t: Serial) -> bool
+pub fn is_hooked(machine: &Machine, t: Serial) -> bool
     requires { IsPast machine.now }
     ensures { result ≡ is_hooked_in machine.now.events t }
 {
@@ -20,7 +20,7 @@ pub(crate) fn is_hooked(machine: &Machine, t: Serial) -> bool
     false
 }
 
-// Whether the hook is that of this completer.
+/// Whether the hook is that of this completer.
 fn is_this(hook: Option<Serial>, t: Serial) -> bool
     ensures { IsTrue result ↔ (hook ≡ Some t) }
 {

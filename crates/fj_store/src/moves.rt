@@ -10,7 +10,7 @@ use fj_model::{Said, Step};
 use fj_shelf::Shelf;
 
 /// Makes a step, and drops the bodies of the tasks that come to be gone by it.
-pub(crate) fn make<B: Drop>(machine: &mut Machine, bodies: &mut Shelf<B>, asked: &Step) -> Said
+pub fn make<B: Drop>(machine: &mut Machine, bodies: &mut Shelf<B>, asked: &Step) -> Said
     requires { IsPast machine.old }
     ensures step { Steps machine.old asked.now result machine.new }
     ensures bodies { entries bodies.new ≡ without_entries (entries bodies.old) (went machine.old machine.new) }

@@ -17,7 +17,7 @@ pub enum Outcome<B: Body> {
 }
 
 /// What is told of a task that ended so.
-pub(crate) fn told_outcome<B: Body>(status: Status, kept: Option<Kept<B>>) -> Outcome<B>
+pub fn told_outcome<B: Body>(status: Status, kept: Option<Kept<B>>) -> Outcome<B>
     ensures { result ≡ outcome_of status kept }
 {
     match status {

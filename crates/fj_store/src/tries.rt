@@ -1,6 +1,6 @@
 /// What came of the try to release a task.
 #[derive(Clone, Copy)]
-pub(crate) enum Tried {
+pub enum Tried {
     /// It was released.
     Released,
     /// It is needed yet.

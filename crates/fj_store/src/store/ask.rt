@@ -8,7 +8,7 @@ use crate::store::Store;
 use fj_model::{Owner, Place, Refusal, Said, Serial, Status, Step, SubId, WorkerId};
 
 impl<B: Body> Store<B> {
-    // Makes a step that hands no task out and ends no body. The bodies of open tasks that go by it are dropped.
+    /// Makes a step that hands no task out and ends no body. The bodies of open tasks that go by it are dropped.
     pub(crate) fn ask(&mut self, asked: &Step) -> Said
         requires { is_calm asked.now ≡ true }
         ensures { Makes self.old asked.now result self.new }

@@ -11,7 +11,7 @@ use fj_model::{Owner, Place, Refusal, Said, Serial, Status, Step, SubId, WorkerI
 use fj_shelf::Hand;
 
 impl<B: Body> Store<B> {
-    // Makes a step that takes the worker's choice, and moves the body that belongs to it.
+    /// Makes a step that takes the worker's choice, and moves the body that belongs to it.
     fn choose(&mut self, hand: &mut Hand<B>, asked: &Step) -> Chosen<B>
         requires fits { Fits self.old.past hand.old }
         requires takes { TakesChoice hand.old.worker (answer self.old.past asked.now).0 (answer self.old.past asked.now).1 }

@@ -14,7 +14,7 @@ use fj_model::{Owner, Place, Refusal, Said, Serial, Status, Step, SubId, WorkerI
 use fj_shelf::has;
 
 impl<B: Body> Store<B> {
-    // Keeps a result under a task's number, or drops it where the task's result was taken.
+    /// Keeps a result under a task's number, or drops it where the task's result was taken.
     pub(crate) fn keep(&mut self, t: Serial, kept: Kept<B>)
         requires { is_kept self.old.past.events t ≡ true }
         ensures kept { Keeps self.old t kept self.new }
@@ -27,7 +27,7 @@ impl<B: Body> Store<B> {
         self.results.put(t, kept);
     }
 
-    // Takes a result out, and marks its task for its release.
+    /// Takes a result out, and marks its task for its release.
     pub(crate) fn take_result(&mut self, t: Serial) -> Option<Kept<B>>
         ensures { TakesOut self.old t result self.new }
     {
@@ -40,7 +40,7 @@ impl<B: Body> Store<B> {
         }
     }
 
-    // Takes the result of a kept task out, if there is one, and marks the task for its release.
+    /// Takes the result of a kept task out, if there is one, and marks the task for its release.
     fn take_away(&mut self, t: Serial) -> Option<Kept<B>>
         requires kept { is_kept self.old.past.events t ≡ true }
         requires free { is_in t self.old.taken ≡ false }
@@ -109,7 +109,7 @@ impl<B: Body> Store<B> {
     }
 }
 
-// Whether a task at this place is gone.
+/// Whether a task at this place is gone.
 fn is_gone(place: Place) -> bool
     ensures { result ≡ is_gone_at place }
 {

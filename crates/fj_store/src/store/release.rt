@@ -18,7 +18,7 @@ impl<B: Body> Store<B> {
         while self.release_one() {}
     }
 
-    // Releases one, if one can be.
+    /// Releases one, if one can be.
     fn release_one(&mut self) -> bool
         ensures { ReleasesOne self.old result self.new }
     {
@@ -33,7 +33,7 @@ impl<B: Body> Store<B> {
         false
     }
 
-    // Releases this one, if it can be.
+    /// Releases this one, if it can be.
     fn try_release(&mut self, t: Serial) -> Tried
         requires { is_in t self.old.taken ≡ true }
         ensures { Tries self.old t result self.new }

@@ -1,5 +1,4 @@
-use Rattle.std.proofs.Common.{◌≡◌, ◌≤◌, refl, sym, ap, subst, ◌∙◌}
-use Rattle.fj_model.specs.declared.said.Said.TheVariants as says
+use Rattle.std.proofs.Common.{refl}
 use Rattle.fj_store.proofs.Calms.{swept_stored, refused_steps, made_by}
 use Rattle.fj_store.proofs.store.Store.ask.Goals as goal
 

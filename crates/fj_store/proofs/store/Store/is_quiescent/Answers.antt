@@ -1,10 +1,7 @@
-use Rattle.std.proofs.Common.{◌≡◌, ◌≤◌, ◌<◌, refl, sym, ap, subst, ◌∙◌, arith, true, false}
+use Rattle.std.proofs.Common.{ap, ◌∙◌}
 use Rattle.fj_store.proofs.Shutting.{quiet_answer, quiet_yes, quiet_no, quiet_replies}
 use Rattle.fj_store.proofs.store.Store.is_quiescent.Goals as goal
-use Rattle.std.specs.Prelude.{if◌then◌else◌}
-use Rattle.fj_model.specs.Answers.{answer, is_quiet}
-use Rattle.fj_model.specs.declared.step.Step.TheVariants.{IsQuiescent}
-use Rattle.fj_model.specs.declared.said.Said.TheVariants as says
+use Rattle.fj_model.specs.Answers.{is_quiet}
 use Rattle.fj_store.proofs.Shutting.{quiet_leaves}
 use Rattle.fj_store.proofs.store.Store.is_quiescent.Goals.{in-Yes, in-No}
 
@@ -22,8 +19,9 @@ returns-clause-quiet g c =
     let past = c.self.inside.machine in
     let said = c.step.ensures.step.0 ∙ ap (λ a. a.0) (quiet_answer past c.self.invariant.0.run) in
     elim c.match-step.branch [
-      in-Yes w ↦ w.result-is ∙ quiet_yes (is_quiet past.pool.limits past.events) c.step.result said w.in-Yes.is ∙ ap (λ s. is_quiet s.past.pool.limits s.past.events) c.self.view_is
-    | in-No w ↦ w.result-is ∙ quiet_no (is_quiet past.pool.limits past.events) c.step.result said w.in-No.is ∙ ap (λ s. is_quiet s.past.pool.limits s.past.events) c.self.view_is ]
+      | in-Yes w ↦ w.result-is ∙ quiet_yes (is_quiet past.pool.limits past.events) c.step.result said w.in-Yes.is ∙ ap (λ s. is_quiet s.past.pool.limits s.past.events) c.self.view_is
+      | in-No w ↦ w.result-is ∙ quiet_no (is_quiet past.pool.limits past.events) c.step.result said w.in-No.is ∙ ap (λ s. is_quiet s.past.pool.limits s.past.events) c.self.view_is
+    ]
 
 pub returns-clause-same : goal.returns-clause-same
 returns-clause-same g c =

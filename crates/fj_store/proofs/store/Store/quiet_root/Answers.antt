@@ -1,4 +1,4 @@
-use Rattle.std.proofs.Common.{◌≡◌, refl, sym, ap, ◌∙◌}
+use Rattle.std.proofs.Common.{sym, ap, ◌∙◌}
 use Rattle.fj_model.specs.declared.step.Step.TheVariants.{QuietRoot}
 use Rattle.fj_store.proofs.Calms.{drops_made}
 use Rattle.fj_store.proofs.store.Store.quiet_root.Goals as goal

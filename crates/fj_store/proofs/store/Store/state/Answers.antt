@@ -1,4 +1,3 @@
-use Rattle.std.proofs.Common.{◌≡◌, refl, sym, ap, ◌∙◌}
 use Rattle.fj_store.proofs.Full.{history_fits}
 use Rattle.fj_store.proofs.Steps.{state_same, state_replies}
 use Rattle.fj_store.proofs.store.Store.state.Goals as goal

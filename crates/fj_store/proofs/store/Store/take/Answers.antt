@@ -1,5 +1,5 @@
-use Rattle.std.proofs.Common.{◌≡◌, ◌≤◌, Some, true, false, inl, inr, refl, sym, ap, subst, ◌∙◌}
-use Rattle.fj_model.specs.Places.{place, is_gone}
+use Rattle.std.proofs.Common.{Some, inl, inr, refl, sym, ap, ◌∙◌}
+use Rattle.fj_model.specs.Places.{is_gone}
 use Rattle.fj_store.proofs.Full.{history_fits}
 use Rattle.fj_store.proofs.Steps.{state_same, state_place, state_refused, state_replies}
 use Rattle.fj_store.proofs.store.Store.take.Goals as goal
