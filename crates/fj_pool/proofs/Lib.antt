@@ -6,3 +6,5 @@ mod Index
 mod Lanes
 -- where the closing number is reached
 mod Reached
+-- what steps of workers leave
+mod Inside

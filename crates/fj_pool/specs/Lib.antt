@@ -2,3 +2,5 @@
 pub mod Booked
 -- the closing number
 pub mod Closings
+-- the core
+pub mod Cores
