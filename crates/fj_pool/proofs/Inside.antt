@@ -28,7 +28,7 @@ use Rattle.fj_model.specs.Choices.{choice}
 use Rattle.fj_model.specs.Climbs.{Arrival, arrival, path, passed, relayed}
 use Rattle.fj_model.specs.Climbs as climb
 use Rattle.fj_model.specs.Allowed.{is_closed, is_stopped, is_close, is_stop, is_fired_by_complete}
-use Rattle.fj_model.specs.Answers.{answer, answer_of, events_of, refusal_of, running, taking, settling, settling_own, failing, settle_root, arriving, pass_end, passing, after_end, ending_events, above_hook, hook_events, root_events, root_of}
+use Rattle.fj_model.specs.Answers.{answer, answer_of, events_of, refusal_of, running, taking, settling, settling_own, failing, arriving, pass_end, passing, after_end, ending_events, above_hook, hook_events, root_events, root_of}
 use Rattle.fj_model.specs.Pasts.{Past, grown}
 use Rattle.fj_model.specs.Runs.{Steps}
 use Rattle.fj_pool.specs.Cores.{IsInside, is_outside_step}

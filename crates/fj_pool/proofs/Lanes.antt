@@ -1,5 +1,5 @@
 -- What was taken in, lane by lane.
-use Rattle.std.proofs.Common.{ℕ, ◌≡◌, ◌+◌, ◌*◌, ◌≤◌, ◌<◌, List, [], ◌∷◌, ◌++◌, map, length, Option, Some, None, refl, ap, sym, ◌∙◌, subst, arith, get_or, length-append, zero, suc}
+use Rattle.std.proofs.Common.{ℕ, ◌≡◌, ◌+◌, ◌*◌, ◌≤◌, ◌<◌, List, [], ◌∷◌, ◌++◌, map, length, Some, refl, ap, sym, ◌∙◌, subst, arith, get_or, length-append, zero, suc}
 use Rattle.std.specs.Prelude.{slice_get, slice_set, All, ◌==◌}
 use Rattle.std.specs.List.{sum_by}
 use Rattle.std.proofs.Math.Nat.{suc-mul, zero-mul}
@@ -170,3 +170,8 @@ module _ {B : Type 0} where
       let left : sum_by (λ d. d.capacity) (d ∷ lanes) ≡ d.capacity + sum_by (λ d. d.capacity) lanes = sum_by-cons (λ d. d.capacity) d lanes in
       let rest : sum_by (λ d. d.capacity) lanes ≡ length lanes * capacity = equal_capacities capacity lanes (λ k e within. all (suc k) e (omega (arith, within))) in
       omega (arith, left, first, rest, suc-mul (length lanes) capacity)
+
+  pub enough_room : (lanes : List (DrainState B)) (capacity n room : ℕ) → All (λ d. d.capacity ≡ capacity) lanes → length lanes ≡ n → room ≡ n * capacity → sum_by (λ d. d.capacity) lanes ≤ room
+  enough_room lanes capacity n room all count is =
+      let product : length lanes * capacity ≡ n * capacity = ap (λ k. k * capacity) count in
+      omega (arith, equal_capacities capacity lanes all, product, is)

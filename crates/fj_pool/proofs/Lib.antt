@@ -8,3 +8,5 @@ mod Lanes
 mod Reached
 -- what steps of workers leave
 mod Inside
+-- what a call of the store leaves of the core
+mod Frames

@@ -1,5 +1,5 @@
 -- Where the closing number is reached.
-use Rattle.std.proofs.Common.{ℕ, ◌≡◌, ◌+◌, ◌≤◌, Bool, true, false, ◌||◌, List, ◌++◌, ◌∷◌, [], Option, Some, None, refl, ap, sym, ◌∙◌, arith}
+use Rattle.std.proofs.Common.{ℕ, ◌≡◌, ◌+◌, Bool, true, false, List, [], Option, Some, None, refl, ap, sym, ◌∙◌, arith}
 use Rattle.std.proofs.lemmas.Bool.{le-leb, leb-true}
 use Rattle.fj_model.specs.declared.event.Event.{Event}
 use Rattle.fj_model.specs.Allowed.{is_closed, is_stopped}
@@ -41,3 +41,12 @@ only_more h k number only over = let was = only over in (was.0, was.1, omega (ar
 
 pub only_same : (h h' : List Event) (k : ℕ) (number : Option ℕ) → is_closed h' ≡ is_closed h → is_stopped h' ≡ is_stopped h → OnlyReached h k number → OnlyReached h' k number
 only_same h h' k number closed stopped only over = only (sym (over_same h h' closed stopped) ∙ over)
+
+-- nothing has happened, and there is no number
+pub new_closing : (h : List Event) (k : ℕ) (closing : Closing) (stuck : Bool) → h ≡ [] → closing.number ≡ None → IsClosing h k closing stuck
+unfolding is_closed is_stopped
+new_closing h k closing stuck none unset = record {
+  only = λ over. absurd (let no : false ≡ true = sym (ap is_over none) ∙ over in cc);
+  there = λ free reached. absurd (let no : ◌≡◌ {A = Option ℕ} None (Some reached.0) = sym unset ∙ reached.1 in cc);
+  stop = λ free stops reached. absurd (let no : ◌≡◌ {A = Option ℕ} None (Some reached.0) = sym unset ∙ reached.1 in cc);
+}

@@ -5,7 +5,6 @@ use Rattle.fj_model.specs.declared.event.Event.{Event}
 use Rattle.fj_model.specs.declared.owner.Owner.TheVariants.{Sub}
 use Rattle.fj_model.specs.Pasts.{Past}
 use Rattle.fj_model.specs.Queues.{pushed}
-use Rattle.fj_lane.specs.declared.parcel.Parcel.{Parcel}
 use Rattle.fj_lane.specs.Ends.{DrainState}
 use Rattle.fj_pool.specs.declared.booking.Booking.{Booking}
 

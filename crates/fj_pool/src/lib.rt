@@ -1,13 +1,16 @@
-//! The core of a pool: the bookings, and the closing number.
+//! The core of a pool: what a worker does while it holds the lock.
 #![tactic(auto)]
 
 mod booking;
 mod bookings;
 mod closing;
+mod first_hands;
+mod pool_core;
 
 pub use booking::Booking;
 pub use bookings::Bookings;
 pub use closing::Closing;
+pub use pool_core::Core;
 
 #[cfg(test)]
 mod tests;

@@ -1,0 +1,5 @@
+use Rattle.fj_pool.proofs.Frames.{core_stays, collects_stay}
+use Rattle.fj_pool.proofs.pool_core.Core.collect.Goals as goal
+
+pub invariant_of-self : goal.invariant_of-self
+invariant_of-self g c = (core_stays _ _ _ _ _ (collects_stay _ _ _ _ c.collect.ensures) c.self.invariant.0, c.self.invariant.1)
