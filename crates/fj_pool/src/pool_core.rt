@@ -1,4 +1,5 @@
 ghost use Rattle.std.specs.Prelude.{◌≡◌, ◌≤◌, [], None, All, IfOk, vec_len};
+ghost use Rattle.fj_lane.specs.declared.new_lane.TheConstants.{MAX_CAPACITY};
 ghost use Rattle.fj_store.specs.Choosing.{Polls};
 ghost use Rattle.fj_store.specs.Fitting.{Fits};
 ghost use Rattle.fj_pool.specs.Cores.{ChangesStore, CollectsTicket, IsNew, first_hands};
@@ -49,7 +50,7 @@ impl<B: Body> Core<B> {
         start: u32,
     ) -> Result<(Core<B>, Vec<Hand<B>>), OutOfMemory>
         requires lanes { vec_len drains ≡ limits.submitters }
-        requires capacity { lane_capacity ≤ 65536 }
+        requires capacity { lane_capacity ≤ MAX_CAPACITY }
         requires capacities { All (λ d. d.capacity ≡ lane_capacity) drains.items }
         requires untouched { All (λ d. d.drained ≡ []) drains.items }
         ensures core { IfOk result (λ r. IsNew mode limits drains.items r.0) }
