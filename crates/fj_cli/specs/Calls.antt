@@ -44,6 +44,10 @@ ReadCounts old new r = MatchResult r (λ n. (n ≡ 0 → GoesOn old new 0) × (n
 abbrev pub WriteCounts : Option Calls → Option Calls → Result ℕ Error → ℕ → Type 0
 WriteCounts old new r length = MatchResult r (λ n. (n ≡ 0 → 0 < length → Fails old new) × ((n ≢ 0) ⊎ (length ≡ 0) → GoesOn old new 0)) (λ e. ErrorCounts old new e)
 
+-- what a flush says
+abbrev pub FlushCounts : {A : Type 0} → Option Calls → Option Calls → Result A Error → Type 0
+FlushCounts old new r = MatchResult r (λ _. GoesOn old new 0) (λ e. ErrorCounts old new e)
+
 -- ---- what many calls say
 
 -- no known call failed

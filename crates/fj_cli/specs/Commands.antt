@@ -1,9 +1,12 @@
 -- The command line.
-use Rattle.std.specs.Prelude.{◌≢◌, ◌⊎◌, List, [], ◌∷◌, codes, true, Option, option_map}
-use Rattle.clap.specs.Words.{App, IsAmong, Kinds, Row, Text, fault_of, new_app, subcommand_of, with_subcommand}
+use Rattle.std.specs.Prelude.{◌≡◌, ◌≢◌, ◌⊎◌, List, [], ◌∷◌, codes, true, Option, Some, option_map, Result, MatchResult}
+use Rattle.clap.specs.Words.{App, IsAmong, Kinds, Row, Text, fault_of, kind_of, new_app, subcommand_of, with_subcommand}
 use Rattle.clap.specs.Simple.{on_top}
 use Rattle.clap.specs.declared.error.kind.ErrorKind.{ErrorKind}
-use Rattle.clap.specs.declared.error.kind.ErrorKind.TheVariants.{DisplayHelp, DisplayVersion}
+use Rattle.clap.specs.declared.error.Error.{Error}
+use Rattle.clap.specs.declared.error.kind.ErrorKind.TheVariants.{DisplayHelp, DisplayVersion, OutOfMemory}
+use Rattle.fj_cli.specs.declared.command_line.Subcommand.{Subcommand}
+use Rattle.fj_cli.specs.declared.command_line.Subcommand.TheVariants.{Replay}
 
 -- what a parse reads of the whole command line
 abbrev pub whole_line : App
@@ -18,6 +21,14 @@ replay_words = codes "fj" ∷ codes "replay" ∷ []
 abbrev pub command_in : List Text → Option Text
 command_in words = option_map (λ (met : Text × List Row). met.0) (subcommand_of whole_line words)
 
+-- the words name the command replay
+abbrev pub NamesReplay : List Text → Type 0
+NamesReplay words = command_in words ≡ Some (codes "replay")
+
+-- the words of a replay are read: as one, unless out of memory
+abbrev pub ReadsReplay : Result (Option Subcommand) Error → Type 0
+ReadsReplay result = MatchResult result (λ asked. asked ≡ Some Replay) (λ error. kind_of error ≡ OutOfMemory)
+
 -- the kinds of error that a parse of these arguments may give, but for out of memory
 abbrev pub faults_in : List Text → Kinds
 faults_in words = fault_of whole_line words
@@ -25,6 +36,10 @@ faults_in words = fault_of whole_line words
 -- the words ask for help or for the version
 abbrev pub AsksToShow : List Text → Type 0
 AsksToShow words = IsAmong DisplayHelp (faults_in words) ⊎ IsAmong DisplayVersion (faults_in words)
+
+-- an error of this kind tells of a fault in the words
+abbrev pub TellsOfFault : ErrorKind → Type 0
+TellsOfFault kind = (kind ≢ OutOfMemory) × (kind ≢ DisplayHelp) × (kind ≢ DisplayVersion)
 
 -- there is a fault in the words
 abbrev pub IsAtFault : List Text → Type 0

@@ -61,9 +61,13 @@ abbrev pub past_after : Option Past → List ℕ → Option Past
 past_after None line = opened (pool_in line) []
 past_after (Some past) line = stepped past (step_in line)
 
+-- the line of the reply to a step
+abbrev pub reply_text : Past → Step → List ℕ
+reply_text past asked = reply_line past.pool.limits (answer past asked).0
+
 abbrev pub replied : Past → Option Step → List ℕ
 replied past None = []
-replied past (Some asked) = reply_line past.pool.limits (answer past asked).0
+replied past (Some asked) = reply_text past asked
 
 -- what is written at the end of the line
 abbrev pub line_text : Option Past → List ℕ → List ℕ

@@ -5,7 +5,7 @@ use Rattle.std.specs.declared.io.ErrorKind.{ErrorKind}
 use Rattle.std.specs.declared.io.ErrorKind.TheVariants.{InvalidData}
 use Rattle.fj_cli.specs.declared.fault.ReplayFault.{ReplayFault}
 use Rattle.fj_cli.specs.declared.fault.ReplayFault.TheVariants.{Line, Limits, Memory, Read, Write}
-use Rattle.fj_cli.specs.Commands.{AsksToShow}
+use Rattle.fj_cli.specs.Commands.{AsksToShow, replay_words}
 use Rattle.fj_cli.specs.Faults.{Begins, Ends, Replays}
 
 -- the exit status of a fault: 3 for the input, 4 for memory, 5 for a read or a write
@@ -24,6 +24,10 @@ EndsBy status before ahead start now =
 -- the exit status where the words could not be had: 2 where one is no text, 4 for any other error
 abbrev pub StatusOfNoWords : ErrorKind → ℕ → Type 0
 StatusOfNoWords kind status = (kind ≡ InvalidData → status ≡ 2) × (kind ≢ InvalidData → status ≡ 4)
+
+-- what status 0 says of the arguments of a replay: a script was replayed
+abbrev pub EndsKnown : List Text → ℕ → Option (List ℕ) → Option (List ℕ) → Option (List ℕ) → Option (List ℕ) → Type 0
+EndsKnown words status before ahead start now = words ≡ replay_words → status ≡ 0 → Replays before ahead start now
 
 -- what status 0 says: a script was replayed, or what the words ask for of the command line was shown and nothing was read
 abbrev pub EndsWell : List Text → Option (List ℕ) → Option (List ℕ) → Option (List ℕ) → Option (List ℕ) → Type 0

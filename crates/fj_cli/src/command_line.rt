@@ -1,9 +1,9 @@
 //! The command line: what its arguments ask for, and its help.
-ghost use Rattle.std.specs.Prelude.{◌≡◌, ◌↔◌, Some, IfOk, IfErr, MatchResult, codes, map};
-ghost use Rattle.clap.specs.Words.{HasKind, app_of, kind_of};
-ghost use Rattle.fj_cli.specs.Commands.{whole_line, replay_words, command_in, faults_in};
+ghost use Rattle.std.specs.Prelude.{◌≡◌, ◌↔◌, Some, IfOk, IfErr};
+ghost use Rattle.clap.specs.Walk.{texts};
+ghost use Rattle.clap.specs.Words.{HasKind, app_of};
+ghost use Rattle.fj_cli.specs.Commands.{whole_line, replay_words, faults_in, NamesReplay, ReadsReplay};
 
-use clap::error::ErrorKind;
 use clap::{Command, Error};
 use std::alloc::{AllocError, Global};
 
@@ -51,9 +51,9 @@ fn command<'a>(alloc: Global) -> Result<Command<'a>, AllocError>
 
 /// Reads the arguments, of which the first is the program's name. `None` if they name no command.
 pub fn read<'a>(alloc: Global, words: &'a [&'a str]) -> Result<Option<Subcommand>, Error>
-    ensures subcommand { IfOk result (λ asked. (asked ≡ Some Subcommand.Replay) ↔ (command_in (map (λ word. word.now) words.entry.now) ≡ Some (codes "replay"))) }
-    ensures fault { IfErr result (λ error. HasKind (faults_in (map (λ word. word.now) words.entry.now)) error) }
-    ensures known { map (λ word. word.now) words.entry.now ≡ replay_words → MatchResult result (λ asked. asked ≡ Some Subcommand.Replay) (λ error. kind_of error ≡ ErrorKind.OutOfMemory) }
+    ensures subcommand { IfOk result (λ asked. (asked ≡ Some Subcommand.Replay) ↔ NamesReplay (texts words.entry.now)) }
+    ensures fault { IfErr result (λ error. HasKind (faults_in (texts words.entry.now)) error) }
+    ensures known { texts words.entry.now ≡ replay_words → ReadsReplay result }
 {
     match command(alloc)?.try_get_matches_from(words) {
         Ok(matches) => {

@@ -1,9 +1,9 @@
-ghost use Rattle.std.specs.Prelude.{◌≡◌, ◌≢◌, ◌⊎◌, Some, codes, map};
+ghost use Rattle.std.specs.Prelude.{◌≡◌, ◌≢◌, ◌⊎◌};
+ghost use Rattle.clap.specs.Walk.{texts};
 ghost use Rattle.clap.specs.Words.{kind_of};
 ghost use Rattle.std.specs.IoError.{error_kind};
-ghost use Rattle.fj_cli.specs.Commands.{command_in, replay_words, IsAtFault};
-ghost use Rattle.fj_cli.specs.Faults.{Replays};
-ghost use Rattle.fj_cli.specs.Statuses.{BeginsAtMost, EndsBy, EndsWell, LacksMemory, StatusOfNoWords};
+ghost use Rattle.fj_cli.specs.Commands.{replay_words, IsAtFault, NamesReplay, TellsOfFault};
+ghost use Rattle.fj_cli.specs.Statuses.{BeginsAtMost, EndsBy, EndsKnown, EndsWell, LacksMemory, StatusOfNoWords};
 
 use crate::command_line::{Subcommand, read};
 use crate::replay_command::run_replay;
@@ -28,16 +28,14 @@ pub fn fj<R: Read, W: Write, E: Write>(
 ) -> u8
     ensures status { (result ≡ 0) ⊎ ((result ≡ 2) ⊎ ((result ≡ 3) ⊎ ((result ≡ 4) ⊎ (result ≡ 5)))) }
     // The arguments of a replay run one, which is to its end at 0.
-    ensures known { map (λ word. word.now) words.entry.now ≡ replay_words → result ≢ 2 }
-    ensures replayed { map (λ word. word.now) words.entry.now ≡ replay_words → result ≡ 0 →
-        Replays (R.remaining input.old) (R.remaining input.new) (W.contents out.old) (W.contents out.new) }
+    ensures known { texts words.entry.now ≡ replay_words → result ≢ 2 }
+    ensures replayed { EndsKnown (texts words.entry.now) result (R.remaining input.old) (R.remaining input.new) (W.contents out.old) (W.contents out.new) }
     // Arguments that name no replay read nothing.
-    ensures unread { command_in (map (λ word. word.now) words.entry.now) ≢ Some (codes "replay") → R.remaining input.new ≡ R.remaining input.old }
+    ensures unread { ¬ NamesReplay (texts words.entry.now) → R.remaining input.new ≡ R.remaining input.old }
     // What else each status says.
-    ensures done { result ≡ 0 → EndsWell (map (λ word. word.now) words.entry.now)
-        (R.remaining input.old) (R.remaining input.new) (W.contents out.old) (W.contents out.new) }
+    ensures done { result ≡ 0 → EndsWell (texts words.entry.now) (R.remaining input.old) (R.remaining input.new) (W.contents out.old) (W.contents out.new) }
     ensures words { result ≡ 2 → (R.remaining input.new ≡ R.remaining input.old) × (W.contents out.new ≡ W.contents out.old) }
-    ensures fault_of_words { result ≡ 2 → IsAtFault (map (λ word. word.now) words.entry.now) ⊎ (command_in (map (λ word. word.now) words.entry.now) ≢ Some (codes "replay")) }
+    ensures fault_of_words { result ≡ 2 → IsAtFault (texts words.entry.now) ⊎ (¬ NamesReplay (texts words.entry.now)) }
     ensures fault_of_input { result ≡ 3 → EndsBy 3 (R.remaining input.old) (R.remaining input.new) (W.contents out.old) (W.contents out.new) }
     ensures memory { result ≡ 4 → LacksMemory (R.remaining input.old) (R.remaining input.new) (W.contents out.old) (W.contents out.new) }
     // Whatever the status: what was written is a beginning of the replies to what was read, or nothing was read.
@@ -72,7 +70,7 @@ fn answered<W: Write, E: Write>(error: &Error, out: &mut W, err: &mut E) -> u8
     ensures out_of_memory { kind_of error.now ≡ ErrorKind.OutOfMemory → result ≡ 4 }
     ensures shown { result ≡ 0 → (kind_of error.now ≡ ErrorKind.DisplayHelp) ⊎ (kind_of error.now ≡ ErrorKind.DisplayVersion) }
     ensures words { result ≡ 2 → W.contents out.new ≡ W.contents out.old }
-    ensures fault_of_words { result ≡ 2 → (kind_of error.now ≢ ErrorKind.OutOfMemory) × (kind_of error.now ≢ ErrorKind.DisplayHelp) × (kind_of error.now ≢ ErrorKind.DisplayVersion) }
+    ensures fault_of_words { result ≡ 2 → TellsOfFault (kind_of error.now) }
     ensures memory { result ≡ 4 → W.contents out.new ≡ W.contents out.old }
 {
     match error.kind() {

@@ -2,11 +2,10 @@ ghost use Rattle.std.specs.Prelude.{◌≡◌, Some, OnOk, OnErr, IfOk, IfErr, O
 ghost use Rattle.std.specs.Io.KnownBytes.{Appends};
 ghost use Rattle.fj_model.specs.Answers.{answer};
 ghost use Rattle.fj_model.specs.Pasts.{grown};
-ghost use Rattle.fj_model.specs.Lines.{reply_line};
 ghost use Rattle.fj_cli.specs.Calls.{IsFine, WriterTells};
 ghost use Rattle.fj_cli.specs.Cuts.{AppendsSome};
 ghost use Rattle.fj_cli.specs.Scripts.{pool_in, start};
-ghost use Rattle.fj_cli.specs.Sessions.{IsHeadFault, IsReplyFault};
+ghost use Rattle.fj_cli.specs.Sessions.{IsHeadFault, IsReplyFault, reply_text};
 
 use crate::fault::ReplayFault;
 use crate::streams::Sink;
@@ -65,11 +64,11 @@ impl Responder {
     /// Makes the step, and writes the reply. `Memory` or `Write` where only a first part of the reply, or nothing, was written.
     pub fn reply<W: Sink>(&mut self, asked: &Step, w: &mut W) -> Result<(), ReplayFault>
         ensures past { OnOk result (self.new ≡ grown self.old (answer self.old asked.now).1) }
-        ensures written { OnOk result (Appends (W.contents w.old) (W.contents w.new) (reply_line self.old.pool.limits (answer self.old asked.now).0)) }
+        ensures written { OnOk result (Appends (W.contents w.old) (W.contents w.new) (reply_text self.old asked.now)) }
         ensures err { IfErr result (λ fault. IsReplyFault fault) }
         ensures fine { OnOk result (IsFine (W.calls w.old) (W.calls w.new)) }
         ensures told { IfErr result (λ fault. WriterTells fault (W.calls w.old) (W.calls w.new)) }
-        ensures some { OnErr result (AppendsSome (W.contents w.old) (W.contents w.new) (reply_line self.old.pool.limits (answer self.old asked.now).0)) }
+        ensures some { OnErr result (AppendsSome (W.contents w.old) (W.contents w.new) (reply_text self.old asked.now)) }
     {
         // The check wants each type inside a reply to be named where one is moved.
         let _inside: Option<(Place, Owner, Status, Refusal, Serial, SubId, WorkerId)> = None;

@@ -1,8 +1,8 @@
 //! Readers and writers of which contracts may know which calls failed.
-ghost use Rattle.std.specs.Prelude.{◌≡◌, ℕ, Option, None, List, length, MatchResult};
+ghost use Rattle.std.specs.Prelude.{ℕ, Option, None, List, length};
 ghost use Rattle.std.specs.Io.{ReadsAtMost, WritesAtMost};
 ghost use Rattle.std.specs.Io.KnownBytes.{Keeps, ReadConsumes, WriteAppends};
-ghost use Rattle.fj_cli.specs.Calls.{Calls, ErrorCounts, GoesOn, ReadCounts, WriteCounts};
+ghost use Rattle.fj_cli.specs.Calls.{Calls, FlushCounts, ReadCounts, WriteCounts};
 
 use std::io::{self, Read, Write};
 
@@ -38,7 +38,7 @@ pub trait Sink {
     /// Flushes as `Write::flush` does, with its errors.
     fn flush_pushed(&mut self) -> io::Result<()>
         ensures bytes { Keeps (contents self.old) (contents self.new) }
-        ensures counts { MatchResult result (λ _. GoesOn (calls self.old) (calls self.new) 0) (λ e. ErrorCounts (calls self.old) (calls self.new) e) };
+        ensures counts { FlushCounts (calls self.old) (calls self.new) result };
 }
 
 impl<R: Read> Source for R {

@@ -41,7 +41,8 @@ fn word(closer: &Closer) -> u64 {
 /// Each step's answer, and the word after it. One entrant makes all admissions, the other looks.
 fn figures(first: &mut Entrant, second: &mut Entrant, closer: &mut Closer) -> [(Answer, u64); 8]
     requires { (first.old.drawn ≡ []) × (first.old.each ≡ 3) }
-    ensures { (first.new.gate ≡ first.old.gate) × (second.new.gate ≡ second.old.gate) × (closer.new.gate ≡ closer.old.gate) × (closer.new.submitters ≡ closer.old.submitters) }
+    ensures entrants { (first.new.gate ≡ first.old.gate) × (second.new.gate ≡ second.old.gate) }
+    ensures closer { (closer.new.gate ≡ closer.old.gate) × (closer.new.submitters ≡ closer.old.submitters) }
 {
     let zero = (of_admission(admit(first, 0)), word(closer));
     let one = (of_admission(admit(first, 1)), word(closer));

@@ -1,7 +1,11 @@
 -- What is kept while the values of a tree's nodes are computed, the last node first.
-use Rattle.std.specs.Prelude.{ℕ, ◌≡◌, ◌+◌, ◌%◌, ◌<◌, ◌≤◌, List, [], ◌∷◌, length, map, slice_index}
+use Rattle.std.specs.Prelude.{ℕ, ◌≡◌, ◌+◌, ◌%◌, ◌<◌, ◌≤◌, List, [], ◌∷◌, length, map, slice_index, slice_set}
 use Rattle.fj_jobs.specs.declared.node.Node.{Node}
 use Rattle.fj_jobs.specs.TreeValues.{children_from, node_value, weighted}
+
+-- one of the sums with so much more
+abbrev pub with_more : List ℕ → ℕ → ℕ → List ℕ
+with_more sums i n = slice_set sums i ((slice_index sums i + n) % 1000000007)
 
 abbrev pub total : List ℕ → ℕ
 total [] = 0

@@ -12,6 +12,11 @@ abbrev pub HasParentAt : ℕ → Option ℕ → Type 0
 HasParentAt i None = i ≡ 0
 HasParentAt i (Some p) = p < i
 
+-- the parent that a word writes at this place; None where it writes none that may stand there
+abbrev pub ReadsParent : List ℕ → ℕ → Option (Option ℕ) → Type 0
+ReadsParent word i None = (p : Option ℕ) → HasParentAt i p → word ≢ parent_word p
+ReadsParent word i (Some p) = HasParentAt i p × (word ≡ parent_word p)
+
 -- the node may be the one with this number
 abbrev pub IsNodeAt : ℕ → Node → Type 0
 IsNodeAt i node = (i < 4000) × HasParentAt i node.parent × (node.value ≤ 1000000006)

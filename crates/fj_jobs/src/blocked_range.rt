@@ -1,5 +1,6 @@
 ghost use Rattle.std.specs.Prelude.{◌≡◌, ℕ, ◌+◌, ◌*◌, ◌^◌, ◌<◌, ◌≤◌, ◌-◌, IfOk, IfErr};
 ghost use Rattle.std.specs.Int.{div_ceil};
+ghost use Rattle.fj_jobs.specs.Parts.{AreParts};
 
 use crate::interval::Interval;
 
@@ -38,7 +39,7 @@ impl BlockedRange {
     #[tactic(auto, using(crate::proofs::Blocks::half_fits))]
     pub fn halve(self) -> Result<(BlockedRange, BlockedRange), BlockedRange>
         ensures half { IfOk result (λ p. p.0.numbers.count ≡ div_ceil (div_ceil self.numbers.count self.grain) 2 * self.grain) }
-        ensures parts { IfOk result (λ p. (p.0.numbers.from ≡ self.numbers.from) × (p.1.numbers.from ≡ self.numbers.from + p.0.numbers.count) × (p.0.numbers.count + p.1.numbers.count ≡ self.numbers.count)) }
+        ensures parts { IfOk result (λ p. AreParts self.numbers p.0.numbers p.1.numbers) }
         ensures grain { IfOk result (λ p. (p.0.grain ≡ self.grain) × (p.1.grain ≡ self.grain)) }
         ensures smaller { IfOk result (λ p. (p.0.numbers.count < self.numbers.count) × (p.1.numbers.count < self.numbers.count)) }
         ensures whole { IfErr result (λ s. (s ≡ self) × (self.numbers.count ≤ self.grain)) }

@@ -1,7 +1,6 @@
-ghost use Rattle.std.specs.Prelude.{◌≡◌, ◌≢◌, ◌++◌, ◌∷◌, ◌<◌, ◌≤◌, ℕ, List, Option, MatchOption, decimal};
-ghost use Rattle.fj_model.specs.Lines.{parent_word};
+ghost use Rattle.std.specs.Prelude.{◌≡◌, ◌≢◌, ◌++◌, ◌∷◌, ◌<◌, ◌≤◌, ℕ, MatchOption, decimal};
 ghost use Rattle.fj_jobs.specs.Separators.{Without};
-ghost use Rattle.fj_jobs.specs.Trees.{IsNodeAt, IsNoNode, HasParentAt, node_line};
+ghost use Rattle.fj_jobs.specs.Trees.{IsNodeAt, IsNoNode, ReadsParent, node_line};
 
 use crate::node::Node;
 use fj_model::read_number;
@@ -41,7 +40,7 @@ fn split_at_space(line: &[u8]) -> Option<(&[u8], &[u8])>
 #[tactic(auto, using(crate::proofs::NodeLines::no_dash, crate::proofs::NodeLines::no_earlier))]
 fn read_parent(word: &[u8], place: usize) -> Option<Option<u32>>
     requires { place < 4000 }
-    ensures { MatchOption result ((p : Option ℕ) → HasParentAt place p → word.now ≢ parent_word p) (λ p. HasParentAt place p × (word.now ≡ parent_word p)) }
+    ensures { ReadsParent word.now place result }
 {
     if place == 0 {
         return if word == b"-".as_slice() {

@@ -1,4 +1,5 @@
-ghost use Rattle.std.specs.Prelude.{◌≡◌, ◌+◌, ◌%◌, ◌<◌, length, slice_index, slice_set, IfOk};
+ghost use Rattle.std.specs.Prelude.{◌≡◌, ◌+◌, ◌%◌, ◌<◌, length, slice_index, IfOk};
+ghost use Rattle.fj_jobs.specs.TreeSums.{with_more};
 ghost use Rattle.fj_jobs.specs.TreeValues.{AreValues};
 
 use crate::nodes::Nodes;
@@ -33,8 +34,8 @@ pub fn tree_values(alloc: Global, nodes: &Nodes) -> Result<Vec<u64>, OutOfMemory
 fn add_child(plain: &mut [u64], weighted: &mut [u64], parent: u32, value: u64)
     requires plain { parent < length plain.old }
     requires weighted { parent < length weighted.old }
-    ensures plain { plain.new ≡ slice_set plain.old parent ((slice_index plain.old parent + value) % 1000000007) }
-    ensures weighted { weighted.new ≡ slice_set weighted.old parent ((slice_index weighted.old parent + (slice_index plain.old parent + value) % 1000000007) % 1000000007) }
+    ensures plain { plain.new ≡ with_more plain.old parent value }
+    ensures weighted { weighted.new ≡ with_more weighted.old parent ((slice_index plain.old parent + value) % 1000000007) }
 {
     let parent = parent as usize;
     let sum = sum_modulo(plain[parent], value);

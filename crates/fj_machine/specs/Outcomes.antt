@@ -1,5 +1,8 @@
 -- What a check and a step come to: something found or said, or a refusal.
-use Rattle.std.specs.Prelude.{ℕ, ◌≡◌, ◌≤◌, ◌<◌, ◌+◌, Bool, true, not, List, [], ◌∷◌, Option, Some, None, Result, Ok, Err, length}
+use Rattle.std.specs.Prelude.{ℕ, ◌≡◌, ◌≤◌, ◌<◌, ◌+◌, Bool, true, not, List, [], ◌∷◌, Option, Some, None, Result, Ok, Err, length, map}
+use Rattle.fj_model.specs.declared.event.Event.{Event}
+use Rattle.fj_model.specs.declared.event.Event.TheVariants as event
+use Rattle.fj_model.specs.declared.status.Status.TheVariants.{Exceptional}
 use Rattle.fj_model.specs.declared.refusal.Refusal.{Refusal}
 use Rattle.fj_model.specs.declared.refusal.Refusal.TheVariants.{LogFull, NotCompleter, NotIdle, Unknown}
 use Rattle.fj_model.specs.declared.said.Said.{Said}
@@ -11,9 +14,11 @@ use Rattle.fj_model.specs.declared.step.Step.TheVariants.{End}
 use Rattle.fj_model.specs.Lists.{is_empty}
 use Rattle.fj_model.specs.Stacks.{stack}
 use Rattle.fj_model.specs.Choices.{choice}
+use Rattle.fj_model.specs.Climbs.{relayed}
 use Rattle.fj_model.specs.Answers.{first_that_stands, refusals_of, hook_in_hand, is_plain_parent, is_unknown_parent, no_such_worker, nothing_running, running, taking, taking_says}
 use Rattle.fj_model.specs.Pasts.{limit}
 use Rattle.fj_model.specs.Runs.{Past, Steps, grown}
+use Rattle.fj_tree.specs.Handles.{Handle}
 use Rattle.fj_ledger.specs.Holds.{IsLawful}
 
 -- why it is refused, if it is
@@ -71,6 +76,15 @@ pub record MayEnd (now : Past) (w : ℕ) (ending : Ending) (t : ℕ) : Type 0 wh
   pub lawful : IsLawful now.pool (limit now) now.events
   pub stands : first_that_stands (refusals_of now.pool now.events (End w ending)) ≡ None
   pub running : running now.events w ≡ Some t
+
+-- what is found at the end of a body: the running task, which may end so; or the first refusal that stands
+abbrev pub FindsEnding : Past → ℕ → Ending → Result Handle Refusal → Type 0
+FindsEnding now w ending (Ok t) = MayEnd now w ending t.serial
+FindsEnding now w ending (Err r) = first_that_stands (refusals_of now.pool now.events (End w ending)) ≡ Some r
+
+-- the task becomes exceptional with the code, and each to whom that is relayed
+abbrev pub relaying : List Event → ℕ → ℕ → List Event
+relaying h t code = map (λ u. event.Settle u (Exceptional code)) (relayed h t)
 
 -- the worker took its choice, if it has one; or the history was full, and nothing changed
 pub record TakesChoice (old : Past) (w r : ℕ) (reply : Said) (new : Past) : Type 0 where

@@ -13,6 +13,9 @@ pub record Bounds : Type 0 where
   pub tasks : ℕ
   pub events : ℕ
 
+abbrev pub bounds : ℕ → ℕ → ℕ → ℕ → Bounds
+bounds workers submitters tasks events = record { workers = workers; submitters = submitters; tasks = tasks; events = events }
+
 -- each limit is in its range
 pub record IsWithin (workers submitters tasks events : ℕ) : Type 0 where
   pub some_workers : 1 ≤ workers

@@ -2,7 +2,7 @@
 use Rattle.std.specs.Prelude.{ℕ, Bool, true, false, ◌≡◌, ◌^◌, ◌==◌, ◌&&◌, nat_lt, if◌then◌else◌, List, [], ◌∷◌, Option, Some, None, Result, MatchResult, decimal}
 use Rattle.std.specs.List.{slice_split, join_with_byte}
 use Rattle.std.specs.Str.{bytes_eq}
-use Rattle.std.specs.Str.Parse.{digits_value}
+use Rattle.std.specs.Str.Parse.{AllDigits, digits_value}
 use Rattle.fj_model.specs.declared.read.words.TheConstants.{SPACE}
 
 -- the line that these words make
@@ -29,6 +29,18 @@ number_in word = if is_number word then Some (digits_value 10 word) else None
 -- what a reader answers: what is said, and a fault exactly where nothing is said
 abbrev pub Reads : {A E : Type 0} → Option A → Result A E → Type 0
 Reads said result = MatchResult result (λ x. said ≡ Some x) (λ _. said ≡ None)
+
+-- the same of a reader whose answer means what is said
+abbrev pub ReadsAs : {A B E : Type 0} → (B → A) → Option A → Result B E → Type 0
+ReadsAs meaning said result = MatchResult result (λ x. said ≡ Some (meaning x)) (λ _. said ≡ None)
+
+-- a fault exactly where this is false
+abbrev pub IsOkIf : {A E : Type 0} → Bool → Result A E → Type 0
+IsOkIf test result = MatchResult result (λ _. test ≡ true) (λ _. test ≡ false)
+
+-- what the digits of a word write; a fault only where it is no number
+abbrev pub ReadsDigits : {E : Type 0} → List ℕ → Result ℕ E → Type 0
+ReadsDigits word result = MatchResult result (λ value. AllDigits 10 word × (value ≡ digits_value 10 word)) (λ _. number_in word ≡ None)
 
 -- ---- reading words, one after the other: these mirror the reader
 

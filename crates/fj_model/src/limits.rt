@@ -51,17 +51,12 @@ impl Model for Limits {
 }
 
 impl Limits {
-    ghost use Rattle.fj_model.specs.Bounds.{IsWithin, IsOwner, queue_number};
+    ghost use Rattle.fj_model.specs.Bounds.{IsWithin, IsOwner, bounds, queue_number};
 
     /// The limits, if each lies in its range; `BadLimits` if one does not.
     pub fn new(workers: u32, submitters: u32, tasks: u32, events: u32) -> Result<Limits, Refusal>
         ensures valid { IsOk result ↔ IsWithin workers submitters tasks events }
-        ensures value { IfOk result (λ l. l ≡ record {
-          workers = workers;
-          submitters = submitters;
-          tasks = tasks;
-          events = events;
-        }) }
+        ensures value { IfOk result (λ l. l ≡ bounds workers submitters tasks events) }
         ensures err { OnErr result (result ≡ Err Refusal.BadLimits) }
     {
         if (1..=MAX_WORKERS).contains(&workers)

@@ -18,6 +18,10 @@ older_at cells c = (cell_at cells c).older
 abbrev pub newer_at : List Cell → ℕ → Option ℕ
 newer_at cells c = (cell_at cells c).newer
 
+-- the cell, with the chain of free ones behind it
+abbrev pub freed : List Cell → ℕ → Option ℕ → Cell
+freed cells c free = record (cell_at cells c) { newer = free }
+
 -- one cell holds this, and all others hold what they held
 pub record IsWritten (old new : List Cell) (c : ℕ) (cell : Cell) : Type 0 where
   pub here : cell_at new c ≡ cell

@@ -37,7 +37,7 @@ impl Cell {
 }
 
 impl Cells {
-    ghost use Rattle.fj_queues.specs.Cells.{IsWritten, AreJoined, cell_at, serial_at, NextFree};
+    ghost use Rattle.fj_queues.specs.Cells.{IsWritten, AreJoined, NextFree, freed, serial_at};
 
     /// No cells, with room for so many. Refused only if out of memory.
     pub fn with_capacity(alloc: Global, room: usize) -> Result<Cells, AllocError>
@@ -73,7 +73,7 @@ impl Cells {
     pub fn give_back(&mut self, number: usize) -> Serial
         requires { number < length self.old.table.items }
         ensures serial { result ≡ serial_at self.old.table.items number }
-        ensures written { IsWritten self.old.table.items self.new.table.items number (record (cell_at self.old.table.items number) { newer = self.old.free }) }
+        ensures written { IsWritten self.old.table.items self.new.table.items number (freed self.old.table.items number self.old.free) }
         ensures len { length self.new.table.items ≡ length self.old.table.items }
         ensures first { self.new.free ≡ Some number }
         ensures capacity { vec_capacity self.new.table ≡ vec_capacity self.old.table }

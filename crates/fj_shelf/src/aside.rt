@@ -1,7 +1,6 @@
-ghost use Rattle.std.specs.Prelude.{ℕ, ◌≡◌, ◌≤◌, ◌<◌, ◌∷◌, [], ◌++◌, length, IfOk, MatchOption, false, ◌==◌};
+ghost use Rattle.std.specs.Prelude.{◌≡◌, ◌<◌, ◌∷◌, [], ◌++◌, length, IfOk, ◌==◌};
 ghost use Rattle.std.specs.List.{position_from};
-ghost use Rattle.fj_model.specs.Lists.{is_in};
-ghost use Rattle.fj_shelf.specs.Aside.{numbers, Without};
+ghost use Rattle.fj_shelf.specs.Aside.{Takes};
 
 use fj_model::Serial;
 use std::alloc::{AllocError, Global};
@@ -47,7 +46,7 @@ impl<T: Drop> Aside<T> {
     /// Takes out the first entry under a number.
     pub fn take(&mut self, number: Serial) -> Option<T>
         ensures room { self.new.room ≡ self.old.room }
-        ensures taken { MatchOption result ((self.new ≡ self.old) × (is_in number (numbers self.old.items) ≡ false)) (λ x. Without self.old.items number x self.new.items) }
+        ensures taken { Takes self.old number result self.new }
     {
         match self.find(number) {
             Some(at) => {

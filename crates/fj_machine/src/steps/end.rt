@@ -1,8 +1,7 @@
 //! Bodies end, and completion actions in `hook`.
-ghost use Rattle.std.specs.Prelude.{◌≡◌, MatchResult, Some};
+ghost use Rattle.std.specs.Prelude.{◌≡◌};
 ghost use Rattle.fj_model.specs.declared.step.Step.TheVariants.{End};
-ghost use Rattle.fj_model.specs.Answers.{first_that_stands, refusals_of};
-ghost use Rattle.fj_machine.specs.Outcomes.{Makes, MayEnd, suits};
+ghost use Rattle.fj_machine.specs.Outcomes.{FindsEnding, Makes, MayEnd, suits};
 
 mod arrive;
 pub mod hook;
@@ -33,7 +32,7 @@ pub fn end(ledger: &mut Ledger, w: WorkerId, ending: Ending) -> Result<Said, Ref
 
 /// The running task of a worker, if its body can end so.
 fn ending_task(ledger: &Ledger, w: WorkerId, ending: Ending) -> Result<Handle, Refusal>
-    ensures { MatchResult result (λ t. MayEnd ledger.now w ending t.serial) (λ r. first_that_stands (refusals_of ledger.now.pool ledger.now.events (End w ending)) ≡ Some r) }
+    ensures { FindsEnding ledger.now w ending result }
 {
     let t = ledger.named(running_task(ledger, w)?);
     if !suits(ending, ledger.record(t).kind.is_completer()) {

@@ -1,14 +1,12 @@
 //! Tasks are cancelled, and become exceptional.
-ghost use Rattle.std.specs.Prelude.{◌≡◌, ◌≤◌, ◌+◌, length, map, true};
-ghost use Rattle.fj_model.specs.declared.event.Event.TheVariants as event;
-ghost use Rattle.fj_model.specs.declared.status.Status.TheVariants.{Exceptional};
+ghost use Rattle.std.specs.Prelude.{◌≡◌, ◌≤◌, ◌+◌, length, true};
 ghost use Rattle.fj_model.specs.declared.step.Step.TheVariants.{Cancel, Fault};
 ghost use Rattle.fj_model.specs.Tasks.{is_kept};
 ghost use Rattle.fj_model.specs.Climbs.{relayed};
 ghost use Rattle.fj_model.specs.Allowed.{AllowedFrom};
 ghost use Rattle.fj_model.specs.Pasts.{limit};
 ghost use Rattle.fj_model.specs.Runs.{grown};
-ghost use Rattle.fj_machine.specs.Outcomes.{Makes};
+ghost use Rattle.fj_machine.specs.Outcomes.{Makes, relaying};
 
 use crate::steps::refuse::{known, room_for};
 use fj_ledger::Ledger;
@@ -48,9 +46,9 @@ pub fn fault(ledger: &mut Ledger, t: Serial, code: u32) -> Result<Said, Refusal>
 pub fn relay(ledger: &mut Ledger, t: Handle, count: u64, code: u32)
     requires kept { is_kept ledger.old.events t.serial ≡ true }
     requires count { count ≡ length (relayed ledger.old.events t.serial) }
-    requires may { AllowedFrom ledger.old.pool ledger.old.events (map (λ u. event.Settle u (Exceptional code)) (relayed ledger.old.events t.serial)) }
+    requires may { AllowedFrom ledger.old.pool ledger.old.events (relaying ledger.old.events t.serial code) }
     requires fits { length ledger.old.events + count ≤ limit ledger.old }
-    ensures { ledger.new ≡ grown ledger.old (map (λ u. event.Settle u (Exceptional code)) (relayed ledger.old.events t.serial)) }
+    ensures { ledger.new ≡ grown ledger.old (relaying ledger.old.events t.serial code) }
 {
     let mut at = Some(t);
     for _ in 0..count {

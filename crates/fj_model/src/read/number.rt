@@ -1,6 +1,5 @@
-ghost use Rattle.std.specs.Prelude.{◌≡◌, ◌↔◌, ◌<◌, ◌≤◌, length, slice_index, IsTrue, None, MatchResult};
-ghost use Rattle.std.specs.Str.Parse.{AllDigits, digits_value};
-ghost use Rattle.fj_model.specs.Words.{number_in, Reads};
+ghost use Rattle.std.specs.Prelude.{◌≡◌, ◌↔◌, ◌<◌, ◌≤◌, length, slice_index, IsTrue};
+ghost use Rattle.fj_model.specs.Words.{number_in, Reads, ReadsDigits};
 
 use crate::read::fault::LineFault;
 
@@ -32,9 +31,7 @@ fn has_leading_zero(word: &[u8]) -> bool
 /// What the digits of a word write. A fault where a byte is no digit.
 fn value_of(word: &[u8]) -> Result<u64, LineFault>
     requires { length word.now ≤ 10 }
-    ensures { MatchResult result
-        (λ value. AllDigits 10 word.now × (value ≡ digits_value 10 word.now))
-        (λ _. number_in word.now ≡ None) }
+    ensures { ReadsDigits word.now result }
 {
     let mut value: u64 = 0;
     for byte in word {

@@ -1,7 +1,7 @@
 //! The words of a line, one after the other.
-ghost use Rattle.std.specs.Prelude.{◌≡◌, ◌==◌, ◌∷◌, true, false, Some, None, MatchResult};
+ghost use Rattle.std.specs.Prelude.{◌≡◌, ◌==◌, ◌∷◌};
 ghost use Rattle.std.specs.List.{position_or_len};
-ghost use Rattle.fj_model.specs.Words.{words, words_behind, word_first, number_first, is_last};
+ghost use Rattle.fj_model.specs.Words.{words, words_behind, word_first, number_first, is_last, IsOkIf, ReadsAs};
 
 use crate::read::fault::LineFault;
 use crate::read::number::read_number;
@@ -27,9 +27,7 @@ pub fn first_word(line: &[u8]) -> (&[u8], &[u8])
 
 /// The next word of what stands behind a word. A fault where there is none.
 pub fn next_word(behind: &[u8]) -> Result<(&[u8], &[u8]), LineFault>
-    ensures { MatchResult result
-        (λ p. word_first (words_behind behind.now) ≡ Some (p.0.now, words_behind p.1.now))
-        (λ _. word_first (words_behind behind.now) ≡ None) }
+    ensures { ReadsAs (λ p. (p.0.now, words_behind p.1.now)) (word_first (words_behind behind.now)) result }
 {
     match behind.split_first() {
         Some((_, line)) => Ok(first_word(line)),
@@ -40,9 +38,7 @@ pub fn next_word(behind: &[u8]) -> Result<(&[u8], &[u8]), LineFault>
 /// The next word, where it is a number. A fault where there is none or it is something else.
 #[inline]
 pub fn next_number(behind: &[u8]) -> Result<(u32, &[u8]), LineFault>
-    ensures { MatchResult result
-        (λ p. number_first (words_behind behind.now) ≡ Some (p.0, words_behind p.1.now))
-        (λ _. number_first (words_behind behind.now) ≡ None) }
+    ensures { ReadsAs (λ p. (p.0, words_behind p.1.now)) (number_first (words_behind behind.now)) result }
 {
     let (word, behind) = next_word(behind)?;
     let number = read_number(word)?;
@@ -58,9 +54,7 @@ pub fn at_end(behind: &[u8]) -> bool
 
 /// A fault where a word is left.
 pub fn no_more(behind: &[u8]) -> Result<(), LineFault>
-    ensures { MatchResult result
-        (λ _. is_last (words_behind behind.now) ≡ true)
-        (λ _. is_last (words_behind behind.now) ≡ false) }
+    ensures { IsOkIf (is_last (words_behind behind.now)) result }
 {
     if at_end(behind) {
         Ok(())
