@@ -28,5 +28,9 @@ pub mod Following
 pub mod Calms
 -- A plain task's body ends.
 pub mod Endings
+-- Which bodies no worker holds, once a body has ended without a result.
+pub mod Ended
+-- A body ends without a result.
+pub mod Completing
 -- The end of the submissions, and quiescence.
 pub mod Shutting

@@ -8,6 +8,7 @@ mod hooked;
 mod kept;
 mod moves;
 mod outcomes;
+mod places;
 mod store;
 mod tries;
 

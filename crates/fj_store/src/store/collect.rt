@@ -1,7 +1,6 @@
 ghost use Rattle.std.specs.Prelude.{◌≡◌, true, false};
 ghost use Rattle.fj_model.specs.Lists.{is_in};
 ghost use Rattle.fj_model.specs.Tasks.{is_kept};
-ghost use Rattle.fj_model.specs.Places.{is_gone as is_gone_at};
 ghost use Rattle.fj_store.specs.Turns.{ToldRight};
 ghost use Rattle.fj_store.specs.Results.{Keeps, Marks, TakesOut, TakesResult, Collects};
 ghost use Rattle.fj_shelf.specs.Shelves.{entries};
@@ -9,6 +8,7 @@ ghost use Rattle.fj_shelf.specs.Shelves.{entries};
 use crate::body::{Body, Heard, Told};
 use crate::kept::Kept;
 use crate::outcomes::{Outcome, told_outcome};
+use crate::places::is_gone;
 use crate::store::Store;
 use fj_model::{Owner, Place, Refusal, Said, Serial, Status, Step, SubId, WorkerId};
 use fj_shelf::has;
@@ -106,15 +106,5 @@ impl<B: Body> Store<B> {
             Said::Refused(_) => Some(Err(Refusal::Unknown)),
             _ => unreachable!(),
         }
-    }
-}
-
-/// Whether a task at this place is gone.
-fn is_gone(place: Place) -> bool
-    ensures { result ≡ is_gone_at place }
-{
-    match place {
-        Place::Gone => true,
-        Place::Queued(_) | Place::Held(_) | Place::Open => false,
     }
 }

@@ -1,10 +1,12 @@
 ghost use Rattle.std.specs.Prelude.{◌≡◌, IfSome};
 ghost use Rattle.fj_shelf.specs.Hands.{asker};
 ghost use Rattle.fj_store.specs.Fitting.{Fits};
-ghost use Rattle.fj_store.specs.Endings.{EndsOk};
+ghost use Rattle.fj_store.specs.Endings.{EndsBody, EndsOk};
 
 use crate::body::{Body, Heard, Told};
 use crate::kept::Kept;
+use crate::moves::make;
+use crate::places::is_gone_now;
 use crate::store::Store;
 use fj_model::{Ending, Owner, Place, Refusal, Said, Serial, Status, Step, SubId, WorkerId};
 use fj_shelf::Hand;
@@ -40,6 +42,50 @@ impl<B: Body> Store<B> {
                 other => Told::Hear(Heard::Refused(other)),
             },
             _ => unreachable!(),
+        }
+    }
+    /// The running body ends without a result: `Quiet`, `Try`, `Pass`, `Complete` or `Fail`. Precondition: the hand fits.
+    ///
+    /// Where the hook of its own task comes, the body goes on in it. If not, it goes out where its task is gone, and stays here where that is
+    /// open.
+    pub fn end(&mut self, hand: &mut Hand<B>, ending: Ending) -> Told<B>
+        requires fits { Fits self.old.past hand.old }
+        ensures ends { EndsBody self.old hand.old ending result self.new hand.new }
+        ensures fits { Fits self.new.past hand.new }
+    {
+        // The check wants each type inside a reply to be named where one is moved.
+        let _inside: Option<(Place, Owner, Status, Refusal, Serial, SubId, WorkerId)> = None;
+        if self.stuck {
+            return Told::Stuck(None);
+        }
+        let asked = Step::End {
+            w: hand.worker(),
+            ending,
+        };
+        match make(&mut self.machine, &mut self.bodies, &asked) {
+            Said::Hook(c) => {
+                let (t, body) = hand.pop();
+                hand.give_hook(t, body);
+                self.release_all();
+                Told::Hook(c, c)
+            }
+            Said::Refused(refusal) => match refusal {
+                Refusal::LogFull => {
+                    self.stuck = true;
+                    Told::Stuck(None)
+                }
+                other => Told::Hear(Heard::Refused(other)),
+            },
+            _ => {
+                let (t, body) = hand.pop();
+                if is_gone_now(&mut self.machine, t) {
+                    self.release_all();
+                    return Told::Over(Some(body));
+                }
+                self.bodies.put(t, body);
+                self.release_all();
+                Told::Over(None)
+            }
         }
     }
 }
