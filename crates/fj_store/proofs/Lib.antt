@@ -34,3 +34,5 @@ pub mod Ended
 pub mod Completing
 -- The end of the submissions, and quiescence.
 pub mod Shutting
+-- What has happened is handed out in parts.
+pub mod Sealing

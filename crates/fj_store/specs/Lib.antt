@@ -18,3 +18,5 @@ pub mod Endings
 pub mod HookEndings
 -- Steps that end no body and hand none out.
 pub mod Asking
+-- What has happened is handed out in parts.
+pub mod Sealing

@@ -8,6 +8,7 @@ mod choose;
 mod collect;
 mod end;
 mod release;
+mod seal;
 mod shut;
 
 use crate::body::Body;

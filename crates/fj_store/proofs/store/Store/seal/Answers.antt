@@ -1,0 +1,12 @@
+use Rattle.fj_store.proofs.Sealing.{seal_stored, seal_tasks}
+use Rattle.fj_store.proofs.store.Store.seal.Goals as goal
+
+pub invariant_of-self : goal.invariant_of-self
+invariant_of-self g c =
+    let past = c.self.inside.machine in (
+      seal_stored c.seal.result past c.seal.new.self _ _ _ c.self.invariant.0 c.seal.ensures.may c.seal.ensures.sealed c.seal.ensures.stays,
+      seal_tasks c.seal.result past c.seal.new.self _ c.seal.ensures.sealed c.seal.ensures.stays c.self.invariant.1,
+      seal_tasks c.seal.result past c.seal.new.self _ c.seal.ensures.sealed c.seal.ensures.stays c.self.invariant.2,
+      seal_tasks c.seal.result past c.seal.new.self _ c.seal.ensures.sealed c.seal.ensures.stays c.self.invariant.3,
+      seal_tasks c.seal.result past c.seal.new.self _ c.seal.ensures.sealed c.seal.ensures.stays c.self.invariant.4,
+    )
