@@ -36,3 +36,5 @@ pub mod Completing
 pub mod Shutting
 -- What has happened is handed out in parts.
 pub mod Sealing
+-- A hook ends.
+pub mod HookEndings

@@ -1,6 +1,7 @@
-ghost use Rattle.std.specs.Prelude.{◌≡◌};
+ghost use Rattle.std.specs.Prelude.{[], ◌≡◌, ◌≤◌, drop, length};
 ghost use Rattle.fj_model.specs.declared.refusal.Refusal.{Refusal as RefusalCase};
 ghost use Rattle.fj_model.specs.Runs.{Steps};
+ghost use Rattle.fj_model.specs.Pasts.{gone_since};
 ghost use Rattle.fj_model.specs.Epochs.{IsPast};
 ghost use Rattle.fj_shelf.specs.Shelves.{entries, without_entries};
 ghost use Rattle.fj_store.specs.Stores.{went};
@@ -19,6 +20,16 @@ pub fn make<B: Drop>(machine: &mut Machine, bodies: &mut Shelf<B>, asked: &Step)
 {
     let before = machine.gone().len();
     let said = machine.step(asked);
-    bodies.sweep(&machine.gone()[before..]);
+    sweep_since(bodies, machine, before);
     said
+}
+
+/// Drops the bodies of the tasks that came to be gone since so many were. Precondition: so many are gone.
+pub fn sweep_since<B: Drop>(bodies: &mut Shelf<B>, machine: &Machine, before: usize)
+    requires { before ≤ length (gone_since machine.now) }
+    ensures entries { entries bodies.new ≡ without_entries (entries bodies.old) (drop before (gone_since machine.now)) }
+    ensures room { bodies.new.room ≡ bodies.old.room }
+    ensures stays { drop before (gone_since machine.now) ≡ [] → bodies.new ≡ bodies.old }
+{
+    bodies.sweep(&machine.gone()[before..]);
 }

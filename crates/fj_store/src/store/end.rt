@@ -2,10 +2,11 @@ ghost use Rattle.std.specs.Prelude.{◌≡◌, IfSome};
 ghost use Rattle.fj_shelf.specs.Hands.{asker};
 ghost use Rattle.fj_store.specs.Fitting.{Fits};
 ghost use Rattle.fj_store.specs.Endings.{EndsBody, EndsOk};
+ghost use Rattle.fj_store.specs.HookEndings.{EndsHook};
 
 use crate::body::{Body, Heard, Told};
 use crate::kept::Kept;
-use crate::moves::make;
+use crate::moves::{make, sweep_since};
 use crate::places::is_gone_now;
 use crate::store::Store;
 use fj_model::{Ending, Owner, Place, Refusal, Said, Serial, Status, Step, SubId, WorkerId};
@@ -83,6 +84,54 @@ impl<B: Body> Store<B> {
                     return Told::Over(Some(body));
                 }
                 self.bodies.put(t, body);
+                self.release_all();
+                Told::Over(None)
+            }
+        }
+    }
+
+    /// The hook in the hand ends, with its result: `CountedCompleter.onCompletion` has returned. Preconditions: the hand fits, and the result is
+    /// right for the key of the hook's body.
+    ///
+    /// Where the hook of its parent comes, the parent's body goes on in it.
+    pub fn hook_done(&mut self, hand: &mut Hand<B>, out: B::Out) -> Told<B>
+        requires fits { Fits self.old.past hand.old }
+        requires right { IfSome hand.old.hook (λ b. ∥ B.right (B.key_of b.1) out ∥₁) }
+        ensures ends { EndsHook B.key_of self.old hand.old out result self.new hand.new }
+        ensures fits { Fits self.new.past hand.new }
+    {
+        // The check wants each type inside a reply to be named where one is moved.
+        let _inside: Option<(Place, Owner, Status, Refusal, Serial, SubId, WorkerId)> = None;
+        if self.stuck {
+            return Told::Stuck(None);
+        }
+        let w = hand.worker();
+        // Tells that no hand has two hooks.
+        let _hook = self.machine.hook(w);
+        let before = self.machine.gone().len();
+        match self.machine.step(&Step::HookDone { w }) {
+            Said::Hook(p) => match self.bodies.take(p) {
+                Some(above) => {
+                    let (c, body) = hand.take_hook();
+                    sweep_since(&mut self.bodies, &self.machine, before);
+                    hand.give_hook(p, above);
+                    self.keep(c, Kept::new(body.into_key(), out));
+                    self.release_all();
+                    Told::Hook(p, c)
+                }
+                None => unreachable!(),
+            },
+            Said::Refused(refusal) => match refusal {
+                Refusal::LogFull => {
+                    self.stuck = true;
+                    Told::Stuck(None)
+                }
+                other => Told::Hear(Heard::Refused(other)),
+            },
+            _ => {
+                let (c, body) = hand.take_hook();
+                sweep_since(&mut self.bodies, &self.machine, before);
+                self.keep(c, Kept::new(body.into_key(), out));
                 self.release_all();
                 Told::Over(None)
             }
