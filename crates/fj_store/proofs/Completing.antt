@@ -12,7 +12,7 @@ use Rattle.fj_model.specs.declared.said.Said.{Said}
 use Rattle.fj_model.specs.declared.said.Said.TheVariants as says
 use Rattle.fj_model.specs.declared.refusal.Refusal.{Refusal}
 use Rattle.fj_model.specs.Bounds.{Pool}
-use Rattle.fj_model.specs.Lists.{is_in, is_empty, last_of}
+use Rattle.fj_model.specs.Lists.{is_empty, last_of}
 use Rattle.fj_model.specs.Tasks.{is_kept, released}
 use Rattle.fj_model.specs.Stacks.{stack}
 use Rattle.fj_model.specs.Hooks.{hooks, hooks_after, hand as hook_of, completer_in}
@@ -38,7 +38,7 @@ use Rattle.fj_store.specs.Stores.{StoreState, has_body, HoldsBodies, IsStored, s
 use Rattle.fj_store.specs.Releases.{Releases}
 use Rattle.fj_store.specs.Endings.{is_over, EndsOver, EndsInHook}
 use Rattle.fj_store.proofs.Bodies.{has_kept, fewer_kept}
-use Rattle.fj_store.proofs.Ended.{IsEnd, ended, own_free, others_wait, ended_out, ended_in, fired_gone}
+use Rattle.fj_store.proofs.Ended.{IsEnd, own_free, others_wait, ended_out, ended_in, fired_gone}
 use Rattle.fj_store.proofs.Endings.{take_front, newest_is, last_filled}
 use Rattle.fj_store.proofs.Following.{is_rest, rest_unmoved, rest_released, rest_hand, unmoved_stacks, AfterEnd, Fired, Unfired, after_ended}
 use Rattle.fj_store.proofs.Full.{history_more}

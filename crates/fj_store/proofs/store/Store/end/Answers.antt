@@ -1,6 +1,4 @@
 use Rattle.std.proofs.Common.{refl, sym, ap, subst, ◌∙◌}
-use Rattle.fj_model.specs.Answers.{answer}
-use Rattle.fj_model.specs.Epochs.{IsPast}
 use Rattle.fj_store.specs.Fitting.{Fits}
 use Rattle.fj_store.proofs.Full.{history_more}
 use Rattle.fj_store.proofs.Completing.{end_fired, end_unfired, not_over, popped, popped_ends, filled_hand, fired_fits, unfired_fits, fired_stored, out_stored, in_stored, end_kept, end_free, end_room, ends_in_hook, ends_over_out, ends_over_in}
