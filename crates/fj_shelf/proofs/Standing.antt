@@ -18,7 +18,7 @@ same_everywhere f g same = λ i x. same x i
 
 -- ---- the entries aside
 
-numbers_long : {T : Type 0} (items : List (ℕ × T)) → length (numbers items) ≡ length items
+pub numbers_long : {T : Type 0} (items : List (ℕ × T)) → length (numbers items) ≡ length items
 numbers_long [] = refl
 numbers_long (x ∷ items) = ap suc (numbers_long items)
 

@@ -102,4 +102,18 @@ impl<B: Drop> Hand<B> {
             None => None,
         }
     }
+    /// Whether the bodies stand under these numbers, the oldest first.
+    pub fn holds(&self, serials: &[Serial]) -> bool
+        ensures { IsTrue result ↔ (numbers self.now.stack ≡ serials.now) }
+    {
+        if self.stack.len() != serials.len() {
+            return false;
+        }
+        for i in 0..serials.len() {
+            if self.stack[i].0 != serials[i] {
+                return false;
+            }
+        }
+        true
+    }
 }
