@@ -7,6 +7,7 @@ mod ask;
 mod choose;
 mod collect;
 mod end;
+mod fits;
 mod release;
 mod seal;
 mod shut;
