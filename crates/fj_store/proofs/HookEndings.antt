@@ -70,12 +70,15 @@ rest_append [] ys all more = more
 rest_append (x ∷ xs) ys all more = let parts = and_parts (is_rest x) (list_all is_rest xs) all in rw (parts.0, rest_append xs ys parts.1 more) refl
 
 pub data HookGives (h : List Event) (w : ℕ) (reply : Said) (events : List Event) : Type 0 where
-  HookFires : (c p : ℕ) (own : List Event) → hook_of h w ≡ Some c → parent h c ≡ Some p → list_all is_rest own ≡ true → reply ≡ says.Hook p → events ≡ (event.Hooked c ∷ own) ++ event.Fire p how_is.Zero ∷ [] → HookGives h w reply events
+  HookFires : (c p : ℕ) (own : List Event) → hook_of h w ≡ Some c → parent h c ≡ Some p → list_all is_rest own ≡ true → reply ≡ says.Hook p
+      → events ≡ (event.Hooked c ∷ own) ++ event.Fire p how_is.Zero ∷ [] → HookGives h w reply events
   HookIsOver : (c : ℕ) (rest : List Event) → hook_of h w ≡ Some c → is_over reply ≡ true → list_all is_rest rest ≡ true → events ≡ event.Hooked c ∷ rest → HookGives h w reply events
   HookRefused : (r : Refusal) → reply ≡ says.Refused r → events ≡ [] → HookGives h w reply events
 
-hook_of_parent : (h h2 : List Event) (w c : ℕ) (own : List Event) (p : Option ℕ) → hook_of h w ≡ Some c → parent h c ≡ p → list_all is_rest own ≡ true → HookGives h w (hook_says h h2 c p) (event.Hooked c ∷ own ++ above_hook h2 c p)
-hook_of_parent h h2 w c own None at up still = HookIsOver c (own ++ above_hook h2 c None) at (over (is_undone (status h c))) (rest_append own (above_hook h2 c None) still (settling_rest h2 c status_is.Normal)) refl
+hook_of_parent : (h h2 : List Event) (w c : ℕ) (own : List Event) (p : Option ℕ) → hook_of h w ≡ Some c → parent h c ≡ p → list_all is_rest own ≡ true
+    → HookGives h w (hook_says h h2 c p) (event.Hooked c ∷ own ++ above_hook h2 c p)
+hook_of_parent h h2 w c own None at up still =
+    HookIsOver c (own ++ above_hook h2 c None) at (over (is_undone (status h c))) (rest_append own (above_hook h2 c None) still (settling_rest h2 c status_is.Normal)) refl
   where
     over : (b : Bool) → is_over (if b then says.Root c else says.Spent c) ≡ true
     over true = refl
@@ -177,7 +180,8 @@ pub record FiresAbove (h es : List Event) (p : ℕ) : Type 0 where
   pub went_now : is_in p (went_by h es) ≡ true
 
 -- what fires after events that move nothing was open before them, and went
-fires_above : (pool : Pool) (h xs : List Event) (p : ℕ) → AllowedFrom pool [] h → AllowedFrom pool h (xs ++ event.Fire p how_is.Zero ∷ []) → list_all (λ e. not (moves e)) xs ≡ true → is_completer h p ≡ true
+fires_above : (pool : Pool) (h xs : List Event) (p : ℕ) → AllowedFrom pool [] h → AllowedFrom pool h (xs ++ event.Fire p how_is.Zero ∷ [])
+    → list_all (λ e. not (moves e)) xs ≡ true → is_completer h p ≡ true
     → FiresAbove h (xs ++ event.Fire p how_is.Zero ∷ []) p
 fires_above pool h xs p so all unmoved is = record {
   known = known;
@@ -240,7 +244,9 @@ fires_above pool h xs p so all unmoved is = record {
 
 fired_unmoved : (c p : ℕ) (own : List Event) → list_all is_rest own ≡ true → list_all (λ e. not (moves e)) ((event.Hooked c ∷ own) ++ event.Fire p how_is.Zero ∷ []) ≡ true
 fired_unmoved c p [] all = refl
-fired_unmoved c p (e ∷ own) all = let parts = and_parts (not (moves e)) (list_all (λ e. not (moves e)) own) (rest_unmoved (e ∷ own) all) in rw parts.0 (fired_unmoved c p own ((and_parts (is_rest e) (list_all is_rest own) all).1))
+fired_unmoved c p (e ∷ own) all =
+    let parts = and_parts (not (moves e)) (list_all (λ e. not (moves e)) own) (rest_unmoved (e ∷ own) all) in
+    rw parts.0 (fired_unmoved c p own ((and_parts (is_rest e) (list_all is_rest own) all).1))
 
 fired_released : (c p : ℕ) (own : List Event) → list_all is_rest own ≡ true → released ((event.Hooked c ∷ own) ++ event.Fire p how_is.Zero ∷ []) ≡ []
 unfolding released
@@ -265,7 +271,8 @@ parent_open past w p run fired =
     rw fired.made (fires_above past.pool h (event.Hooked fired.task ∷ fired.own) p so all (rest_unmoved fired.own fired.still) (parent_completer past.pool h fired.task p so fired.up))
 
 -- its body is there
-pub parent_there : {B R : Type 0} (past : Past) (w p : ℕ) (bodies : Entries B) (results : Entries R) (ts : List ℕ) → IsStored past bodies results ts → HookFired past.events w p (answer past (HookDone w)).1 → bodies p ≡ None → ⊥
+pub parent_there : {B R : Type 0} (past : Past) (w p : ℕ) (bodies : Entries B) (results : Entries R) (ts : List ℕ) → IsStored past bodies results ts
+    → HookFired past.events w p (answer past (HookDone w)).1 → bodies p ≡ None → ⊥
 unfolding has_body
 parent_there past w p bodies results ts is fired none =
     let above = parent_open past w p is.run fired in
@@ -293,7 +300,8 @@ without_after {T} all ns p = same_everywhere (without_entries (without_entry all
     go u false false = refl
 
 -- a step whose events move nothing and release nothing, and by which those bodies are dropped whose tasks went
-still_stored : {B R : Type 0} (past new : Past) (w : ℕ) (es : List Event) (bodies bodies' : Entries B) (results : Entries R) (ts : List ℕ) → IsStored past bodies results ts → new ≡ grown past (answer past (HookDone w)).1
+still_stored : {B R : Type 0} (past new : Past) (w : ℕ) (es : List Event) (bodies bodies' : Entries B) (results : Entries R) (ts : List ℕ) → IsStored past bodies results ts
+    → new ≡ grown past (answer past (HookDone w)).1
     → (answer past (HookDone w)).1 ≡ es → list_all (λ e. not (moves e)) es ≡ true → released es ≡ [] → bodies' ≡ without_entries bodies (went past new) → IsStored new bodies' results ts
 still_stored {B} {R} past new w es bodies bodies' results ts is grew made unmoved none left =
     stored_on past new (HookDone w) es bodies bodies' results ts is grew made none
@@ -307,9 +315,11 @@ hook_swept past new w before all swept run grew is left =
     left ∙ ap (λ n. without_entries all (drop n (gone_since new))) is ∙ ap (without_entries all) (went_shown past new (answer past (HookDone w)).1 grew run)
 
 pub hook_fired_stored : {B R : Type 0} (past new : Past) (w p : ℕ) (bodies rest swept : Entries B) (results : Entries R) (ts : List ℕ) → IsStored past bodies results ts
-    → HookFired past.events w p (answer past (HookDone w)).1 → new ≡ grown past (answer past (HookDone w)).1 → rest ≡ without_entry bodies p → swept ≡ without_entries rest (went past new) → IsStored new swept results ts
+    → HookFired past.events w p (answer past (HookDone w)).1 → new ≡ grown past (answer past (HookDone w)).1 → rest ≡ without_entry bodies p
+    → swept ≡ without_entries rest (went past new) → IsStored new swept results ts
 hook_fired_stored {B} past new w p bodies rest swept results ts is fired grew took left =
-    still_stored past new w ((event.Hooked fired.task ∷ fired.own) ++ event.Fire p how_is.Zero ∷ []) bodies swept results ts is grew fired.made (fired_unmoved fired.task p fired.own fired.still)
+    still_stored past new w ((event.Hooked fired.task ∷ fired.own) ++ event.Fire p how_is.Zero ∷ []) bodies swept results ts is grew fired.made
+    (fired_unmoved fired.task p fired.own fired.still)
     (fired_released fired.task p fired.own fired.still) (left ∙ ap (λ (all : Entries B). without_entries all (went past new)) took ∙ without_first bodies (went past new) p goes)
   where
     goes : is_in p (went past new) ≡ true
@@ -318,10 +328,12 @@ hook_fired_stored {B} past new w p bodies rest swept results ts is fired grew to
 pub hook_over_stored : {B R : Type 0} (past new : Past) (w : ℕ) (bodies swept : Entries B) (results : Entries R) (ts : List ℕ) → IsStored past bodies results ts
     → HookUnfired past.events w (answer past (HookDone w)).1 → new ≡ grown past (answer past (HookDone w)).1 → swept ≡ without_entries bodies (went past new) → IsStored new swept results ts
 hook_over_stored past new w bodies swept results ts is over grew left =
-    still_stored past new w (event.Hooked over.task ∷ over.rest) bodies swept results ts is grew over.made (rest_unmoved over.rest over.still) (unfired_released over.task over.rest over.still) left
+    still_stored past new w (event.Hooked over.task ∷ over.rest) bodies swept results ts is grew over.made (rest_unmoved over.rest over.still)
+    (unfired_released over.task over.rest over.still) left
 
 -- the task of the hook is kept
-hook_kept : {B R : Type 0} (past : Past) (w c : ℕ) (bodies : Entries B) (results : Entries R) (ts : List ℕ) → IsStored past bodies results ts → hook_of past.events w ≡ Some c → is_kept past.events c ≡ true
+hook_kept : {B R : Type 0} (past : Past) (w c : ℕ) (bodies : Entries B) (results : Entries R) (ts : List ℕ) → IsStored past bodies results ts → hook_of past.events w ≡ Some c
+    → is_kept past.events c ≡ true
 unfolding is_kept is_hooked
 hook_kept past w c bodies results ts is at = rw known (go (is_in c (released past.events)) refl)
   where
@@ -337,16 +349,21 @@ in_hand : {B : Type 0} (past : Past) (hand : HandState B) (w c : ℕ) (body : B)
 in_hand past hand w c body fits same held = ap (hook_of past.events) same ∙ sym fits.hook ∙ ap hook_number held
 
 -- it is kept on
-pub hook_kept_fired : {B R : Type 0} (past new : Past) (hand : HandState B) (w p c : ℕ) (body : B) (bodies : Entries B) (results : Entries R) (ts : List ℕ) → IsStored past bodies results ts → Fits past hand → w ≡ hand.worker
+pub hook_kept_fired : {B R : Type 0} (past new : Past) (hand : HandState B) (w p c : ℕ) (body : B) (bodies : Entries B) (results : Entries R) (ts : List ℕ)
+    → IsStored past bodies results ts → Fits past hand → w ≡ hand.worker
     → hand.hook ≡ Some (c, body) → HookFired past.events w p (answer past (HookDone w)).1 → new ≡ grown past (answer past (HookDone w)).1 → is_kept new.events c ≡ true
 hook_kept_fired past new hand w p c body bodies results ts is fits same held fired grew =
     rw (grew, fired.made)
-    (kept_on past.events ((event.Hooked fired.task ∷ fired.own) ++ event.Fire p how_is.Zero ∷ []) c (fired_released fired.task p fired.own fired.still) (hook_kept past w c bodies results ts is (in_hand past hand w c body fits same held)))
+    (kept_on past.events ((event.Hooked fired.task ∷ fired.own) ++ event.Fire p how_is.Zero ∷ []) c (fired_released fired.task p fired.own fired.still)
+    (hook_kept past w c bodies results ts is (in_hand past hand w c body fits same held)))
 
-pub hook_kept_over : {B R : Type 0} (past new : Past) (hand : HandState B) (w c : ℕ) (body : B) (bodies : Entries B) (results : Entries R) (ts : List ℕ) → IsStored past bodies results ts → Fits past hand → w ≡ hand.worker
+pub hook_kept_over : {B R : Type 0} (past new : Past) (hand : HandState B) (w c : ℕ) (body : B) (bodies : Entries B) (results : Entries R) (ts : List ℕ)
+    → IsStored past bodies results ts → Fits past hand → w ≡ hand.worker
     → hand.hook ≡ Some (c, body) → HookUnfired past.events w (answer past (HookDone w)).1 → new ≡ grown past (answer past (HookDone w)).1 → is_kept new.events c ≡ true
 hook_kept_over past new hand w c body bodies results ts is fits same held over grew =
-    rw (grew, over.made) (kept_on past.events (event.Hooked over.task ∷ over.rest) c (unfired_released over.task over.rest over.still) (hook_kept past w c bodies results ts is (in_hand past hand w c body fits same held)))
+    rw (grew, over.made)
+    (kept_on past.events (event.Hooked over.task ∷ over.rest) c (unfired_released over.task over.rest over.still)
+    (hook_kept past w c bodies results ts is (in_hand past hand w c body fits same held)))
 
 -- ---- the hand
 
@@ -366,9 +383,13 @@ still_hooks h (e ∷ es) all none =
     step (event.Settle t v) is s none = same s none
     step _ is s none = absurd cc
 
+-- nothing is in this hand, and the newest hook to end was its
+abbrev EndedLast : ℕ → Hooks → Type 0
+EndedLast w s = (completer_in w s.in_hands ≡ None) × (s.just_ended ≡ None) × (s.last_worker ≡ Some w)
+
 -- after the end of the hook in this hand, and what may follow: nothing is in it, and it ended last
 after_hook : (h : List Event) (c w : ℕ) (own : List Event) → hook_of h w ≡ Some c → HooksApart h → list_all is_rest own ≡ true
-    → (completer_in w (hooks (h ++ event.Hooked c ∷ own)).in_hands ≡ None) × ((hooks (h ++ event.Hooked c ∷ own)).just_ended ≡ None) × ((hooks (h ++ event.Hooked c ∷ own)).last_worker ≡ Some w)
+    → EndedLast w (hooks (h ++ event.Hooked c ∷ own))
 unfolding hook_of
 after_hook h c w own at once still = rw all (hand_emptied w c (hooks h).in_hands at (once.workers w), refl, worker_found w c (hooks h).in_hands at (once.completers c))
   where
@@ -385,14 +406,15 @@ hand_emptied_now : (h : List Event) (c w : ℕ) (own : List Event) → hook_of h
 unfolding hook_of
 hand_emptied_now h c w own at once still = (after_hook h c w own at once still).0
 
-hand_given : (h : List Event) (c p w : ℕ) (own : List Event) → hook_of h w ≡ Some c → HooksApart h → list_all is_rest own ≡ true → hook_of (h ++ ((event.Hooked c ∷ own) ++ event.Fire p how_is.Zero ∷ [])) w ≡ Some p
+hand_given : (h : List Event) (c p w : ℕ) (own : List Event) → hook_of h w ≡ Some c → HooksApart h → list_all is_rest own ≡ true
+    → hook_of (h ++ ((event.Hooked c ∷ own) ++ event.Fire p how_is.Zero ∷ [])) w ≡ Some p
 unfolding hook_of
 hand_given h c p w own at once still = ap (completer_in w) more ∙ hand_after w (hooks h2).in_hands (record { completer = p; worker = w }) after.0 refl
   where
     h2 : List Event
     h2 = h ++ event.Hooked c ∷ own
 
-    after : (completer_in w (hooks h2).in_hands ≡ None) × ((hooks h2).just_ended ≡ None) × ((hooks h2).last_worker ≡ Some w)
+    after : EndedLast w (hooks h2)
     after = after_hook h c w own at once still
 
     fire : Event
@@ -408,7 +430,8 @@ hand_given h c p w own at once still = ap (completer_in w) more ∙ hand_after w
     more = subst (λ (k : List Event). (hooks k).in_hands ≡ (hooks h2).in_hands ++ record { completer = p; worker = w } ∷ []) (append_assoc h (event.Hooked c ∷ own) (fire ∷ [])) last
 
 -- no hook came
-pub hook_over_fits : {B : Type 0} (past past' past'' : Past) (hand hand' : HandState B) (w : ℕ) (events : List Event) (ts : List ℕ) → Fits past hand → w ≡ hand.worker → HooksApart past.events
+pub hook_over_fits : {B : Type 0} (past past' past'' : Past) (hand hand' : HandState B) (w : ℕ) (events : List Event) (ts : List ℕ) → Fits past hand → w ≡ hand.worker
+    → HooksApart past.events
     → hand' ≡ without_hook hand → past' ≡ grown past events → HookUnfired past.events w events → past'' ≡ grown past' (map event.Rel ts) → Fits past'' hand'
 hook_over_fits past past' past'' hand hand' w events ts fits same once emptied grew over more =
     released_fits past' past'' hand' ts (rw (grew, over.made, emptied) (record {
@@ -418,12 +441,14 @@ hook_over_fits past past' past'' hand hand' w events ts fits same once emptied g
     })) more
 
 -- the parent's hook came
-pub hook_fired_fits : {B : Type 0} (past past' past'' : Past) (hand hand' : HandState B) (w p : ℕ) (body : B) (events : List Event) (ts : List ℕ) → Fits past hand → w ≡ hand.worker → HooksApart past.events
+pub hook_fired_fits : {B : Type 0} (past past' past'' : Past) (hand hand' : HandState B) (w p : ℕ) (body : B) (events : List Event) (ts : List ℕ) → Fits past hand
+    → w ≡ hand.worker → HooksApart past.events
     → hand' ≡ with_hook hand p body → past' ≡ grown past events → HookFired past.events w p events → past'' ≡ grown past' (map event.Rel ts) → Fits past'' hand'
 hook_fired_fits past past' past'' hand hand' w p body events ts fits same once given grew fired more =
     released_fits past' past'' hand' ts (rw (grew, fired.made, given) (record {
       there = fits.there;
-      bodies = fits.bodies ∙ sym (unmoved_stacks past.events ((event.Hooked fired.task ∷ fired.own) ++ event.Fire p how_is.Zero ∷ []) hand.worker (fired_unmoved fired.task p fired.own fired.still));
+      bodies = fits.bodies
+          ∙ sym (unmoved_stacks past.events ((event.Hooked fired.task ∷ fired.own) ++ event.Fire p how_is.Zero ∷ []) hand.worker (fired_unmoved fired.task p fired.own fired.still));
       hook = sym (rw same at (hand_given past.events fired.task p w fired.own fired.hooked once fired.still));
     })) more
 
@@ -438,8 +463,10 @@ hook_in past hand w c fits same at = go hand.hook (fits.hook ∙ ap (hook_of pas
 -- ---- what the contract says of it
 
 module _ {B K O : Type 0} where
-  pub hook_ends_over : (key_of : B → K) (old mid done new : StoreState B K O) (hand hand' : HandState B) (w t : ℕ) (body : B) (out : O) (reply : Said) → w ≡ hand.worker → Steps old.past (HookDone w) reply mid.past → is_over reply ≡ true
-      → hand.hook ≡ Some (t, body) → hand' ≡ without_hook hand → mid ≡ record old { past = mid.past; bodies = mid.bodies } → entries mid.bodies ≡ still_held old mid.past → Keeps mid t (key_of body, out) done → Releases done new
+  pub hook_ends_over : (key_of : B → K) (old mid done new : StoreState B K O) (hand hand' : HandState B) (w t : ℕ) (body : B) (out : O) (reply : Said) → w ≡ hand.worker
+      → Steps old.past (HookDone w) reply mid.past → is_over reply ≡ true
+      → hand.hook ≡ Some (t, body) → hand' ≡ without_hook hand → mid ≡ record old { past = mid.past; bodies = mid.bodies } → entries mid.bodies ≡ still_held old mid.past
+      → Keeps mid t (key_of body, out) done → Releases done new
       → EndsHookOver key_of old hand out new hand'
   hook_ends_over key_of old mid done new hand hand' w t body out reply same step over held emptied others swept kept releases = record {
     mid = mid;
@@ -457,8 +484,10 @@ module _ {B K O : Type 0} where
     releases = releases;
   }
 
-  pub hook_ends_in_hook : (key_of : B → K) (old mid done new : StoreState B K O) (hand hand' : HandState B) (w p t : ℕ) (body above : B) (rest : Entries B) (out : O) → w ≡ hand.worker → Steps old.past (HookDone w) (says.Hook p) mid.past
-      → hand.hook ≡ Some (t, body) → entries old.bodies p ≡ Some above → rest ≡ without_entry (entries old.bodies) p → hand' ≡ with_hook hand p above → mid ≡ record old { past = mid.past; bodies = mid.bodies }
+  pub hook_ends_in_hook : (key_of : B → K) (old mid done new : StoreState B K O) (hand hand' : HandState B) (w p t : ℕ) (body above : B) (rest : Entries B) (out : O)
+      → w ≡ hand.worker → Steps old.past (HookDone w) (says.Hook p) mid.past
+      → hand.hook ≡ Some (t, body) → entries old.bodies p ≡ Some above → rest ≡ without_entry (entries old.bodies) p → hand' ≡ with_hook hand p above
+      → mid ≡ record old { past = mid.past; bodies = mid.bodies }
       → entries mid.bodies ≡ without_entries rest (went old.past mid.past) → Keeps mid t (key_of body, out) done → Releases done new → EndsHookInHook key_of old hand out p t new hand'
   hook_ends_in_hook key_of old mid done new hand hand' w p t body above rest out same step held there took hooked others swept kept releases = record {
     mid = mid;

@@ -24,14 +24,16 @@ seal_stored {B} {R} {T} (Ok part) past new bodies results ts is may sealed stays
 })
 seal_stored {B} {R} {T} (Err r) past new bodies results ts is may sealed stays = subst (λ (p : Past). IsStored p bodies results ts) (sym stays) is
 
-pub seal_tasks : {T : Type 0} (r : Result T Refusal) (past new : Past) (room : ℕ) → OnOk r (new ≡ sealed_now past) → OnErr r (new ≡ past) → past.pool.limits.tasks ≤ room → new.pool.limits.tasks ≤ room
+pub seal_tasks : {T : Type 0} (r : Result T Refusal) (past new : Past) (room : ℕ) → OnOk r (new ≡ sealed_now past) → OnErr r (new ≡ past) → past.pool.limits.tasks ≤ room
+    → new.pool.limits.tasks ≤ room
 seal_tasks (Ok part) past new room sealed stays within = rw sealed within
 seal_tasks (Err r) past new room sealed stays within = rw stays within
 
 module _ {B K O : Type 0} where
   pub sealed_so : (r : Result Sealed Refusal) (old new : StoreState B K O) → old.stuck ≡ false → new ≡ record old { past = new.past } → IfOk r (λ part. part.events.items ≡ present old.past)
       → IfOk r (λ part. part.gone.items ≡ gone_since old.past) → OnOk r (seal_refusal old.past ≡ None) → OnOk r (new.past ≡ sealed_now old.past)
-      → IfOk r (λ part. (parts : List Sealed) → Fits parts old.past → Fits (parts ++ part ∷ []) new.past) → IfErr r (λ refusal. RefusesSeal old.past refusal) → OnErr r (new.past ≡ old.past) → Seals old r new
+      → IfOk r (λ part. (parts : List Sealed) → Fits parts old.past → Fits (parts ++ part ∷ []) new.past) → IfErr r (λ refusal. RefusesSeal old.past refusal)
+      → OnErr r (new.past ≡ old.past) → Seals old r new
   sealed_so (Ok part) old new free others events gone may sealed joins err stays = record {
     free = free;
     may = may;

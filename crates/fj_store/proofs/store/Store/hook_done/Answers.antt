@@ -6,7 +6,8 @@ use Rattle.fj_shelf.specs.Hands.{with_hook}
 use Rattle.fj_store.specs.Fitting.{Fits}
 use Rattle.fj_store.proofs.Completing.{not_over}
 use Rattle.fj_store.proofs.Sweeps.{gone_longer}
-use Rattle.fj_store.proofs.HookEndings.{hook_fired, hook_unfired, hook_in, hook_swept, parent_there, hook_fired_stored, hook_over_stored, hook_kept_fired, hook_kept_over, hook_fired_fits, hook_over_fits, hook_ends_in_hook, hook_ends_over}
+use Rattle.fj_store.proofs.HookEndings.{hook_fired, hook_unfired, hook_in, hook_swept, parent_there, hook_fired_stored, hook_over_stored}
+use Rattle.fj_store.proofs.HookEndings.{hook_kept_fired, hook_kept_over, hook_fired_fits, hook_over_fits, hook_ends_in_hook, hook_ends_over}
 use Rattle.fj_store.proofs.store.Store.hook_done.Goals as goal
 
 -- ---- the hook of the parent came
@@ -30,7 +31,8 @@ invariant_of-self g c =
     let past = c.self.inside.machine in
     let w = c.worker-w.result in
     let fired = hook_fired past w c.in-Hook.p c.step.result c.step.ensures.step.0 c.in-Hook.is in
-    let swept = hook_swept past c.step.new.self w _ (entries c.take.new.self) _ c.self.invariant.0.run c.step.ensures.step.1 (ap (λ (ts : List ℕ). length ts) c.gone-before.ensures) c.sweep_since.ensures.entries in (
+    let swept = hook_swept past c.step.new.self w _ (entries c.take.new.self) _ c.self.invariant.0.run c.step.ensures.step.1
+    (ap (λ (ts : List ℕ). length ts) c.gone-before.ensures) c.sweep_since.ensures.entries in (
       hook_fired_stored past c.step.new.self w c.in-Hook.p _ _ _ _ _ c.self.invariant.0 fired c.step.ensures.step.1 c.take.ensures.entries swept,
       rw (c.sweep_since.ensures.room, c.take.ensures.room, c.step.ensures.step.1) c.self.invariant.1,
       rw c.step.ensures.step.1 c.self.invariant.2,
@@ -45,17 +47,22 @@ keep-requires g c =
     let w = c.worker-w.result in
     let fits : Fits past hand = subst (λ p. Fits p hand) (ap (λ s. s.past) (sym c.self.view_is)) c.requires.fits in
     let fired = hook_fired past w c.in-Hook.p c.step.result c.step.ensures.step.0 c.in-Hook.is in
-    hook_kept_fired past c.step.new.self hand w c.in-Hook.p c.take_hook-c.result.0 c.take_hook-c.result.1 _ _ _ c.self.invariant.0 fits c.worker-w.ensures c.take_hook-c.ensures.hook fired c.step.ensures.step.1
+    hook_kept_fired past c.step.new.self hand w c.in-Hook.p c.take_hook-c.result.0 c.take_hook-c.result.1 _ _ _ c.self.invariant.0 fits c.worker-w.ensures
+    c.take_hook-c.ensures.hook fired c.step.ensures.step.1
 
 pub returns-in-Some-clause-ends : goal.returns-in-Some-clause-ends
 returns-in-Some-clause-ends g c =
     let past = c.self.inside.machine in
     let w = c.worker-w.result in
-    let swept = hook_swept past c.step.new.self w _ (entries c.take.new.self) _ c.self.invariant.0.run c.step.ensures.step.1 (ap (λ (ts : List ℕ). length ts) c.gone-before.ensures) c.sweep_since.ensures.entries in
+    let swept = hook_swept past c.step.new.self w _ (entries c.take.new.self) _ c.self.invariant.0.run c.step.ensures.step.1
+    (ap (λ (ts : List ℕ). length ts) c.gone-before.ensures) c.sweep_since.ensures.entries in
     rw (← c.self.view_is) (
       c.if-self.false,
-      hook_ends_in_hook _ _ (record { past = c.step.new.self; bodies = c.sweep_since.new.bodies; results = c.self.inside.results; taken = c.self.inside.taken.items; stuck = c.self.inside.stuck }) c.keep.new.self _ c.args.hand.now
-          c.give_hook.new.self w c.in-Hook.p c.take_hook-c.result.0 c.take_hook-c.result.1 c.in-Some.above (entries c.take.new.self) _ c.worker-w.ensures (sym c.in-Hook.is ∙ c.step.ensures.step.0, c.step.ensures.step.1) c.take_hook-c.ensures.hook
+      hook_ends_in_hook _ _
+          (record { past = c.step.new.self; bodies = c.sweep_since.new.bodies; results = c.self.inside.results; taken = c.self.inside.taken.items; stuck = c.self.inside.stuck })
+          c.keep.new.self _ c.args.hand.now
+          c.give_hook.new.self w c.in-Hook.p c.take_hook-c.result.0 c.take_hook-c.result.1 c.in-Some.above (entries c.take.new.self) _ c.worker-w.ensures
+          (sym c.in-Hook.is ∙ c.step.ensures.step.0, c.step.ensures.step.1) c.take_hook-c.ensures.hook
           (sym c.take.ensures.taken ∙ c.in-Some.is) c.take.ensures.entries (c.give_hook.ensures ∙ ap (λ h. with_hook h c.in-Hook.p c.in-Some.above) c.take_hook-c.ensures.rest) refl swept
           (rw (c.new.ensures, c.into_key.ensures) at c.keep.ensures.kept) c.release_all.ensures,
     )
@@ -99,7 +106,8 @@ invariant_of-self-in_default g c =
     let past = c.self.inside.machine in
     let w = c.worker-w.result in
     let over = hook_unfired past w c.step.result c.step.ensures.step.0 c.in_default.not-Hook c.in_default.not-Refused in
-    let swept = hook_swept past c.step.new.self w _ (entries c.self.inside.bodies) _ c.self.invariant.0.run c.step.ensures.step.1 (ap (λ (ts : List ℕ). length ts) c.gone-before.ensures) c.sweep_since-in_default.ensures.entries in (
+    let swept = hook_swept past c.step.new.self w _ (entries c.self.inside.bodies) _ c.self.invariant.0.run c.step.ensures.step.1
+    (ap (λ (ts : List ℕ). length ts) c.gone-before.ensures) c.sweep_since-in_default.ensures.entries in (
       hook_over_stored past c.step.new.self w _ _ _ _ c.self.invariant.0 over c.step.ensures.step.1 swept,
       rw (c.sweep_since-in_default.ensures.room, c.step.ensures.step.1) c.self.invariant.1,
       rw c.step.ensures.step.1 c.self.invariant.2,
@@ -114,7 +122,8 @@ keep-requires-in_default g c =
     let w = c.worker-w.result in
     let fits : Fits past hand = subst (λ p. Fits p hand) (ap (λ s. s.past) (sym c.self.view_is)) c.requires.fits in
     let over = hook_unfired past w c.step.result c.step.ensures.step.0 c.in_default.not-Hook c.in_default.not-Refused in
-    hook_kept_over past c.step.new.self hand w c.take_hook-c-in_default.result.0 c.take_hook-c-in_default.result.1 _ _ _ c.self.invariant.0 fits c.worker-w.ensures c.take_hook-c-in_default.ensures.hook over c.step.ensures.step.1
+    hook_kept_over past c.step.new.self hand w c.take_hook-c-in_default.result.0 c.take_hook-c-in_default.result.1 _ _ _ c.self.invariant.0 fits c.worker-w.ensures
+    c.take_hook-c-in_default.ensures.hook over c.step.ensures.step.1
 
 pub returns : goal.returns
 returns g c =
@@ -123,15 +132,21 @@ returns g c =
     let w = c.worker-w.result in
     let fits : Fits past hand = subst (λ p. Fits p hand) (ap (λ s. s.past) (sym c.self.view_is)) c.requires.fits in
     let over = hook_unfired past w c.step.result c.step.ensures.step.0 c.in_default.not-Hook c.in_default.not-Refused in
-    let swept = hook_swept past c.step.new.self w _ (entries c.self.inside.bodies) _ c.self.invariant.0.run c.step.ensures.step.1 (ap (λ (ts : List ℕ). length ts) c.gone-before.ensures) c.sweep_since-in_default.ensures.entries in
+    let swept = hook_swept past c.step.new.self w _ (entries c.self.inside.bodies) _ c.self.invariant.0.run c.step.ensures.step.1
+    (ap (λ (ts : List ℕ). length ts) c.gone-before.ensures) c.sweep_since-in_default.ensures.entries in
     record {
       ends = rw (← c.self.view_is) (
         c.if-self.false,
-        hook_ends_over _ _ (record { past = c.step.new.self; bodies = c.sweep_since-in_default.new.bodies; results = c.self.inside.results; taken = c.self.inside.taken.items; stuck = c.self.inside.stuck }) c.keep-in_default.new.self _ hand
-            c.take_hook-c-in_default.new.self w c.take_hook-c-in_default.result.0 c.take_hook-c-in_default.result.1 _ c.step.result c.worker-w.ensures c.step.ensures.step (not_over c.step.result c.in_default.not-Hook c.in_default.not-Refused)
-            c.take_hook-c-in_default.ensures.hook c.take_hook-c-in_default.ensures.rest refl swept (rw (c.new-in_default.ensures, c.into_key-in_default.ensures) at c.keep-in_default.ensures.kept) c.release_all-in_default.ensures,
+        hook_ends_over _ _
+            (record { past = c.step.new.self; bodies = c.sweep_since-in_default.new.bodies; results = c.self.inside.results; taken = c.self.inside.taken.items; stuck = c.self.inside.stuck })
+            c.keep-in_default.new.self _ hand
+            c.take_hook-c-in_default.new.self w c.take_hook-c-in_default.result.0 c.take_hook-c-in_default.result.1 _ c.step.result c.worker-w.ensures c.step.ensures.step
+            (not_over c.step.result c.in_default.not-Hook c.in_default.not-Refused)
+            c.take_hook-c-in_default.ensures.hook c.take_hook-c-in_default.ensures.rest refl swept
+            (rw (c.new-in_default.ensures, c.into_key-in_default.ensures) at c.keep-in_default.ensures.kept) c.release_all-in_default.ensures,
       );
       fits =
-          hook_over_fits past c.step.new.self _ hand c.take_hook-c-in_default.new.self w _ c.release_all-in_default.ensures.tasks fits c.worker-w.ensures c.hook-hook.ensures.apart c.take_hook-c-in_default.ensures.rest c.step.ensures.step.1 over
+          hook_over_fits past c.step.new.self _ hand c.take_hook-c-in_default.new.self w _ c.release_all-in_default.ensures.tasks fits c.worker-w.ensures c.hook-hook.ensures.apart
+          c.take_hook-c-in_default.ensures.rest c.step.ensures.step.1 over
           (ap (λ s. s.past) c.release_all-in_default.ensures.were ∙ ap (λ p. grown p (map Rel c.release_all-in_default.ensures.tasks)) c.keep-in_default.ensures.past);
     }
