@@ -38,3 +38,5 @@ pub mod Shutting
 pub mod Sealing
 -- A hook ends.
 pub mod HookEndings
+-- Why a submission is refused.
+pub mod Refusals

@@ -1,11 +1,12 @@
-ghost use Rattle.std.specs.Prelude.{◌≡◌};
+ghost use Rattle.std.specs.Prelude.{◌≡◌, ◌||◌};
+ghost use Rattle.fj_model.specs.Allowed.{is_closed, is_stopped};
 ghost use Rattle.fj_model.specs.Answers.{is_quiet};
 ghost use Rattle.fj_model.specs.declared.step.Step.TheVariants.{Shutdown, Stop};
 ghost use Rattle.fj_store.specs.Asking.{Shuts};
 
 use crate::body::Body;
 use crate::store::Store;
-use fj_model::{Owner, Place, Refusal, Said, Serial, Status, Step, SubId, WorkerId};
+use fj_model::{Owner, Place, Refusal, Said, Serial, Status, Step, SubId, SubmittedKind, WorkerId};
 
 impl<B: Body> Store<B> {
     /// No submissions are taken any more: `ForkJoinPool.shutdown`. False where the history is full: then it is stuck.
@@ -31,6 +32,21 @@ impl<B: Body> Store<B> {
                 false
             }
             _ => true,
+        }
+    }
+
+    /// Whether submissions are taken no more, since a shutdown or a stop was made: `ForkJoinPool.isShutdown`.
+    pub fn is_shut(&self) -> bool
+        ensures { result ≡ is_closed self.now.past.events || is_stopped self.now.past.events }
+    {
+        // Tells that there is a submitter.
+        let _limits = self.machine.limits();
+        match self.machine.submit_refusal(SubId(0), &SubmittedKind::Plain) {
+            Some(refusal) => match refusal {
+                Refusal::Closed => true,
+                _ => false,
+            },
+            None => false,
         }
     }
 
