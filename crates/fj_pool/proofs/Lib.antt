@@ -10,3 +10,7 @@ mod Reached
 mod Inside
 -- what a call of the store leaves of the core
 mod Frames
+-- what the step that is due leaves
+mod Shutting
+-- an intake
+mod TakingIn

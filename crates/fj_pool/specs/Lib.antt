@@ -4,3 +4,7 @@ pub mod Booked
 pub mod Closings
 -- the core
 pub mod Cores
+-- the closing number is set, and what is due is made
+pub mod Closes
+-- a parcel is taken in
+pub mod Intakes

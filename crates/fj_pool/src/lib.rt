@@ -4,13 +4,16 @@
 mod booking;
 mod bookings;
 mod closing;
+mod due;
 mod first_hands;
 mod pool_core;
+mod taken_in;
 
 pub use booking::Booking;
 pub use bookings::Bookings;
 pub use closing::Closing;
 pub use pool_core::Core;
+pub use taken_in::Intake;
 
 #[cfg(test)]
 mod tests;

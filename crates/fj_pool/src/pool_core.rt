@@ -4,6 +4,9 @@ ghost use Rattle.fj_store.specs.Choosing.{Polls};
 ghost use Rattle.fj_store.specs.Fitting.{Fits};
 ghost use Rattle.fj_pool.specs.Cores.{ChangesStore, CollectsTicket, IsNew, first_hands};
 
+mod close;
+mod intake;
+
 use crate::bookings::Bookings;
 use crate::closing::Closing;
 use crate::first_hands::new_hands;
