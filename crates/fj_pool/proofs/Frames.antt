@@ -48,13 +48,13 @@ module _ {B K O : Type 0} where
   pub sticks_stay : (old new : StoreState B K O) → (old.stuck ≡ false) → new.past ≡ old.past → StaysInside old new
   sticks_stay old new free same = record { past = subst (IsInside old.past) (sym same) (same_inside old.past); stuck = λ is. free }
 
-  hands_out_stays : (old new : StoreState B K O) (hand hand' : HandState B) (asked : Step) (t : ℕ) → is_outside_step asked ≡ false → HandsOut old hand asked t new hand' → StaysInside old new
+  pub hands_out_stays : (old new : StoreState B K O) (hand hand' : HandState B) (asked : Step) (t : ℕ) → is_outside_step asked ≡ false → HandsOut old hand asked t new hand' → StaysInside old new
   hands_out_stays old new hand hand' asked t inside is = step_stays old new asked _ inside is.step (ap (λ s. s.stuck) is.others)
 
-  skips_stay : (old new : StoreState B K O) (asked : Step) (t : ℕ) (body : B) → is_outside_step asked ≡ false → Skips old asked t body new → StaysInside old new
+  pub skips_stay : (old new : StoreState B K O) (asked : Step) (t : ℕ) (body : B) → is_outside_step asked ≡ false → Skips old asked t body new → StaysInside old new
   skips_stay old new asked t body inside is = then_stays old is.mid new (step_stays old is.mid asked _ inside is.step (ap (λ s. s.stuck) is.others)) (releases_stay is.mid new is.releases)
 
-  moves_stay : (old new : StoreState B K O) (asked : Step) (reply : Said) → is_outside_step asked ≡ false → Moves old asked reply new → StaysInside old new
+  pub moves_stay : (old new : StoreState B K O) (asked : Step) (reply : Said) → is_outside_step asked ≡ false → Moves old asked reply new → StaysInside old new
   moves_stay old new asked reply inside is = step_stays old new asked reply inside is.0 (ap (λ s. s.stuck) is.1)
 
   -- ---- each call

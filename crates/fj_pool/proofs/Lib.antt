@@ -14,3 +14,7 @@ mod Frames
 mod Shutting
 -- an intake
 mod TakingIn
+-- what steps that hand nothing out leave of each hand
+mod Bare
+-- what each action of a body leaves of the core
+mod Acts

@@ -8,3 +8,5 @@ pub mod Cores
 pub mod Closes
 -- a parcel is taken in
 pub mod Intakes
+-- what a body or a hook asks
+pub mod Acting

@@ -4,6 +4,7 @@ ghost use Rattle.fj_store.specs.Choosing.{Polls};
 ghost use Rattle.fj_store.specs.Fitting.{Fits};
 ghost use Rattle.fj_pool.specs.Cores.{ChangesStore, CollectsTicket, IsNew, first_hands};
 
+mod act;
 mod close;
 mod intake;
 

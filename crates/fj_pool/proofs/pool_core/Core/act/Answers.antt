@@ -1,0 +1,17 @@
+use Rattle.std.proofs.Common.{◌∙◌, ap, sym, subst}
+use Rattle.std.specs.Prelude.{is_some}
+use Rattle.fj_pool.specs.Acting.{Acts}
+use Rattle.fj_pool.proofs.Frames.{core_stays}
+use Rattle.fj_pool.proofs.Acts.{body_acts_stay, hook_acts_stay, hook_there, hooked_acts}
+use Rattle.fj_pool.proofs.pool_core.Core.act.Goals as goal
+
+pub invariant_of-self : goal.invariant_of-self
+invariant_of-self g c = (core_stays _ _ _ _ _ (hook_acts_stay _ _ _ _ _ _ _ c.serve_hook.ensures.acts) c.self.invariant.0, c.self.invariant.1)
+
+pub invariant_of-self-else-is_some : goal.invariant_of-self-else-is_some
+invariant_of-self-else-is_some g c = (core_stays _ _ _ _ _ (body_acts_stay _ _ _ _ _ _ _ c.serve_body.ensures.acts) c.self.invariant.0, c.self.invariant.1)
+
+pub returns-then-is_some-clause-acts : goal.returns-then-is_some-clause-acts
+returns-then-is_some-clause-acts g c =
+    subst (λ s. Acts g.B.Body.key_of s.store c.args.hand.now c.args.ask c.serve_hook.result c.serve_hook.new.store c.serve_hook.new.hand) c.self.view_is
+    (hooked_acts _ _ _ _ _ _ _ (hook_there _ (ap is_some (sym c.hooked.ensures) ∙ sym c.is_some.ensures ∙ c.if-is_some.true)) c.serve_hook.ensures.acts)
