@@ -1,0 +1,2 @@
+-- A hand that holds nothing.
+mod Idle
