@@ -102,6 +102,7 @@ impl<B: Drop> Hand<B> {
             None => None,
         }
     }
+
     /// Whether the bodies stand under these numbers, the oldest first.
     pub fn holds(&self, serials: &[Serial]) -> bool
         ensures { IsTrue result ↔ (numbers self.now.stack ≡ serials.now) }
