@@ -36,12 +36,3 @@ pub use reply::Reply;
 pub use said::Said;
 pub use status::Status;
 pub use step::{Ending, Step};
-
-#[cfg(test)]
-mod fault_tests;
-#[cfg(test)]
-mod heading_tests;
-#[cfg(test)]
-mod step_tests;
-#[cfg(test)]
-mod tests;

@@ -14,8 +14,6 @@ mod cells;
 mod ends;
 mod numbers;
 mod queues;
-#[cfg(test)]
-mod tests;
 
 pub use numbers::Numbers;
 pub use queues::Queues;

@@ -19,8 +19,6 @@ mod lookup;
 mod pass;
 mod probes;
 mod record;
-#[cfg(test)]
-mod tests;
 mod tree;
 
 pub use arrive::Arrived;

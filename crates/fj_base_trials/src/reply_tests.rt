@@ -1,4 +1,4 @@
-use super::*;
+use fj_model::*;
 use std::alloc::Global;
 use std::test::*;
 

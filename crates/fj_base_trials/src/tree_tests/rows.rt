@@ -1,5 +1,5 @@
 use super::trial::Trial;
-use crate::*;
+use fj_tree::*;
 use fj_model::{Kind, Owner, Place, Refusal, Serial, Status, SubId, WorkerId};
 use std::alloc::Global;
 use std::test::Fail;

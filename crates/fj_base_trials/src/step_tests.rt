@@ -1,4 +1,4 @@
-use crate::{Ending, Kind, Serial, Step, SubId, SubmittedKind, WorkerId, read_step};
+use fj_model::{Ending, Kind, Serial, Step, SubId, SubmittedKind, WorkerId, read_step};
 use std::test::*;
 
 fn submit(s: u32) -> Step {

@@ -1,4 +1,4 @@
-use crate::*;
+use fj_tree::*;
 use fj_model::Serial;
 use std::alloc::Global;
 use std::marker::Model;

@@ -1,4 +1,4 @@
-use crate::{LineFault, read_step};
+use fj_model::{LineFault, read_step};
 use std::test::*;
 
 #[test]

@@ -1,8 +1,8 @@
 ghost use Rattle.std.specs.Prelude.{◌≡◌, ◌<◌, length, IfOk};
 ghost use Rattle.fj_queues.specs.Queues.{queue_at};
 
-use super::*;
 use fj_model::Serial;
+use fj_queues::*;
 use std::alloc::{AllocError, Global};
 use std::test::*;
 

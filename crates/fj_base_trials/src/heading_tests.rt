@@ -1,4 +1,4 @@
-use crate::{LineFault, Mode, read_head};
+use fj_model::{LineFault, Mode, read_head};
 use std::test::*;
 
 #[test]

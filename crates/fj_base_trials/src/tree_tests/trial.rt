@@ -1,7 +1,7 @@
 ghost use Rattle.std.specs.Prelude.{IsTrue};
 ghost use Rattle.fj_tree.specs.Records.{IsCompleter};
 
-use crate::*;
+use fj_tree::*;
 use fj_model::{Kind, Place, Refusal, Serial, Status};
 use std::alloc::Global;
 use std::marker::Model;
