@@ -10,7 +10,7 @@ replays=crates/fj_trials/out/fj_trials
 # The documents that have scripts, and no others.
 expected="scripts in README.md: 1
 scripts in crates/fj/README.md: 1
-scripts in crates/fj_trials/README.md: 1
+scripts in crates/fj_scripts/README.md: 1
 scripts in docs/MANUAL.md: 18
 scripts in docs/SCRIPT.md: 2"
 

@@ -5,7 +5,6 @@
 //! error, with its place; then the exit status is 1.
 #![tactic(auto)]
 
-mod answers;
 #[cfg(test)]
 mod epoch_tests;
 #[cfg(test)]
@@ -16,19 +15,15 @@ mod picks;
 mod place_tests;
 #[cfg(test)]
 mod random_epoch_tests;
-mod report;
 #[cfg(test)]
 mod report_tests;
 #[cfg(test)]
 mod run_tests;
-mod script;
-mod shown;
 #[cfg(test)]
 mod thread_tests;
 
-use crate::report::report_on;
-use crate::script::Form;
 use anyhow::{Result, bail};
+use fj_scripts::{Form, report_on};
 use std::{env, fs};
 
 fn main(rt: HostRuntime) -> Result<()> {

@@ -1,6 +1,4 @@
-use crate::answers::Way;
-use crate::report::{mismatch, report_on};
-use crate::script::{Form, scripts};
+use fj_scripts::{Form, Way, mismatch, report_on, scripts};
 use std::alloc::Global;
 use std::test::Fail;
 
