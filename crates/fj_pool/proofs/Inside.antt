@@ -218,6 +218,8 @@ events_inside past es is =
       pushes = λ s. filter_map-append (pushed_by (Sub s)) past.events es ∙ ap (λ ts. filter_map (pushed_by (Sub s)) past.events ++ ts) (none_pushed es s is) ∙ append-nil (filter_map (pushed_by (Sub s)) past.events);
       closed = list_any-append is_close past.events es ∙ ap (λ b. list_any is_close past.events || b) (none_close es is) ∙ or_nothing (list_any is_close past.events);
       stopped = list_any-append is_stop past.events es ∙ ap (λ b. list_any is_stop past.events || b) (none_stop es is) ∙ or_nothing (list_any is_stop past.events);
+      sealed = refl;
+      seals = refl;
     }
 
 -- ---- steps
@@ -242,8 +244,15 @@ pub releases_inside : (past : Past) (ts : List ℕ) → IsInside past (grown pas
 releases_inside past ts = events_inside past (map event.Rel ts) (released_in ts)
 
 pub same_inside : (past : Past) → IsInside past past
-same_inside past = record { pool = refl; pushes = λ s. refl; closed = refl; stopped = refl }
+same_inside past = record { pool = refl; pushes = λ s. refl; closed = refl; stopped = refl; sealed = refl; seals = refl }
 
 pub then_inside : (a b c : Past) → IsInside a b → IsInside b c → IsInside a c
 then_inside a b c ab bc =
-    record { pool = bc.pool ∙ ab.pool; pushes = λ s. bc.pushes s ∙ ab.pushes s; closed = bc.closed ∙ ab.closed; stopped = bc.stopped ∙ ab.stopped }
+    record {
+      pool = bc.pool ∙ ab.pool;
+      pushes = λ s. bc.pushes s ∙ ab.pushes s;
+      closed = bc.closed ∙ ab.closed;
+      stopped = bc.stopped ∙ ab.stopped;
+      sealed = bc.sealed ∙ ab.sealed;
+      seals = bc.seals ∙ ab.seals;
+    }

@@ -18,3 +18,5 @@ mod TakingIn
 mod Bare
 -- what each action of a body leaves of the core
 mod Acts
+-- the parts that are kept
+mod Parts

@@ -1,6 +1,7 @@
 -- What contracts see of a core.
 use Rattle.std.specs.Prelude.{ℕ, ◌≡◌, ◌+◌, ◌%◌, ◌^◌, Bool, true, false, List, [], length, map, Option, Some, None, Result, Err}
 use Rattle.std.specs.List.{range_with_len}
+use Rattle.fj_model.specs.declared.epoch.Sealed.{Sealed}
 use Rattle.fj_model.specs.declared.mode.Mode.{Mode}
 use Rattle.fj_model.specs.declared.refusal.Refusal.{Refusal}
 use Rattle.fj_model.specs.declared.refusal.Refusal.TheVariants.{LogFull, Unknown}
@@ -10,6 +11,7 @@ use Rattle.fj_model.specs.declared.owner.Owner.TheVariants.{Sub}
 use Rattle.fj_model.specs.Queues.{pushed}
 use Rattle.fj_model.specs.Allowed.{is_closed, is_stopped}
 use Rattle.fj_model.specs.Bounds.{Bounds}
+use Rattle.fj_model.specs.Parts.{Fits}
 use Rattle.fj_model.specs.Pasts.{Past, fresh}
 use Rattle.fj_lane.specs.Ends.{DrainState}
 use Rattle.fj_shelf.specs.Shelves.{entries, no_entries}
@@ -29,19 +31,26 @@ is_outside_step ask.Shutdown = true
 is_outside_step ask.Stop = true
 is_outside_step _ = false
 
--- no submitter has pushed a task, and nothing was closed or stopped
+-- no submitter has pushed a task, and nothing was closed, stopped or sealed
 pub record IsInside (old new : Past) : Type 0 where
   pub pool : new.pool ≡ old.pool
   pub pushes : (s : ℕ) → pushed new.events (Sub s) ≡ pushed old.events (Sub s)
   pub closed : is_closed new.events ≡ is_closed old.events
   pub stopped : is_stopped new.events ≡ is_stopped old.events
+  pub sealed : new.sealed ≡ old.sealed
+  pub seals : new.seals ≡ old.seals
 
--- what contracts see of a core: its store, the drain of each submitter, what was taken in, and the closing number
+-- these are the parts of the history that were sealed
+abbrev pub AreParts : List Sealed → Past → Type 0
+AreParts parts past = Fits parts past
+
+-- what contracts see of a core: its store, the drain of each submitter, what was taken in, the closing number, and the sealed parts
 pub record CoreState (B K O : Type 0) : Type 0 where
   pub store : StoreState B K O
   pub lanes : List (DrainState B)
   pub bookings : List Booking
   pub closing : Closing
+  pub parts : List Sealed
 
 -- the first hands: worker w scans from `start + w` on, which wraps in 32 bits
 abbrev pub first_hands : {B : Type 0} → ℕ → ℕ → List (HandState B)
@@ -63,6 +72,7 @@ module _ {B K O : Type 0} where
     pub lanes_same : core.lanes ≡ lanes
     pub bookings : core.bookings ≡ []
     pub closing : core.closing ≡ record { number = None; stopping = false }
+    pub parts : core.parts ≡ []
 
   -- what a call that reaches only the store leaves of it
   pub record StaysInside (old new : StoreState B K O) : Type 0 where

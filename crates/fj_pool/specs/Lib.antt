@@ -10,3 +10,5 @@ pub mod Closes
 pub mod Intakes
 -- what a body or a hook asks
 pub mod Acting
+-- the history is sealed, and the part kept
+pub mod Sealing

@@ -7,37 +7,42 @@ ghost use Rattle.fj_pool.specs.Cores.{ChangesStore, CollectsTicket, IsNew, first
 mod act;
 mod close;
 mod intake;
+mod seal;
 
 use crate::bookings::Bookings;
 use crate::closing::Closing;
 use crate::first_hands::new_hands;
 use fj_gate::Ticket;
 use fj_lane::Drain;
-use fj_model::{Limits, Mode, OutOfMemory, Refusal};
+use fj_model::{Limits, Mode, OutOfMemory, Refusal, Sealed};
 use fj_shelf::Hand;
 use fj_store::{Body, Outcome, Store, Told};
 use std::alloc::Global;
 use std::marker::Model;
 
-/// The store, the drains of the lanes, what was taken in, and the closing number.
+/// The store, the drains of the lanes, what was taken in, the closing number, and the sealed parts of the history.
 #[derive(Drop)]
 pub struct Core<B: Body> {
     store: Store<B>,
     drains: Vec<Drain<B>>,
     bookings: Bookings,
     closing: Closing,
+    parts: Vec<Sealed>,
 }
 
 impl<B: Body> Model for Core<B> {
     ghost use Rattle.std.specs.Prelude.{◌≤◌};
     ghost use Rattle.std.specs.List.{sum_by};
-    ghost use Rattle.fj_pool.specs.Cores.{CoreState, IsCore};
+    ghost use Rattle.fj_pool.specs.Cores.{AreParts, CoreState, IsCore};
 
     ghost Value = { CoreState B B.Key B.Out };
 
-    ghost view = { λ c. record { store = c.store; lanes = c.drains.items; bookings = c.bookings.bookings; closing = c.closing } };
+    ghost view = { λ c. record { store = c.store; lanes = c.drains.items; bookings = c.bookings.bookings; closing = c.closing; parts = c.parts.items } };
 
-    ghost invariant = { λ c. IsCore c.store c.drains.items c.bookings.bookings c.closing × (sum_by (λ d. d.capacity) c.drains.items ≤ c.bookings.room) };
+    ghost invariant = { λ c.
+        IsCore c.store c.drains.items c.bookings.bookings c.closing
+        × (sum_by (λ d. d.capacity) c.drains.items ≤ c.bookings.room)
+        × AreParts c.parts.items c.store.past };
 }
 
 impl<B: Body> Core<B> {
@@ -68,6 +73,7 @@ impl<B: Body> Core<B> {
             drains,
             bookings,
             closing: Closing::new(),
+            parts: Vec::new(alloc),
         };
         Ok((core, hands))
     }

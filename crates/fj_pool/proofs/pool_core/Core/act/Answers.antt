@@ -3,13 +3,18 @@ use Rattle.std.specs.Prelude.{is_some}
 use Rattle.fj_pool.specs.Acting.{Acts}
 use Rattle.fj_pool.proofs.Frames.{core_stays}
 use Rattle.fj_pool.proofs.Acts.{body_acts_stay, hook_acts_stay, hook_there, hooked_acts}
+use Rattle.fj_pool.proofs.Parts.{parts_stay}
 use Rattle.fj_pool.proofs.pool_core.Core.act.Goals as goal
 
 pub invariant_of-self : goal.invariant_of-self
-invariant_of-self g c = (core_stays _ _ _ _ _ (hook_acts_stay _ _ _ _ _ _ _ c.serve_hook.ensures.acts) c.self.invariant.0, c.self.invariant.1)
+invariant_of-self g c =
+    let stays = hook_acts_stay _ _ _ _ _ _ _ c.serve_hook.ensures.acts in
+    (core_stays _ _ _ _ _ stays c.self.invariant.0, c.self.invariant.1, parts_stay _ _ _ stays c.self.invariant.2)
 
 pub invariant_of-self-else-is_some : goal.invariant_of-self-else-is_some
-invariant_of-self-else-is_some g c = (core_stays _ _ _ _ _ (body_acts_stay _ _ _ _ _ _ _ c.serve_body.ensures.acts) c.self.invariant.0, c.self.invariant.1)
+invariant_of-self-else-is_some g c =
+    let stays = body_acts_stay _ _ _ _ _ _ _ c.serve_body.ensures.acts in
+    (core_stays _ _ _ _ _ stays c.self.invariant.0, c.self.invariant.1, parts_stay _ _ _ stays c.self.invariant.2)
 
 pub returns-then-is_some-clause-acts : goal.returns-then-is_some-clause-acts
 returns-then-is_some-clause-acts g c =
