@@ -1,7 +1,5 @@
-pub mod Cuts
-pub mod Calls
-pub mod Scripts
-pub mod Faults
-pub mod Sessions
+pub use Rattle.fj_replay.specs.Cuts
+pub use Rattle.fj_replay.specs.Scripts
+pub use Rattle.fj_replay.specs.Faults
 pub mod Statuses
 pub mod Commands

@@ -3,10 +3,10 @@ use Rattle.std.specs.Prelude.{ℕ, ◌≡◌, ◌≢◌, ◌⊎◌, List, Option
 use Rattle.clap.specs.Words.{Text}
 use Rattle.std.specs.declared.io.ErrorKind.{ErrorKind}
 use Rattle.std.specs.declared.io.ErrorKind.TheVariants.{InvalidData}
-use Rattle.fj_cli.specs.declared.fault.ReplayFault.{ReplayFault}
-use Rattle.fj_cli.specs.declared.fault.ReplayFault.TheVariants.{Line, Limits, Memory, Read, Write}
+use Rattle.fj_replay.specs.declared.fault.ReplayFault.{ReplayFault}
+use Rattle.fj_replay.specs.declared.fault.ReplayFault.TheVariants.{Line, Limits, Memory, Read, Write}
 use Rattle.fj_cli.specs.Commands.{AsksToShow, replay_words}
-use Rattle.fj_cli.specs.Faults.{Begins, Ends, Replays}
+use Rattle.fj_replay.specs.Faults.{Begins, Ends, Replays}
 
 -- the exit status of a fault: 3 for the input, 4 for memory, 5 for a read or a write
 abbrev pub status_of : ReplayFault → ℕ

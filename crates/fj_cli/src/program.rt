@@ -7,9 +7,9 @@ ghost use Rattle.fj_cli.specs.Statuses.{BeginsAtMost, EndsBy, EndsKnown, EndsWel
 
 use crate::command_line::{Subcommand, read};
 use crate::replay_command::run_replay;
-use crate::writes::flush_whole;
 use clap::Error;
 use clap::error::ErrorKind;
+use fj_streams::flush_whole;
 use std::alloc::Global;
 use std::io::{self, Read, Write};
 

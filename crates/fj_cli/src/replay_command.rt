@@ -1,10 +1,9 @@
 ghost use Rattle.std.specs.Prelude.{◌≡◌, ◌⊎◌};
-ghost use Rattle.fj_cli.specs.Faults.{Begins, Replays};
+ghost use Rattle.fj_replay.specs.Faults.{Begins, Replays};
 ghost use Rattle.fj_cli.specs.Statuses.{EndsBy, status_of};
 
-use crate::fault::ReplayFault;
-use crate::replay_script::replay;
-use crate::writes::flush_whole;
+use fj_replay::{ReplayFault, replay};
+use fj_streams::flush_whole;
 use std::alloc::Global;
 use std::io::{Read, Write};
 

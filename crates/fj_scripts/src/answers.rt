@@ -2,12 +2,12 @@
 use crate::script::Line;
 use crate::shown::{part, shown};
 use anyhow::Result;
-use fj_cli::replayed;
 use fj_machine::{Machine, run_epochs};
 use fj_model::{
     Answer, Ending, Kind, Limits, Mode, Move, Owner, Place, Refusal, Said, Serial, Status, Step,
     SubId, SubmittedKind, WorkerId, read_head, read_step,
 };
+use fj_replay::replayed;
 use std::alloc::Global;
 use std::fmt::Write;
 use std::str;

@@ -1,4 +1,4 @@
-use Rattle.fj_cli.proofs.Begun.{begun_whole, begun_fault}
+use Rattle.fj_replay.proofs.Begun.{begun_whole, begun_fault}
 use Rattle.fj_cli.proofs.replay_command.run_replay.Goals as goal
 use Rattle.fj_cli.proofs.replay_command.run_replay.Goals.{in-Err, in_default, in_default-2}
 

@@ -1,7 +1,7 @@
 use Rattle.std.proofs.Common.{◌≡◌, ℕ, ◌+◌, ◌-◌, ◌*◌, ◌<◌, ◌≤◌, length}
 use denote.Text.{Utf8}
 use denote.Shadow.{shadow}
-use Rattle.fj_trials.proofs.script.scripts.Given as goal
+use Rattle.fj_scripts.proofs.script.scripts.Given as goal
 
 -- The title, which the loop changes, is text.
 abbrev pub invariant-loop-line : goal.invariant-loop-line

@@ -1,0 +1,44 @@
+-- However a replay ends, a beginning of the replies to what was read was written.
+use Rattle.std.proofs.Common.{ℕ, List, Option, length}
+use Rattle.std.proofs.Math.Seq.{take-length}
+use Rattle.std.specs.Io.KnownBytes.{Appends, Keeps}
+use Rattle.fj_replay.specs.declared.fault.ReplayFault.{ReplayFault}
+use Rattle.fj_replay.specs.declared.fault.ReplayFault.TheVariants.{Line, Limits, Memory, Read, Write}
+use Rattle.fj_streams.specs.Beginnings.{AppendsSome}
+use Rattle.fj_replay.specs.Scripts.{text}
+use Rattle.fj_replay.specs.Faults.{Ends, FaultOf, IsBegun, IsReplayed}
+use Rattle.fj_streams.proofs.Bytes.{appends_keeps}
+
+-- the whole is a beginning too
+pub all_some : (a b : Option (List ℕ)) (t : List ℕ) → Appends a b t → AppendsSome a b t
+all_some a b t p = (length t, rw (take-length t) p)
+
+some_keeps : (a b c : Option (List ℕ)) (t : List ℕ) → AppendsSome a b t → Keeps b c → AppendsSome a c t
+some_keeps a b c t p q = (p.0, appends_keeps a b c _ p.1 q)
+
+fault_some : (fault : ReplayFault) (b : List ℕ) (ahead start now : Option (List ℕ)) → FaultOf fault b ahead start now → AppendsSome start now (text b)
+fault_some (Line n) b ahead start now f = all_some start now (text b) f.1
+fault_some Limits b ahead start now f = (0, f.1)
+fault_some Memory b ahead start now f = f
+fault_some Read b ahead start now f = all_some start now (text b) f.1
+fault_some Write b ahead start now f = f
+
+-- a replay that came to its end, and then a flush
+pub begun_whole : (before ahead start now flushed : Option (List ℕ)) → (b : List ℕ) × IsReplayed b before ahead start now → Keeps now flushed → (b : List ℕ) × IsBegun b before ahead start flushed
+begun_whole before ahead start now flushed r k = (
+  r.0,
+  record {
+    read = r.1.read;
+    written = some_keeps start now flushed _ (all_some start now (text r.0) r.1.written) k;
+  },
+)
+
+-- a replay that ended by a fault, and then a flush
+pub begun_fault : (fault : ReplayFault) (before ahead start now flushed : Option (List ℕ)) → (b : List ℕ) × Ends fault b before ahead start now → Keeps now flushed → (b : List ℕ) × IsBegun b before ahead start flushed
+begun_fault fault before ahead start now flushed r k = (
+  r.0,
+  record {
+    read = r.1.read;
+    written = some_keeps start now flushed _ (fault_some fault r.0 ahead start now r.1.means) k;
+  },
+)

@@ -1,0 +1,99 @@
+-- A session that takes one byte more.
+use Rattle.std.specs.Prelude.{◌==◌, true, false, is_some}
+use Rattle.std.proofs.Common.{ℕ, ◌≡◌, ◌≢◌, ◌+◌, ◌<◌, ◌≤◌, List, [], ◌∷◌, ◌++◌, refl, arith, ◌∙◌, sym, ap, take, drop, length, length-append, append_assoc, inl, inr, Option}
+use Rattle.std.proofs.lemmas.List.{append-nil, take-append-drop}
+use Rattle.std.proofs.Math.Seq.{take-suc, drop-cons}
+use Rattle.std.proofs.Math.ListN.{get_or}
+use Rattle.std.proofs.Math.Numerals.{add-one}
+use Rattle.std.proofs.lemmas.Bool.Decides.{nat_tests}
+use Rattle.std.specs.Io.KnownBytes.{Appends}
+use Rattle.fj_model.specs.declared.read.TheConstants.{MAX_LINE}
+use Rattle.fj_replay.specs.Cuts.{cut, lines, rest}
+use Rattle.fj_replay.specs.Scripts.{is_good, text}
+use Rattle.fj_replay.specs.Sessions.{Kept, IsAt, Goes, next_kept, fed, past_of, past_after, line_text}
+use Rattle.fj_streams.proofs.Bytes.{appends_twice}
+use Rattle.fj_replay.proofs.Lines.{yes_or_no, cut-append, left-append}
+use Rattle.fj_replay.proofs.Pasts.{text_from, text-append, text-line, text-none, past-snoc, good-snoc}
+
+pub tens : (x : ℕ) → x ≡ 10 → (x == 10) ≡ true
+tens x e = grind (arith, nat_tests)
+
+pub no_ten : (x : ℕ) → x ≢ 10 → (x == 10) ≡ false
+no_ten x ne = grind (arith, nat_tests)
+
+-- the text of more bytes, behind good ones
+pub text_at : (b ys : List ℕ) → is_good (lines b) ≡ true → text (b ++ ys) ≡ text b ++ text_from (past_of (lines b)) (cut (rest b) ys)
+text_at b ys good = rw (cut-append [] b ys) (text-append (lines b) (cut (rest b) ys) good)
+
+at_end : (b : List ℕ) (v w : Kept) (x : ℕ) (s n m : Option (List ℕ)) → IsAt b v s n → w ≡ next_kept v x → Appends n m (fed v x) → (x == 10) ≡ true → is_some (past_after v.past v.line) ≡ true → IsAt (b ++ x ∷ []) w s m
+at_end b v w x s n m at next wrote e there =
+    let past : past_after v.past v.line ≡ past_after (past_of (lines b)) (rest b) = rw (at.past, at.line) refl in
+    let said_line : line_text v.past v.line ≡ line_text (past_of (lines b)) (rest b) = rw (at.past, at.line) refl in
+    let good : is_some (past_after (past_of (lines b)) (rest b)) ≡ true = ap is_some (sym past) ∙ there in
+    let now : w ≡ record { count = v.count + 1; line = []; past = past_after v.past v.line } = next ∙ rw e refl in
+    let cuts : lines (b ++ x ∷ []) ≡ lines b ++ rest b ∷ [] = cut-append [] b (x ∷ []) ∙ rw e refl in
+    let none : rest (b ++ x ∷ []) ≡ [] = left-append [] b (x ∷ []) ∙ rw e refl in
+    let one : cut (rest b) (x ∷ []) ≡ rest b ∷ [] = rw e refl in
+    let empty : w.line ≡ [] = ap (λ u. u.line) now in
+    let tail : text_from (past_of (lines b)) (cut (rest b) (x ∷ [])) ≡ line_text v.past v.line =
+    rw (one, said_line) (text-line (past_of (lines b)) (rest b) [] good ∙ rw (text-none, append-nil) refl) in
+    let whole : text (b ++ x ∷ []) ≡ text b ++ line_text v.past v.line = text_at b (x ∷ []) at.good ∙ ap (λ t. text b ++ t) tail in
+    let here : fed v x ≡ line_text v.past v.line = rw e refl in
+    record {
+      count = ap (λ u. u.count) now ∙ (ap (λ k. k + 1) at.count ∙ (rw (cuts, length-append) refl));
+      line = empty ∙ sym none;
+      short = rw empty (omega arith);
+      past = ap (λ u. u.past) now ∙ (past ∙ rw cuts (sym (past-snoc (lines b) (rest b) at.good good)));
+      good = rw cuts (good-snoc (lines b) (rest b) at.good good);
+      written = rw whole (appends_twice s n m (text b) (line_text v.past v.line) at.written (rw here at wrote));
+    }
+
+at_more : (b : List ℕ) (v w : Kept) (x : ℕ) (s n m : Option (List ℕ)) → IsAt b v s n → w ≡ next_kept v x → Appends n m (fed v x) → (x == 10) ≡ false → length v.line + 1 ≤ MAX_LINE → IsAt (b ++ x ∷ []) w s m
+at_more b v w x s n m at next wrote e few =
+    let now : w ≡ record { count = v.count; line = v.line ++ x ∷ []; past = v.past } = next ∙ rw e refl in
+    let cuts : lines (b ++ x ∷ []) ≡ lines b = cut-append [] b (x ∷ []) ∙ rw (e, append-nil) refl in
+    let none : rest (b ++ x ∷ []) ≡ rest b ++ x ∷ [] = left-append [] b (x ∷ []) ∙ rw e refl in
+    let longer : w.line ≡ v.line ++ x ∷ [] = ap (λ u. u.line) now in
+    let here : fed v x ≡ [] = rw e refl in
+    let same : text (b ++ x ∷ []) ≡ text b ++ [] = rw (cuts, append-nil) refl in
+    record {
+      count = ap (λ u. u.count) now ∙ rw cuts at.count;
+      line = longer ∙ (ap (λ l. l ++ x ∷ []) at.line ∙ sym none);
+      short = rw (longer, length-append) few;
+      past = ap (λ u. u.past) now ∙ rw cuts at.past;
+      good = rw cuts at.good;
+      written = rw same (appends_twice s n m (text b) [] at.written (rw here at wrote));
+    }
+
+-- one byte more
+pub at_snoc : (b : List ℕ) (v w : Kept) (x : ℕ) (s n m : Option (List ℕ)) → IsAt b v s n → Goes v x → w ≡ next_kept v x → Appends n m (fed v x) → IsAt (b ++ x ∷ []) w s m
+at_snoc b v w x s n m at (inl ends) next wrote = at_end b v w x s n m at next wrote (tens x ends.0) ends.1
+at_snoc b v w x s n m at (inr goes) next wrote = at_more b v w x s n m at next wrote (no_ten x goes.0) goes.1
+
+one_more : (b xs : List ℕ) (i : ℕ) → i < length xs → b ++ take (i + 1) xs ≡ (b ++ take i xs) ++ get_or xs i 0 ∷ []
+one_more b xs i h = rw (add-one, take-suc xs i 0 h) (sym (append_assoc b (take i xs) (get_or xs i 0 ∷ [])))
+
+pub and_rest : (b xs : List ℕ) (i : ℕ) → i < length xs → b ++ xs ≡ (b ++ take i xs) ++ (get_or xs i 0 ∷ drop (i + 1) xs)
+and_rest b xs i h =
+    let tail : drop i xs ≡ get_or xs i 0 ∷ drop (i + 1) xs = rw add-one (drop-cons xs i 0 h) in
+    ap (λ t. b ++ t) (sym (take-append-drop i xs) ∙ ap (λ t. take i xs ++ t) tail) ∙ sym (append_assoc b (take i xs) (get_or xs i 0 ∷ drop (i + 1) xs))
+
+-- one byte of many
+pub at_next : (b xs : List ℕ) (i : ℕ) (v w : Kept) (s n m : Option (List ℕ)) → i < length xs → IsAt (b ++ take i xs) v s n → Goes v (get_or xs i 0) → w ≡ next_kept v (get_or xs i 0) → Appends n m (fed v (get_or xs i 0)) → IsAt (b ++ take (i + 1) xs) w s m
+at_next b xs i v w s n m h at goes next wrote = rw (one_more b xs i h) (at_snoc (b ++ take i xs) v w (get_or xs i 0) s n m at goes next wrote)
+
+count_true : (v : Kept) (x : ℕ) → (x == 10) ≡ true → (next_kept v x).count ≤ v.count + 1
+count_true v x e = rw e (omega arith)
+
+count_false : (v : Kept) (x : ℕ) → (x == 10) ≡ false → (next_kept v x).count ≤ v.count + 1
+count_false v x e = rw e (omega arith)
+
+count_or : (v : Kept) (x : ℕ) → (next_kept v x).count ≤ v.count + 1
+count_or v x = elim (yes_or_no (x == 10)) [ inl e ↦ count_true v x e | inr e ↦ count_false v x e ]
+
+-- a byte ends at most one line
+pub next_count : (v w : Kept) (x first i : ℕ) → w ≡ next_kept v x → v.count ≤ first + i → w.count ≤ first + (i + 1)
+next_count v w x first i next few =
+    let most = count_or v x in
+    let same : w.count ≡ (next_kept v x).count = ap (λ u. u.count) next in
+    omega arith

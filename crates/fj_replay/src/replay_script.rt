@@ -1,0 +1,72 @@
+//! The replay of a script, from a reader to a writer or in memory.
+ghost use Rattle.std.specs.Prelude.{◌≡◌, ◌≢◌, ℕ, OnOk, IfOk, IfErr, List, [], Option, Some};
+ghost use Rattle.fj_streams.specs.Calls.{IsFine};
+ghost use Rattle.fj_replay.specs.Tells.{FaultTells};
+ghost use Rattle.fj_replay.specs.Scripts.{text};
+ghost use Rattle.fj_replay.specs.Faults.{IsScript, Replays, Ends};
+
+use crate::fault::ReplayFault;
+use crate::in_memory::InMemory;
+use crate::session::{CHUNK, Session};
+use fj_streams::{Sink, Source, flush_whole};
+use std::alloc::Global;
+use std::io::ErrorKind;
+
+/// Reads a script, makes its steps and writes the replies.
+///
+/// What was written is `text b` of the bytes `b` that were read; at `Memory` and `Write` it is a beginning of `text b`. `Read` and
+/// `Write` come only where the reader or the writer failed, and a failure of one is told as nothing else. A reply is
+/// handed to the writer before the next line is looked at, so what was replied before a fault is written. The writer is flushed before
+/// each further read, so that who sends one line at a time has each reply; a flush that fails there is `Write`. It is not flushed at the
+/// end. An interrupted read, write or flush is tried again.
+pub fn replay<R: Source, W: Sink>(alloc: Global, r: &mut R, w: &mut W) -> Result<(), ReplayFault>
+    ensures ok { OnOk result (Replays (R.remaining r.old) (R.remaining r.new) (W.contents w.old) (W.contents w.new)) }
+    ensures fine { OnOk result (IsFine (R.calls r.old) (R.calls r.new) × IsFine (W.calls w.old) (W.calls w.new)) }
+    ensures err { IfErr result (λ fault. (b : List ℕ) × Ends fault b (R.remaining r.old) (R.remaining r.new) (W.contents w.old) (W.contents w.new)
+        × FaultTells fault b (R.calls r.old) (R.calls r.new) (W.calls w.old) (W.calls w.new)) }
+{
+    let Ok(mut session) = Session::new(alloc) else {
+        return Err(ReplayFault::Memory);
+    };
+    let mut chunk = [0u8; CHUNK];
+    for _reads in 0..u64::MAX {
+        // The lines of a chunk are counted in 64 bits.
+        if session.is_full() {
+            return Err(ReplayFault::Read);
+        }
+        match r.pull(&mut chunk) {
+            Ok(0) => return session.finish(),
+            Ok(n) => {
+                session.feed_all(alloc, &chunk[..n], w)?;
+                // Whoever waits for these replies has them before the next read waits for more lines.
+                if flush_whole(w).is_err() {
+                    return Err(ReplayFault::Write);
+                }
+            }
+            Err(e) => {
+                if e.kind() != ErrorKind::Interrupted {
+                    return Err(ReplayFault::Read);
+                }
+            }
+        }
+    }
+    Err(ReplayFault::Read)
+}
+
+/// The replies to a script that lies in memory. At a fault the replies before it are lost. It is `Line`, `Limits` or `Memory`: nothing
+/// is read or written that could fail.
+pub fn replayed(alloc: Global, script: &[u8]) -> Result<Vec<u8>, ReplayFault>
+    ensures script { IfOk result (λ _. IsScript script.now) }
+    ensures text { IfOk result (λ replies. replies.items ≡ text script.now) }
+    ensures err { IfErr result (λ fault. (b : List ℕ) × (ahead now : Option (List ℕ)) × Ends fault b (Some script.now) ahead (Some []) now) }
+    ensures in_memory { IfErr result (λ fault. (fault ≢ ReplayFault.Read) × (fault ≢ ReplayFault.Write)) }
+{
+    let mut rest = InMemory::new(script);
+    let mut replies = Vec::new(alloc);
+    match replay(alloc, &mut rest, &mut replies) {
+        Ok(()) => Ok(replies),
+        // A vector refuses a byte only where memory is refused.
+        Err(ReplayFault::Write) => Err(ReplayFault::Memory),
+        Err(fault) => Err(fault),
+    }
+}

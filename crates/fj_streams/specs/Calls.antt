@@ -1,0 +1,59 @@
+-- What is known of the calls of a reader and of a writer.
+use Rattle.std.specs.Prelude.{ℕ, ⊤, ◌≡◌, ◌≢◌, ◌+◌, ◌-◌, ◌^◌, ◌<◌, ◌≤◌, ◌⊎◌, Option, Some, None, Result, MatchResult}
+use Rattle.std.specs.IoError.{error_kind}
+use Rattle.std.specs.declared.io.Error.{Error}
+use Rattle.std.specs.declared.io.ErrorKind.TheVariants.{Interrupted}
+
+-- how many there were, where there was a last one after so many
+abbrev pub count_after : Option ℕ → ℕ
+count_after None = 0
+count_after (Some before) = before + 1
+
+-- how many calls failed; and how many did not, but left the caller to call again: interrupted calls, and reads that gave bytes
+pub record Calls : Type 0 where
+  pub failed : ℕ
+  pub again : ℕ
+
+-- ---- what one call says
+
+-- one more known call failed
+abbrev pub Fails : Option Calls → Option Calls → Type 0
+Fails None new = ⊤
+Fails (Some x) None = ⊥
+Fails (Some x) (Some y) = y.failed ≡ x.failed + 1
+
+-- no known call failed, and so many more left the caller to call again
+abbrev pub GoesOn : Option Calls → Option Calls → ℕ → Type 0
+GoesOn None new n = ⊤
+GoesOn (Some x) None n = ⊥
+GoesOn (Some x) (Some y) n = (y.failed ≡ x.failed) × (y.again ≡ x.again + n)
+
+-- an interruption is no failure
+abbrev pub ErrorCounts : Option Calls → Option Calls → Error → Type 0
+ErrorCounts old new e = (error_kind e ≢ Interrupted → Fails old new) × (error_kind e ≡ Interrupted → GoesOn old new 1)
+
+-- what a read says: one that gives nothing is the end
+abbrev pub ReadCounts : Option Calls → Option Calls → Result ℕ Error → Type 0
+ReadCounts old new r = MatchResult r (λ n. (n ≡ 0 → GoesOn old new 0) × (n ≢ 0 → GoesOn old new 1)) (λ e. ErrorCounts old new e)
+
+-- what a write of so many bytes says: to take nothing of something is a failure
+abbrev pub WriteCounts : Option Calls → Option Calls → Result ℕ Error → ℕ → Type 0
+WriteCounts old new r length = MatchResult r (λ n. (n ≡ 0 → 0 < length → Fails old new) × ((n ≢ 0) ⊎ (length ≡ 0) → GoesOn old new 0)) (λ e. ErrorCounts old new e)
+
+-- what a flush says
+abbrev pub FlushCounts : {A : Type 0} → Option Calls → Option Calls → Result A Error → Type 0
+FlushCounts old new r = MatchResult r (λ _. GoesOn old new 0) (λ e. ErrorCounts old new e)
+
+-- ---- what many calls say
+
+-- no known call failed
+abbrev pub IsFine : Option Calls → Option Calls → Type 0
+IsFine None new = ⊤
+IsFine (Some x) None = ⊥
+IsFine (Some x) (Some y) = (y.failed ≡ x.failed) × (x.again ≤ y.again)
+
+-- one known call failed, or 2^64 - 1 of them left the caller to call again
+abbrev pub HasFailed : Option Calls → Option Calls → Type 0
+HasFailed None new = ⊤
+HasFailed (Some x) None = ⊥
+HasFailed (Some x) (Some y) = (y.failed ≡ x.failed + 1) ⊎ (x.again + (2 ^ 64 - 1) ≤ y.again)

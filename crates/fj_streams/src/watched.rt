@@ -1,0 +1,92 @@
+ghost use Rattle.std.specs.Prelude.{◌≡◌, Some, ◌+◌};
+ghost use Rattle.fj_streams.specs.Calls.{ErrorCounts};
+
+use crate::streams::{Sink, Source};
+use crate::tally::Tally;
+use std::io::{self, ErrorKind, Read, Write};
+
+/// A reader or a writer, with what contracts alone see of its calls: how many failed, and how many left the caller to call again.
+#[derive(Drop)]
+pub struct Watched<T> {
+    inner: T,
+    failed: Tally,
+    again: Tally,
+}
+
+impl<T> Watched<T> {
+    /// No call so far.
+    pub fn new(inner: T) -> Watched<T>
+        ensures inner { result.inner ≡ inner }
+        ensures failed { result.failed ≡ 0 }
+        ensures again { result.again ≡ 0 }
+    {
+        Watched {
+            inner,
+            failed: Tally::new(),
+            again: Tally::new(),
+        }
+    }
+}
+
+impl<R: Read> Source for Watched<R> {
+    ghost remaining = { λ r. R.remaining r.inner };
+
+    ghost calls = { λ r. Some (record { failed = r.failed; again = r.again }) };
+
+    fn pull(&mut self, buf: &mut [u8]) -> io::Result<usize> {
+        match self.inner.read(buf) {
+            Ok(0) => Ok(0),
+            Ok(n) => {
+                self.again.add_one();
+                Ok(n)
+            }
+            Err(e) => {
+                if e.kind() == ErrorKind::Interrupted {
+                    self.again.add_one();
+                } else {
+                    self.failed.add_one();
+                }
+                Err(e)
+            }
+        }
+    }
+}
+
+impl<W: Write> Sink for Watched<W> {
+    ghost contents = { λ w. W.contents w.inner };
+
+    ghost calls = { λ w. Some (record { failed = w.failed; again = w.again }) };
+
+    fn push(&mut self, bytes: &[u8]) -> io::Result<usize> {
+        match self.inner.write(bytes) {
+            Ok(n) => {
+                if n == 0 && !bytes.is_empty() {
+                    self.failed.add_one();
+                }
+                Ok(n)
+            }
+            Err(e) => {
+                if e.kind() == ErrorKind::Interrupted {
+                    self.again.add_one();
+                } else {
+                    self.failed.add_one();
+                }
+                Err(e)
+            }
+        }
+    }
+
+    fn flush_pushed(&mut self) -> io::Result<()> {
+        match self.inner.flush() {
+            Ok(()) => Ok(()),
+            Err(e) => {
+                if e.kind() == ErrorKind::Interrupted {
+                    self.again.add_one();
+                } else {
+                    self.failed.add_one();
+                }
+                Err(e)
+            }
+        }
+    }
+}
