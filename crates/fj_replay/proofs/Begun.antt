@@ -1,13 +1,17 @@
 -- However a replay ends, a beginning of the replies to what was read was written.
-use Rattle.std.proofs.Common.{ℕ, List, Option, length}
+use Rattle.std.proofs.Common.{ℕ, List, [], Option, Some, None, length, refl}
+use Rattle.std.proofs.lemmas.List.{append-nil}
 use Rattle.std.proofs.Math.Seq.{take-length}
-use Rattle.std.specs.Io.KnownBytes.{Appends, Keeps}
+use Rattle.std.specs.Io.KnownBytes.{Appends, Consumes, Keeps}
 use Rattle.fj_replay.specs.declared.fault.ReplayFault.{ReplayFault}
 use Rattle.fj_replay.specs.declared.fault.ReplayFault.TheVariants.{Line, Limits, Memory, Read, Write}
 use Rattle.fj_streams.specs.Beginnings.{AppendsSome}
 use Rattle.fj_replay.specs.Scripts.{text}
+use Rattle.fj_replay.specs.Tells.{FaultTells}
 use Rattle.fj_replay.specs.Faults.{Ends, FaultOf, IsBegun, IsReplayed}
+use Rattle.fj_streams.specs.Calls.{Calls}
 use Rattle.fj_streams.proofs.Bytes.{appends_keeps}
+use Rattle.fj_streams.proofs.CallsMade.{fine_self}
 
 -- the whole is a beginning too
 pub all_some : (a b : Option (List ℕ)) (t : List ℕ) → Appends a b t → AppendsSome a b t
@@ -42,3 +46,17 @@ begun_fault fault before ahead start now flushed r k = (
     written = some_keeps start now flushed _ (fault_some fault r.0 ahead start now r.1.means) k;
   },
 )
+
+-- ---- nothing was read
+
+consumes_nothing : (a : Option (List ℕ)) → Consumes a a []
+consumes_nothing None = tt
+consumes_nothing (Some x) = refl
+
+appends_nothing : (a : Option (List ℕ)) → Appends a a []
+appends_nothing None = tt
+appends_nothing (Some x) = rw append-nil refl
+
+-- out of memory before the first read
+pub stops_at_once : (a n : Option (List ℕ)) (p q : Option Calls) → (b : List ℕ) × Ends Memory b a a n n × FaultTells Memory b p p q q
+stops_at_once a n p q = ([], record { read = consumes_nothing a; means = (0, appends_nothing n) }, (fine_self p, fine_self q))

@@ -5,6 +5,7 @@ use Rattle.fj_replay.specs.declared.fault.ReplayFault.{ReplayFault}
 use Rattle.fj_replay.specs.declared.fault.ReplayFault.TheVariants.{Line, Limits, Memory, Read, Write}
 use Rattle.fj_replay.specs.declared.session.TheConstants.{CHUNK}
 use Rattle.fj_replay.specs.Cuts.{lines}
+use Rattle.fj_replay.specs.Faults.{Ends}
 
 -- what a fault says of the writer: it failed at `Write` alone
 abbrev pub WriterTells : ReplayFault → Option Calls → Option Calls → Type 0
@@ -22,3 +23,19 @@ FaultTells Limits b read now written after = IsFine read now × IsFine written a
 FaultTells Memory b read now written after = IsFine read now × IsFine written after
 FaultTells Read b read now written after = (HasFailed read now ⊎ (2 ^ 64 - 1 - CHUNK ≤ length (lines b))) × IsFine written after
 FaultTells Write b read now written after = IsFine read now × HasFailed written after
+
+-- what contracts see of a reader or a writer: its bytes and its calls, before and after
+pub record Seen : Type 0 where
+  pub bytes : Option (List ℕ)
+  pub bytes_after : Option (List ℕ)
+  pub calls : Option Calls
+  pub calls_after : Option Calls
+
+-- the same of one whose bytes and calls are told by these functions
+abbrev pub seen : {A : Type 0} → (A → Option (List ℕ)) → (A → Option Calls) → A → A → Seen
+seen bytes calls old new = record { bytes = bytes old; bytes_after = bytes new; calls = calls old; calls_after = calls new }
+
+-- some bytes were read, and the replay of them ended by this fault, which tells too which calls failed
+abbrev pub Stops : Seen → Seen → ReplayFault → Type 0
+Stops r w fault =
+    (b : List ℕ) × Ends fault b r.bytes r.bytes_after w.bytes w.bytes_after × FaultTells fault b r.calls r.calls_after w.calls w.calls_after

@@ -1,7 +1,7 @@
 //! The replay of a script, from a reader to a writer or in memory.
 ghost use Rattle.std.specs.Prelude.{◌≡◌, ◌≢◌, ℕ, OnOk, IfOk, IfErr, List, [], Option, Some};
 ghost use Rattle.fj_streams.specs.Calls.{IsFine};
-ghost use Rattle.fj_replay.specs.Tells.{FaultTells};
+ghost use Rattle.fj_replay.specs.Tells.{Stops, seen};
 ghost use Rattle.fj_replay.specs.Scripts.{text};
 ghost use Rattle.fj_replay.specs.Faults.{IsScript, Replays, Ends};
 
@@ -22,8 +22,7 @@ use std::io::ErrorKind;
 pub fn replay<R: Source, W: Sink>(alloc: Global, r: &mut R, w: &mut W) -> Result<(), ReplayFault>
     ensures ok { OnOk result (Replays (R.remaining r.old) (R.remaining r.new) (W.contents w.old) (W.contents w.new)) }
     ensures fine { OnOk result (IsFine (R.calls r.old) (R.calls r.new) × IsFine (W.calls w.old) (W.calls w.new)) }
-    ensures err { IfErr result (λ fault. (b : List ℕ) × Ends fault b (R.remaining r.old) (R.remaining r.new) (W.contents w.old) (W.contents w.new)
-        × FaultTells fault b (R.calls r.old) (R.calls r.new) (W.calls w.old) (W.calls w.new)) }
+    ensures err { IfErr result (Stops (seen R.remaining R.calls r.old r.new) (seen W.contents W.calls w.old w.new)) }
 {
     let Ok(mut session) = Session::new(alloc) else {
         return Err(ReplayFault::Memory);

@@ -5,12 +5,15 @@ use Rattle.fj_streams.specs.Calls.{HasFailed, IsFine}
 use Rattle.fj_replay.specs.Cuts.{lines}
 use Rattle.std.proofs.lemmas.Bool.{leb-true}
 use Rattle.fj_streams.proofs.Bytes.{consumes_twice, consumes_kept, read_end}
-use Rattle.fj_replay.proofs.Begun.{all_some}
+use Rattle.fj_replay.proofs.Begun.{all_some, stops_at_once}
 use Rattle.fj_streams.proofs.CallsMade.{fine_failed, fine_twice, goes_failed, goes_fine, goes_forever, goes_further}
 use Rattle.fj_replay.proofs.CallsTold.{ended_told, if_ok, told_later, writer_told}
 use Rattle.fj_replay.proofs.FaultsFound.{ended, flushed_at, replayed_whole}
 use Rattle.fj_replay.proofs.replay_script.replay.Goals as goal
 use Rattle.fj_replay.proofs.replay_script.replay.Goals.{in-Ok-pull+in_ok-feed_all-in-Ok-pull+else-is_err, in-Err+else-ne}
+
+pub returns-in_default-clause-err : goal.returns-in_default-clause-err
+returns-in_default-clause-err g c = stops_at_once _ _ _ _
 
 pub returns-in-Ok-eq0-clause-ok : goal.returns-in-Ok-eq0-clause-ok
 returns-in-Ok-eq0-clause-ok g c =
