@@ -1,5 +1,5 @@
-use fj_tree::*;
 use fj_model::Serial;
+use fj_tree::*;
 use std::alloc::Global;
 use std::marker::Model;
 use std::test::Fail;

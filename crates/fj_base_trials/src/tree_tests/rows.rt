@@ -1,6 +1,6 @@
 use super::trial::Trial;
-use fj_tree::*;
 use fj_model::{Kind, Owner, Place, Refusal, Serial, Status, SubId, WorkerId};
+use fj_tree::*;
 use std::alloc::Global;
 use std::test::Fail;
 

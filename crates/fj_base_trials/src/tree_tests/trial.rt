@@ -1,8 +1,8 @@
 ghost use Rattle.std.specs.Prelude.{IsTrue};
 ghost use Rattle.fj_tree.specs.Records.{IsCompleter};
 
-use fj_tree::*;
 use fj_model::{Kind, Place, Refusal, Serial, Status};
+use fj_tree::*;
 use std::alloc::Global;
 use std::marker::Model;
 use std::test::Fail;
