@@ -1,5 +1,6 @@
 ghost use Rattle.std.specs.Prelude.{◌≡◌, ◌≤◌, [], None, All, IfOk, vec_len};
 ghost use Rattle.fj_lane.specs.declared.new_lane.TheConstants.{MAX_CAPACITY};
+ghost use Rattle.fj_model.specs.Bounds.{IsWithin};
 ghost use Rattle.fj_store.specs.Choosing.{Polls};
 ghost use Rattle.fj_store.specs.Fitting.{Fits};
 ghost use Rattle.fj_pool.specs.Cores.{ChangesStore, CollectsTicket, IsNew, first_hands};
@@ -76,6 +77,14 @@ impl<B: Body> Core<B> {
             parts: Vec::new(alloc),
         };
         Ok((core, hands))
+    }
+
+    /// How large the pool may grow. There is a worker and a submitter at least.
+    pub fn limits(&self) -> Limits
+        ensures limits { result ≡ self.now.store.past.pool.limits }
+        ensures within { IsWithin result.workers result.submitters result.tasks result.events }
+    {
+        self.store.limits()
     }
 
     /// An idle worker asks for its next task. Preconditions: the hand fits, and has no body and no hook.

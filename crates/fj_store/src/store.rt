@@ -1,4 +1,5 @@
 ghost use Rattle.std.specs.Prelude.{◌≡◌, IfOk, [], true, false};
+ghost use Rattle.fj_model.specs.Bounds.{IsWithin};
 ghost use Rattle.fj_model.specs.Pasts.{fresh};
 ghost use Rattle.fj_shelf.specs.Shelves.{entries, no_entries};
 
@@ -76,6 +77,14 @@ impl<B: Body> Store<B> {
             taken: Vec::with_capacity(alloc, room)?,
             stuck: false,
         })
+    }
+
+    /// How large the pool may grow.
+    pub fn limits(&self) -> Limits
+        ensures limits { result ≡ self.now.past.pool.limits }
+        ensures within { IsWithin result.workers result.submitters result.tasks result.events }
+    {
+        self.machine.limits()
     }
 
     /// Whether it is stuck: something that has to be made found no room in the history.
