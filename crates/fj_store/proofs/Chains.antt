@@ -10,7 +10,7 @@ use Rattle.fj_model.proofs.Events.Growth.{without_none}
 use Rattle.fj_store.specs.Stores.{StoreState}
 use Rattle.fj_store.specs.Releases.{can_go, CanAllGo, released_of}
 
-without_twice : (xs ts us : List ℕ) → without (without xs ts) us ≡ without xs (ts ++ us)
+pub without_twice : (xs ts us : List ℕ) → without (without xs ts) us ≡ without xs (ts ++ us)
 without_twice [] ts us = refl
 without_twice (x ∷ xs) ts us = rw (is_in_append x ts us) (go (is_in x ts) (is_in x us) refl (without_twice xs ts us))
   where

@@ -134,6 +134,12 @@ popped past hand hand' w t u body fits same held runs =
     some_same : {x y : ℕ} → ◌≡◌ {A = Option ℕ} (Some x) (Some y) → x ≡ y
     some_same is = cc
 
+-- what is taken off the hand runs
+pub popped_runs : {B : Type 0} (past : Past) (hand hand' : HandState B) (w u : ℕ) (body : B) → Fits past hand → w ≡ hand.worker → hand ≡ with_body hand' u body → running past.events w ≡ Some u
+popped_runs past hand hand' w u body fits same held =
+    let stack_is : numbers hand'.stack ++ u ∷ [] ≡ stack past.events w = sym (numbers_more hand'.stack u body) ∙ ap (λ x. numbers x.stack) (sym held) ∙ fits.bodies ∙ ap (stack past.events) (sym same) in
+    ap last_of (sym stack_is) ∙ newest_is (numbers hand'.stack) u
+
 -- so it is the one that ended
 pub popped_ends : {B : Type 0} (past : Past) (hand hand' : HandState B) (w u : ℕ) (body : B) (events : List Event) → Fits past hand → w ≡ hand.worker → hand ≡ with_body hand' u body
     → (t : ℕ) × EndsUnfired past.events w t events → EndsUnfired past.events w u events

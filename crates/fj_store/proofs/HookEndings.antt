@@ -55,6 +55,8 @@ use Rattle.fj_store.proofs.Steps.{Answered, Refuses, Makes, answered}
 use Rattle.fj_store.proofs.Stored.{stored_on, kept_on}
 use Rattle.fj_store.proofs.Sweeps.{went_by, unmoved_known, went_is, unmoved_bodies, went_shown}
 use Rattle.fj_store.proofs.Taking.{released_fits}
+use Rattle.fj_store.proofs.Going.{OnlyAbout}
+use Rattle.fj_store.proofs.Ways.{hook_about}
 
 -- ---- what follows the end of a hook
 
@@ -347,6 +349,12 @@ hook_kept past w c bodies results ts is at = rw known (go (is_in c (released pas
 -- the task under whose number the hand has its hook is that of the hook
 in_hand : {B : Type 0} (past : Past) (hand : HandState B) (w c : ℕ) (body : B) → Fits past hand → w ≡ hand.worker → hand.hook ≡ Some (c, body) → hook_of past.events w ≡ Some c
 in_hand past hand w c body fits same held = ap (hook_of past.events) same ∙ sym fits.hook ∙ ap hook_number held
+
+-- what its end is about
+pub own_hook_about : {B R : Type 0} (past : Past) (hand : HandState B) (w c : ℕ) (body : B) (bodies : Entries B) (results : Entries R) (ts : List ℕ) → IsStored past bodies results ts → Fits past hand
+    → w ≡ hand.worker → hand.hook ≡ Some (c, body) → OnlyAbout past.events c (answer past (HookDone w)).1
+own_hook_about past hand w c body bodies results ts is fits same held =
+    let at = in_hand past hand w c body fits same held in hook_about past w c (hook_kept past w c bodies results ts is at) at
 
 -- it is kept on
 pub hook_kept_fired : {B R : Type 0} (past new : Past) (hand : HandState B) (w p c : ℕ) (body : B) (bodies : Entries B) (results : Entries R) (ts : List ℕ)

@@ -18,6 +18,14 @@ pub mod Results
 pub mod Releases
 -- One task after another is released.
 pub mod Chains
+-- Which tasks come to be such that they can be released, event by event.
+pub mod Going
+-- Which tasks the events of a step are about.
+pub mod Ways
+-- Which taken tasks may be such that they can be released, step by step.
+pub mod DueTasks
+-- A task is released, and then those above it.
+pub mod Upwards
 -- A task is taken from its queue.
 pub mod Taking
 -- What a poll and a help hear of a choice.

@@ -31,7 +31,7 @@ use Rattle.fj_store.proofs.Steps.{ReleaseGives, Went, Finds, Stays, release_give
 
 -- ---- what is left
 
-in_without : (u t : ℕ) (ts : List ℕ) → is_in u (without ts (t ∷ [])) ≡ true → (is_in u ts ≡ true) × (u ≢ t)
+pub in_without : (u t : ℕ) (ts : List ℕ) → is_in u (without ts (t ∷ [])) ≡ true → (is_in u ts ≡ true) × (u ≢ t)
 in_without u t ts there =
     let parts = and_parts (is_in u ts) (not (is_in u (t ∷ []))) (sym (is_in_filter (λ v. not (is_in v (t ∷ []))) u ts) ∙ there) in
     (parts.0, λ same. let here : is_in u (t ∷ []) ≡ true = rw (same, eq-eqb t t refl) refl in true≢false (sym parts.1 ∙ ap not here))

@@ -76,7 +76,7 @@ result_room {B} {R} past bodies results ts t room is kept within =
 
 -- ---- a result is taken out
 
-in_one_more : (u t : ℕ) (ts : List ℕ) → is_in u (ts ++ t ∷ []) ≡ true → (is_in u ts ≡ true) ⊎ (t ≡ u)
+pub in_one_more : (u t : ℕ) (ts : List ℕ) → is_in u (ts ++ t ∷ []) ≡ true → (is_in u ts ≡ true) ⊎ (t ≡ u)
 in_one_more u t ts there =
     ⊎_elim (λ old. inl old) (λ new. inr (eqb-true t u (⊎_elim (λ here. here) (λ none. absurd cc) (or_cases (t == u) false new)))) (or_cases (is_in u ts) (is_in u (t ∷ [])) (rw is_in_append at there))
 

@@ -9,6 +9,8 @@ use Rattle.fj_model.specs.Parts.{Fits}
 use Rattle.fj_model.proofs.Headline.Sealing.{seal_past}
 use Rattle.fj_shelf.specs.Shelves.{Entries}
 use Rattle.fj_store.specs.Stores.{StoreState, IsStored}
+use Rattle.fj_store.specs.declared.due.Due.{Due}
+use Rattle.fj_store.specs.DueTasks.{AreDue}
 use Rattle.fj_store.specs.Sealing.{Seals}
 
 -- what holds of a store speaks of its events and its pool, and both stay
@@ -28,6 +30,11 @@ pub seal_tasks : {T : Type 0} (r : Result T Refusal) (past new : Past) (room : �
     → new.pool.limits.tasks ≤ room
 seal_tasks (Ok part) past new room sealed stays within = rw sealed within
 seal_tasks (Err r) past new room sealed stays within = rw stays within
+
+pub seal_due : {T : Type 0} (r : Result T Refusal) (past new : Past) (ts : List ℕ) (before : Due) → OnOk r (new ≡ sealed_now past) → OnErr r (new ≡ past) → AreDue past.events ts before
+    → AreDue new.events ts before
+seal_due (Ok part) past new ts before sealed stays are = rw sealed are
+seal_due (Err r) past new ts before sealed stays are = rw stays are
 
 module _ {B K O : Type 0} where
   pub sealed_so : (r : Result Sealed Refusal) (old new : StoreState B K O) → old.stuck ≡ false → new ≡ record old { past = new.past } → IfOk r (λ part. part.events.items ≡ present old.past)

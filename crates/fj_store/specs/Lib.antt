@@ -6,6 +6,8 @@ pub mod Stores
 pub mod Fitting
 -- Tasks are released.
 pub mod Releases
+-- Which tasks may be such that they can be released.
+pub mod DueTasks
 -- Tasks are accepted.
 pub mod Accepting
 -- The worker takes its choice.

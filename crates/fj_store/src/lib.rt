@@ -4,6 +4,7 @@
 
 mod body;
 mod choices;
+mod due;
 mod hooked;
 mod kept;
 mod moves;

@@ -14,6 +14,7 @@ mod seal;
 mod shut;
 
 use crate::body::Body;
+use crate::due::Due;
 use crate::kept::Kept;
 use fj_machine::Machine;
 use fj_model::{Limits, Mode, OutOfMemory, Serial};
@@ -29,13 +30,16 @@ pub struct Store<B: Body> {
     results: Shelf<Kept<B>>,
     /// Kept tasks whose outcome or result was taken: each goes as soon as it can.
     taken: Vec<Serial>,
+    /// Which of them may be such that they can be released: none, but where a step has just been made.
+    due: Due,
     stuck: bool,
 }
 
 impl<B: Body> Model for Store<B> {
-    ghost use Rattle.std.specs.Prelude.{◌≡◌, ◌≤◌, vec_capacity};
+    ghost use Rattle.std.specs.Prelude.{◌≡◌, ◌≤◌, false, vec_capacity};
     ghost use Rattle.fj_shelf.specs.Shelves.{entries};
     ghost use Rattle.fj_store.specs.Stores.{StoreState, IsStored};
+    ghost use Rattle.fj_store.specs.DueTasks.{AreDue};
 
     ghost Value = { StoreState B B.Key B.Out };
 
@@ -52,7 +56,8 @@ impl<B: Body> Model for Store<B> {
         × (s.machine.pool.limits.tasks ≤ s.bodies.room)
         × (s.machine.pool.limits.tasks ≤ s.results.room)
         × (s.machine.pool.limits.tasks ≤ vec_capacity s.taken)
-        × (s.machine.pool.limits.tasks ≤ 4096) };
+        × (s.machine.pool.limits.tasks ≤ 4096)
+        × (s.stuck ≡ false → AreDue s.machine.events s.taken.items s.due) };
 }
 
 impl<B: Body> Store<B> {
@@ -75,6 +80,7 @@ impl<B: Body> Store<B> {
             bodies: Shelf::new(alloc, room)?,
             results: Shelf::new(alloc, room)?,
             taken: Vec::with_capacity(alloc, room)?,
+            due: Due::Nothing,
             stuck: false,
         })
     }

@@ -3,6 +3,7 @@ ghost use Rattle.fj_model.specs.declared.step.Step.TheVariants.{Add, QuietRoot, 
 ghost use Rattle.fj_store.specs.Asking.{is_calm, Makes, Adds, QuietsRoot, Settles, Shows};
 
 use crate::body::{Body, Heard, Told};
+use crate::due::after_step;
 use crate::moves::make;
 use crate::store::Store;
 use fj_model::{Owner, Place, Refusal, Said, Serial, Status, Step, SubId, WorkerId};
@@ -18,7 +19,8 @@ impl<B: Body> Store<B> {
         match make(&mut self.machine, &mut self.bodies, asked) {
             Said::Refused(refusal) => Said::Refused(refusal),
             said => {
-                self.release_all();
+                self.due = after_step(self.due, asked);
+                self.release_due();
                 said
             }
         }

@@ -6,6 +6,7 @@ ghost use Rattle.fj_store.specs.Choosing.{TakesChoice, Chooses, Polls, Helps, Jo
 
 use crate::body::{Body, Heard, Told};
 use crate::choices::Chosen;
+use crate::due::after;
 use crate::store::Store;
 use fj_model::{Owner, Place, Refusal, Said, Serial, Status, Step, SubId, WorkerId};
 use fj_shelf::Hand;
@@ -30,7 +31,8 @@ impl<B: Body> Store<B> {
             },
             Said::Skip(t) => match self.bodies.take(t) {
                 Some(body) => {
-                    self.release_all();
+                    self.due = after(self.due, t);
+                    self.release_due();
                     Chosen::Skip(t, body)
                 }
                 None => unreachable!(),
@@ -119,7 +121,7 @@ impl<B: Body> Store<B> {
             Chosen::Idle => Told::None,
             Chosen::Normal => match self.take_result(t) {
                 Some(kept) => {
-                    self.release_all();
+                    self.release_due();
                     let (key, out) = kept.into_parts();
                     Told::Hear(Heard::Got(key, out))
                 }

@@ -6,6 +6,7 @@ ghost use Rattle.fj_store.specs.Results.{Keeps, Marks, TakesOut, TakesResult, Co
 ghost use Rattle.fj_shelf.specs.Shelves.{entries};
 
 use crate::body::{Body, Heard, Told};
+use crate::due::after;
 use crate::kept::Kept;
 use crate::outcomes::{Outcome, told_outcome};
 use crate::places::is_gone;
@@ -34,6 +35,7 @@ impl<B: Body> Store<B> {
         match self.results.take(t) {
             Some(kept) => {
                 self.taken.push_reserved(t);
+                self.due = after(self.due, t);
                 Some(kept)
             }
             None => None,
@@ -49,6 +51,7 @@ impl<B: Body> Store<B> {
     {
         let kept = self.results.take(t);
         self.taken.push_reserved(t);
+        self.due = after(self.due, t);
         kept
     }
 
@@ -71,7 +74,7 @@ impl<B: Body> Store<B> {
                 }
                 match self.take_result(t) {
                     Some(kept) => {
-                        self.release_all();
+                        self.release_due();
                         let (key, out) = kept.into_parts();
                         Told::Hear(Heard::Got(key, out))
                     }
@@ -100,7 +103,7 @@ impl<B: Body> Store<B> {
                     return None;
                 }
                 let kept = self.take_away(t);
-                self.release_all();
+                self.release_due();
                 Some(Ok(told_outcome(status, kept)))
             }
             Said::Refused(_) => Some(Err(Refusal::Unknown)),

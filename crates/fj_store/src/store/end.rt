@@ -5,6 +5,7 @@ ghost use Rattle.fj_store.specs.Endings.{EndsBody, EndsOk};
 ghost use Rattle.fj_store.specs.HookEndings.{EndsHook};
 
 use crate::body::{Body, Heard, Told};
+use crate::due::after;
 use crate::kept::Kept;
 use crate::moves::{make, sweep_since};
 use crate::places::is_gone_now;
@@ -31,8 +32,9 @@ impl<B: Body> Store<B> {
         }) {
             Said::Done => {
                 let (t, body) = hand.pop();
+                self.due = after(self.due, t);
                 self.keep(t, Kept::new(body.into_key(), out));
-                self.release_all();
+                self.release_due();
                 Told::Over(None)
             }
             Said::Refused(refusal) => match refusal {
@@ -67,7 +69,8 @@ impl<B: Body> Store<B> {
             Said::Hook(c) => {
                 let (t, body) = hand.pop();
                 hand.give_hook(t, body);
-                self.release_all();
+                self.due = after(self.due, t);
+                self.release_due();
                 Told::Hook(c, c)
             }
             Said::Refused(refusal) => match refusal {
@@ -79,12 +82,13 @@ impl<B: Body> Store<B> {
             },
             _ => {
                 let (t, body) = hand.pop();
+                self.due = after(self.due, t);
                 if is_gone_now(&mut self.machine, t) {
-                    self.release_all();
+                    self.release_due();
                     return Told::Over(Some(body));
                 }
                 self.bodies.put(t, body);
-                self.release_all();
+                self.release_due();
                 Told::Over(None)
             }
         }
@@ -115,8 +119,9 @@ impl<B: Body> Store<B> {
                     let (c, body) = hand.take_hook();
                     sweep_since(&mut self.bodies, &self.machine, before);
                     hand.give_hook(p, above);
+                    self.due = after(self.due, c);
                     self.keep(c, Kept::new(body.into_key(), out));
-                    self.release_all();
+                    self.release_due();
                     Told::Hook(p, c)
                 }
                 None => unreachable!(),
@@ -131,8 +136,9 @@ impl<B: Body> Store<B> {
             _ => {
                 let (c, body) = hand.take_hook();
                 sweep_since(&mut self.bodies, &self.machine, before);
+                self.due = after(self.due, c);
                 self.keep(c, Kept::new(body.into_key(), out));
-                self.release_all();
+                self.release_due();
                 Told::Over(None)
             }
         }

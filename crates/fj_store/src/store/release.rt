@@ -1,18 +1,72 @@
 ghost use Rattle.std.specs.Prelude.{◌≡◌, true};
 ghost use Rattle.fj_model.specs.Lists.{is_in};
 ghost use Rattle.fj_store.specs.Releases.{Releases, ReleasesOne, Tries};
+ghost use Rattle.fj_store.specs.DueTasks.{OnlyGoes, ReleasesHere};
 
 use crate::body::Body;
+use crate::due::{Due, is_all, only};
 use crate::hooked::is_hooked;
 use crate::store::Store;
 use crate::tries::Tried;
 use fj_model::{Owner, Place, Refusal, Said, Serial, Status, Step, SubId, WorkerId};
-use fj_shelf::take_out;
+use fj_shelf::{has, take_out};
 
 impl<B: Body> Store<B> {
-    /// Releases what can be released of the tasks whose outcome or result was taken. The release of a task may be followed by that of its
-    /// parent.
-    pub(crate) fn release_all(&mut self)
+    /// Releases what can be released of the tasks whose outcome or result was taken: the one that the last step was about, then its parent,
+    /// and so on. All of them are tried only after a stop, and where the store is stuck.
+    pub(crate) fn release_due(&mut self)
+        ensures { Releases self.old self.new }
+    {
+        self.release_found();
+        self.due = Due::Nothing;
+    }
+
+    /// Releases from what is due upwards, or whichever can be released.
+    fn release_found(&mut self)
+        ensures { Releases self.old self.new }
+    {
+        if self.stuck {
+            self.release_all();
+            return;
+        }
+        if is_all(self.due) {
+            self.release_all();
+            return;
+        }
+        if let Some(t) = only(self.due) {
+            self.release_up(t);
+        }
+    }
+
+    /// Releases a task if it was taken and can be released, then so its parent, and so on. Precondition: no other taken task can be released.
+    fn release_up(&mut self, t: Serial)
+        requires { OnlyGoes self.old.past.events self.old.taken t }
+        ensures { Releases self.old self.new }
+    {
+        let mut next = Some(t);
+        while let Some(u) = next {
+            next = self.release_here(u);
+        }
+    }
+
+    /// Releases a task if it was taken and can be released. Tells its parent, if it was released and has one. Precondition: no other taken task
+    /// can be released.
+    fn release_here(&mut self, t: Serial) -> Option<Serial>
+        requires { OnlyGoes self.old.past.events self.old.taken t }
+        ensures { ReleasesHere self.old result self.new }
+    {
+        if !has(self.taken.as_slice(), t) {
+            return None;
+        }
+        let parent = self.machine.parent(t);
+        match self.try_release(t) {
+            Tried::Released => parent,
+            Tried::Needed | Tried::Full => None,
+        }
+    }
+
+    /// Releases what can be released, whichever it is.
+    fn release_all(&mut self)
         ensures { Releases self.old self.new }
     {
         while self.release_one() {}
@@ -46,6 +100,7 @@ impl<B: Body> Store<B> {
         match self.machine.step(&Step::Release { t }) {
             Said::Done => {
                 take_out(&mut self.taken, t);
+                self.due = Due::All;
                 Tried::Released
             }
             Said::Refused(refusal) => match refusal {

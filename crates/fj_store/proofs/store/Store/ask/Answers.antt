@@ -1,5 +1,6 @@
 use Rattle.std.proofs.Common.{refl}
 use Rattle.fj_store.proofs.Calms.{swept_stored, refused_steps, made_by}
+use Rattle.fj_store.proofs.DueTasks.{calm_due}
 use Rattle.fj_store.proofs.store.Store.ask.Goals as goal
 
 pub make-requires : goal.make-requires
@@ -13,6 +14,7 @@ invariant_of-self g c =
       rw c.make.ensures.step.1 c.self.invariant.2,
       rw c.make.ensures.step.1 c.self.invariant.3,
       rw c.make.ensures.step.1 c.self.invariant.4,
+      λ free. rw (c.make.ensures.refused _ c.in-Refused.is).0 (c.self.invariant.5 free),
     )
 
 pub invariant_of-self-in_default : goal.invariant_of-self-in_default
@@ -23,6 +25,7 @@ invariant_of-self-in_default g c =
       rw c.make.ensures.step.1 c.self.invariant.2,
       rw c.make.ensures.step.1 c.self.invariant.3,
       rw c.make.ensures.step.1 c.self.invariant.4,
+      λ free. rw c.after_step-self-inside.ensures (calm_due past c.make.new.machine c.args.asked.now _ _ _ c.self.inside.due c.self.invariant.0 c.requires c.make.ensures.step.1 (c.self.invariant.5 free)),
     )
 
 pub returns-in-Refused : goal.returns-in-Refused
@@ -34,4 +37,4 @@ pub returns-in_default : goal.returns-in_default
 returns-in_default g c =
     rw (← c.self.view_is)
     (made_by _ (record { past = c.make.new.machine; bodies = c.make.new.bodies; results = c.self.inside.results; taken = c.self.inside.taken.items; stuck = c.self.inside.stuck }) _ c.args.asked.now c.make.result
-    c.make.ensures.step c.make.ensures.bodies refl c.release_all.ensures c.in_default.not-Refused)
+    c.make.ensures.step c.make.ensures.bodies refl c.release_due.ensures c.in_default.not-Refused)

@@ -1,4 +1,4 @@
-use Rattle.std.proofs.Common.{refl, sym, ap, subst}
+use Rattle.std.proofs.Common.{[], ◌∷◌, refl, sym, ap, subst}
 use Rattle.fj_model.specs.declared.event.Event.TheVariants.{Out, Skip}
 use Rattle.fj_model.specs.Answers.{answer}
 use Rattle.fj_model.specs.Runs.{Past}
@@ -7,6 +7,8 @@ use Rattle.fj_store.specs.Choosing.{TakesChoice}
 use Rattle.fj_store.proofs.Steps.{choice_ran, choice_skipped, choice_idle, choice_normal, choice_failed, choice_cancelled, choice_replies}
 use Rattle.fj_store.proofs.Stored.{same_stored}
 use Rattle.fj_store.proofs.Taking.{taken_there, out_stored, skip_stored, out_room, chosen_run_fits, chosen_same_fits, chosen_skip_fits}
+use Rattle.fj_store.proofs.Ways.{skip_about}
+use Rattle.fj_store.proofs.DueTasks.{step_due, still_due}
 use Rattle.fj_store.proofs.store.Store.choose.Goals as goal
 
 pub unreachable-requires : goal.unreachable-requires
@@ -51,8 +53,14 @@ invariant_of-self g c =
     let w = c.args.hand.now.worker in
     let takes : TakesChoice w (answer past c.args.asked.now).0 (answer past c.args.asked.now).1 =
     subst (λ (p : Past). TakesChoice w (answer p c.args.asked.now).0 (answer p c.args.asked.now).1) (ap (λ s. s.past) (sym c.self.view_is)) c.requires.takes in
-    let made = choice_ran w c.in-Run.t c.step.result _ _ takes c.step.ensures.step.0 c.in-Run.is in
-    (out_stored past c.step.new.self c.args.asked.now c.in-Run.t w _ _ _ _ c.self.invariant.0 c.step.ensures.step.1 made c.take.ensures.entries, rw (c.take.ensures.room, c.step.ensures.step.1) c.self.invariant.1, rw c.step.ensures.step.1 c.self.invariant.2, rw c.step.ensures.step.1 c.self.invariant.3, rw c.step.ensures.step.1 c.self.invariant.4)
+    let made = choice_ran w c.in-Run.t c.step.result _ _ takes c.step.ensures.step.0 c.in-Run.is in (
+      out_stored past c.step.new.self c.args.asked.now c.in-Run.t w _ _ _ _ c.self.invariant.0 c.step.ensures.step.1 made c.take.ensures.entries,
+      rw (c.take.ensures.room, c.step.ensures.step.1) c.self.invariant.1,
+      rw c.step.ensures.step.1 c.self.invariant.2,
+      rw c.step.ensures.step.1 c.self.invariant.3,
+      rw c.step.ensures.step.1 c.self.invariant.4,
+      λ free. still_due past c.step.new.self c.args.asked.now (Out c.in-Run.t w ∷ []) _ _ _ c.self.inside.due c.self.invariant.0 c.step.ensures.step.1 made refl (c.self.invariant.5 free),
+    )
 
 pub invariant_of-self-in-Some-take : goal.invariant_of-self-in-Some-take
 invariant_of-self-in-Some-take g c =
@@ -60,8 +68,14 @@ invariant_of-self-in-Some-take g c =
     let w = c.args.hand.now.worker in
     let takes : TakesChoice w (answer past c.args.asked.now).0 (answer past c.args.asked.now).1 =
     subst (λ (p : Past). TakesChoice w (answer p c.args.asked.now).0 (answer p c.args.asked.now).1) (ap (λ s. s.past) (sym c.self.view_is)) c.requires.takes in
-    let made = choice_skipped w c.in-Skip.t c.step.result _ _ takes c.step.ensures.step.0 c.in-Skip.is in
-    (skip_stored past c.step.new.self c.args.asked.now c.in-Skip.t w _ _ _ _ c.self.invariant.0 c.step.ensures.step.1 made c.take-in-Skip.ensures.entries, rw (c.take-in-Skip.ensures.room, c.step.ensures.step.1) c.self.invariant.1, rw c.step.ensures.step.1 c.self.invariant.2, rw c.step.ensures.step.1 c.self.invariant.3, rw c.step.ensures.step.1 c.self.invariant.4)
+    let made = choice_skipped w c.in-Skip.t c.step.result _ _ takes c.step.ensures.step.0 c.in-Skip.is in (
+      skip_stored past c.step.new.self c.args.asked.now c.in-Skip.t w _ _ _ _ c.self.invariant.0 c.step.ensures.step.1 made c.take-in-Skip.ensures.entries,
+      rw (c.take-in-Skip.ensures.room, c.step.ensures.step.1) c.self.invariant.1,
+      rw c.step.ensures.step.1 c.self.invariant.2,
+      rw c.step.ensures.step.1 c.self.invariant.3,
+      rw c.step.ensures.step.1 c.self.invariant.4,
+      λ free. rw c.after-self-inside.ensures (step_due past c.step.new.self c.args.asked.now _ _ _ c.in-Skip.t c.self.inside.due c.self.invariant.0 c.step.ensures.step.1 (rw made (skip_about past.events c.in-Skip.t w)) (c.self.invariant.5 free)),
+    )
 
 pub returns-in-Some-clause-fits : goal.returns-in-Some-clause-fits
 returns-in-Some-clause-fits g c =
@@ -81,7 +95,7 @@ returns-in-Some-take-clause-fits g c =
     subst (λ (p : Past). TakesChoice w (answer p c.args.asked.now).0 (answer p c.args.asked.now).1) (ap (λ s. s.past) (sym c.self.view_is)) c.requires.takes in
     let fits : Fits past c.args.hand.now = subst (λ p. Fits p c.args.hand.now) (ap (λ s. s.past) (sym c.self.view_is)) c.requires.fits in
     let made = choice_skipped w c.in-Skip.t c.step.result _ _ takes c.step.ensures.step.0 c.in-Skip.is in
-    chosen_skip_fits past c.step.new.self _ c.args.hand.now c.in-Skip.t _ c.release_all.ensures.tasks fits c.step.ensures.step.1 made (ap (λ s. s.past) c.release_all.ensures.were)
+    chosen_skip_fits past c.step.new.self _ c.args.hand.now c.in-Skip.t _ c.release_due.ensures.tasks fits c.step.ensures.step.1 made (ap (λ s. s.past) c.release_due.ensures.were)
 
 pub invariant_of-self-in-None : goal.invariant_of-self-in-None
 invariant_of-self-in-None g c =
@@ -89,8 +103,14 @@ invariant_of-self-in-None g c =
     let w = c.args.hand.now.worker in
     let takes : TakesChoice w (answer past c.args.asked.now).0 (answer past c.args.asked.now).1 =
     subst (λ (p : Past). TakesChoice w (answer p c.args.asked.now).0 (answer p c.args.asked.now).1) (ap (λ s. s.past) (sym c.self.view_is)) c.requires.takes in
-    let none = choice_idle w c.step.result _ _ takes c.step.ensures.step.0 c.in-None.is in
-    (same_stored past c.step.new.self c.args.asked.now _ _ _ c.self.invariant.0 c.step.ensures.step.1 none, rw c.step.ensures.step.1 c.self.invariant.1, rw c.step.ensures.step.1 c.self.invariant.2, rw c.step.ensures.step.1 c.self.invariant.3, rw c.step.ensures.step.1 c.self.invariant.4)
+    let none = choice_idle w c.step.result _ _ takes c.step.ensures.step.0 c.in-None.is in (
+      same_stored past c.step.new.self c.args.asked.now _ _ _ c.self.invariant.0 c.step.ensures.step.1 none,
+      rw c.step.ensures.step.1 c.self.invariant.1,
+      rw c.step.ensures.step.1 c.self.invariant.2,
+      rw c.step.ensures.step.1 c.self.invariant.3,
+      rw c.step.ensures.step.1 c.self.invariant.4,
+      λ free. still_due past c.step.new.self c.args.asked.now [] _ _ _ c.self.inside.due c.self.invariant.0 c.step.ensures.step.1 none refl (c.self.invariant.5 free),
+    )
 
 pub returns-in-None-clause-fits : goal.returns-in-None-clause-fits
 returns-in-None-clause-fits g c =
@@ -108,8 +128,14 @@ invariant_of-self-in-Normal g c =
     let w = c.args.hand.now.worker in
     let takes : TakesChoice w (answer past c.args.asked.now).0 (answer past c.args.asked.now).1 =
     subst (λ (p : Past). TakesChoice w (answer p c.args.asked.now).0 (answer p c.args.asked.now).1) (ap (λ s. s.past) (sym c.self.view_is)) c.requires.takes in
-    let none = choice_normal w c.step.result _ _ takes c.step.ensures.step.0 c.in-Normal.is in
-    (same_stored past c.step.new.self c.args.asked.now _ _ _ c.self.invariant.0 c.step.ensures.step.1 none, rw c.step.ensures.step.1 c.self.invariant.1, rw c.step.ensures.step.1 c.self.invariant.2, rw c.step.ensures.step.1 c.self.invariant.3, rw c.step.ensures.step.1 c.self.invariant.4)
+    let none = choice_normal w c.step.result _ _ takes c.step.ensures.step.0 c.in-Normal.is in (
+      same_stored past c.step.new.self c.args.asked.now _ _ _ c.self.invariant.0 c.step.ensures.step.1 none,
+      rw c.step.ensures.step.1 c.self.invariant.1,
+      rw c.step.ensures.step.1 c.self.invariant.2,
+      rw c.step.ensures.step.1 c.self.invariant.3,
+      rw c.step.ensures.step.1 c.self.invariant.4,
+      λ free. still_due past c.step.new.self c.args.asked.now [] _ _ _ c.self.inside.due c.self.invariant.0 c.step.ensures.step.1 none refl (c.self.invariant.5 free),
+    )
 
 pub returns-in-Normal-clause-fits : goal.returns-in-Normal-clause-fits
 returns-in-Normal-clause-fits g c =
@@ -127,8 +153,14 @@ invariant_of-self-in-Exceptional g c =
     let w = c.args.hand.now.worker in
     let takes : TakesChoice w (answer past c.args.asked.now).0 (answer past c.args.asked.now).1 =
     subst (λ (p : Past). TakesChoice w (answer p c.args.asked.now).0 (answer p c.args.asked.now).1) (ap (λ s. s.past) (sym c.self.view_is)) c.requires.takes in
-    let none = choice_failed w c.in-Exceptional.code c.step.result _ _ takes c.step.ensures.step.0 c.in-Exceptional.is in
-    (same_stored past c.step.new.self c.args.asked.now _ _ _ c.self.invariant.0 c.step.ensures.step.1 none, rw c.step.ensures.step.1 c.self.invariant.1, rw c.step.ensures.step.1 c.self.invariant.2, rw c.step.ensures.step.1 c.self.invariant.3, rw c.step.ensures.step.1 c.self.invariant.4)
+    let none = choice_failed w c.in-Exceptional.code c.step.result _ _ takes c.step.ensures.step.0 c.in-Exceptional.is in (
+      same_stored past c.step.new.self c.args.asked.now _ _ _ c.self.invariant.0 c.step.ensures.step.1 none,
+      rw c.step.ensures.step.1 c.self.invariant.1,
+      rw c.step.ensures.step.1 c.self.invariant.2,
+      rw c.step.ensures.step.1 c.self.invariant.3,
+      rw c.step.ensures.step.1 c.self.invariant.4,
+      λ free. still_due past c.step.new.self c.args.asked.now [] _ _ _ c.self.inside.due c.self.invariant.0 c.step.ensures.step.1 none refl (c.self.invariant.5 free),
+    )
 
 pub returns-in-Exceptional-clause-fits : goal.returns-in-Exceptional-clause-fits
 returns-in-Exceptional-clause-fits g c =
@@ -146,8 +178,14 @@ invariant_of-self-in-Cancelled g c =
     let w = c.args.hand.now.worker in
     let takes : TakesChoice w (answer past c.args.asked.now).0 (answer past c.args.asked.now).1 =
     subst (λ (p : Past). TakesChoice w (answer p c.args.asked.now).0 (answer p c.args.asked.now).1) (ap (λ s. s.past) (sym c.self.view_is)) c.requires.takes in
-    let none = choice_cancelled w c.step.result _ _ takes c.step.ensures.step.0 c.in-Cancelled.is in
-    (same_stored past c.step.new.self c.args.asked.now _ _ _ c.self.invariant.0 c.step.ensures.step.1 none, rw c.step.ensures.step.1 c.self.invariant.1, rw c.step.ensures.step.1 c.self.invariant.2, rw c.step.ensures.step.1 c.self.invariant.3, rw c.step.ensures.step.1 c.self.invariant.4)
+    let none = choice_cancelled w c.step.result _ _ takes c.step.ensures.step.0 c.in-Cancelled.is in (
+      same_stored past c.step.new.self c.args.asked.now _ _ _ c.self.invariant.0 c.step.ensures.step.1 none,
+      rw c.step.ensures.step.1 c.self.invariant.1,
+      rw c.step.ensures.step.1 c.self.invariant.2,
+      rw c.step.ensures.step.1 c.self.invariant.3,
+      rw c.step.ensures.step.1 c.self.invariant.4,
+      λ free. still_due past c.step.new.self c.args.asked.now [] _ _ _ c.self.inside.due c.self.invariant.0 c.step.ensures.step.1 none refl (c.self.invariant.5 free),
+    )
 
 pub returns-in-Cancelled-clause-fits : goal.returns-in-Cancelled-clause-fits
 returns-in-Cancelled-clause-fits g c =

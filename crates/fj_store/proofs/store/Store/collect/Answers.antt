@@ -51,5 +51,5 @@ returns-else-is_undone g c =
       told_is = rw (shown.1, c.take_away-kept.ensures.kept) at c.told_outcome.ensures;
       mid = c.take_away-kept.new.self;
       marks = rw same at c.take_away-kept.ensures.marks;
-      releases = c.release_all.ensures;
+      releases = c.release_due.ensures;
     })

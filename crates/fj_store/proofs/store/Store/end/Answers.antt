@@ -1,7 +1,10 @@
 use Rattle.std.proofs.Common.{refl, sym, ap, subst, ◌∙◌}
+use Rattle.fj_model.specs.declared.step.Step.TheVariants.{End}
 use Rattle.fj_store.specs.Fitting.{Fits}
 use Rattle.fj_store.proofs.Full.{history_more}
-use Rattle.fj_store.proofs.Completing.{end_fired, end_unfired, not_over, popped, popped_ends, filled_hand, fired_fits, unfired_fits, fired_stored, out_stored, in_stored, end_kept, end_free, end_room, ends_in_hook, ends_over_out, ends_over_in}
+use Rattle.fj_store.proofs.Completing.{end_fired, end_unfired, not_over, popped, popped_runs, popped_ends, filled_hand, fired_fits, unfired_fits, fired_stored, out_stored, in_stored, end_kept, end_free, end_room, ends_in_hook, ends_over_out, ends_over_in}
+use Rattle.fj_store.proofs.Ways.{end_about}
+use Rattle.fj_store.proofs.DueTasks.{step_due}
 use Rattle.fj_store.proofs.store.Store.end.Goals as goal
 
 -- ---- the hook came
@@ -16,12 +19,16 @@ pop-t-requires g c =
 pub invariant_of-self : goal.invariant_of-self
 invariant_of-self g c =
     let past = c.self.inside.machine in
+    let fits : Fits past c.args.hand.now = subst (λ p. Fits p c.args.hand.now) (ap (λ s. s.past) (sym c.self.view_is)) c.requires.fits in
     let fired = end_fired past c.worker.result c.in-Hook.c c.args.ending c.make.result c.make.ensures.step.0 c.in-Hook.is in (
       fired_stored past c.make.new.machine c.worker.result c.in-Hook.c c.args.ending _ _ _ _ c.self.invariant.0 fired c.make.ensures.step.1 c.make.ensures.bodies,
       rw (c.make.ensures.room, c.make.ensures.step.1) c.self.invariant.1,
       rw c.make.ensures.step.1 c.self.invariant.2,
       rw c.make.ensures.step.1 c.self.invariant.3,
       rw c.make.ensures.step.1 c.self.invariant.4,
+      λ free. rw c.after-self-inside.ensures (step_due past c.make.new.machine (End c.worker.result c.args.ending) _ _ _ c.pop-t.result.0 c.self.inside.due c.self.invariant.0 c.make.ensures.step.1
+          (end_about past c.worker.result c.pop-t.result.0 c.args.ending c.self.invariant.0.run (popped_runs past c.args.hand.now c.pop-t.new.self c.worker.result c.pop-t.result.0 c.pop-t.result.1 fits c.worker.ensures c.pop-t.ensures))
+          (c.self.invariant.5 free)),
     )
 
 pub returns-in-Hook-clause-ends : goal.returns-in-Hook-clause-ends
@@ -35,7 +42,7 @@ returns-in-Hook-clause-ends g c =
       c.if-self.false,
       refl,
       ends_in_hook _ (record { past = c.make.new.machine; bodies = c.make.new.bodies; results = c.self.inside.results; taken = c.self.inside.taken.items; stuck = c.self.inside.stuck }) _ hand c.pop-t.new.self c.give_hook.new.self
-          c.worker.result c.pop-t.result.0 c.in-Hook.c c.args.ending c.pop-t.result.1 c.worker.ensures one (sym c.in-Hook.is ∙ c.make.ensures.step.0, c.make.ensures.step.1) c.pop-t.ensures c.give_hook.ensures refl c.make.ensures.bodies c.release_all.ensures,
+          c.worker.result c.pop-t.result.0 c.in-Hook.c c.args.ending c.pop-t.result.1 c.worker.ensures one (sym c.in-Hook.is ∙ c.make.ensures.step.0, c.make.ensures.step.1) c.pop-t.ensures c.give_hook.ensures refl c.make.ensures.bodies c.release_due.ensures,
     )
 
 pub returns-in-Hook-clause-fits : goal.returns-in-Hook-clause-fits
@@ -44,8 +51,8 @@ returns-in-Hook-clause-fits g c =
     let hand = c.args.hand.now in
     let fits : Fits past hand = subst (λ p. Fits p hand) (ap (λ s. s.past) (sym c.self.view_is)) c.requires.fits in
     let fired = end_fired past c.worker.result c.in-Hook.c c.args.ending c.make.result c.make.ensures.step.0 c.in-Hook.is in
-    fired_fits past c.make.new.machine _ hand c.pop-t.new.self c.give_hook.new.self c.worker.result c.in-Hook.c c.pop-t.result.0 c.pop-t.result.1 _ c.release_all.ensures.tasks c.self.invariant.0.run fits c.worker.ensures c.pop-t.ensures
-    c.give_hook.ensures c.make.ensures.step.1 fired (ap (λ s. s.past) c.release_all.ensures.were)
+    fired_fits past c.make.new.machine _ hand c.pop-t.new.self c.give_hook.new.self c.worker.result c.in-Hook.c c.pop-t.result.0 c.pop-t.result.1 _ c.release_due.ensures.tasks c.self.invariant.0.run fits c.worker.ensures c.pop-t.ensures
+    c.give_hook.ensures c.make.ensures.step.1 fired (ap (λ s. s.past) c.release_due.ensures.were)
 
 -- ---- no hook came
 
@@ -81,6 +88,9 @@ invariant_of-self-then-is_gone_now g c =
       rw c.make.ensures.step.1 c.self.invariant.2,
       rw c.make.ensures.step.1 c.self.invariant.3,
       rw c.make.ensures.step.1 c.self.invariant.4,
+      λ free. rw c.after-self-inside-in_default.ensures (step_due past c.make.new.machine (End c.worker.result c.args.ending) _ _ _ c.pop-t-in_default.result.0 c.self.inside.due c.self.invariant.0 c.make.ensures.step.1
+          (end_about past c.worker.result c.pop-t-in_default.result.0 c.args.ending c.self.invariant.0.run (popped_runs past c.args.hand.now c.pop-t-in_default.new.self c.worker.result c.pop-t-in_default.result.0 c.pop-t-in_default.result.1 fits c.worker.ensures c.pop-t-in_default.ensures))
+          (c.self.invariant.5 free)),
     )
 
 pub returns-then-is_gone_now : goal.returns-then-is_gone_now
@@ -96,10 +106,10 @@ returns-then-is_gone_now g c =
         c.if-self.false,
         ends_over_out _ (record { past = c.is_gone_now.new.machine; bodies = c.make.new.bodies; results = c.self.inside.results; taken = c.self.inside.taken.items; stuck = c.self.inside.stuck }) _ hand c.pop-t-in_default.new.self
             c.worker.result c.pop-t-in_default.result.0 c.args.ending c.pop-t-in_default.result.1 c.make.result c.worker.ensures (rw same c.make.ensures.step) (not_over c.make.result c.in_default.not-Hook c.in_default.not-Refused)
-            c.pop-t-in_default.ensures (rw same (sym c.is_gone_now.ensures.gone ∙ c.if-is_gone_now.true)) refl (rw same c.make.ensures.bodies) c.release_all-then-is_gone_now.ensures,
+            c.pop-t-in_default.ensures (rw same (sym c.is_gone_now.ensures.gone ∙ c.if-is_gone_now.true)) refl (rw same c.make.ensures.bodies) c.release_due-then-is_gone_now.ensures,
       );
-      fits = unfired_fits past c.is_gone_now.new.machine _ hand c.pop-t-in_default.new.self c.worker.result c.pop-t-in_default.result.0 c.pop-t-in_default.result.1 _ c.release_all-then-is_gone_now.ensures.tasks c.self.invariant.0.run fits c.worker.ensures
-          c.pop-t-in_default.ensures (same ∙ c.make.ensures.step.1) ends (ap (λ s. s.past) c.release_all-then-is_gone_now.ensures.were);
+      fits = unfired_fits past c.is_gone_now.new.machine _ hand c.pop-t-in_default.new.self c.worker.result c.pop-t-in_default.result.0 c.pop-t-in_default.result.1 _ c.release_due-then-is_gone_now.ensures.tasks c.self.invariant.0.run fits c.worker.ensures
+          c.pop-t-in_default.ensures (same ∙ c.make.ensures.step.1) ends (ap (λ s. s.past) c.release_due-then-is_gone_now.ensures.were);
     }
 
 pub put-requires : goal.put-requires
@@ -128,6 +138,9 @@ invariant_of-self-in_default g c =
       rw c.make.ensures.step.1 c.self.invariant.2,
       rw c.make.ensures.step.1 c.self.invariant.3,
       rw c.make.ensures.step.1 c.self.invariant.4,
+      λ free. rw c.after-self-inside-in_default.ensures (step_due past c.make.new.machine (End c.worker.result c.args.ending) _ _ _ c.pop-t-in_default.result.0 c.self.inside.due c.self.invariant.0 c.make.ensures.step.1
+          (end_about past c.worker.result c.pop-t-in_default.result.0 c.args.ending c.self.invariant.0.run (popped_runs past c.args.hand.now c.pop-t-in_default.new.self c.worker.result c.pop-t-in_default.result.0 c.pop-t-in_default.result.1 fits c.worker.ensures c.pop-t-in_default.ensures))
+          (c.self.invariant.5 free)),
     )
 
 pub returns-else-is_gone_now : goal.returns-else-is_gone_now
@@ -143,8 +156,8 @@ returns-else-is_gone_now g c =
         c.if-self.false,
         ends_over_in _ (record { past = c.is_gone_now.new.machine; bodies = c.put.new.self; results = c.self.inside.results; taken = c.self.inside.taken.items; stuck = c.self.inside.stuck }) _ hand c.pop-t-in_default.new.self
             c.worker.result c.pop-t-in_default.result.0 c.args.ending c.pop-t-in_default.result.1 c.make.result _ c.worker.ensures (rw same c.make.ensures.step) (not_over c.make.result c.in_default.not-Hook c.in_default.not-Refused)
-            c.pop-t-in_default.ensures (rw same (sym c.is_gone_now.ensures.gone ∙ c.if-is_gone_now.false)) refl (rw same c.make.ensures.bodies) c.put.ensures.entries c.release_all-in_default.ensures,
+            c.pop-t-in_default.ensures (rw same (sym c.is_gone_now.ensures.gone ∙ c.if-is_gone_now.false)) refl (rw same c.make.ensures.bodies) c.put.ensures.entries c.release_due-in_default.ensures,
       );
-      fits = unfired_fits past c.is_gone_now.new.machine _ hand c.pop-t-in_default.new.self c.worker.result c.pop-t-in_default.result.0 c.pop-t-in_default.result.1 _ c.release_all-in_default.ensures.tasks c.self.invariant.0.run fits c.worker.ensures
-          c.pop-t-in_default.ensures (same ∙ c.make.ensures.step.1) ends (ap (λ s. s.past) c.release_all-in_default.ensures.were);
+      fits = unfired_fits past c.is_gone_now.new.machine _ hand c.pop-t-in_default.new.self c.worker.result c.pop-t-in_default.result.0 c.pop-t-in_default.result.1 _ c.release_due-in_default.ensures.tasks c.self.invariant.0.run fits c.worker.ensures
+          c.pop-t-in_default.ensures (same ∙ c.make.ensures.step.1) ends (ap (λ s. s.past) c.release_due-in_default.ensures.were);
     }

@@ -1,9 +1,10 @@
-use Rattle.std.proofs.Common.{refl, sym, ◌∙◌}
+use Rattle.std.proofs.Common.{[], ◌∷◌, refl, sym, ◌∙◌}
 use Rattle.fj_model.specs.declared.event.Event.TheVariants.{Acc}
 use Rattle.fj_model.specs.declared.owner.Owner.TheVariants.{Work}
 use Rattle.fj_model.specs.declared.step.Step.TheVariants.{Fork}
 use Rattle.fj_store.proofs.Steps.{fork_replies, fork_made}
 use Rattle.fj_store.proofs.Stored.{accept_stored, accept_free, accept_room, none_released_acc}
+use Rattle.fj_store.proofs.DueTasks.{still_due}
 use Rattle.fj_store.proofs.store.Store.fork.Goals as goal
 
 pub put-requires-clause-free : goal.put-requires-clause-free
@@ -27,6 +28,8 @@ invariant_of-self g c =
       rw c.step.ensures.step.1 c.self.invariant.2,
       rw c.step.ensures.step.1 c.self.invariant.3,
       rw c.step.ensures.step.1 c.self.invariant.4,
+      λ free. still_due past c.step.new.self asked (Acc c.in-Task.t (Work c.args.w) c.args.kind.now ∷ []) _ _ _ c.self.inside.due c.self.invariant.0 c.step.ensures.step.1
+          (fork_made past c.args.w c.args.kind.now c.in-Task.t (sym c.step.ensures.step.0 ∙ c.in-Task.is)) refl (c.self.invariant.5 free),
     )
 
 pub unreachable-requires : goal.unreachable-requires

@@ -1,5 +1,6 @@
 use Rattle.std.proofs.Common.{ℕ, List, length, map, refl, sym, ap, subst, ◌∙◌}
 use Rattle.fj_model.specs.declared.event.Event.TheVariants.{Rel}
+use Rattle.fj_model.specs.declared.step.Step.TheVariants.{HookDone}
 use Rattle.fj_model.specs.Pasts.{grown}
 use Rattle.fj_shelf.specs.Shelves.{entries}
 use Rattle.fj_shelf.specs.Hands.{with_hook}
@@ -7,7 +8,8 @@ use Rattle.fj_store.specs.Fitting.{Fits}
 use Rattle.fj_store.proofs.Completing.{not_over}
 use Rattle.fj_store.proofs.Sweeps.{gone_longer}
 use Rattle.fj_store.proofs.HookEndings.{hook_fired, hook_unfired, hook_in, hook_swept, parent_there, hook_fired_stored, hook_over_stored}
-use Rattle.fj_store.proofs.HookEndings.{hook_kept_fired, hook_kept_over, hook_fired_fits, hook_over_fits, hook_ends_in_hook, hook_ends_over}
+use Rattle.fj_store.proofs.HookEndings.{own_hook_about, hook_kept_fired, hook_kept_over, hook_fired_fits, hook_over_fits, hook_ends_in_hook, hook_ends_over}
+use Rattle.fj_store.proofs.DueTasks.{step_due}
 use Rattle.fj_store.proofs.store.Store.hook_done.Goals as goal
 
 -- ---- the hook of the parent came
@@ -30,6 +32,7 @@ pub invariant_of-self : goal.invariant_of-self
 invariant_of-self g c =
     let past = c.self.inside.machine in
     let w = c.worker-w.result in
+    let fits : Fits past c.args.hand.now = subst (λ p. Fits p c.args.hand.now) (ap (λ s. s.past) (sym c.self.view_is)) c.requires.fits in
     let fired = hook_fired past w c.in-Hook.p c.step.result c.step.ensures.step.0 c.in-Hook.is in
     let swept = hook_swept past c.step.new.self w _ (entries c.take.new.self) _ c.self.invariant.0.run c.step.ensures.step.1
     (ap (λ (ts : List ℕ). length ts) c.gone-before.ensures) c.sweep_since.ensures.entries in (
@@ -38,6 +41,9 @@ invariant_of-self g c =
       rw c.step.ensures.step.1 c.self.invariant.2,
       rw c.step.ensures.step.1 c.self.invariant.3,
       rw c.step.ensures.step.1 c.self.invariant.4,
+      λ free. rw c.after-self-inside.ensures (step_due past c.step.new.self (HookDone w) _ _ _ c.take_hook-c.result.0 c.self.inside.due c.self.invariant.0 c.step.ensures.step.1
+          (own_hook_about past c.args.hand.now w c.take_hook-c.result.0 c.take_hook-c.result.1 _ _ _ c.self.invariant.0 fits c.worker-w.ensures c.take_hook-c.ensures.hook)
+          (c.self.invariant.5 free)),
     )
 
 pub keep-requires : goal.keep-requires
@@ -64,7 +70,7 @@ returns-in-Some-clause-ends g c =
           c.give_hook.new.self w c.in-Hook.p c.take_hook-c.result.0 c.take_hook-c.result.1 c.in-Some.above (entries c.take.new.self) _ c.worker-w.ensures
           (sym c.in-Hook.is ∙ c.step.ensures.step.0, c.step.ensures.step.1) c.take_hook-c.ensures.hook
           (sym c.take.ensures.taken ∙ c.in-Some.is) c.take.ensures.entries (c.give_hook.ensures ∙ ap (λ h. with_hook h c.in-Hook.p c.in-Some.above) c.take_hook-c.ensures.rest) refl swept
-          (rw (c.new.ensures, c.into_key.ensures) at c.keep.ensures.kept) c.release_all.ensures,
+          (rw (c.new.ensures, c.into_key.ensures) at c.keep.ensures.kept) c.release_due.ensures,
     )
 
 pub returns-in-Some-clause-fits : goal.returns-in-Some-clause-fits
@@ -74,9 +80,9 @@ returns-in-Some-clause-fits g c =
     let w = c.worker-w.result in
     let fits : Fits past hand = subst (λ p. Fits p hand) (ap (λ s. s.past) (sym c.self.view_is)) c.requires.fits in
     let fired = hook_fired past w c.in-Hook.p c.step.result c.step.ensures.step.0 c.in-Hook.is in
-    hook_fired_fits past c.step.new.self _ hand c.give_hook.new.self w c.in-Hook.p c.in-Some.above _ c.release_all.ensures.tasks fits c.worker-w.ensures c.hook-hook.ensures.apart
+    hook_fired_fits past c.step.new.self _ hand c.give_hook.new.self w c.in-Hook.p c.in-Some.above _ c.release_due.ensures.tasks fits c.worker-w.ensures c.hook-hook.ensures.apart
     (c.give_hook.ensures ∙ ap (λ h. with_hook h c.in-Hook.p c.in-Some.above) c.take_hook-c.ensures.rest) c.step.ensures.step.1 fired
-    (ap (λ s. s.past) c.release_all.ensures.were ∙ ap (λ p. grown p (map Rel c.release_all.ensures.tasks)) c.keep.ensures.past)
+    (ap (λ s. s.past) c.release_due.ensures.were ∙ ap (λ p. grown p (map Rel c.release_due.ensures.tasks)) c.keep.ensures.past)
 
 pub unreachable-requires : goal.unreachable-requires
 unreachable-requires g c =
@@ -105,6 +111,7 @@ pub invariant_of-self-in_default : goal.invariant_of-self-in_default
 invariant_of-self-in_default g c =
     let past = c.self.inside.machine in
     let w = c.worker-w.result in
+    let fits : Fits past c.args.hand.now = subst (λ p. Fits p c.args.hand.now) (ap (λ s. s.past) (sym c.self.view_is)) c.requires.fits in
     let over = hook_unfired past w c.step.result c.step.ensures.step.0 c.in_default.not-Hook c.in_default.not-Refused in
     let swept = hook_swept past c.step.new.self w _ (entries c.self.inside.bodies) _ c.self.invariant.0.run c.step.ensures.step.1
     (ap (λ (ts : List ℕ). length ts) c.gone-before.ensures) c.sweep_since-in_default.ensures.entries in (
@@ -113,6 +120,9 @@ invariant_of-self-in_default g c =
       rw c.step.ensures.step.1 c.self.invariant.2,
       rw c.step.ensures.step.1 c.self.invariant.3,
       rw c.step.ensures.step.1 c.self.invariant.4,
+      λ free. rw c.after-self-inside-in_default.ensures (step_due past c.step.new.self (HookDone w) _ _ _ c.take_hook-c-in_default.result.0 c.self.inside.due c.self.invariant.0 c.step.ensures.step.1
+          (own_hook_about past c.args.hand.now w c.take_hook-c-in_default.result.0 c.take_hook-c-in_default.result.1 _ _ _ c.self.invariant.0 fits c.worker-w.ensures c.take_hook-c-in_default.ensures.hook)
+          (c.self.invariant.5 free)),
     )
 
 pub keep-requires-in_default : goal.keep-requires-in_default
@@ -143,10 +153,10 @@ returns g c =
             c.take_hook-c-in_default.new.self w c.take_hook-c-in_default.result.0 c.take_hook-c-in_default.result.1 _ c.step.result c.worker-w.ensures c.step.ensures.step
             (not_over c.step.result c.in_default.not-Hook c.in_default.not-Refused)
             c.take_hook-c-in_default.ensures.hook c.take_hook-c-in_default.ensures.rest refl swept
-            (rw (c.new-in_default.ensures, c.into_key-in_default.ensures) at c.keep-in_default.ensures.kept) c.release_all-in_default.ensures,
+            (rw (c.new-in_default.ensures, c.into_key-in_default.ensures) at c.keep-in_default.ensures.kept) c.release_due-in_default.ensures,
       );
       fits =
-          hook_over_fits past c.step.new.self _ hand c.take_hook-c-in_default.new.self w _ c.release_all-in_default.ensures.tasks fits c.worker-w.ensures c.hook-hook.ensures.apart
+          hook_over_fits past c.step.new.self _ hand c.take_hook-c-in_default.new.self w _ c.release_due-in_default.ensures.tasks fits c.worker-w.ensures c.hook-hook.ensures.apart
           c.take_hook-c-in_default.ensures.rest c.step.ensures.step.1 over
-          (ap (λ s. s.past) c.release_all-in_default.ensures.were ∙ ap (λ p. grown p (map Rel c.release_all-in_default.ensures.tasks)) c.keep-in_default.ensures.past);
+          (ap (λ s. s.past) c.release_due-in_default.ensures.were ∙ ap (λ p. grown p (map Rel c.release_due-in_default.ensures.tasks)) c.keep-in_default.ensures.past);
     }

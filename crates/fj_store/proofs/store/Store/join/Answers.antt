@@ -16,5 +16,5 @@ choose-requires-clause-takes g c =
 
 pub returns-in-Some-clause-fits : goal.returns-in-Some-clause-fits
 returns-in-Some-clause-fits g c =
-    released_fits c.choose.new.self.past c.release_all.new.self.past c.choose.new.hand c.release_all.ensures.tasks c.choose.ensures.fits
-    (ap (λ s. s.past) c.release_all.ensures.were ∙ ap (λ s. grown s.past (map Rel c.release_all.ensures.tasks)) c.in-Some.ensures.1.1)
+    released_fits c.choose.new.self.past c.release_due.new.self.past c.choose.new.hand c.release_due.ensures.tasks c.choose.ensures.fits
+    (ap (λ s. s.past) c.release_due.ensures.were ∙ ap (λ s. grown s.past (map Rel c.release_due.ensures.tasks)) c.in-Some.ensures.1.1)

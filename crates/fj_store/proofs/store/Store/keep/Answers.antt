@@ -24,6 +24,7 @@ invariant_of-self g c =
       rw (c.put.ensures.room, c.take-old.ensures.room) c.self.invariant.2,
       c.self.invariant.3,
       c.self.invariant.4,
+      c.self.invariant.5,
     )
 
 pub returns-clause-kept : goal.returns-clause-kept

@@ -10,4 +10,5 @@ invariant_of-result g c =
       omega (arith, c.tasks-room.ensures.number, c.in_ok-new-2.ensures.room),
       omega (arith, c.tasks-room.ensures.number, c.in_ok-with_capacity.ensures.capacity),
       c.workers-workers.ensures.within.few_tasks,
+      λ free u there. absurd cc,
     )

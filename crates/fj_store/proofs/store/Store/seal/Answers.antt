@@ -1,4 +1,4 @@
-use Rattle.fj_store.proofs.Sealing.{seal_stored, seal_tasks}
+use Rattle.fj_store.proofs.Sealing.{seal_stored, seal_tasks, seal_due}
 use Rattle.fj_store.proofs.store.Store.seal.Goals as goal
 
 pub invariant_of-self : goal.invariant_of-self
@@ -9,4 +9,5 @@ invariant_of-self g c =
       seal_tasks c.seal.result past c.seal.new.self _ c.seal.ensures.sealed c.seal.ensures.stays c.self.invariant.2,
       seal_tasks c.seal.result past c.seal.new.self _ c.seal.ensures.sealed c.seal.ensures.stays c.self.invariant.3,
       seal_tasks c.seal.result past c.seal.new.self _ c.seal.ensures.sealed c.seal.ensures.stays c.self.invariant.4,
+      λ free. seal_due c.seal.result past c.seal.new.self c.self.inside.taken.items c.self.inside.due c.seal.ensures.sealed c.seal.ensures.stays (c.self.invariant.5 free),
     )

@@ -1,4 +1,4 @@
-use Rattle.std.proofs.Common.{◌≡◌, None, refl, ap, ◌∙◌}
+use Rattle.std.proofs.Common.{[], ◌∷◌, ◌≡◌, None, refl, ap, ◌∙◌}
 use Rattle.fj_model.specs.declared.event.Event.TheVariants.{Acc}
 use Rattle.fj_model.specs.declared.owner.Owner.TheVariants.{Sub}
 use Rattle.fj_model.specs.declared.step.Step.TheVariants.{Submit}
@@ -6,6 +6,7 @@ use Rattle.fj_model.specs.Tasks.{submitted_kind}
 use Rattle.fj_model.specs.Answers.{refusal_of}
 use Rattle.fj_store.proofs.Steps.{submit_made, submit_task}
 use Rattle.fj_store.proofs.Stored.{accept_stored, accept_free, accept_room, none_released_acc}
+use Rattle.fj_store.proofs.DueTasks.{still_due}
 use Rattle.fj_store.proofs.store.Store.submit.Goals as goal
 
 pub put-requires-clause-free : goal.put-requires-clause-free
@@ -34,6 +35,8 @@ invariant_of-self g c =
       rw c.step.ensures.step.1 c.self.invariant.2,
       rw c.step.ensures.step.1 c.self.invariant.3,
       rw c.step.ensures.step.1 c.self.invariant.4,
+      λ free. still_due past c.step.new.self asked (Acc c.in-Task.t (Sub c.args.s) (submitted_kind c.args.kind.now) ∷ []) _ _ _ c.self.inside.due c.self.invariant.0 c.step.ensures.step.1
+          (submit_task past c.args.s c.in-Task.t c.args.kind.now c.step.result none c.step.ensures.step.0 c.in-Task.is) refl (c.self.invariant.5 free),
     )
 
 pub unreachable-requires : goal.unreachable-requires

@@ -33,7 +33,7 @@ returns-in-Some-clause-takes g c =
       has = took.0 ∙ ap Some (sym c.into_parts-key.ensures.parts);
       mid = c.take_result.new.self;
       marks = took.1;
-      releases = c.release_all.ensures;
+      releases = c.release_due.ensures;
     })
 
 pub returns-in-None-clause-takes : goal.returns-in-None-clause-takes

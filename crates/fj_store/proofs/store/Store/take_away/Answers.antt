@@ -3,6 +3,7 @@ use Rattle.fj_model.specs.Lists.{is_in}
 use Rattle.fj_model.specs.Tasks.{is_kept}
 use Rattle.fj_shelf.specs.Shelves.{entries}
 use Rattle.fj_store.proofs.Results.{marked_stored, marked_room}
+use Rattle.fj_store.proofs.DueTasks.{marked_due}
 use Rattle.fj_store.proofs.store.Store.take_away.Goals as goal
 
 pub push_reserved-requires : goal.push_reserved-requires
@@ -17,5 +18,11 @@ invariant_of-self g c =
     let past = c.self.inside.machine in
     let kept : is_kept past.events c.args.t ≡ true = ap (λ s. is_kept s.past.events c.args.t) c.self.view_is ∙ c.requires.kept in
     let free : is_in c.args.t c.self.inside.taken.items ≡ false = ap (λ s. is_in c.args.t s.taken) c.self.view_is ∙ c.requires.free in
-    rw (c.push_reserved.ensures.items, c.push_reserved.ensures.capacity, c.take-kept.ensures.room)
-    (marked_stored past _ (entries c.self.inside.results) _ _ c.args.t c.self.invariant.0 kept free c.take-kept.ensures.entries, c.self.invariant.1, c.self.invariant.2, c.self.invariant.3, c.self.invariant.4)
+    rw (c.push_reserved.ensures.items, c.push_reserved.ensures.capacity, c.take-kept.ensures.room) (
+      marked_stored past _ (entries c.self.inside.results) _ _ c.args.t c.self.invariant.0 kept free c.take-kept.ensures.entries,
+      c.self.invariant.1,
+      c.self.invariant.2,
+      c.self.invariant.3,
+      c.self.invariant.4,
+      λ free. rw c.after-self-inside.ensures (marked_due c.self.inside.machine.events c.self.inside.taken.items c.args.t c.self.inside.due (c.self.invariant.5 free)),
+    )

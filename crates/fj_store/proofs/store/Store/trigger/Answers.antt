@@ -1,9 +1,10 @@
-use Rattle.std.proofs.Common.{true, None, refl, sym, ◌∙◌}
+use Rattle.std.proofs.Common.{true, None, [], ◌∷◌, refl, sym, ◌∙◌}
 use Rattle.fj_model.specs.declared.event.Event.TheVariants.{Make}
 use Rattle.fj_model.specs.declared.kind.Kind.TheVariants.{Completer}
 use Rattle.fj_model.specs.declared.step.Step.TheVariants.{Trigger}
 use Rattle.fj_store.proofs.Steps.{trigger_replies, trigger_made}
 use Rattle.fj_store.proofs.Stored.{make_stored, accept_free, accept_room, none_released_make}
+use Rattle.fj_store.proofs.DueTasks.{still_due}
 use Rattle.fj_store.proofs.store.Store.trigger.Goals as goal
 
 pub put-requires-clause-free : goal.put-requires-clause-free
@@ -27,6 +28,8 @@ invariant_of-self g c =
       rw c.step.ensures.step.1 c.self.invariant.2,
       rw c.step.ensures.step.1 c.self.invariant.3,
       rw c.step.ensures.step.1 c.self.invariant.4,
+      λ free. still_due past c.step.new.self asked (Make c.in-Task.t (Completer true c.args.count None) ∷ []) _ _ _ c.self.inside.due c.self.invariant.0 c.step.ensures.step.1
+          (trigger_made past c.args.w c.args.count c.in-Task.t (sym c.step.ensures.step.0 ∙ c.in-Task.is)) refl (c.self.invariant.5 free),
     )
 
 pub unreachable-requires : goal.unreachable-requires

@@ -17,7 +17,7 @@ invariant_of-self g c =
     let made = (went past c.args.t c.step.result free c.step.ensures.step.0 c.in-Done.is).1 in
     let taken : is_in c.args.t c.self.inside.taken.items ≡ true = ap (λ s. is_in c.args.t s.taken) c.self.view_is ∙ c.requires in
     rw (c.take_out.ensures.items, c.step.ensures.step.1, c.take_out.ensures.room)
-    (release_stored past c.args.t _ _ _ c.self.invariant.0 taken free made, c.self.invariant.1, c.self.invariant.2, c.self.invariant.3, c.self.invariant.4)
+    (release_stored past c.args.t _ _ _ c.self.invariant.0 taken free made, c.self.invariant.1, c.self.invariant.2, c.self.invariant.3, c.self.invariant.4, λ free. tt)
 
 pub unreachable-requires : goal.unreachable-requires
 unreachable-requires g c = release_replies c.self.inside.machine c.args.t c.step.result c.step.ensures.step.0 c.in_default.not-Done c.in_default.not-Refused

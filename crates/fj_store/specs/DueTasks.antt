@@ -1,0 +1,53 @@
+-- Which of the tasks whose outcome or result was taken may be such that they can be released.
+use Rattle.std.specs.Prelude.{ℕ, ◌≡◌, Bool, true, false, List, [], ◌∷◌, Option, Some, None, ⊤}
+use Rattle.fj_model.specs.declared.event.Event.{Event}
+use Rattle.fj_model.specs.declared.step.Step.{Step}
+use Rattle.fj_model.specs.declared.step.Step.TheVariants as ask
+use Rattle.fj_model.specs.Lists.{is_in}
+use Rattle.fj_store.specs.declared.due.Due.{Due}
+use Rattle.fj_store.specs.declared.due.Due.TheVariants as due
+use Rattle.fj_store.specs.Stores.{StoreState}
+use Rattle.fj_store.specs.Releases.{Releases, can_go, released_of}
+
+-- none of these can be released but this one
+abbrev pub OnlyGoes : List Event → List ℕ → ℕ → Type 0
+OnlyGoes h ts t = (u : ℕ) → is_in u ts ≡ true → can_go h u ≡ true → u ≡ t
+
+-- none of these can be released but what is due
+abbrev pub AreDue : List Event → List ℕ → Due → Type 0
+AreDue h ts due.Nothing = (u : ℕ) → is_in u ts ≡ true → can_go h u ≡ false
+AreDue h ts (due.One t) = OnlyGoes h ts t
+AreDue h ts due.All = ⊤
+
+-- the one that is due, where none is but one
+abbrev pub only : Due → Option ℕ
+only due.Nothing = None
+only (due.One t) = Some t
+only due.All = None
+
+-- whether any may be due
+abbrev pub is_all : Due → Bool
+is_all due.Nothing = false
+is_all (due.One t) = false
+is_all due.All = true
+
+-- what is due once something has happened to the task
+abbrev pub after : Due → ℕ → Due
+after due.Nothing t = due.One t
+after (due.One u) t = due.All
+after due.All t = due.All
+
+-- what is due after a step that hands no task out and ends no body
+abbrev pub after_step : Due → Step → Due
+after_step before (ask.QuietRoot w t) = after before t
+after_step before (ask.Fault t code) = after before t
+after_step before (ask.Cancel t) = after before t
+after_step before ask.Stop = due.All
+after_step before _ = before
+
+module _ {B K O : Type 0} where
+  -- the task was released, and of the taken ones none can be now but its parent; or, where none is told, no other can be released now
+  abbrev pub ReleasesHere : StoreState B K O → Option ℕ → StoreState B K O → Type 0
+  ReleasesHere old (Some p) new =
+      (t : ℕ) × (is_in t old.taken ≡ true) × (can_go old.past.events t ≡ true) × (new ≡ released_of old (t ∷ [])) × OnlyGoes new.past.events new.taken p
+  ReleasesHere old None new = Releases old new
