@@ -124,15 +124,21 @@ impl Trial {
     }
 }
 
-/// The number of the first step after which some task is not in one place, and what was done.
-fn first_wrong(alloc: Global, mode: Mode, seed: u64) -> Result<(Option<u32>, Tally), Fail> {
-    let mut trial = Trial::new(alloc, mode, seed)?;
+/// The number of the first step after which some task is not in one place.
+fn first_wrong(alloc: Global, trial: &mut Trial) -> Result<Option<u32>, Fail> {
     for i in 0..STEPS {
         if !trial.step(alloc)? {
-            return Ok((Some(i), trial.tally));
+            return Ok(Some(i));
         }
     }
-    Ok((None, trial.tally))
+    Ok(None)
+}
+
+/// The same of a new trial, and what was done.
+fn tried(alloc: Global, mode: Mode, seed: u64) -> Result<(Option<u32>, Tally), Fail> {
+    let mut trial = Trial::new(alloc, mode, seed)?;
+    let wrong = first_wrong(alloc, &mut trial)?;
+    Ok((wrong, trial.tally))
 }
 
 #[test]
@@ -144,7 +150,7 @@ fn each_accepted_task_is_in_one_place(rt: HostRuntime) -> Result<(), Fail> {
         } else {
             Mode::Joining
         };
-        let (wrong, tally) = first_wrong(rt.alloc(), mode, seed)?;
+        let (wrong, tally) = tried(rt.alloc(), mode, seed)?;
         assert_eq!(rt; wrong, None);
         total.add(tally);
     }

@@ -160,6 +160,18 @@ impl Epochs {
         )
     }
 
+    /// An epoch, and whether all is well at its end.
+    fn pass(&mut self, alloc: Global) -> Result<bool, Fail> {
+        self.act();
+        let before = self.are_in_one_place(alloc)?;
+        self.finish();
+        self.thin_out(alloc)?;
+        self.release(alloc)?;
+        let sealed = self.seal(alloc)?;
+        let after = self.are_in_one_place(alloc)?;
+        Ok(before && sealed && after && self.counts.accepted == self.accepted)
+    }
+
     /// Whether each accepted task is in one place, over all epochs.
     fn are_in_one_place(&self, alloc: Global) -> Result<bool, Fail> {
         let mut all = placed(alloc, &self.machine)?;
@@ -168,22 +180,26 @@ impl Epochs {
     }
 }
 
-/// The first epoch at whose end something is wrong, and what was counted.
-fn first_wrong(alloc: Global, mode: Mode, seed: u64) -> Result<(Option<u64>, Epochs), Fail> {
-    let mut epochs = Epochs::new(alloc, mode, seed)?;
+/// The first epoch at whose end something is wrong.
+fn first_wrong(alloc: Global, epochs: &mut Epochs) -> Result<Option<u64>, Fail> {
     for epoch in 0..EPOCHS {
-        epochs.act();
-        let before = epochs.are_in_one_place(alloc)?;
-        epochs.finish();
-        epochs.thin_out(alloc)?;
-        epochs.release(alloc)?;
-        let sealed = epochs.seal(alloc)?;
-        let after = epochs.are_in_one_place(alloc)?;
-        if !(before && sealed && after && epochs.counts.accepted == epochs.accepted) {
-            return Ok((Some(epoch), epochs));
+        if !epochs.pass(alloc)? {
+            return Ok(Some(epoch));
         }
     }
-    Ok((None, epochs))
+    Ok(None)
+}
+
+/// The same of a new machine, how often it was sealed, what was counted, and how many open tasks there were at its seals.
+fn tried(alloc: Global, mode: Mode, seed: u64) -> Result<(Option<u64>, u64, Counts, usize), Fail> {
+    let mut epochs = Epochs::new(alloc, mode, seed)?;
+    let wrong = first_wrong(alloc, &mut epochs)?;
+    Ok((
+        wrong,
+        epochs.machine.epoch(),
+        epochs.counts,
+        epochs.outlived,
+    ))
 }
 
 #[test]
@@ -194,12 +210,11 @@ fn each_accepted_task_is_in_one_place_over_all_epochs(rt: HostRuntime) -> Result
         } else {
             Mode::Joining
         };
-        let (wrong, epochs) = first_wrong(rt.alloc(), mode, seed)?;
-        assert_eq!(rt; wrong, None);
-        assert_eq!(rt; epochs.machine.epoch(), EPOCHS);
+        let (wrong, epoch, counts, outlived) = tried(rt.alloc(), mode, seed)?;
+        assert_eq!(rt; (wrong, epoch), (None, EPOCHS));
         // It is seen if nothing happens.
-        assert!(rt; epochs.counts.is_each(100), "{:?}", epochs.counts);
-        assert!(rt; epochs.outlived >= 100, "{}", epochs.outlived);
+        assert!(rt; counts.is_each(100), "{counts:?}");
+        assert!(rt; outlived >= 100, "{outlived}");
     }
     Ok(())
 }

@@ -1,4 +1,4 @@
-use fj_scripts::{Form, Way, mismatch, report_on, scripts};
+use fj_scripts::{Form, Script, Way, mismatch, report_on, scripts};
 use std::alloc::Global;
 use std::test::Fail;
 
@@ -109,6 +109,12 @@ fn a_document_has_scripts_in_its_blocks_alone(rt: HostRuntime) -> Result<(), Fai
     Ok(())
 }
 
+/// Whether the wrong reply in line 4 is told.
+fn is_told(alloc: Global, script: &Script<'_>, way: Way) -> Result<bool, Fail> {
+    let expected = format!(in alloc; "4: : quiet > no, and not yes ({way:?} at async 1 1 1 4)")?;
+    Ok(mismatch(alloc, script, 0, way)? == expected)
+}
+
 #[test]
 fn each_way_tells_a_wrong_reply(rt: HostRuntime) -> Result<(), Fail> {
     let alloc = rt.alloc();
@@ -116,10 +122,7 @@ fn each_way_tells_a_wrong_reply(rt: HostRuntime) -> Result<(), Fail> {
     let all = scripts(alloc, text, Form::Plain)?;
     assert_eq!(rt; all.len(), 1);
     for way in [Way::Machine, Way::RunEpochs, Way::Replayed] {
-        let expected = format!(in alloc;
-            "4: : quiet > no, and not yes ({way:?} at async 1 1 1 4)"
-        )?;
-        assert_eq!(rt; mismatch(alloc, &all[0], 0, way)?, expected);
+        assert!(rt; is_told(alloc, &all[0], way)?, "{way:?}");
     }
     Ok(())
 }

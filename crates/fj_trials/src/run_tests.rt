@@ -40,6 +40,15 @@ fn fill(machine: &mut Machine) {
     }
 }
 
+/// The replies where no task can be submitted any more.
+fn last_replies(machine: &mut Machine) -> (Said, Said, Said, Said) {
+    let submitted = machine.step(&submit(31));
+    let first = machine.step(&poll(31, 63));
+    let second = machine.step(&poll(30, u32::MAX));
+    let third = machine.step(&poll(31, 0));
+    (submitted, first, second, third)
+}
+
 /// The words of a script's largest limits, and a scan word that must not wrap.
 #[test]
 fn the_largest_limits_hold(rt: HostRuntime) -> Result<(), Fail> {
@@ -47,12 +56,12 @@ fn the_largest_limits_hold(rt: HostRuntime) -> Result<(), Fail> {
     let limits = Limits::new(32, 32, 4096, 1_048_576)?;
     let mut machine = Machine::new(alloc, Mode::Joining, limits)?;
     fill(&mut machine);
+    let last = last_replies(&mut machine);
+    let full = Said::Refused(Refusal::TooManyTasks);
+    let busy = Said::Refused(Refusal::NotIdle);
     assert_eq!(rt;
-        machine.step(&submit(31)),
-        Said::Refused(Refusal::TooManyTasks)
+        last,
+        (full, Said::Run(Serial(0)), Said::Run(Serial(1)), busy)
     );
-    assert_eq!(rt; machine.step(&poll(31, 63)), Said::Run(Serial(0)));
-    assert_eq!(rt; machine.step(&poll(30, u32::MAX)), Said::Run(Serial(1)));
-    assert_eq!(rt; machine.step(&poll(31, 0)), Said::Refused(Refusal::NotIdle));
     Ok(())
 }

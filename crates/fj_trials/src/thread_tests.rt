@@ -98,6 +98,17 @@ fn flow(alloc: Global, machine: &Machine, s: u32) -> Result<(usize, bool), Alloc
     Ok((tasks.len(), in_order && machine.queue(owner).next() == None))
 }
 
+/// How many tasks are gone, the flow of each submitter, and what is left in the queue of the worker.
+fn seen(
+    alloc: Global,
+    machine: &Machine,
+) -> Result<(usize, (usize, bool), (usize, bool), Option<Serial>), AllocError> {
+    let first = flow(alloc, machine, 0)?;
+    let second = flow(alloc, machine, 1)?;
+    let left = machine.queue(Owner::Work(WorkerId(0))).next();
+    Ok((machine.gone().len(), first, second, left))
+}
+
 /// The machine that two submitters and a worker have shared behind a lock, which each step takes once.
 fn shared<R: Threads + Wait + Sync>(rt: &R, alloc: Global) -> Result<Machine, Refusal> {
     let limits = Limits::new(1, 2, 4096, 4096)?;
@@ -110,10 +121,7 @@ fn shared<R: Threads + Wait + Sync>(rt: &R, alloc: Global) -> Result<Machine, Re
 #[test]
 fn threads_share_a_machine(rt: HostRuntime) -> Result<(), Fail> {
     let machine = shared(&rt, rt.alloc())?;
-    assert_eq!(rt; machine.gone().len(), 2 * EACH);
-    for s in 0..2 {
-        assert_eq!(rt; flow(rt.alloc(), &machine, s)?, (EACH, true));
-    }
-    assert_eq!(rt; machine.queue(Owner::Work(WorkerId(0))).next(), None);
+    let seen = seen(rt.alloc(), &machine)?;
+    assert_eq!(rt; seen, (2 * EACH, (EACH, true), (EACH, true), None));
     Ok(())
 }
