@@ -14,6 +14,3 @@ pub use bookings::Bookings;
 pub use closing::Closing;
 pub use pool_core::Core;
 pub use taken_in::Intake;
-
-#[cfg(test)]
-mod tests;

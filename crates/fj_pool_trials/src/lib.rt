@@ -1,5 +1,15 @@
-//! Tests of the store of a pool, driven by hand.
+//! Tests of the core of a pool, driven by hand, and of its bookings.
 #![tactic(auto)]
 
 #[cfg(test)]
-mod tests;
+mod booking_tests;
+#[cfg(test)]
+mod core_rows;
+#[cfg(test)]
+mod core_tests;
+#[cfg(test)]
+mod driver;
+#[cfg(test)]
+mod tells;
+#[cfg(test)]
+mod work;

@@ -1,6 +1,6 @@
-use super::*;
 use fj_gate::Ticket;
 use fj_model::{Serial, SubId};
+use fj_pool::{Booking, Bookings, Closing};
 use std::test::*;
 
 /// A parcel that was taken in: its ticket, the number of its task, its submitter.

@@ -1,0 +1,140 @@
+use crate::core_rows as rows;
+use crate::driver::{Call, drive};
+use crate::tells::Tells;
+use std::alloc::Global;
+use std::process::Abort;
+use std::rc::Rc;
+use std::test::Fail;
+
+/// Makes the calls at a new core of so many workers, tasks and events: each tells what stands beside it. Then all bodies are gone.
+fn check<R: Abort>(
+    rt: &R,
+    alloc: Global,
+    [workers, tasks, events]: [u32; 3],
+    rows: &[(Call, Tells)],
+) -> Result<(), Fail> {
+    let owners = Rc::new(alloc, 0u8)?;
+    let mut driver = drive(alloc, &owners, workers, tasks, events)?;
+    for i in 0..rows.len() {
+        let (call, tells) = rows[i];
+        assert_eq!(rt; driver.make(alloc, call)?, tells, "row {i}");
+    }
+    drop(driver);
+    assert_eq!(rt; Rc::strong_count(&owners), 1);
+    Ok(())
+}
+
+#[test]
+fn tree(rt: HostRuntime) -> Result<(), Fail> {
+    check(&rt, rt.alloc(), [1, 8, 64], &rows::tree())
+}
+
+#[test]
+fn tree_in_two_hands(rt: HostRuntime) -> Result<(), Fail> {
+    check(&rt, rt.alloc(), [2, 8, 64], &rows::tree_in_two_hands())
+}
+
+#[test]
+fn in_a_hook(rt: HostRuntime) -> Result<(), Fail> {
+    check(&rt, rt.alloc(), [1, 8, 64], &rows::in_a_hook())
+}
+
+#[test]
+fn new_tasks(rt: HostRuntime) -> Result<(), Fail> {
+    check(&rt, rt.alloc(), [1, 4, 64], &rows::new_tasks())
+}
+
+#[test]
+fn joins(rt: HostRuntime) -> Result<(), Fail> {
+    check(&rt, rt.alloc(), [1, 8, 64], &rows::joins())
+}
+
+#[test]
+fn places(rt: HostRuntime) -> Result<(), Fail> {
+    check(&rt, rt.alloc(), [1, 8, 64], &rows::places())
+}
+
+#[test]
+fn endings_of_completers(rt: HostRuntime) -> Result<(), Fail> {
+    check(&rt, rt.alloc(), [1, 8, 64], &rows::endings_of_completers())
+}
+
+#[test]
+fn endings_of_plain_tasks(rt: HostRuntime) -> Result<(), Fail> {
+    check(&rt, rt.alloc(), [1, 8, 64], &rows::endings_of_plain_tasks())
+}
+
+#[test]
+fn release_chain(rt: HostRuntime) -> Result<(), Fail> {
+    check(&rt, rt.alloc(), [1, 5, 64], &rows::release_chain())
+}
+
+#[test]
+fn close(rt: HostRuntime) -> Result<(), Fail> {
+    check(&rt, rt.alloc(), [1, 8, 64], &rows::close())
+}
+
+#[test]
+fn close_at_once(rt: HostRuntime) -> Result<(), Fail> {
+    check(&rt, rt.alloc(), [1, 8, 64], &rows::close_at_once())
+}
+
+#[test]
+fn stop(rt: HostRuntime) -> Result<(), Fail> {
+    check(&rt, rt.alloc(), [1, 8, 64], &rows::stop())
+}
+
+#[test]
+fn stop_after_close(rt: HostRuntime) -> Result<(), Fail> {
+    check(&rt, rt.alloc(), [1, 8, 64], &rows::stop_after_close())
+}
+
+#[test]
+fn one_ticket(rt: HostRuntime) -> Result<(), Fail> {
+    check(&rt, rt.alloc(), [1, 1, 64], &rows::one_ticket())
+}
+
+#[test]
+fn taken_once(rt: HostRuntime) -> Result<(), Fail> {
+    check(&rt, rt.alloc(), [1, 8, 64], &rows::taken_once())
+}
+
+#[test]
+fn seals(rt: HostRuntime) -> Result<(), Fail> {
+    check(&rt, rt.alloc(), [1, 8, 5], &rows::seals())
+}
+
+#[test]
+fn stuck_at_an_intake(rt: HostRuntime) -> Result<(), Fail> {
+    check(&rt, rt.alloc(), [1, 8, 4], &rows::stuck_at_an_intake())
+}
+
+#[test]
+fn stuck_at_an_end(rt: HostRuntime) -> Result<(), Fail> {
+    check(&rt, rt.alloc(), [1, 8, 3], &rows::stuck_at_an_end())
+}
+
+#[test]
+fn stuck_at_a_complete(rt: HostRuntime) -> Result<(), Fail> {
+    check(&rt, rt.alloc(), [1, 8, 2], &rows::stuck_at_a_complete())
+}
+
+#[test]
+fn stuck_at_a_hook(rt: HostRuntime) -> Result<(), Fail> {
+    check(&rt, rt.alloc(), [1, 8, 5], &rows::stuck_at_a_hook())
+}
+
+#[test]
+fn stuck_at_a_poll(rt: HostRuntime) -> Result<(), Fail> {
+    check(&rt, rt.alloc(), [1, 8, 1], &rows::stuck_at_a_poll())
+}
+
+#[test]
+fn stuck_at_a_close(rt: HostRuntime) -> Result<(), Fail> {
+    check(&rt, rt.alloc(), [1, 8, 1], &rows::stuck_at_a_close())
+}
+
+#[test]
+fn stuck_at_a_stop(rt: HostRuntime) -> Result<(), Fail> {
+    check(&rt, rt.alloc(), [1, 8, 1], &rows::stuck_at_a_stop())
+}
