@@ -50,20 +50,22 @@ fn the_first_task_under_a_ticket_is_found(rt: HostRuntime) -> Result<(), Fail> {
     Ok(())
 }
 
-/// The numbers that were given, and how many submissions are taken in; whether that is reached.
-const REACHED: [([u64; 2], usize, bool); 6] = [
-    ([0, 5], 0, true),
-    ([3, 5], 2, false),
-    ([3, 5], 3, true),
-    ([3, 5], 4, true),
-    ([5, 3], 4, false),
-    ([5, 3], 5, true),
-];
+/// The two numbers that were given, and how many submissions are taken in; whether that is reached.
+fn reached() -> [(u64, u64, usize, bool); 6] {
+    [
+        (0, 5, 0, true),
+        (3, 5, 2, false),
+        (3, 5, 3, true),
+        (3, 5, 4, true),
+        (5, 3, 4, false),
+        (5, 3, 5, true),
+    ]
+}
 
 #[test]
 fn the_first_closing_number_stays(rt: HostRuntime) {
     assert!(rt; !Closing::new().is_due(1_000_000));
-    for ([first, second], taken_in, reached) in REACHED {
+    for (first, second, taken_in, reached) in reached() {
         let closing = Closing::new().at(first).at(second);
         assert_eq!(rt; closing.number, Some(first));
         assert!(rt; !closing.stopping);
