@@ -1,7 +1,7 @@
 use crate::core_rows as rows;
 use crate::driver::{Call, Driver, drive};
 use crate::tells::Tells;
-use std::alloc::{AllocError, Global};
+use std::alloc::Global;
 use std::process::Abort;
 use std::rc::Rc;
 use std::test::Fail;
@@ -11,7 +11,7 @@ fn first_other(
     alloc: Global,
     driver: &mut Driver,
     rows: &[(Call, Tells)],
-) -> Result<Option<(usize, Tells)>, AllocError> {
+) -> Result<Option<(usize, Tells)>, Fail> {
     for i in 0..rows.len() {
         let (call, tells) = rows[i];
         let told = driver.make(alloc, call)?;
@@ -30,7 +30,7 @@ fn tried(
     rows: &[(Call, Tells)],
 ) -> Result<Option<(usize, Tells)>, Fail> {
     let mut driver = drive(alloc, owners, workers, tasks, events)?;
-    Ok(first_other(alloc, &mut driver, rows)?)
+    first_other(alloc, &mut driver, rows)
 }
 
 /// Each call at a new core tells what stands beside it. Then all bodies are gone.
