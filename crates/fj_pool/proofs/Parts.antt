@@ -1,18 +1,15 @@
 -- The parts that a core keeps stay those of its history.
-use Rattle.std.proofs.Common.{◌≡◌, Bool, true, false, inl, inr, List, [], ◌∷◌, ◌++◌, refl, ap, sym, ◌∙◌, subst}
+use Rattle.std.proofs.Common.{◌≡◌, Bool, true, false, inl, inr, List, refl, ap, sym, ◌∙◌, subst}
 use Rattle.fj_model.specs.declared.epoch.Sealed.{Sealed}
 use Rattle.fj_model.specs.declared.event.Event.{Event}
-use Rattle.fj_model.specs.declared.said.Said.{Said}
-use Rattle.fj_model.specs.declared.step.Step.{Step}
-use Rattle.fj_model.specs.Pasts.{Past, grown, fresh, sealed_now}
+use Rattle.fj_model.specs.Pasts.{Past, grown, sealed_now}
 use Rattle.fj_model.specs.Places.{gone}
-use Rattle.fj_model.specs.Runs.{Steps}
 use Rattle.fj_lane.specs.Ends.{DrainState}
 use Rattle.fj_store.specs.Stores.{StoreState}
 use Rattle.fj_store.specs.Sealing.{HandsPart}
 use Rattle.fj_pool.specs.declared.booking.Booking.{Booking}
 use Rattle.fj_pool.specs.declared.closing.Closing.{Closing}
-use Rattle.fj_pool.specs.Closes.{Dues, shut_step}
+use Rattle.fj_pool.specs.Closes.{Dues}
 use Rattle.fj_pool.specs.Cores.{AreParts, IsCore, StaysInside}
 use Rattle.fj_pool.proofs.Frames.{releases_stay}
 use Rattle.fj_pool.proofs.Lanes.{same_booked}
