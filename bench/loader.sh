@@ -1,7 +1,8 @@
-# Sourced by epochs.sh, steps.sh, admissions.sh and pairs.sh, at the top of the repository. A loader is no crate of the repository: it is proved
+# Sourced by epochs.sh, steps.sh, cores.sh, admissions.sh and pairs.sh, at the top of the repository. A loader is no crate of the repository: it is proved
 # and built in a folder of its own, beside copies of the crates that it uses.
 
 # build_loader NAME CRATE..: proves and builds the loader of bench/NAME/, which stands on CRATE.., and names its program in `loader`.
+# `NAME.antt.in` in its folder has the invariants of the loop in a function NAME; `proofs/` has whole files of proofs.
 build_loader() {
     local name=$1 folder invariants
     shift
@@ -18,6 +19,12 @@ build_loader() {
         mkdir -p "$loader/proofs/$(basename "$invariants" .antt.in)"
         cp "$invariants" "$loader/proofs/$(basename "$invariants" .antt.in)/Invariants.antt"
     done
+    if [[ -d bench/$name/proofs ]]; then
+        (cd "bench/$name" && find proofs -name '*.antt.in') | while read -r proof; do
+            mkdir -p "$loader/$(dirname "$proof")"
+            cp "bench/$name/$proof" "$loader/${proof%.in}"
+        done
+    fi
     grep -E "^($(IFS='|'; echo "$*")):" crates.txt > "$folder/crates.txt"
     echo "$name: $* anyhow" >> "$folder/crates.txt"
     if ! (cd "$loader" && rt run -- 1 1) > "$folder/log" 2>&1; then
