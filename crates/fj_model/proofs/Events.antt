@@ -32,3 +32,7 @@ pub mod Stopping
 pub mod Closing
 -- events that leave every task where it is
 pub mod Calm
+-- completion actions in hands
+pub mod Hands
+-- a task comes to be such that it can be released
+pub mod Releasable

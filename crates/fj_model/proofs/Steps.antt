@@ -30,3 +30,15 @@ pub mod StepsTell
 pub mod NothingChosen
 -- what the replies say of the events
 pub mod Replies
+-- what an answer says, step by step
+pub mod Answered
+-- the past of a run after one step more, and how long its history is
+pub mod RunsGrow
+-- why a submission is refused
+pub mod SubmitRefused
+-- which tasks the events of a step are about
+pub mod AboutTasks
+-- steps of workers leave what submitters pushed, and whether it is shut
+pub mod Inside
+-- steps that hand nothing out and end nothing leave each hand as it was
+pub mod KeepsHands

@@ -11,6 +11,9 @@ pub mod Climbs
 pub mod Choices
 pub mod Pasts
 pub mod Allowed
+pub mod Releasable
+pub mod Inside
+pub mod ChoiceTaken
 pub mod Answers
 pub mod Epochs
 pub mod Parts

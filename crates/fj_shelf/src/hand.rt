@@ -1,4 +1,4 @@
-ghost use Rattle.std.specs.Prelude.{◌≡◌, ◌<◌, ◌++◌, ◌∷◌, length, IfOk, [], Some, IsSome, is_some, ◌↔◌, IsTrue, option_map};
+ghost use Rattle.std.specs.Prelude.{◌≡◌, ◌<◌, ◌++◌, ◌∷◌, length, IfOk, [], None, Some, IsSome, is_some, ◌↔◌, IsTrue, option_map};
 ghost use Rattle.fj_shelf.specs.Aside.{numbers};
 ghost use Rattle.fj_shelf.specs.Hands.{new_hand, hook_number, with_body, with_hook, with_next_word, without_hook};
 
@@ -9,6 +9,15 @@ use std::marker::Model;
 /// The most tasks that a pool may keep, and so the most bodies that a worker may hold.
 const MOST_TASKS: usize = 4096;
 
+/// A body that a worker has begun, under its task's number.
+#[derive(Drop)]
+struct Begun<B> {
+    serial: Serial,
+    body: B,
+    /// The task that it joined, while another body runs above it.
+    joined: Option<Serial>,
+}
+
 /// What a worker holds: the bodies that it has begun, each under its task's number, and the hook that it runs, with its body.
 ///
 /// The last body on the stack is the running one; the others wait for tasks that they joined. No call after `new` takes memory.
@@ -16,19 +25,20 @@ const MOST_TASKS: usize = 4096;
 pub struct Hand<B> {
     worker: WorkerId,
     word: u32,
-    stack: Vec<(Serial, B)>,
+    stack: Vec<Begun<B>>,
     hook: Option<(Serial, B)>,
 }
 
 impl<B> Model for Hand<B> {
-    ghost use Rattle.std.specs.Prelude.{◌≤◌, vec_capacity};
+    ghost use Rattle.std.specs.Prelude.{◌≤◌, length, map, vec_capacity};
     ghost use Rattle.fj_shelf.specs.Hands.{HandState};
 
     ghost Value = { HandState B };
 
-    ghost view = { λ h. record { worker = h.worker; word = h.word; stack = h.stack.items; hook = h.hook } };
+    // What a body joined is the worker's own note, of which contracts say nothing.
+    ghost view = { λ h. record { worker = h.worker; word = h.word; stack = map (λ b. (b.serial, b.body)) h.stack.items; hook = h.hook } };
 
-    ghost invariant = { λ h. 4096 ≤ vec_capacity h.stack };
+    ghost invariant = { λ h. (4096 ≤ vec_capacity h.stack) × (length h.stack.items ≤ 4096) };
 }
 
 impl<B: Drop> Hand<B> {
@@ -61,20 +71,54 @@ impl<B: Drop> Hand<B> {
         word
     }
 
-    /// Puts a body on top. Precondition: there are fewer than a pool may keep tasks.
+    /// Puts a body on top, which runs from now on. Precondition: there are fewer than a pool may keep tasks.
     pub fn push(&mut self, t: Serial, body: B)
         requires { length self.old.stack < 4096 }
         ensures { self.new ≡ with_body self.old t body }
     {
-        self.stack.push_reserved((t, body));
+        self.stack.push_reserved(Begun {
+            serial: t,
+            body,
+            joined: None,
+        });
     }
 
     /// Takes the running body off, with its number. Precondition: there is one.
     pub fn pop(&mut self) -> (Serial, B)
         requires { 0 < length self.old.stack }
-        ensures { self.old ≡ with_body self.new result.0 result.1 }
+        ensures popped { self.old ≡ with_body self.new result.0 result.1 }
+        ensures room { length self.new.stack < 4096 }
     {
-        self.stack.pop().unwrap()
+        let Begun {
+            serial,
+            body,
+            joined: _,
+        } = self.stack.pop().unwrap();
+        (serial, body)
+    }
+
+    /// Notes the task that the running body joined, if it did, where there is a body. Contracts say nothing of such notes.
+    pub fn note_join(&mut self, joined: Option<Serial>)
+        ensures { self.new ≡ self.old }
+    {
+        if let Some(begun) = self.stack.pop() {
+            self.stack.push_reserved(Begun { joined, ..begun });
+        }
+    }
+
+    /// The task that the running body joined, as it was noted last.
+    pub fn joined(&self) -> Option<Serial> {
+        match self.stack.last() {
+            Some(begun) => begun.joined,
+            None => None,
+        }
+    }
+
+    /// Whether there is no body and no hook.
+    pub fn is_empty(&self) -> bool
+        ensures { IsTrue result ↔ (self.now.stack ≡ []) × (self.now.hook ≡ None) }
+    {
+        self.stack.is_empty() && self.hook.is_none()
     }
 
     /// Puts a hook in, with its body.
@@ -111,7 +155,7 @@ impl<B: Drop> Hand<B> {
             return false;
         }
         for i in 0..serials.len() {
-            if self.stack[i].0 != serials[i] {
+            if self.stack[i].serial != serials[i] {
                 return false;
             }
         }

@@ -32,7 +32,7 @@ use Rattle.fj_store.specs.Stores.{StoreState, still_held}
 use Rattle.fj_store.specs.Releases.{Releases}
 use Rattle.fj_store.specs.Asking.{is_calm, Drops}
 use Rattle.fj_store.specs.Asking as does
-use Rattle.fj_store.proofs.Steps.{Answered, Refuses, Makes, answered}
+use Rattle.fj_model.proofs.Steps.Answered.{Answered, Refuses, Makes, answered}
 use Rattle.fj_store.proofs.Following.{is_rest, rest_unmoved, rest_released, settling_rest, failing_rest}
 use Rattle.fj_store.proofs.Stored.{stored_on}
 use Rattle.fj_store.proofs.Sweeps.{unmoved_bodies}

@@ -8,7 +8,8 @@ use Rattle.fj_model.specs.Lists.{is_in, without}
 use Rattle.fj_model.proofs.Lists.Members.{is_in_append, times_in_some, length_without}
 use Rattle.fj_model.proofs.Events.Growth.{without_none}
 use Rattle.fj_store.specs.Stores.{StoreState}
-use Rattle.fj_store.specs.Releases.{can_go, CanAllGo, released_of}
+use Rattle.fj_model.specs.Releasable.{can_go, CanAllGo}
+use Rattle.fj_store.specs.Releases.{released_of}
 
 pub without_twice : (xs ts us : List ℕ) → without (without xs ts) us ≡ without xs (ts ++ us)
 without_twice [] ts us = refl

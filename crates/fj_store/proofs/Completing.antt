@@ -28,7 +28,7 @@ use Rattle.fj_model.proofs.Places.PlaceLaws.{moves}
 use Rattle.fj_model.proofs.Places.KeptPlaces.{held_kept}
 use Rattle.fj_model.proofs.Steps.Standing.{stands, some_or_none}
 use Rattle.fj_model.proofs.Steps.AnswersAllowed.{history_allowed, answer_allowed}
-use Rattle.fj_ledger.proofs.Lists.HandParts.{hand_same}
+use Rattle.fj_model.proofs.Events.Hands.{hand_same}
 use Rattle.fj_ledger.proofs.Lists.HookLists.{hand_after}
 use Rattle.fj_shelf.specs.Aside.{numbers}
 use Rattle.fj_shelf.specs.Shelves.{Entries, is_there, with_entry, without_entries, entries, AreFewer}
@@ -41,8 +41,8 @@ use Rattle.fj_store.proofs.Bodies.{has_kept, fewer_kept}
 use Rattle.fj_store.proofs.Ended.{IsEnd, own_free, others_wait, ended_out, ended_in, fired_gone}
 use Rattle.fj_store.proofs.Endings.{take_front, newest_is, last_filled}
 use Rattle.fj_store.proofs.Following.{is_rest, rest_unmoved, rest_released, rest_hand, unmoved_stacks, AfterEnd, Fired, Unfired, after_ended}
-use Rattle.fj_store.proofs.Full.{history_more}
-use Rattle.fj_store.proofs.Steps.{Answered, Refuses, Makes, answered, last_none}
+use Rattle.fj_model.proofs.Steps.RunsGrow.{history_more}
+use Rattle.fj_model.proofs.Steps.Answered.{Answered, Refuses, Makes, answered, last_none}
 use Rattle.fj_store.proofs.Stored.{stored_on, kept_on, numbers_more, numbers_long}
 use Rattle.fj_store.proofs.Taking.{released_fits}
 

@@ -16,13 +16,13 @@ use Rattle.fj_shelf.specs.Shelves.{Entries}
 use Rattle.fj_store.specs.declared.due.Due.{Due}
 use Rattle.fj_store.specs.declared.due.Due.TheVariants as due
 use Rattle.fj_store.specs.Stores.{IsStored}
-use Rattle.fj_store.specs.Releases.{can_go}
+use Rattle.fj_model.specs.Releasable.{can_go}
 use Rattle.fj_store.specs.DueTasks.{AreDue, only, is_all, after, after_step}
 use Rattle.fj_store.specs.Asking.{is_calm}
-use Rattle.fj_store.proofs.Going.{is_on_way, OnlyAbout, only_it_goes, none_goes}
-use Rattle.fj_store.proofs.Ways.{quiet_root_about, fault_about, cancel_about}
+use Rattle.fj_model.proofs.Events.Releasable.{is_on_way, OnlyAbout, only_it_goes, none_goes}
+use Rattle.fj_model.proofs.Steps.AboutTasks.{quiet_root_about, fault_about, cancel_about}
 use Rattle.fj_store.proofs.Results.{in_one_more}
-use Rattle.fj_store.proofs.Steps.{Answered, Refuses, Makes, answered}
+use Rattle.fj_model.proofs.Steps.Answered.{Answered, Refuses, Makes, answered}
 
 pub cannot : (h : List Event) (u : ℕ) → (can_go h u ≡ true → ⊥) → can_go h u ≡ false
 cannot h u never = go (can_go h u) refl

@@ -24,14 +24,14 @@ use Rattle.fj_model.proofs.Places.PlaceLaws.{unmoved_stack}
 use Rattle.fj_model.proofs.Events.Ends.{stack_end}
 use Rattle.fj_model.proofs.Places.KeptPlaces.{held_kept}
 use Rattle.fj_model.proofs.Steps.AnswersAllowed.{history_allowed, answer_allowed}
-use Rattle.fj_ledger.proofs.Lists.HandParts.{hand_same}
+use Rattle.fj_model.proofs.Events.Hands.{hand_same}
 use Rattle.fj_shelf.specs.Aside.{numbers}
 use Rattle.fj_shelf.specs.Shelves.{Entries}
 use Rattle.fj_shelf.specs.Hands.{HandState, with_body, asker, hook_number}
 use Rattle.fj_store.specs.Fitting.{Fits}
 use Rattle.fj_store.specs.Stores.{IsStored}
 use Rattle.fj_store.proofs.Stored.{stored_on, kept_on, numbers_more, numbers_long}
-use Rattle.fj_store.proofs.Steps.{OkDone}
+use Rattle.fj_model.proofs.Steps.Answered.{OkDone}
 use Rattle.fj_store.proofs.Taking.{released_fits}
 use Rattle.fj_store.proofs.Closes.{ok_bodies}
 

@@ -23,7 +23,7 @@ use Rattle.fj_model.specs.Climbs.{Arrival, arrival, does_fire, path, passed, rel
 use Rattle.fj_model.specs.Climbs as climb
 use Rattle.fj_model.specs.Answers.{settling, arriving, arriving_says, failing, pass_end, pass_says, root_of, after_end, end_says}
 use Rattle.fj_model.proofs.Places.PlaceLaws.{moves, unmoved_stack}
-use Rattle.fj_ledger.proofs.Lists.HandParts.{hand_same, is_of_hook}
+use Rattle.fj_model.proofs.Events.Hands.{hand_same, is_of_hook}
 use Rattle.fj_store.specs.Endings.{is_over}
 
 -- ---- what follows the end of a body

@@ -43,7 +43,8 @@ use Rattle.fj_shelf.specs.Shelves.{Entries, without_entry, without_entries, entr
 use Rattle.fj_shelf.specs.Hands.{HandState, with_hook, without_hook, hook_number}
 use Rattle.fj_shelf.proofs.Standing.{same_everywhere}
 use Rattle.fj_store.specs.Fitting.{Fits}
-use Rattle.fj_store.specs.Stores.{StoreState, has_body, HoldsBodies, IsStored, is_hooked, still_held, went}
+use Rattle.fj_store.specs.Stores.{StoreState, has_body, HoldsBodies, IsStored, still_held, went}
+use Rattle.fj_model.specs.Releasable.{is_hooked}
 use Rattle.fj_store.specs.Releases.{Releases}
 use Rattle.fj_store.specs.Results.{Keeps}
 use Rattle.fj_store.specs.Endings.{is_over}
@@ -51,12 +52,12 @@ use Rattle.fj_store.specs.HookEndings.{EndsHookOver, EndsHookInHook}
 use Rattle.fj_store.proofs.Closes.{closes_all}
 use Rattle.fj_store.proofs.Following.{is_rest, rest_unmoved, rest_released, unmoved_stacks, settling_rest}
 use Rattle.fj_store.proofs.InHands.{in_hand_hooked}
-use Rattle.fj_store.proofs.Steps.{Answered, Refuses, Makes, answered}
+use Rattle.fj_model.proofs.Steps.Answered.{Answered, Refuses, Makes, answered}
 use Rattle.fj_store.proofs.Stored.{stored_on, kept_on}
 use Rattle.fj_store.proofs.Sweeps.{went_by, unmoved_known, went_is, unmoved_bodies, went_shown}
 use Rattle.fj_store.proofs.Taking.{released_fits}
-use Rattle.fj_store.proofs.Going.{OnlyAbout}
-use Rattle.fj_store.proofs.Ways.{hook_about}
+use Rattle.fj_model.proofs.Events.Releasable.{OnlyAbout}
+use Rattle.fj_model.proofs.Steps.AboutTasks.{hook_about}
 
 -- ---- what follows the end of a hook
 

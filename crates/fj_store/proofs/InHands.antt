@@ -26,7 +26,8 @@ use Rattle.fj_model.proofs.Completers.Climbed.{climbed_append}
 use Rattle.fj_model.proofs.Completers.Hands.{hand_there}
 use Rattle.fj_machine.specs.InHands.{HooksApart}
 use Rattle.std.specs.List.{filter_map, cons_option}
-use Rattle.fj_store.specs.Stores.{hooked, is_hooked, NoneReleased}
+use Rattle.fj_model.specs.Releasable.{hooked, is_hooked}
+use Rattle.fj_store.specs.Stores.{NoneReleased}
 
 -- the hooks after one event more
 after_one : (h : List Event) (e : Event) (c : ℕ) → is_in c (hooked (h ++ e ∷ [])) ≡ true → (is_in c (hooked h) ≡ true) ⊎ ((how : How) × (e ≡ event.Fire c how))

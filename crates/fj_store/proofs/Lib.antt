@@ -1,7 +1,3 @@
--- A run after one step more, and how long its history is.
-pub mod Full
--- What an answer of the machine says, step by step.
-pub mod Steps
 -- Which bodies no worker holds, event by event.
 pub mod Bodies
 -- A task whose completion action is in a hand is not released.
@@ -18,10 +14,6 @@ pub mod Results
 pub mod Releases
 -- One task after another is released.
 pub mod Chains
--- Which tasks come to be such that they can be released, event by event.
-pub mod Going
--- Which tasks the events of a step are about.
-pub mod Ways
 -- Which taken tasks may be such that they can be released, step by step.
 pub mod DueTasks
 -- A task is released, and then those above it.
@@ -46,5 +38,3 @@ pub mod Shutting
 pub mod Sealing
 -- A hook ends.
 pub mod HookEndings
--- Why a submission is refused.
-pub mod Refusals

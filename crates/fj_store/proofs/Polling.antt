@@ -12,7 +12,7 @@ use Rattle.fj_shelf.specs.Hands.{HandState, with_next_word}
 use Rattle.fj_store.specs.Fitting.{Fits}
 use Rattle.fj_store.specs.Stores.{StoreState}
 use Rattle.fj_store.specs.Choosing.{Chooses, Refuses, WasStuck, GetsStuck}
-use Rattle.fj_store.proofs.Steps.{IsChoice, poll_full}
+use Rattle.fj_model.proofs.Steps.Answered.{IsChoice, poll_full}
 use Rattle.fj_store.proofs.Taking.{empty_stack, no_hook}
 
 module _ {B K O : Type 0} where

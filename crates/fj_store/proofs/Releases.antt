@@ -20,14 +20,15 @@ use Rattle.fj_model.specs.Runs.{Past, grown}
 use Rattle.fj_model.proofs.Lists.Members.{is_in_filter, times_in_filter}
 use Rattle.fj_model.proofs.Events.Releasing.{release_keeps, release_tasks, release_place}
 use Rattle.fj_model.proofs.Steps.AnswersAllowed.{history_allowed, answer_allowed}
-use Rattle.fj_store.proofs.Full.{history_more}
+use Rattle.fj_model.proofs.Steps.RunsGrow.{history_more}
 use Rattle.std.specs.Prelude.{Option, None, is_some}
 use Rattle.fj_shelf.specs.Shelves.{Entries}
-use Rattle.fj_store.specs.Stores.{is_waiting, hooked, is_hooked, HoldsBodies, IsStored}
-use Rattle.fj_store.specs.Releases.{can_go}
+use Rattle.fj_store.specs.Stores.{is_waiting, HoldsBodies, IsStored}
+use Rattle.fj_model.specs.Releasable.{hooked, is_hooked}
+use Rattle.fj_model.specs.Releasable.{can_go}
 use Rattle.fj_store.proofs.InHands.{unreleased_rel}
 use Rattle.fj_store.proofs.Bodies.{same_body}
-use Rattle.fj_store.proofs.Steps.{ReleaseGives, Went, Finds, Stays, release_gives}
+use Rattle.fj_model.proofs.Steps.Answered.{ReleaseGives, Went, Finds, Stays, release_gives}
 
 -- ---- what is left
 

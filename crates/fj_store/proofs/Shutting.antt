@@ -17,7 +17,7 @@ use Rattle.fj_store.specs.Stores.{StoreState}
 use Rattle.fj_store.specs.Asking.{Drops, Shuts}
 use Rattle.fj_store.specs.Asking as does
 use Rattle.fj_store.specs.Choosing.{Refuses}
-use Rattle.fj_store.proofs.Full.{history_fits}
+use Rattle.fj_model.proofs.Steps.RunsGrow.{history_fits}
 use Rattle.fj_store.proofs.Calms.{drops_made, makes_reply}
 
 -- ---- quiescence

@@ -29,7 +29,7 @@ use Rattle.fj_model.proofs.Steps.AnswersAllowed.{history_allowed, answer_allowed
 use Rattle.fj_shelf.specs.Aside.{numbers}
 use Rattle.fj_shelf.specs.Shelves.{Entries, no_entries, with_entry, AreFewer}
 use Rattle.fj_store.specs.Stores.{has_body, HoldsBodies, AreKept, NoneReleased, IsStored}
-use Rattle.fj_store.proofs.Full.{history_more}
+use Rattle.fj_model.proofs.Steps.RunsGrow.{history_more}
 use Rattle.fj_store.proofs.Bodies.{accept_bodies, make_bodies, new_free, has_kept, fewer_kept}
 use Rattle.fj_store.proofs.InHands.{unreleased_on}
 

@@ -22,8 +22,8 @@ use Rattle.fj_model.proofs.Places.KeptPlaces.{held_kept, few_kept}
 use Rattle.fj_model.proofs.Events.Taking.{taken_queued, taken_accepted}
 use Rattle.fj_model.proofs.Places.PlacesKept.{place_queued}
 use Rattle.fj_model.proofs.Steps.AnswersAllowed.{history_allowed, answer_allowed}
-use Rattle.fj_store.proofs.Full.{history_more}
-use Rattle.fj_ledger.proofs.Lists.HandParts.{hand_same}
+use Rattle.fj_model.proofs.Steps.RunsGrow.{history_more}
+use Rattle.fj_model.proofs.Events.Hands.{hand_same}
 use Rattle.fj_shelf.specs.Shelves.{Entries, without_entry}
 use Rattle.fj_shelf.specs.Hands.{HandState, with_body}
 use Rattle.fj_store.specs.Fitting.{Fits}

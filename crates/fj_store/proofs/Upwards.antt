@@ -16,10 +16,11 @@ use Rattle.fj_model.proofs.Steps.AnswersAllowed.{history_allowed}
 use Rattle.fj_store.specs.declared.tries.Tried.{Tried}
 use Rattle.fj_store.specs.declared.tries.Tried.TheVariants as tried
 use Rattle.fj_store.specs.Stores.{StoreState}
-use Rattle.fj_store.specs.Releases.{can_go, CanAllGo, released_of, Releases, Rests, Tries}
+use Rattle.fj_model.specs.Releasable.{can_go, CanAllGo}
+use Rattle.fj_store.specs.Releases.{released_of, Releases, Rests, Tries}
 use Rattle.fj_store.specs.DueTasks.{OnlyGoes, ReleasesHere}
 use Rattle.fj_store.proofs.Chains.{none_released, one_more, released_twice, without_twice, fewer}
-use Rattle.fj_store.proofs.Going.{can_parts, only_parent_goes}
+use Rattle.fj_model.proofs.Events.Releasable.{can_parts, only_parent_goes}
 use Rattle.fj_store.proofs.DueTasks.{cannot}
 use Rattle.fj_store.proofs.Releases.{in_without}
 

@@ -19,17 +19,6 @@ use Rattle.fj_store.specs.Stores.{StoreState}
 use Rattle.fj_store.specs.Releases.{Releases}
 use Rattle.fj_store.specs.Results.{TakesOut}
 
--- such a step's reply and events: a task handed out or skipped, or nothing
-abbrev pub TakesChoice : ℕ → Said → List Event → Type 0
-TakesChoice w (says.Run t) events = events ≡ Out t w ∷ []
-TakesChoice w (says.Skip t) events = events ≡ Skip t w ∷ []
-TakesChoice w says.None events = events ≡ []
-TakesChoice w (says.Refused r) events = events ≡ []
-TakesChoice w says.Normal events = events ≡ []
-TakesChoice w (says.Exceptional code) events = events ≡ []
-TakesChoice w says.Cancelled events = events ≡ []
-TakesChoice w _ events = ⊥
-
 module _ {B K O : Type 0} where
   -- a step of the machine alone
   abbrev pub Moves : StoreState B K O → Step → Said → StoreState B K O → Type 0

@@ -7,7 +7,8 @@ use Rattle.fj_model.specs.Lists.{is_in}
 use Rattle.fj_store.specs.declared.due.Due.{Due}
 use Rattle.fj_store.specs.declared.due.Due.TheVariants as due
 use Rattle.fj_store.specs.Stores.{StoreState}
-use Rattle.fj_store.specs.Releases.{Releases, can_go, released_of}
+use Rattle.fj_store.specs.Releases.{Releases, released_of}
+use Rattle.fj_model.specs.Releasable.{can_go}
 
 -- none of these can be released but this one
 abbrev pub OnlyGoes : List Event → List ℕ → ℕ → Type 0

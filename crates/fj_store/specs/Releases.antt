@@ -9,16 +9,8 @@ use Rattle.fj_model.specs.Allowed.{has_kept_child}
 use Rattle.fj_model.specs.Pasts.{grown, limit}
 use Rattle.fj_store.specs.declared.tries.Tried.{Tried}
 use Rattle.fj_store.specs.declared.tries.Tried.TheVariants as tried
-use Rattle.fj_store.specs.Stores.{StoreState, is_hooked}
-
--- whether the task can be released: kept, gone, with no kept child, and its completion action in no hand
-unfoldable pub can_go : List Event → ℕ → Bool
-can_go h t = is_kept h t && is_gone (place h t) && not (has_kept_child h t) && not (is_hooked h t)
-
--- each of these can be released after those before it
-abbrev pub CanAllGo : List Event → List ℕ → Type 0
-CanAllGo h [] = Unit {0}
-CanAllGo h (t ∷ ts) = (can_go h t ≡ true) × CanAllGo (h ++ Rel t ∷ []) ts
+use Rattle.fj_model.specs.Releasable.{can_go, CanAllGo}
+use Rattle.fj_store.specs.Stores.{StoreState}
 
 module _ {B K O : Type 0} where
   -- no task that was taken can be released any more; or one could be, and the store is stuck, since the history is full

@@ -61,6 +61,18 @@ module _ {B K O : Type 0} where
   outcome_of Cancelled kept = outcome.Cancelled
   outcome_of Undone kept = outcome.Cancelled
 
+  -- how the task ended
+  abbrev pub status_in : Outcome B K O → Status
+  status_in (outcome.Normal kept) = Normal
+  status_in (outcome.Exceptional code) = Exceptional code
+  status_in outcome.Cancelled = Cancelled
+
+  -- the result with its key, if there is one
+  abbrev pub kept_in : Outcome B K O → Option (K × O)
+  kept_in (outcome.Normal kept) = kept
+  kept_in (outcome.Exceptional code) = None
+  kept_in outcome.Cancelled = None
+
   -- the outcome of a done task is given, and its result is taken out; then what can be is released
   pub record Tells (old : StoreState B K O) (t : ℕ) (told : Outcome B K O) (new : StoreState B K O) : Type 0 where
     pub is : is_kept old.past.events t ≡ true

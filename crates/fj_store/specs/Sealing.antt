@@ -1,12 +1,16 @@
 -- What has happened is handed out in parts.
-use Rattle.std.specs.Prelude.{◌≡◌, ◌⊎◌, true, false, None, Result, Ok, Err, List, [], ◌∷◌, ◌++◌}
+use Rattle.std.specs.Prelude.{◌≡◌, ◌⊎◌, ◌*◌, Bool, true, false, None, Result, Ok, Err, List, [], ◌∷◌, ◌++◌, length, nat_lt}
 use Rattle.fj_model.specs.declared.epoch.Sealed.{Sealed}
 use Rattle.fj_model.specs.declared.refusal.Refusal.{Refusal}
 use Rattle.fj_model.specs.declared.refusal.Refusal.TheVariants.{LogFull}
-use Rattle.fj_model.specs.Pasts.{present, gone_since, sealed_now}
+use Rattle.fj_model.specs.Pasts.{Past, present, gone_since, sealed_now}
 use Rattle.fj_model.specs.Epochs.{seal_refusal, RefusesSeal}
 use Rattle.fj_model.specs.Parts.{Fits}
 use Rattle.fj_store.specs.Stores.{StoreState}
+
+-- whether what has happened since the last seal is longer than half of what there is room for
+abbrev pub is_half_full : Past → Bool
+is_half_full past = nat_lt past.pool.limits.events (2 * length (present past))
 
 module _ {B K O : Type 0} where
   -- all that has happened is sealed, and nothing else has changed; the part has what came since the last seal

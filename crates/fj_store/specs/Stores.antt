@@ -6,7 +6,7 @@ use Rattle.fj_model.specs.declared.place.Place.TheVariants.{Queued, Held, Open, 
 use Rattle.fj_model.specs.Lists.{is_in, times_in}
 use Rattle.fj_model.specs.Tasks.{tasks, is_kept, released}
 use Rattle.fj_model.specs.Places.{place, gone}
-use Rattle.fj_model.specs.Hooks.{hooks}
+use Rattle.fj_model.specs.Releasable.{hooked}
 use Rattle.fj_model.specs.Pasts.{Past}
 use Rattle.fj_model.specs.Epochs.{IsPast}
 use Rattle.fj_shelf.specs.Shelves.{Entries, Shelved, entries, is_there, without_entries}
@@ -30,13 +30,6 @@ is_waiting Gone = false
 -- whether the task is queued or open, so that no worker holds its body
 unfoldable pub has_body : List Event → ℕ → Bool
 has_body h t = is_in t (tasks h) && is_waiting (place h t)
-
--- the tasks whose completion action is in some hand
-abbrev pub hooked : List Event → List ℕ
-hooked h = map (λ hook. hook.completer) (hooks h).in_hands
-
-unfoldable pub is_hooked : List Event → ℕ → Bool
-is_hooked h c = is_in c (hooked h)
 
 -- no task whose completion action is in a hand was released
 abbrev pub NoneReleased : List Event → Type 0

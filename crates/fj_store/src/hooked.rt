@@ -1,6 +1,6 @@
 ghost use Rattle.std.specs.Prelude.{◌≡◌, ◌↔◌, IsTrue, Some};
 ghost use Rattle.fj_model.specs.Epochs.{IsPast};
-ghost use Rattle.fj_store.specs.Stores.{is_hooked as is_hooked_in};
+ghost use Rattle.fj_model.specs.Releasable.{is_hooked as is_hooked_in};
 
 use fj_machine::Machine;
 use fj_model::{Serial, WorkerId};

@@ -1,5 +1,5 @@
 ghost use Rattle.std.specs.Prelude.{◌≡◌};
-ghost use Rattle.fj_store.specs.Results.{outcome_of};
+ghost use Rattle.fj_store.specs.Results.{kept_in, outcome_of, status_in};
 
 use crate::body::Body;
 use crate::kept::Kept;
@@ -14,6 +14,30 @@ pub enum Outcome<B: Body> {
     Exceptional(u32),
     /// It was cancelled, or stopped.
     Cancelled,
+}
+
+impl<B: Body> Outcome<B> {
+    /// How the task ended: `ForkJoinTask.isCompletedNormally`, `isCancelled`, and the code in the place of `getException`.
+    pub fn status(&self) -> Status
+        ensures { result ≡ status_in self.now }
+    {
+        match self {
+            Outcome::Normal(_) => Status::Normal,
+            Outcome::Exceptional(code) => Status::Exceptional(*code),
+            Outcome::Cancelled => Status::Cancelled,
+        }
+    }
+
+    /// The result with its key, if it is normal and has one: `ForkJoinTask.getRawResult`.
+    pub fn into_kept(self) -> Option<Kept<B>>
+        ensures { result ≡ kept_in self }
+    {
+        match self {
+            Outcome::Normal(kept) => kept,
+            Outcome::Exceptional(_) => None,
+            Outcome::Cancelled => None,
+        }
+    }
 }
 
 /// What is told of a task that ended so.

@@ -20,6 +20,7 @@ use Rattle.fj_model.specs.Hooks.{Hook, hooks, hooks_after, hand, receiver, compl
 use Rattle.fj_model.specs.Completers.{fires_or_passes}
 use Rattle.fj_model.specs.Allowed.{Allowed, AllowedFrom, is_fired_by_complete, fires_by_complete}
 use Rattle.fj_model.proofs.Events.Growth.{hooks_more, or_false}
+use Rattle.fj_model.proofs.Events.Hands.{is_of_hook, in_hands_same, hand_same}
 use Rattle.fj_model.proofs.Events.Lawful.{known_more, not_new}
 use Rattle.fj_model.proofs.Lists.Members.{times_in_cons, times_in_append, times_in_none, is_in_append}
 use Rattle.fj_model.proofs.Places.OnePlace.{never}
@@ -40,27 +41,9 @@ any_same test h e fails = list_any-append test h (e ∷ []) ∙ rw fails (or_fal
 any_last : (test : Event → Bool) (h : List Event) (e : Event) → list_any test h ≡ false → list_any test (h ++ e ∷ []) ≡ test e
 any_last test h e none = list_any-append test h (e ∷ []) ∙ rw none (or_false (test e))
 
--- whether the event hands a hook out, or ends one
-abbrev pub is_of_hook : Event → Bool
-is_of_hook (Fire c how) = true
-is_of_hook (Hooked c) = true
-is_of_hook _ = false
-
 no_fire : (e : Event) (c : ℕ) → is_of_hook e ≡ false → fires_by_complete c e ≡ false
 no_fire (Fire d how) c other = absurd cc
 no_fire _ c other = refl
-
-in_hands_same : (h : List Event) (e : Event) → is_of_hook e ≡ false → (hooks (h ++ e ∷ [])).in_hands ≡ (hooks h).in_hands
-in_hands_same h e other = ap (λ s. s.in_hands) (hooks_more h e) ∙ same e other
-  where
-    same : (e : Event) → is_of_hook e ≡ false → (hooks_after (hooks h) e).in_hands ≡ (hooks h).in_hands
-    same (Fire c how) other = absurd cc
-    same (Hooked c) other = absurd cc
-    same _ other = refl
-
-pub hand_same : (h : List Event) (e : Event) (w : ℕ) → is_of_hook e ≡ false → hand (h ++ e ∷ []) w ≡ hand h w
-unfolding hand
-hand_same h e w other = ap (completer_in w) (in_hands_same h e other)
 
 -- a task that was released is not kept later either
 pub left_out : (pool : Pool) (h : List Event) (e : Event) (c : ℕ) → AllowedFrom pool [] h → Allowed pool h e → is_in c (tasks h) ≡ true → is_kept h c ≡ false → is_kept (h ++ e ∷ []) c ≡ false

@@ -34,7 +34,8 @@ use Rattle.fj_ledger.specs.InHands.{InHand}
 use Rattle.fj_ledger.specs.Holds.{Holds, Tells}
 use Rattle.fj_ledger.proofs.Recorded.ArrivalsTold.{arrival_told}
 use Rattle.fj_ledger.proofs.Updates.Growing.{grown_holds}
-use Rattle.fj_ledger.proofs.Lists.HandParts.{is_of_hook, hands_same}
+use Rattle.fj_model.proofs.Events.Hands.{is_of_hook}
+use Rattle.fj_ledger.proofs.Lists.HandParts.{hands_same}
 use Rattle.fj_ledger.proofs.Recorded.Located.{IsLocated}
 use Rattle.fj_ledger.proofs.Updates.Parts.{queues_same, stacks_same}
 use Rattle.fj_ledger.proofs.Recorded.Records.{tree_written}

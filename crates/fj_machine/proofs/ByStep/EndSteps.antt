@@ -32,7 +32,7 @@ use Rattle.fj_model.proofs.Events.Spending.{moved_spent}
 use Rattle.fj_model.proofs.Steps.Standing.{all_fail, some_or_none}
 use Rattle.fj_model.proofs.Events.Statuses.{status_same}
 use Rattle.fj_ledger.specs.Holds.{IsLawful}
-use Rattle.fj_ledger.proofs.Lists.HandParts.{hand_same}
+use Rattle.fj_model.proofs.Events.Hands.{hand_same}
 use Rattle.fj_ledger.proofs.Paths.EndedArrivals.{ended_arrival}
 use Rattle.fj_machine.proofs.Outcomes.RoomTests.{grown_twice}
 use Rattle.fj_machine.proofs.Outcomes.Stepping.{steps_full, steps_made, may_step}

@@ -2,7 +2,8 @@ ghost use Rattle.std.specs.Prelude.{◌≡◌, [], None};
 ghost use Rattle.fj_model.specs.Answers.{answer};
 ghost use Rattle.fj_store.specs.Turns.{ToldRight};
 ghost use Rattle.fj_store.specs.Fitting.{Fits};
-ghost use Rattle.fj_store.specs.Choosing.{TakesChoice, Chooses, Polls, Helps, Joins};
+ghost use Rattle.fj_model.specs.ChoiceTaken.{TakesChoice};
+ghost use Rattle.fj_store.specs.Choosing.{Chooses, Polls, Helps, Joins};
 
 use crate::body::{Body, Heard, Told};
 use crate::choices::Chosen;

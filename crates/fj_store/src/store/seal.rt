@@ -1,9 +1,14 @@
 ghost use Rattle.std.specs.Prelude.{◌≡◌};
-ghost use Rattle.fj_store.specs.Sealing.{Seals};
+ghost use Rattle.fj_model.specs.Epochs.{IsPast};
+ghost use Rattle.fj_shelf.specs.Shelves.{entries};
+ghost use Rattle.fj_store.specs.Sealing.{Seals, is_half_full};
 
 use crate::body::Body;
+use crate::kept::Kept;
 use crate::store::Store;
+use fj_machine::Machine;
 use fj_model::{Refusal, Sealed};
+use fj_shelf::Shelf;
 use std::alloc::Global;
 
 impl<B: Body> Store<B> {
@@ -20,5 +25,30 @@ impl<B: Body> Store<B> {
             return Err(Refusal::LogFull);
         }
         self.machine.seal(alloc)
+    }
+
+    /// Whether the history since the last seal is longer than half its limit.
+    pub fn is_half_full(&self) -> bool
+        ensures { result ≡ is_half_full self.now.past }
+    {
+        let events = self.limits().events() as usize;
+        self.machine.history().len() > events / 2
+    }
+
+    /// The machine, and the results that were not taken, each under its task's number. The bodies that no worker holds are dropped.
+    pub fn into_parts(self) -> (Machine, Shelf<Kept<B>>)
+        ensures past { result.0 ≡ self.past }
+        ensures results { entries result.1 ≡ entries self.results }
+        ensures run { IsPast self.past }
+    {
+        let Store {
+            machine,
+            bodies: _,
+            results,
+            taken: _,
+            due: _,
+            stuck: _,
+        } = self;
+        (machine, results)
     }
 }

@@ -1,8 +1,8 @@
 use Rattle.std.proofs.Common.{sym, ap, ◌∙◌}
 use Rattle.std.proofs.lemmas.Bool.{true≢false}
 use Rattle.fj_model.specs.Places.{is_gone}
-use Rattle.fj_store.proofs.Full.{history_fits}
-use Rattle.fj_store.proofs.Steps.{state_same, state_place, state_refused, state_replies}
+use Rattle.fj_model.proofs.Steps.RunsGrow.{history_fits}
+use Rattle.fj_model.proofs.Steps.Answered.{state_same, state_place, state_refused, state_replies}
 use Rattle.fj_store.proofs.places.is_gone_now.Goals as goal
 
 pub unreachable-requires : goal.unreachable-requires

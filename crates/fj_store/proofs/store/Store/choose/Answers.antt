@@ -3,11 +3,11 @@ use Rattle.fj_model.specs.declared.event.Event.TheVariants.{Out, Skip}
 use Rattle.fj_model.specs.Answers.{answer}
 use Rattle.fj_model.specs.Runs.{Past}
 use Rattle.fj_store.specs.Fitting.{Fits}
-use Rattle.fj_store.specs.Choosing.{TakesChoice}
-use Rattle.fj_store.proofs.Steps.{choice_ran, choice_skipped, choice_idle, choice_normal, choice_failed, choice_cancelled, choice_replies}
+use Rattle.fj_model.specs.ChoiceTaken.{TakesChoice}
+use Rattle.fj_model.proofs.Steps.Answered.{choice_ran, choice_skipped, choice_idle, choice_normal, choice_failed, choice_cancelled, choice_replies}
 use Rattle.fj_store.proofs.Stored.{same_stored}
 use Rattle.fj_store.proofs.Taking.{taken_there, out_stored, skip_stored, out_room, chosen_run_fits, chosen_same_fits, chosen_skip_fits}
-use Rattle.fj_store.proofs.Ways.{skip_about}
+use Rattle.fj_model.proofs.Steps.AboutTasks.{skip_about}
 use Rattle.fj_store.proofs.DueTasks.{step_due, still_due}
 use Rattle.fj_store.proofs.store.Store.choose.Goals as goal
 

@@ -1,8 +1,8 @@
 use Rattle.std.proofs.Common.{◌≡◌, true, false, inr, refl, sym, ap, ◌∙◌}
 use Rattle.fj_model.specs.Lists.{is_in}
 use Rattle.fj_model.specs.Statuses.{status, is_undone}
-use Rattle.fj_store.proofs.Full.{history_fits}
-use Rattle.fj_store.proofs.Steps.{state_same, state_shown, state_refused, state_replies}
+use Rattle.fj_model.proofs.Steps.RunsGrow.{history_fits}
+use Rattle.fj_model.proofs.Steps.Answered.{state_same, state_shown, state_refused, state_replies}
 use Rattle.fj_store.proofs.store.Store.collect.Goals as goal
 
 pub invariant_of-self : goal.invariant_of-self

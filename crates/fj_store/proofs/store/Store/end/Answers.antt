@@ -1,9 +1,9 @@
 use Rattle.std.proofs.Common.{refl, sym, ap, subst, ◌∙◌}
 use Rattle.fj_model.specs.declared.step.Step.TheVariants.{End}
 use Rattle.fj_store.specs.Fitting.{Fits}
-use Rattle.fj_store.proofs.Full.{history_more}
+use Rattle.fj_model.proofs.Steps.RunsGrow.{history_more}
 use Rattle.fj_store.proofs.Completing.{end_fired, end_unfired, not_over, popped, popped_runs, popped_ends, filled_hand, fired_fits, unfired_fits, fired_stored, out_stored, in_stored, end_kept, end_free, end_room, ends_in_hook, ends_over_out, ends_over_in}
-use Rattle.fj_store.proofs.Ways.{end_about}
+use Rattle.fj_model.proofs.Steps.AboutTasks.{end_about}
 use Rattle.fj_store.proofs.DueTasks.{step_due}
 use Rattle.fj_store.proofs.store.Store.end.Goals as goal
 
@@ -27,7 +27,7 @@ invariant_of-self g c =
       rw c.make.ensures.step.1 c.self.invariant.3,
       rw c.make.ensures.step.1 c.self.invariant.4,
       λ free. rw c.after-self-inside.ensures (step_due past c.make.new.machine (End c.worker.result c.args.ending) _ _ _ c.pop-t.result.0 c.self.inside.due c.self.invariant.0 c.make.ensures.step.1
-          (end_about past c.worker.result c.pop-t.result.0 c.args.ending c.self.invariant.0.run (popped_runs past c.args.hand.now c.pop-t.new.self c.worker.result c.pop-t.result.0 c.pop-t.result.1 fits c.worker.ensures c.pop-t.ensures))
+          (end_about past c.worker.result c.pop-t.result.0 c.args.ending c.self.invariant.0.run (popped_runs past c.args.hand.now c.pop-t.new.self c.worker.result c.pop-t.result.0 c.pop-t.result.1 fits c.worker.ensures c.pop-t.ensures.popped))
           (c.self.invariant.5 free)),
     )
 
@@ -37,12 +37,12 @@ returns-in-Hook-clause-ends g c =
     let hand = c.args.hand.now in
     let fits : Fits past hand = subst (λ p. Fits p hand) (ap (λ s. s.past) (sym c.self.view_is)) c.requires.fits in
     let fired = end_fired past c.worker.result c.in-Hook.c c.args.ending c.make.result c.make.ensures.step.0 c.in-Hook.is in
-    let one = popped past hand c.pop-t.new.self c.worker.result c.in-Hook.c c.pop-t.result.0 c.pop-t.result.1 fits c.worker.ensures c.pop-t.ensures fired.runs in
+    let one = popped past hand c.pop-t.new.self c.worker.result c.in-Hook.c c.pop-t.result.0 c.pop-t.result.1 fits c.worker.ensures c.pop-t.ensures.popped fired.runs in
     rw (← c.self.view_is) (
       c.if-self.false,
       refl,
       ends_in_hook _ (record { past = c.make.new.machine; bodies = c.make.new.bodies; results = c.self.inside.results; taken = c.self.inside.taken.items; stuck = c.self.inside.stuck }) _ hand c.pop-t.new.self c.give_hook.new.self
-          c.worker.result c.pop-t.result.0 c.in-Hook.c c.args.ending c.pop-t.result.1 c.worker.ensures one (sym c.in-Hook.is ∙ c.make.ensures.step.0, c.make.ensures.step.1) c.pop-t.ensures c.give_hook.ensures refl c.make.ensures.bodies c.release_due.ensures,
+          c.worker.result c.pop-t.result.0 c.in-Hook.c c.args.ending c.pop-t.result.1 c.worker.ensures one (sym c.in-Hook.is ∙ c.make.ensures.step.0, c.make.ensures.step.1) c.pop-t.ensures.popped c.give_hook.ensures refl c.make.ensures.bodies c.release_due.ensures,
     )
 
 pub returns-in-Hook-clause-fits : goal.returns-in-Hook-clause-fits
@@ -51,7 +51,7 @@ returns-in-Hook-clause-fits g c =
     let hand = c.args.hand.now in
     let fits : Fits past hand = subst (λ p. Fits p hand) (ap (λ s. s.past) (sym c.self.view_is)) c.requires.fits in
     let fired = end_fired past c.worker.result c.in-Hook.c c.args.ending c.make.result c.make.ensures.step.0 c.in-Hook.is in
-    fired_fits past c.make.new.machine _ hand c.pop-t.new.self c.give_hook.new.self c.worker.result c.in-Hook.c c.pop-t.result.0 c.pop-t.result.1 _ c.release_due.ensures.tasks c.self.invariant.0.run fits c.worker.ensures c.pop-t.ensures
+    fired_fits past c.make.new.machine _ hand c.pop-t.new.self c.give_hook.new.self c.worker.result c.in-Hook.c c.pop-t.result.0 c.pop-t.result.1 _ c.release_due.ensures.tasks c.self.invariant.0.run fits c.worker.ensures c.pop-t.ensures.popped
     c.give_hook.ensures c.make.ensures.step.1 fired (ap (λ s. s.past) c.release_due.ensures.were)
 
 -- ---- no hook came
@@ -69,7 +69,7 @@ is_gone_now-requires g c =
     let hand = c.args.hand.now in
     let fits : Fits past hand = subst (λ p. Fits p hand) (ap (λ s. s.past) (sym c.self.view_is)) c.requires.fits in
     let over = end_unfired past c.worker.result c.args.ending c.make.result c.make.ensures.step.0 c.in_default.not-Hook c.in_default.not-Refused in
-    let ends = popped_ends past hand c.pop-t-in_default.new.self c.worker.result c.pop-t-in_default.result.0 c.pop-t-in_default.result.1 _ fits c.worker.ensures c.pop-t-in_default.ensures over in
+    let ends = popped_ends past hand c.pop-t-in_default.new.self c.worker.result c.pop-t-in_default.result.0 c.pop-t-in_default.result.1 _ fits c.worker.ensures c.pop-t-in_default.ensures.popped over in
     record {
       run = rw c.make.ensures.step.1 (history_more past _ c.self.invariant.0.run);
       kept = end_kept past c.make.new.machine c.worker.result c.pop-t-in_default.result.0 c.args.ending _ _ _ c.self.invariant.0 ends c.make.ensures.step.1;
@@ -81,7 +81,7 @@ invariant_of-self-then-is_gone_now g c =
     let hand = c.args.hand.now in
     let fits : Fits past hand = subst (λ p. Fits p hand) (ap (λ s. s.past) (sym c.self.view_is)) c.requires.fits in
     let over = end_unfired past c.worker.result c.args.ending c.make.result c.make.ensures.step.0 c.in_default.not-Hook c.in_default.not-Refused in
-    let ends = popped_ends past hand c.pop-t-in_default.new.self c.worker.result c.pop-t-in_default.result.0 c.pop-t-in_default.result.1 _ fits c.worker.ensures c.pop-t-in_default.ensures over in
+    let ends = popped_ends past hand c.pop-t-in_default.new.self c.worker.result c.pop-t-in_default.result.0 c.pop-t-in_default.result.1 _ fits c.worker.ensures c.pop-t-in_default.ensures.popped over in
     rw c.is_gone_now.ensures.same (
       out_stored past c.make.new.machine c.worker.result c.pop-t-in_default.result.0 c.args.ending _ _ _ _ c.self.invariant.0 ends c.make.ensures.step.1 c.make.ensures.bodies (sym c.is_gone_now.ensures.gone ∙ c.if-is_gone_now.true),
       rw (c.make.ensures.room, c.make.ensures.step.1) c.self.invariant.1,
@@ -89,7 +89,7 @@ invariant_of-self-then-is_gone_now g c =
       rw c.make.ensures.step.1 c.self.invariant.3,
       rw c.make.ensures.step.1 c.self.invariant.4,
       λ free. rw c.after-self-inside-in_default.ensures (step_due past c.make.new.machine (End c.worker.result c.args.ending) _ _ _ c.pop-t-in_default.result.0 c.self.inside.due c.self.invariant.0 c.make.ensures.step.1
-          (end_about past c.worker.result c.pop-t-in_default.result.0 c.args.ending c.self.invariant.0.run (popped_runs past c.args.hand.now c.pop-t-in_default.new.self c.worker.result c.pop-t-in_default.result.0 c.pop-t-in_default.result.1 fits c.worker.ensures c.pop-t-in_default.ensures))
+          (end_about past c.worker.result c.pop-t-in_default.result.0 c.args.ending c.self.invariant.0.run (popped_runs past c.args.hand.now c.pop-t-in_default.new.self c.worker.result c.pop-t-in_default.result.0 c.pop-t-in_default.result.1 fits c.worker.ensures c.pop-t-in_default.ensures.popped))
           (c.self.invariant.5 free)),
     )
 
@@ -99,17 +99,17 @@ returns-then-is_gone_now g c =
     let hand = c.args.hand.now in
     let fits : Fits past hand = subst (λ p. Fits p hand) (ap (λ s. s.past) (sym c.self.view_is)) c.requires.fits in
     let over = end_unfired past c.worker.result c.args.ending c.make.result c.make.ensures.step.0 c.in_default.not-Hook c.in_default.not-Refused in
-    let ends = popped_ends past hand c.pop-t-in_default.new.self c.worker.result c.pop-t-in_default.result.0 c.pop-t-in_default.result.1 _ fits c.worker.ensures c.pop-t-in_default.ensures over in
+    let ends = popped_ends past hand c.pop-t-in_default.new.self c.worker.result c.pop-t-in_default.result.0 c.pop-t-in_default.result.1 _ fits c.worker.ensures c.pop-t-in_default.ensures.popped over in
     let same = c.is_gone_now.ensures.same in
     record {
       ends = rw (← c.self.view_is) (
         c.if-self.false,
         ends_over_out _ (record { past = c.is_gone_now.new.machine; bodies = c.make.new.bodies; results = c.self.inside.results; taken = c.self.inside.taken.items; stuck = c.self.inside.stuck }) _ hand c.pop-t-in_default.new.self
             c.worker.result c.pop-t-in_default.result.0 c.args.ending c.pop-t-in_default.result.1 c.make.result c.worker.ensures (rw same c.make.ensures.step) (not_over c.make.result c.in_default.not-Hook c.in_default.not-Refused)
-            c.pop-t-in_default.ensures (rw same (sym c.is_gone_now.ensures.gone ∙ c.if-is_gone_now.true)) refl (rw same c.make.ensures.bodies) c.release_due-then-is_gone_now.ensures,
+            c.pop-t-in_default.ensures.popped (rw same (sym c.is_gone_now.ensures.gone ∙ c.if-is_gone_now.true)) refl (rw same c.make.ensures.bodies) c.release_due-then-is_gone_now.ensures,
       );
       fits = unfired_fits past c.is_gone_now.new.machine _ hand c.pop-t-in_default.new.self c.worker.result c.pop-t-in_default.result.0 c.pop-t-in_default.result.1 _ c.release_due-then-is_gone_now.ensures.tasks c.self.invariant.0.run fits c.worker.ensures
-          c.pop-t-in_default.ensures (same ∙ c.make.ensures.step.1) ends (ap (λ s. s.past) c.release_due-then-is_gone_now.ensures.were);
+          c.pop-t-in_default.ensures.popped (same ∙ c.make.ensures.step.1) ends (ap (λ s. s.past) c.release_due-then-is_gone_now.ensures.were);
     }
 
 pub put-requires : goal.put-requires
@@ -118,7 +118,7 @@ put-requires g c =
     let hand = c.args.hand.now in
     let fits : Fits past hand = subst (λ p. Fits p hand) (ap (λ s. s.past) (sym c.self.view_is)) c.requires.fits in
     let over = end_unfired past c.worker.result c.args.ending c.make.result c.make.ensures.step.0 c.in_default.not-Hook c.in_default.not-Refused in
-    let ends = popped_ends past hand c.pop-t-in_default.new.self c.worker.result c.pop-t-in_default.result.0 c.pop-t-in_default.result.1 _ fits c.worker.ensures c.pop-t-in_default.ensures over in
+    let ends = popped_ends past hand c.pop-t-in_default.new.self c.worker.result c.pop-t-in_default.result.0 c.pop-t-in_default.result.1 _ fits c.worker.ensures c.pop-t-in_default.ensures.popped over in
     record {
       free = end_free past c.make.new.machine c.worker.result c.pop-t-in_default.result.0 c.args.ending _ _ _ _ c.self.invariant.0 ends c.make.ensures.bodies;
       room = end_room past c.make.new.machine c.worker.result c.pop-t-in_default.result.0 c.make.new.bodies.room c.args.ending _ _ _ _ c.self.invariant.0 ends c.make.ensures.step.1 c.make.ensures.bodies (rw c.make.ensures.room c.self.invariant.1);
@@ -130,7 +130,7 @@ invariant_of-self-in_default g c =
     let hand = c.args.hand.now in
     let fits : Fits past hand = subst (λ p. Fits p hand) (ap (λ s. s.past) (sym c.self.view_is)) c.requires.fits in
     let over = end_unfired past c.worker.result c.args.ending c.make.result c.make.ensures.step.0 c.in_default.not-Hook c.in_default.not-Refused in
-    let ends = popped_ends past hand c.pop-t-in_default.new.self c.worker.result c.pop-t-in_default.result.0 c.pop-t-in_default.result.1 _ fits c.worker.ensures c.pop-t-in_default.ensures over in
+    let ends = popped_ends past hand c.pop-t-in_default.new.self c.worker.result c.pop-t-in_default.result.0 c.pop-t-in_default.result.1 _ fits c.worker.ensures c.pop-t-in_default.ensures.popped over in
     rw c.is_gone_now.ensures.same (
       in_stored past c.make.new.machine c.worker.result c.pop-t-in_default.result.0 c.args.ending _ _ _ c.pop-t-in_default.result.1 _ _ c.self.invariant.0 ends c.make.ensures.step.1 c.make.ensures.bodies (sym c.is_gone_now.ensures.gone ∙ c.if-is_gone_now.false)
           c.put.ensures.entries,
@@ -139,7 +139,7 @@ invariant_of-self-in_default g c =
       rw c.make.ensures.step.1 c.self.invariant.3,
       rw c.make.ensures.step.1 c.self.invariant.4,
       λ free. rw c.after-self-inside-in_default.ensures (step_due past c.make.new.machine (End c.worker.result c.args.ending) _ _ _ c.pop-t-in_default.result.0 c.self.inside.due c.self.invariant.0 c.make.ensures.step.1
-          (end_about past c.worker.result c.pop-t-in_default.result.0 c.args.ending c.self.invariant.0.run (popped_runs past c.args.hand.now c.pop-t-in_default.new.self c.worker.result c.pop-t-in_default.result.0 c.pop-t-in_default.result.1 fits c.worker.ensures c.pop-t-in_default.ensures))
+          (end_about past c.worker.result c.pop-t-in_default.result.0 c.args.ending c.self.invariant.0.run (popped_runs past c.args.hand.now c.pop-t-in_default.new.self c.worker.result c.pop-t-in_default.result.0 c.pop-t-in_default.result.1 fits c.worker.ensures c.pop-t-in_default.ensures.popped))
           (c.self.invariant.5 free)),
     )
 
@@ -149,15 +149,15 @@ returns-else-is_gone_now g c =
     let hand = c.args.hand.now in
     let fits : Fits past hand = subst (λ p. Fits p hand) (ap (λ s. s.past) (sym c.self.view_is)) c.requires.fits in
     let over = end_unfired past c.worker.result c.args.ending c.make.result c.make.ensures.step.0 c.in_default.not-Hook c.in_default.not-Refused in
-    let ends = popped_ends past hand c.pop-t-in_default.new.self c.worker.result c.pop-t-in_default.result.0 c.pop-t-in_default.result.1 _ fits c.worker.ensures c.pop-t-in_default.ensures over in
+    let ends = popped_ends past hand c.pop-t-in_default.new.self c.worker.result c.pop-t-in_default.result.0 c.pop-t-in_default.result.1 _ fits c.worker.ensures c.pop-t-in_default.ensures.popped over in
     let same = c.is_gone_now.ensures.same in
     record {
       ends = rw (← c.self.view_is) (
         c.if-self.false,
         ends_over_in _ (record { past = c.is_gone_now.new.machine; bodies = c.put.new.self; results = c.self.inside.results; taken = c.self.inside.taken.items; stuck = c.self.inside.stuck }) _ hand c.pop-t-in_default.new.self
             c.worker.result c.pop-t-in_default.result.0 c.args.ending c.pop-t-in_default.result.1 c.make.result _ c.worker.ensures (rw same c.make.ensures.step) (not_over c.make.result c.in_default.not-Hook c.in_default.not-Refused)
-            c.pop-t-in_default.ensures (rw same (sym c.is_gone_now.ensures.gone ∙ c.if-is_gone_now.false)) refl (rw same c.make.ensures.bodies) c.put.ensures.entries c.release_due-in_default.ensures,
+            c.pop-t-in_default.ensures.popped (rw same (sym c.is_gone_now.ensures.gone ∙ c.if-is_gone_now.false)) refl (rw same c.make.ensures.bodies) c.put.ensures.entries c.release_due-in_default.ensures,
       );
       fits = unfired_fits past c.is_gone_now.new.machine _ hand c.pop-t-in_default.new.self c.worker.result c.pop-t-in_default.result.0 c.pop-t-in_default.result.1 _ c.release_due-in_default.ensures.tasks c.self.invariant.0.run fits c.worker.ensures
-          c.pop-t-in_default.ensures (same ∙ c.make.ensures.step.1) ends (ap (λ s. s.past) c.release_due-in_default.ensures.were);
+          c.pop-t-in_default.ensures.popped (same ∙ c.make.ensures.step.1) ends (ap (λ s. s.past) c.release_due-in_default.ensures.were);
     }

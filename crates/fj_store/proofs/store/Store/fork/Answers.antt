@@ -2,7 +2,7 @@ use Rattle.std.proofs.Common.{[], ◌∷◌, refl, sym, ◌∙◌}
 use Rattle.fj_model.specs.declared.event.Event.TheVariants.{Acc}
 use Rattle.fj_model.specs.declared.owner.Owner.TheVariants.{Work}
 use Rattle.fj_model.specs.declared.step.Step.TheVariants.{Fork}
-use Rattle.fj_store.proofs.Steps.{fork_replies, fork_made}
+use Rattle.fj_model.proofs.Steps.Answered.{fork_replies, fork_made}
 use Rattle.fj_store.proofs.Stored.{accept_stored, accept_free, accept_room, none_released_acc}
 use Rattle.fj_store.proofs.DueTasks.{still_due}
 use Rattle.fj_store.proofs.store.Store.fork.Goals as goal

@@ -1,8 +1,8 @@
 use Rattle.std.proofs.Common.{subst}
 use Rattle.fj_model.specs.declared.step.Step.TheVariants.{Help}
 use Rattle.fj_model.specs.Answers.{answer}
-use Rattle.fj_store.specs.Choosing.{TakesChoice}
-use Rattle.fj_store.proofs.Steps.{help_takes, help_only}
+use Rattle.fj_model.specs.ChoiceTaken.{TakesChoice}
+use Rattle.fj_model.proofs.Steps.Answered.{help_takes, help_only}
 use Rattle.fj_store.proofs.Polling.{only_choice}
 use Rattle.fj_store.proofs.store.Store.help.Goals as goal
 

@@ -1,5 +1,5 @@
 use Rattle.std.proofs.Common.{sym, ◌∙◌}
-use Rattle.fj_store.proofs.Refusals.{first_met, met_closed, met_open, met_free}
+use Rattle.fj_model.proofs.Steps.SubmitRefused.{first_met, met_closed, met_open, met_free}
 use Rattle.fj_store.proofs.store.Store.is_shut.Goals as goal
 
 pub returns-in-Closed : goal.returns-in-Closed

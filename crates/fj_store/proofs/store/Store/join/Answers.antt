@@ -3,8 +3,8 @@ use Rattle.fj_model.specs.declared.event.Event.TheVariants.{Rel}
 use Rattle.fj_model.specs.declared.step.Step.TheVariants.{Join}
 use Rattle.fj_model.specs.Answers.{answer}
 use Rattle.fj_model.specs.Runs.{grown}
-use Rattle.fj_store.specs.Choosing.{TakesChoice}
-use Rattle.fj_store.proofs.Steps.{join_takes}
+use Rattle.fj_model.specs.ChoiceTaken.{TakesChoice}
+use Rattle.fj_model.proofs.Steps.Answered.{join_takes}
 use Rattle.fj_store.proofs.Taking.{released_fits}
 use Rattle.fj_store.proofs.store.Store.join.Goals as goal
 

@@ -4,10 +4,10 @@ use Rattle.fj_model.specs.declared.step.Step.TheVariants.{End}
 use Rattle.fj_model.specs.declared.step.Ending.TheVariants.{Ok as EndOk}
 use Rattle.fj_model.specs.Runs.{grown}
 use Rattle.fj_store.specs.Fitting.{Fits}
-use Rattle.fj_store.proofs.Steps.{ok_done, ok_replies, end_free}
+use Rattle.fj_model.proofs.Steps.Answered.{ok_done, ok_replies, end_free}
 use Rattle.fj_store.proofs.Endings.{ok_stored, filled, newest_kept, ok_fits, asker_is}
 use Rattle.fj_store.proofs.Completing.{popped_runs}
-use Rattle.fj_store.proofs.Ways.{end_about}
+use Rattle.fj_model.proofs.Steps.AboutTasks.{end_about}
 use Rattle.fj_store.proofs.DueTasks.{step_due}
 use Rattle.fj_store.proofs.store.Store.ok.Goals as goal
 
@@ -27,7 +27,7 @@ invariant_of-self g c =
       rw c.step.ensures.step.1 c.self.invariant.3,
       rw c.step.ensures.step.1 c.self.invariant.4,
       λ free. rw c.after-self-inside.ensures (step_due past c.step.new.self (End c.worker.result EndOk) _ _ _ c.pop-t.result.0 c.self.inside.due c.self.invariant.0 c.step.ensures.step.1
-          (end_about past c.worker.result c.pop-t.result.0 EndOk c.self.invariant.0.run (popped_runs past c.args.hand.now c.pop-t.new.self c.worker.result c.pop-t.result.0 c.pop-t.result.1 fits c.worker.ensures c.pop-t.ensures))
+          (end_about past c.worker.result c.pop-t.result.0 EndOk c.self.invariant.0.run (popped_runs past c.args.hand.now c.pop-t.new.self c.worker.result c.pop-t.result.0 c.pop-t.result.1 fits c.worker.ensures c.pop-t.ensures.popped))
           (c.self.invariant.5 free)),
     )
 
@@ -36,7 +36,7 @@ new-requires g c =
     let past = c.self.inside.machine in
     let fits : Fits past c.args.hand.now = subst (λ p. Fits p c.args.hand.now) (ap (λ s. s.past) (sym c.self.view_is)) c.requires.fits in
     let free = end_free past c.worker.result c.step.result c.step.ensures.step.0 c.in-Done.is in
-    let asks = asker_is past c.args.hand.now c.pop-t.new.self c.worker.result c.pop-t.result.0 c.pop-t.result.1 fits c.worker.ensures free c.pop-t.ensures in
+    let asks = asker_is past c.args.hand.now c.pop-t.new.self c.worker.result c.pop-t.result.0 c.pop-t.result.1 fits c.worker.ensures free c.pop-t.ensures.popped in
     rw c.into_key.ensures (rw asks at c.requires.right)
 
 pub keep-requires : goal.keep-requires
@@ -44,7 +44,7 @@ keep-requires g c =
     let past = c.self.inside.machine in
     let fits : Fits past c.args.hand.now = subst (λ p. Fits p c.args.hand.now) (ap (λ s. s.past) (sym c.self.view_is)) c.requires.fits in
     rw c.step.ensures.step.1
-    (newest_kept past c.args.hand.now c.pop-t.new.self c.worker.result c.pop-t.result.0 c.pop-t.result.1 c.self.invariant.0.run fits c.worker.ensures c.pop-t.ensures
+    (newest_kept past c.args.hand.now c.pop-t.new.self c.worker.result c.pop-t.result.0 c.pop-t.result.1 c.self.invariant.0.run fits c.worker.ensures c.pop-t.ensures.popped
     (ok_done past c.worker.result c.step.result c.step.ensures.step.0 c.in-Done.is))
 
 pub returns-in-Done-clause-fits : goal.returns-in-Done-clause-fits
@@ -52,7 +52,7 @@ returns-in-Done-clause-fits g c =
     let past = c.self.inside.machine in
     let fits : Fits past c.args.hand.now = subst (λ p. Fits p c.args.hand.now) (ap (λ s. s.past) (sym c.self.view_is)) c.requires.fits in
     ok_fits past c.step.new.self _ c.args.hand.now c.pop-t.new.self c.worker.result c.pop-t.result.0 c.pop-t.result.1 _ c.release_due.ensures.tasks c.self.invariant.0.run fits
-    c.worker.ensures c.pop-t.ensures c.step.ensures.step.1
+    c.worker.ensures c.pop-t.ensures.popped c.step.ensures.step.1
     (ok_done past c.worker.result c.step.result c.step.ensures.step.0 c.in-Done.is)
     (ap (λ s. s.past) c.release_due.ensures.were ∙ ap (λ p. grown p (map Rel c.release_due.ensures.tasks)) c.keep.ensures.past)
 

@@ -1,8 +1,8 @@
 use Rattle.std.proofs.Common.{sym, ap, subst, ◌∙◌}
 use Rattle.fj_model.specs.declared.step.Step.TheVariants.{Poll}
 use Rattle.fj_model.specs.Answers.{answer}
-use Rattle.fj_store.specs.Choosing.{TakesChoice}
-use Rattle.fj_store.proofs.Steps.{poll_takes, poll_only}
+use Rattle.fj_model.specs.ChoiceTaken.{TakesChoice}
+use Rattle.fj_model.proofs.Steps.Answered.{poll_takes, poll_only}
 use Rattle.fj_store.proofs.Polling.{only_choice, poll_sticks}
 use Rattle.fj_store.proofs.store.Store.poll.Goals as goal
 

@@ -1,5 +1,6 @@
 use Rattle.std.proofs.Common.{◌≡◌, List, ℕ, length}
-use Rattle.fj_store.specs.Releases.{CanAllGo, released_of}
+use Rattle.fj_model.specs.Releasable.{CanAllGo}
+use Rattle.fj_store.specs.Releases.{released_of}
 use Rattle.fj_store.proofs.store.Store.release_all.Given as goal
 
 -- these were released

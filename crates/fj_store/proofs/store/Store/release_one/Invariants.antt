@@ -1,6 +1,6 @@
 use Rattle.std.proofs.Common.{◌≡◌, ℕ, true, false, take}
 use Rattle.fj_model.specs.Lists.{is_in}
-use Rattle.fj_store.specs.Releases.{can_go}
+use Rattle.fj_model.specs.Releasable.{can_go}
 use Rattle.fj_store.proofs.store.Store.release_one.Given as goal
 
 -- nothing has changed, and none of those before can go

@@ -1,5 +1,5 @@
-use Rattle.fj_store.proofs.Full.{history_fits}
-use Rattle.fj_store.proofs.Steps.{state_same, state_replies}
+use Rattle.fj_model.proofs.Steps.RunsGrow.{history_fits}
+use Rattle.fj_model.proofs.Steps.Answered.{state_same, state_replies}
 use Rattle.fj_store.proofs.store.Store.state.Goals as goal
 
 pub invariant_of-self : goal.invariant_of-self

@@ -4,7 +4,7 @@ use Rattle.fj_model.specs.declared.owner.Owner.TheVariants.{Sub}
 use Rattle.fj_model.specs.declared.step.Step.TheVariants.{Submit}
 use Rattle.fj_model.specs.Tasks.{submitted_kind}
 use Rattle.fj_model.specs.Answers.{refusal_of}
-use Rattle.fj_store.proofs.Steps.{submit_made, submit_task}
+use Rattle.fj_model.proofs.Steps.Answered.{submit_made, submit_task}
 use Rattle.fj_store.proofs.Stored.{accept_stored, accept_free, accept_room, none_released_acc}
 use Rattle.fj_store.proofs.DueTasks.{still_due}
 use Rattle.fj_store.proofs.store.Store.submit.Goals as goal

@@ -1,7 +1,7 @@
 use Rattle.std.proofs.Common.{Some, inl, inr, refl, sym, ap, ◌∙◌}
 use Rattle.fj_model.specs.Places.{is_gone}
-use Rattle.fj_store.proofs.Full.{history_fits}
-use Rattle.fj_store.proofs.Steps.{state_same, state_place, state_refused, state_replies}
+use Rattle.fj_model.proofs.Steps.RunsGrow.{history_fits}
+use Rattle.fj_model.proofs.Steps.Answered.{state_same, state_place, state_refused, state_replies}
 use Rattle.fj_store.proofs.store.Store.take.Goals as goal
 
 pub invariant_of-self : goal.invariant_of-self

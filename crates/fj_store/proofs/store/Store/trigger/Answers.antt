@@ -2,7 +2,7 @@ use Rattle.std.proofs.Common.{true, None, [], ◌∷◌, refl, sym, ◌∙◌}
 use Rattle.fj_model.specs.declared.event.Event.TheVariants.{Make}
 use Rattle.fj_model.specs.declared.kind.Kind.TheVariants.{Completer}
 use Rattle.fj_model.specs.declared.step.Step.TheVariants.{Trigger}
-use Rattle.fj_store.proofs.Steps.{trigger_replies, trigger_made}
+use Rattle.fj_model.proofs.Steps.Answered.{trigger_replies, trigger_made}
 use Rattle.fj_store.proofs.Stored.{make_stored, accept_free, accept_room, none_released_make}
 use Rattle.fj_store.proofs.DueTasks.{still_due}
 use Rattle.fj_store.proofs.store.Store.trigger.Goals as goal

@@ -1,6 +1,6 @@
 use Rattle.std.proofs.Common.{◌≡◌, true, refl, sym, ◌∙◌, ap}
 use Rattle.fj_model.specs.Lists.{is_in}
-use Rattle.fj_store.proofs.Steps.{refusal_same, refused_not_done}
+use Rattle.fj_model.proofs.Steps.Answered.{refusal_same, refused_not_done}
 use Rattle.fj_store.proofs.Releases.{hooked_stays, went, finds_full, stays, release_replies, release_stored}
 use Rattle.fj_store.proofs.store.Store.try_release.Goals as goal
 

@@ -1,0 +1,20 @@
+-- an entry of a list after one was set
+mod SetAt
+-- the table of first bookings
+mod Index
+-- the bookings beside the lanes
+mod Lanes
+-- where the closing number is reached
+mod Reached
+-- what a call of the store leaves of the core
+mod Frames
+-- what the step that is due leaves
+mod Shutting
+-- an intake
+mod TakingIn
+-- a hand fits as before
+mod Bare
+-- what each action of a body leaves of the core
+mod Acts
+-- the parts that are kept
+mod Parts

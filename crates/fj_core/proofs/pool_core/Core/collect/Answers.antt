@@ -1,0 +1,8 @@
+use Rattle.fj_core.proofs.Frames.{core_stays, collects_stay}
+use Rattle.fj_core.proofs.Parts.{parts_stay}
+use Rattle.fj_core.proofs.pool_core.Core.collect.Goals as goal
+
+pub invariant_of-self : goal.invariant_of-self
+invariant_of-self g c =
+    let stays = collects_stay _ _ _ _ c.collect.ensures in
+    (core_stays _ _ _ _ _ stays c.self.invariant.0, c.self.invariant.1, parts_stay _ _ _ stays c.self.invariant.2)

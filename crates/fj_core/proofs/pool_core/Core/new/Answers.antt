@@ -1,0 +1,33 @@
+use Rattle.std.proofs.Common.{rules, ◌≡◌, ◌∙◌, [], ap, sym, subst, refl}
+use Rattle.fj_model.proofs.Headline.Parting.{fits_none}
+use Rattle.fj_core.proofs.Lanes.{new_booked, enough_room}
+use Rattle.fj_core.proofs.Reached.{new_closing}
+use Rattle.fj_core.specs.Booked.{AreBooked, Booked}
+use Rattle.fj_core.specs.Cores.{AreParts}
+use Rattle.fj_core.proofs.pool_core.Core.new.Goals as goal
+
+pub invariant_of-core : goal.invariant_of-core
+invariant_of-core g c =
+    let past = c.in_ok-store.ensures.past in
+    let none : c.in_ok-bookings.bookings.bookings ≡ [] = ap (λ (b : Booked). b.bookings) c.in_ok-bookings.ensures in (
+      record {
+        booked = subst (λ bs. AreBooked c.in_ok-store.store.past c.args.drains.items bs) (sym none)
+            (new_booked _ _ (ap (λ p. p.events) past) (sym c.args.drains.ok.0 ∙ c.requires.lanes ∙ sym (ap (λ p. p.pool.limits.submitters) past)) c.requires.untouched);
+        closes = new_closing _ _ _ _ (ap (λ p. p.events) past) (ap (λ k. k.number) c.new-3.ensures);
+      },
+      enough_room _ c.args.lane_capacity c.args.limits.submitters _ c.requires.capacities (sym c.args.drains.ok.0 ∙ c.requires.lanes) (search rules),
+      subst (λ ps. AreParts ps c.in_ok-store.store.past) (sym c.new-4.ensures.items) (subst (AreParts []) (sym past) (fits_none _ _)),
+    )
+
+pub returns-clause-core : goal.returns-clause-core
+returns-clause-core g c = record {
+  past = c.in_ok-store.ensures.past;
+  bodies = c.in_ok-store.ensures.bodies;
+  results = c.in_ok-store.ensures.results;
+  taken = c.in_ok-store.ensures.taken;
+  free = c.in_ok-store.ensures.free;
+  lanes_same = refl;
+  bookings = ap (λ (b : Booked). b.bookings) c.in_ok-bookings.ensures;
+  closing = c.new-3.ensures;
+  parts = c.new-4.ensures.items;
+}

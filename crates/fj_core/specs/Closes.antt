@@ -1,0 +1,42 @@
+-- The closing number is set, and what is due is made.
+use Rattle.std.specs.Prelude.{ℕ, ◌≡◌, ◌⊎◌, ◌==◌, ◌&&◌, Bool, true, false, length, Option, Some, None}
+use Rattle.fj_model.specs.declared.step.Step.{Step}
+use Rattle.fj_model.specs.declared.step.Step.TheVariants.{Shutdown, Stop}
+use Rattle.fj_model.specs.Answers.{is_quiet}
+use Rattle.fj_store.specs.Stores.{StoreState}
+use Rattle.fj_store.specs.Choosing.{WasStuck}
+use Rattle.fj_store.specs.Asking.{Shuts}
+use Rattle.fj_core.specs.declared.closing.Closing.{Closing}
+use Rattle.fj_core.specs.Closings.{first_set, is_due, is_over}
+use Rattle.fj_core.specs.Cores.{CoreState}
+
+-- the step that is made where the number is reached
+abbrev pub shut_step : Bool → Step
+shut_step true = Stop
+shut_step false = Shutdown
+
+abbrev pub is_number : Option ℕ → ℕ → Bool
+is_number None n = false
+is_number (Some m) n = m == n
+
+-- by `close_at`, and by `stop_at`
+abbrev pub closed_at : Closing → ℕ → Closing
+closed_at closing number = record closing { number = first_set closing.number number }
+
+abbrev pub stopped_at : Closing → ℕ → Closing
+stopped_at closing number = record { number = first_set closing.number number; stopping = true }
+
+module _ {B K O : Type 0} where
+  -- where it is due, the step is made, or finds no room; a stuck store makes none
+  abbrev pub Dues : Bool → Bool → StoreState B K O → StoreState B K O → Type 0
+  Dues false stopping old new = new ≡ old
+  Dues true stopping old new = WasStuck old new ⊎ ((old.stuck ≡ false) × ((made : Bool) × Shuts old (shut_step stopping) made new))
+
+  -- this is the closing number and the step from now on, and what is due then is made
+  pub record ShutsAt (old : CoreState B K O) (closing : Closing) (new : CoreState B K O) : Type 0 where
+    pub sets : new ≡ record old { store = new.store; closing = closing }
+    pub due : Dues (is_due closing.number (length old.bookings)) closing.stopping old.store new.store
+
+  -- whether it is terminated: shut, with exactly so many submissions taken in as the number says, and quiescent
+  abbrev pub is_finished : CoreState B K O → Bool
+  is_finished c = is_number c.closing.number (length c.bookings) && is_over c.store.past.events && is_quiet c.store.past.pool.limits c.store.past.events

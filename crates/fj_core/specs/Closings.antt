@@ -1,0 +1,29 @@
+-- The closing number, and which step is made where it is reached.
+use Rattle.std.specs.Prelude.{ℕ, ◌≡◌, ◌≤◌, Bool, true, false, ◌||◌, List, Option, Some, None, nat_le}
+use Rattle.fj_model.specs.declared.event.Event.{Event}
+use Rattle.fj_model.specs.Allowed.{is_closed, is_stopped}
+use Rattle.fj_core.specs.declared.closing.Closing.{Closing}
+
+-- whether so many submissions reach the number
+abbrev pub is_due : Option ℕ → ℕ → Bool
+is_due None taken_in = false
+is_due (Some n) taken_in = nat_le n taken_in
+
+-- the first number stays
+abbrev pub first_set : Option ℕ → ℕ → Option ℕ
+first_set (Some m) n = Some m
+first_set None n = Some n
+
+-- whether `Close` or `Stop` stands
+abbrev pub is_over : List Event → Bool
+is_over h = is_closed h || is_stopped h
+
+-- the number was set, and so many submissions reach it
+abbrev pub IsReached : Option ℕ → ℕ → Type 0
+IsReached number taken_in = (n : ℕ) × (number ≡ Some n) × (n ≤ taken_in)
+
+-- `Close` or `Stop` stands only where the number was reached; there one of them stands, `Stop` where it is to be made, unless the core is stuck
+pub record IsClosing (h : List Event) (taken_in : ℕ) (closing : Closing) (stuck : Bool) : Type 0 where
+  pub only : is_over h ≡ true → IsReached closing.number taken_in
+  pub there : stuck ≡ false → IsReached closing.number taken_in → is_over h ≡ true
+  pub stop : stuck ≡ false → closing.stopping ≡ true → IsReached closing.number taken_in → is_stopped h ≡ true

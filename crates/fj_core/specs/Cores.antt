@@ -1,0 +1,86 @@
+-- What contracts see of a core.
+use Rattle.std.specs.Prelude.{ℕ, ◌≡◌, ◌+◌, ◌%◌, ◌^◌, Bool, true, false, List, [], length, map, Option, Some, None, Result, Err}
+use Rattle.std.specs.List.{range_with_len}
+use Rattle.fj_model.specs.declared.epoch.Sealed.{Sealed}
+use Rattle.fj_model.specs.declared.mode.Mode.{Mode}
+use Rattle.fj_model.specs.declared.refusal.Refusal.{Refusal}
+use Rattle.fj_model.specs.declared.refusal.Refusal.TheVariants.{LogFull, Unknown}
+use Rattle.fj_model.specs.declared.step.Step.{Step}
+use Rattle.fj_model.specs.declared.step.Step.TheVariants as ask
+use Rattle.fj_model.specs.declared.owner.Owner.TheVariants.{Sub}
+use Rattle.fj_model.specs.Queues.{pushed}
+use Rattle.fj_model.specs.Allowed.{is_closed, is_stopped}
+use Rattle.fj_model.specs.Bounds.{Bounds}
+use Rattle.fj_model.specs.Parts.{Fits}
+use Rattle.fj_model.specs.Pasts.{Past, fresh}
+use Rattle.fj_model.specs.Inside.{IsInside}
+use Rattle.fj_lane.specs.Ends.{DrainState}
+use Rattle.fj_shelf.specs.Shelves.{entries, no_entries}
+use Rattle.fj_shelf.specs.Hands.{HandState, new_hand}
+use Rattle.fj_store.specs.declared.outcomes.Outcome.{Outcome}
+use Rattle.fj_store.specs.Results.{Collects}
+use Rattle.fj_store.specs.Stores.{StoreState}
+use Rattle.fj_core.specs.declared.booking.Booking.{Booking}
+use Rattle.fj_core.specs.declared.closing.Closing.{Closing}
+use Rattle.fj_core.specs.Booked.{AreBooked, booked_under}
+use Rattle.fj_core.specs.Closings.{IsClosing, is_due}
+
+-- these are the parts of the history that were sealed
+abbrev pub AreParts : List Sealed → Past → Type 0
+AreParts parts past = Fits parts past
+
+-- what contracts see of a core: its store, the drain of each submitter, what was taken in, the closing number, and the sealed parts
+pub record CoreState (B K O : Type 0) : Type 0 where
+  pub store : StoreState B K O
+  pub lanes : List (DrainState B)
+  pub bookings : List Booking
+  pub closing : Closing
+  pub parts : List Sealed
+
+-- the first hands: worker w scans from `start + w` on, which wraps in 32 bits
+abbrev pub first_hands : {B : Type 0} → ℕ → ℕ → List (HandState B)
+first_hands workers start = map (λ w. new_hand w ((start + w) % 2 ^ 32)) (range_with_len 0 workers)
+
+module _ {B K O : Type 0} where
+  -- what holds of every core
+  pub record IsCore (store : StoreState B K O) (lanes : List (DrainState B)) (bookings : List Booking) (closing : Closing) : Type 0 where
+    pub booked : AreBooked store.past lanes bookings
+    pub closes : IsClosing store.past.events (length bookings) closing store.stuck
+
+  -- nothing has happened, and nothing was taken in
+  pub record IsNew (mode : Mode) (limits : Bounds) (lanes : List (DrainState B)) (core : CoreState B K O) : Type 0 where
+    pub past : core.store.past ≡ fresh mode limits
+    pub bodies : entries core.store.bodies ≡ no_entries
+    pub results : entries core.store.results ≡ no_entries
+    pub taken : core.store.taken ≡ []
+    pub free : core.store.stuck ≡ false
+    pub lanes_same : core.lanes ≡ lanes
+    pub bookings : core.bookings ≡ []
+    pub closing : core.closing ≡ record { number = None; stopping = false }
+    pub parts : core.parts ≡ []
+
+  -- what a call that reaches only the store leaves of it
+  pub record StaysInside (old new : StoreState B K O) : Type 0 where
+    pub past : IsInside old.past new.past
+    pub stuck : new.stuck ≡ false → old.stuck ≡ false
+
+  -- nothing but the store has changed
+  abbrev pub ChangesStore : CoreState B K O → CoreState B K O → Type 0
+  ChangesStore old new = new ≡ record old { store = new.store }
+
+  abbrev pub unless_due : Bool → Option (Result (Outcome B K O) Refusal)
+  unless_due true = Some (Err Unknown)
+  unless_due false = None
+
+  -- the outcome of the task that was booked under a ticket; of a ticket under which nothing will be booked any more it is Unknown
+  abbrev pub CollectsBooked : Option ℕ → CoreState B K O → Option (Result (Outcome B K O) Refusal) → CoreState B K O → Type 0
+  CollectsBooked (Some t) old answer new = Collects old.store t answer new.store × ChangesStore old new
+  CollectsBooked None old answer new = (answer ≡ unless_due (is_due old.closing.number (length old.bookings))) × (new ≡ old)
+
+  -- the same, unless it is stuck
+  abbrev pub CollectsUnless : Bool → Option ℕ → CoreState B K O → Option (Result (Outcome B K O) Refusal) → CoreState B K O → Type 0
+  CollectsUnless true booked old answer new = (answer ≡ Some (Err LogFull)) × (new ≡ old)
+  CollectsUnless false booked old answer new = CollectsBooked booked old answer new
+
+  abbrev pub CollectsTicket : CoreState B K O → ℕ → Option (Result (Outcome B K O) Refusal) → CoreState B K O → Type 0
+  CollectsTicket old ticket answer new = CollectsUnless old.store.stuck (booked_under old.bookings ticket) old answer new

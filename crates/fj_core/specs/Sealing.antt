@@ -1,0 +1,31 @@
+-- The history of a core is sealed, and the part kept.
+use Rattle.std.specs.Prelude.{◌≡◌, ◌⊎◌, ◌&&◌, not, ⊤, Bool, true, false, Result, Ok, Err, [], ◌∷◌, ◌++◌}
+use Rattle.fj_model.specs.declared.epoch.Sealed.{Sealed}
+use Rattle.fj_model.specs.declared.refusal.Refusal.{Refusal}
+use Rattle.fj_model.specs.declared.refusal.Refusal.TheVariants.{LogFull, OutOfMemory}
+use Rattle.fj_model.specs.Answers.{is_quiet}
+use Rattle.fj_model.specs.Epochs.{RefusesSeal}
+use Rattle.fj_model.specs.Pasts.{Past}
+use Rattle.fj_store.specs.Sealing.{HandsPart, is_half_full}
+use Rattle.fj_core.specs.Closings.{is_over}
+use Rattle.fj_core.specs.Cores.{CoreState}
+
+-- whether it is time for a seal: the history is more than half full, and the machine is open and quiescent
+abbrev pub may_be_sealed : Past → Bool
+may_be_sealed past = is_half_full past && not (is_over past.events) && is_quiet past.pool.limits past.events
+
+module _ {B K O : Type 0} where
+  -- the store hands its part out, which is kept behind those before it, and nothing else has changed
+  pub record KeepsPart (old new : CoreState B K O) : Type 0 where
+    pub part : Sealed
+    pub hands : HandsPart old.store part new.store
+    pub others : new ≡ record old { store = new.store; parts = old.parts ++ part ∷ [] }
+
+  -- LogFull where it is stuck, else OutOfMemory where there is no place for a part, else as the machine refuses it
+  abbrev pub RefusesCoreSeal : CoreState B K O → Refusal → Type 0
+  RefusesCoreSeal core r = ((core.store.stuck ≡ true) × (r ≡ LogFull)) ⊎ ((core.store.stuck ≡ false) × ((r ≡ OutOfMemory) ⊎ RefusesSeal core.store.past r))
+
+  -- a seal; or it is refused, and nothing has changed
+  abbrev pub SealsCore : CoreState B K O → Result ⊤ Refusal → CoreState B K O → Type 0
+  SealsCore old (Ok done) new = KeepsPart old new
+  SealsCore old (Err r) new = RefusesCoreSeal old r × (new ≡ old)

@@ -1,0 +1,100 @@
+ghost use Rattle.std.specs.Prelude.{◌≡◌, ◌<◌, ◌∷◌, ◌++◌, [], length, IfOk, IsTrue, ◌↔◌, slice_get};
+ghost use Rattle.fj_core.specs.Booked.{booked_under, marked};
+
+use crate::booking::Booking;
+use fj_gate::Ticket;
+use fj_model::{OutOfMemory, Serial};
+use std::alloc::Global;
+use std::marker::Model;
+
+/// What was taken in, in order, each found by its ticket without a walk.
+#[derive(Drop)]
+pub struct Bookings {
+    list: Vec<Booking>,
+    /// By ticket: the place of the first booking under it.
+    first: Vec<Option<u32>>,
+    room: u32,
+}
+
+impl Model for Bookings {
+    ghost use Rattle.std.specs.Prelude.{◌≤◌, vec_capacity, length};
+    ghost use Rattle.fj_core.specs.Booked.{Booked, IsIndex};
+
+    ghost Value = { Booked };
+
+    ghost view = { λ b. record { bookings = b.list.items; room = b.room } };
+
+    ghost invariant = { λ b. (b.room ≤ vec_capacity b.list) × (length b.list.items ≤ b.room) × IsIndex b.list.items b.first.items };
+}
+
+impl Bookings {
+    /// No bookings, with room for so many, and for the tickets below that number. Refused only where out of memory.
+    pub fn new(alloc: Global, room: u32) -> Result<Bookings, OutOfMemory>
+        ensures { IfOk result (λ b. b ≡ record { bookings = []; room = room }) }
+    {
+        Ok(Bookings {
+            list: Vec::with_capacity(alloc, room as usize)?,
+            first: Vec::from_elem(alloc, None, room as usize)?,
+            room,
+        })
+    }
+
+    /// How many there are.
+    pub fn len(&self) -> usize
+        ensures { result ≡ length self.now.bookings }
+    {
+        self.list.len()
+    }
+
+    /// Whether there is room for one more.
+    pub fn has_room(&self) -> bool
+        ensures { IsTrue result ↔ (length self.now.bookings < self.now.room) }
+    {
+        self.list.len() < self.room as usize
+    }
+
+    /// One more, at the end. Precondition: there is room.
+    pub fn push(&mut self, booking: Booking)
+        requires { length self.old.bookings < self.old.room }
+        ensures { self.new ≡ record self.old { bookings = self.old.bookings ++ booking ∷ [] } }
+    {
+        mark(&mut self.first, booking.ticket, self.list.len() as u32);
+        self.list.push_reserved(booking);
+    }
+
+    /// The task that was taken in first under a ticket. None if none was.
+    ///
+    /// A ticket that is not below the room is none that a gate of so many admissions draws; it is looked for by a walk.
+    pub fn find(&self, ticket: Ticket) -> Option<Serial>
+        ensures { result ≡ booked_under self.now.bookings ticket }
+    {
+        match entry(self.first.as_slice(), ticket) {
+            Some(first) => {
+                let place = first?;
+                Some(self.list[place as usize].serial)
+            }
+            None => {
+                let booking = self.list.iter().find(|booking| booking.ticket == ticket)?;
+                Some(booking.serial)
+            }
+        }
+    }
+}
+
+/// The entry of the table for a ticket, where the table reaches it.
+fn entry(first: &[Option<u32>], ticket: Ticket) -> Option<Option<u32>>
+    ensures { result ≡ slice_get first.now ticket }
+{
+    first.get(ticket.0 as usize).copied()
+}
+
+/// Puts a place into the table for a ticket that has none.
+fn mark(first: &mut Vec<Option<u32>>, ticket: Ticket, place: u32)
+    ensures { first.new.items ≡ marked first.old.items ticket place }
+{
+    if let Some(known) = entry(first.as_slice(), ticket) {
+        if known.is_none() {
+            first[ticket.0 as usize] = Some(place);
+        }
+    }
+}

@@ -1,0 +1,26 @@
+ghost use Rattle.fj_core.specs.Closes.{Dues, shut_step};
+ghost use Rattle.fj_core.specs.Closings.{is_due};
+ghost use Rattle.fj_store.specs.Asking.{Shuts};
+
+use crate::closing::Closing;
+use fj_store::{Body, Store};
+
+/// Makes the Shutdown or the Stop, if so many submissions reach the closing number, unless the store is stuck.
+pub fn make_due<B: Body>(store: &mut Store<B>, closing: Closing, taken_in: usize)
+    ensures { Dues (is_due closing.number taken_in) closing.stopping store.old store.new }
+{
+    if closing.is_due(taken_in) && !store.is_stuck() {
+        let _made = shut(store, closing.stopping);
+    }
+}
+
+/// Makes the Stop, or the Shutdown. False where the history is full: then the store is stuck.
+fn shut<B: Body>(store: &mut Store<B>, stopping: bool) -> bool
+    ensures { Shuts store.old (shut_step stopping) result store.new }
+{
+    if stopping {
+        store.stop()
+    } else {
+        store.shutdown()
+    }
+}

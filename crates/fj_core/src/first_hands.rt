@@ -1,0 +1,21 @@
+ghost use Rattle.std.specs.Prelude.{◌≡◌, IfOk};
+ghost use Rattle.fj_core.specs.Cores.{first_hands};
+
+use fj_model::WorkerId;
+use fj_shelf::Hand;
+use std::alloc::{AllocError, Global};
+
+/// The empty hand of each worker. Worker w scans from `start + w` on.
+pub fn new_hands<B: Drop>(
+    alloc: Global,
+    workers: u32,
+    start: u32,
+) -> Result<Vec<Hand<B>>, AllocError>
+    ensures { IfOk result (λ hands. hands.items ≡ first_hands workers start) }
+{
+    let mut hands = Vec::with_capacity(alloc, workers as usize)?;
+    for w in 0..workers {
+        hands.push(Hand::new(alloc, WorkerId(w), start.wrapping_add(w))?)?;
+    }
+    Ok(hands)
+}

@@ -1,0 +1,16 @@
+//! The core of a pool: what a worker does while it holds the lock.
+#![tactic(auto)]
+
+mod booking;
+mod bookings;
+mod closing;
+mod due;
+mod first_hands;
+mod pool_core;
+mod taken_in;
+
+pub use booking::Booking;
+pub use bookings::Bookings;
+pub use closing::Closing;
+pub use pool_core::{Core, Remains};
+pub use taken_in::Intake;

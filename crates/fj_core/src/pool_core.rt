@@ -1,0 +1,125 @@
+ghost use Rattle.std.specs.Prelude.{◌≡◌, ◌≤◌, [], None, All, IfOk, vec_len};
+ghost use Rattle.fj_lane.specs.declared.new_lane.TheConstants.{MAX_CAPACITY};
+ghost use Rattle.fj_model.specs.Bounds.{IsWithin};
+ghost use Rattle.fj_store.specs.Choosing.{Polls};
+ghost use Rattle.fj_store.specs.Fitting.{Fits};
+ghost use Rattle.fj_core.specs.Cores.{ChangesStore, CollectsTicket, IsNew, first_hands};
+
+mod act;
+mod close;
+mod intake;
+mod remains;
+mod seal;
+
+use crate::bookings::Bookings;
+use crate::closing::Closing;
+use crate::first_hands::new_hands;
+use fj_gate::Ticket;
+use fj_lane::Drain;
+use fj_model::{Limits, Mode, OutOfMemory, Refusal, Sealed};
+use fj_shelf::Hand;
+use fj_store::{Body, Outcome, Store, Told};
+pub use remains::Remains;
+use std::alloc::Global;
+use std::marker::Model;
+
+/// The store, the drains of the lanes, what was taken in, the closing number, and the sealed parts of the history.
+#[derive(Drop)]
+pub struct Core<B: Body> {
+    store: Store<B>,
+    drains: Vec<Drain<B>>,
+    bookings: Bookings,
+    closing: Closing,
+    parts: Vec<Sealed>,
+}
+
+impl<B: Body> Model for Core<B> {
+    ghost use Rattle.std.specs.Prelude.{◌≤◌};
+    ghost use Rattle.std.specs.List.{sum_by};
+    ghost use Rattle.fj_core.specs.Cores.{AreParts, CoreState, IsCore};
+
+    ghost Value = { CoreState B B.Key B.Out };
+
+    ghost view = { λ c. record { store = c.store; lanes = c.drains.items; bookings = c.bookings.bookings; closing = c.closing; parts = c.parts.items } };
+
+    ghost invariant = { λ c.
+        IsCore c.store c.drains.items c.bookings.bookings c.closing
+        × (sum_by (λ d. d.capacity) c.drains.items ≤ c.bookings.room)
+        × AreParts c.parts.items c.store.past };
+}
+
+impl<B: Body> Core<B> {
+    /// A core in which nothing has happened, and the empty hand of each worker. All the memory that is needed later is taken here; it is
+    /// refused only where out of memory.
+    ///
+    /// Preconditions: one drain for each submitter, each of a lane of this capacity, from which nothing was taken.
+    pub fn new(
+        alloc: Global,
+        mode: Mode,
+        limits: Limits,
+        lane_capacity: u32,
+        drains: Vec<Drain<B>>,
+        start: u32,
+    ) -> Result<(Core<B>, Vec<Hand<B>>), OutOfMemory>
+        requires lanes { vec_len drains ≡ limits.submitters }
+        requires capacity { lane_capacity ≤ MAX_CAPACITY }
+        requires capacities { All (λ d. d.capacity ≡ lane_capacity) drains.items }
+        requires untouched { All (λ d. d.drained ≡ []) drains.items }
+        ensures core { IfOk result (λ r. IsNew mode limits drains.items r.0) }
+        ensures hands { IfOk result (λ r. r.1.items ≡ first_hands limits.workers start) }
+    {
+        let store = Store::new(alloc, mode, limits)?;
+        let bookings = Bookings::new(alloc, limits.submitters() * lane_capacity)?;
+        let hands = new_hands(alloc, limits.workers(), start)?;
+        let core = Core {
+            store,
+            drains,
+            bookings,
+            closing: Closing::new(),
+            parts: Vec::new(alloc),
+        };
+        Ok((core, hands))
+    }
+
+    /// How large the pool may grow. There is a worker and a submitter at least.
+    pub fn limits(&self) -> Limits
+        ensures limits { result ≡ self.now.store.past.pool.limits }
+        ensures within { IsWithin result.workers result.submitters result.tasks result.events }
+    {
+        self.store.limits()
+    }
+
+    /// An idle worker asks for its next task. Preconditions: the hand fits, and has no body and no hook.
+    pub fn poll(&mut self, hand: &mut Hand<B>) -> Told<B>
+        requires fits { Fits self.old.store.past hand.old }
+        requires idle { (hand.old.stack ≡ []) × (hand.old.hook ≡ None) }
+        ensures polls { Polls self.old.store hand.old result self.new.store hand.new }
+        ensures others { ChangesStore self.old self.new }
+        ensures fits { Fits self.new.store.past hand.new }
+    {
+        self.store.poll(hand)
+    }
+
+    /// The outcome of the task that was taken in first under a ticket, once it is done: it is told once, and the task is then released as
+    /// soon as it can be.
+    ///
+    /// `LogFull` where the core is stuck. `Unknown` where the outcome was told before, or where so many submissions were taken in as
+    /// there will be, none of them under this ticket. None while nothing was taken in under it, and while its task is undone.
+    pub fn collect(&mut self, ticket: Ticket) -> Option<Result<Outcome<B>, Refusal>>
+        ensures { CollectsTicket self.old ticket result self.new }
+    {
+        if self.store.is_stuck() {
+            return Some(Err(Refusal::LogFull));
+        }
+        match self.bookings.find(ticket) {
+            Some(t) => self.store.collect(t),
+            None => {
+                if self.closing.is_due(self.bookings.len()) {
+                    Some(Err(Refusal::Unknown))
+                } else {
+                    None
+                }
+            }
+        }
+    }
+}

@@ -1,0 +1,61 @@
+ghost use Rattle.std.specs.Prelude.{◌≡◌};
+ghost use Rattle.fj_model.specs.Answers.{is_quiet};
+ghost use Rattle.fj_core.specs.Closes.{ShutsAt, closed_at, is_finished, stopped_at};
+ghost use Rattle.fj_core.specs.Closings.{is_over};
+
+use crate::closing::Closing;
+use crate::due::make_due;
+use crate::pool_core::Core;
+use fj_store::Body;
+
+impl<B: Body> Core<B> {
+    /// The Shutdown is made as soon as so many submissions were taken in, at once if they were: `ForkJoinPool.shutdown`.
+    ///
+    /// The first number that is given stays. A stuck core makes no step.
+    pub fn close_at(&mut self, number: u64)
+        ensures { ShutsAt self.old (closed_at self.old.closing number) self.new }
+    {
+        self.closing = self.closing.at(number);
+        make_due(&mut self.store, self.closing, self.bookings.len());
+    }
+
+    /// The Stop is made as soon as so many submissions were taken in, at once if they were, and also after a Shutdown:
+    /// `ForkJoinPool.shutdownNow`.
+    ///
+    /// The first number that is given stays. A stuck core makes no step.
+    pub fn stop_at(&mut self, number: u64)
+        ensures { ShutsAt self.old (stopped_at self.old.closing number) self.new }
+    {
+        self.closing = Closing {
+            stopping: true,
+            ..self.closing.at(number)
+        };
+        make_due(&mut self.store, self.closing, self.bookings.len());
+    }
+
+    /// Whether all queues, stacks and hands of the machine are empty: `ForkJoinPool.isQuiescent`. Parcels in the lanes are not looked at.
+    pub fn is_quiescent(&mut self) -> bool
+        ensures quiet { result ≡ is_quiet self.old.store.past.pool.limits self.old.store.past.events }
+        ensures same { self.new ≡ self.old }
+    {
+        self.store.is_quiescent()
+    }
+
+    /// Whether it is shut down or stopped: `ForkJoinPool.isShutdown`. A closing number that was not reached does not count.
+    pub fn is_shut(&self) -> bool
+        ensures { result ≡ is_over self.now.store.past.events }
+    {
+        self.store.is_shut()
+    }
+
+    /// Whether it is shut down or stopped, exactly as many submissions were taken in as the closing number says, and it is quiescent:
+    /// `ForkJoinPool.isTerminated`.
+    pub fn is_terminated(&mut self) -> bool
+        ensures terminated { result ≡ is_finished self.old }
+        ensures same { self.new ≡ self.old }
+    {
+        self.closing.number == Some(self.bookings.len() as u64)
+            && self.store.is_shut()
+            && self.store.is_quiescent()
+    }
+}

@@ -1,0 +1,92 @@
+ghost use Rattle.std.specs.Prelude.{◌≡◌, ◌<◌, ◌≤◌, ◌∷◌, [], None, Some};
+ghost use Rattle.fj_model.specs.declared.event.Event.TheVariants.{Acc};
+ghost use Rattle.fj_model.specs.declared.limits.TheConstants.{MAX_PENDING};
+ghost use Rattle.fj_model.specs.declared.owner.Owner.TheVariants.{Sub};
+ghost use Rattle.fj_model.specs.Tasks.{count_in, submitted_kind};
+ghost use Rattle.fj_model.specs.Runs.{grown};
+ghost use Rattle.fj_core.specs.Intakes.{Intakes, Readies, Submits, kind_rooted, refused_now};
+
+use crate::booking::Booking;
+use crate::due::make_due;
+use crate::pool_core::Core;
+use crate::taken_in::Intake;
+use fj_lane::Parcel;
+use fj_model::{Refusal, Serial, SubId, SubmittedKind};
+use fj_store::{Body, Store};
+
+impl<B: Body> Core<B> {
+    /// Takes the next parcel of a submitter in, and submits its body as that says. Precondition: there is such a submitter.
+    ///
+    /// The first of these that holds: `Full(LogFull)` where the core is stuck; `Empty` once the machine is shut; `Full` with the refusal
+    /// where the machine has no room for a task or an event, by which the core gets stuck if that is an event and the machine is
+    /// quiescent; `Empty` where the drain gives nothing. Where the closing number is reached now, what is due is made.
+    pub fn intake(&mut self, s: SubId) -> Intake
+        requires { s < self.old.store.past.pool.limits.submitters }
+        ensures { Intakes B.rooted_as self.old s result self.new }
+    {
+        if let Some(answer) = ready(&mut self.store, s) {
+            return answer;
+        }
+        match self.drains[s.0 as usize].take() {
+            None => Intake::Empty,
+            Some(parcel) => {
+                let Parcel { ticket, body } = parcel;
+                let serial = hand_in(&mut self.store, s, body);
+                self.bookings.push(Booking {
+                    ticket,
+                    serial,
+                    by: s,
+                });
+                make_due(&mut self.store, self.closing, self.bookings.len());
+                Intake::Took(serial)
+            }
+        }
+    }
+}
+
+/// What an intake answers before it looks into the lane.
+fn ready<B: Body>(store: &mut Store<B>, s: SubId) -> Option<Intake>
+    requires { s < store.old.past.pool.limits.submitters }
+    ensures { Readies store.old s result store.new }
+{
+    if store.is_stuck() {
+        return Some(Intake::Full(Refusal::LogFull));
+    }
+    match store.submit_refusal(s, &SubmittedKind::Plain) {
+        None => None,
+        Some(refusal) => match refusal {
+            Refusal::Closed => Some(Intake::Empty),
+            Refusal::LogFull => {
+                if store.is_quiescent() {
+                    store.stick();
+                }
+                Some(Intake::Full(Refusal::LogFull))
+            }
+            other => Some(Intake::Full(other)),
+        },
+    }
+}
+
+/// Submits a body as it says. Precondition: a submission is not refused.
+fn hand_in<B: Body>(store: &mut Store<B>, s: SubId, body: B) -> Serial
+    requires { refused_now store.old.past s ≡ None }
+    ensures submits { Submits B.rooted_as store.old s body result store.new }
+    ensures event { store.new.past ≡ grown store.old.past (Acc result (Sub s) (submitted_kind (kind_rooted (B.rooted_as body))) ∷ []) }
+{
+    let kind = kind_of(body.rooted());
+    store.submit(s, &kind, body)
+}
+
+/// As what a body is submitted.
+fn kind_of(rooted: Option<u16>) -> SubmittedKind
+    ensures kind { result ≡ kind_rooted rooted }
+    ensures small { count_in (Some (submitted_kind result)) ≤ MAX_PENDING }
+{
+    match rooted {
+        None => SubmittedKind::Plain,
+        Some(count) => SubmittedKind::Completer {
+            count: u32::from(count),
+            relay: true,
+        },
+    }
+}

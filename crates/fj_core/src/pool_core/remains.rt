@@ -1,0 +1,58 @@
+ghost use Rattle.std.specs.Prelude.{◌≡◌};
+ghost use Rattle.fj_model.specs.Epochs.{IsPast};
+ghost use Rattle.fj_shelf.specs.Shelves.{entries};
+ghost use Rattle.fj_core.specs.Booked.{AreBooked};
+ghost use Rattle.fj_core.specs.Cores.{AreParts};
+
+use crate::bookings::Bookings;
+use crate::pool_core::Core;
+use fj_lane::Drain;
+use fj_machine::Machine;
+use fj_model::Sealed;
+use fj_shelf::Shelf;
+use fj_store::{Body, Kept};
+
+/// What is left of a core that is taken apart. Java has no counterpart.
+#[derive(Drop)]
+pub struct Remains<B: Body> {
+    /// The machine, with what happened since the last seal.
+    pub machine: Machine,
+    /// The results that were not taken, each under its task's number.
+    pub results: Shelf<Kept<B>>,
+    /// The drain of each submitter.
+    pub drains: Vec<Drain<B>>,
+    /// What was taken in.
+    pub bookings: Bookings,
+    /// The sealed parts of the history.
+    pub parts: Vec<Sealed>,
+}
+
+impl<B: Body> Core<B> {
+    /// Takes the core apart. It takes no memory, and drops the bodies that no worker holds.
+    pub fn into_remains(self) -> Remains<B>
+        ensures past { result.machine ≡ self.store.past }
+        ensures results { entries result.results ≡ entries self.store.results }
+        ensures drains { result.drains.items ≡ self.lanes }
+        ensures bookings { result.bookings.bookings ≡ self.bookings }
+        ensures parts { result.parts.items ≡ self.parts }
+        ensures run { IsPast self.store.past }
+        ensures booked { AreBooked self.store.past self.lanes self.bookings }
+        ensures history { AreParts self.parts self.store.past }
+    {
+        let Core {
+            store,
+            drains,
+            bookings,
+            closing: _,
+            parts,
+        } = self;
+        let (machine, results) = store.into_parts();
+        Remains {
+            machine,
+            results,
+            drains,
+            bookings,
+            parts,
+        }
+    }
+}

@@ -1,0 +1,48 @@
+ghost use Rattle.std.specs.Prelude.{◌≡◌};
+ghost use Rattle.fj_core.specs.Cores.{AreParts};
+ghost use Rattle.fj_core.specs.Sealing.{SealsCore, may_be_sealed};
+
+use crate::pool_core::Core;
+use fj_model::{Refusal, Sealed};
+use fj_store::Body;
+use std::alloc::Global;
+
+impl<B: Body> Core<B> {
+    /// Seals what has happened since the last seal, and keeps it as a part behind those before it: from then on the history has room for as
+    /// many events again. Bodies, results, bookings and the closing number stay.
+    ///
+    /// It is refused by `LogFull` where the core is stuck; else by `OutOfMemory` where the list of parts cannot grow; else by `NotIdle` where
+    /// the machine is not quiescent, by `Closed` after a shutdown or a stop, by `LogFull` where the events, the sealed ones too, and the seals
+    /// are more than 2^62, or by `OutOfMemory`. Then nothing has changed. Java has no counterpart: it keeps no history.
+    pub fn seal(&mut self, alloc: Global) -> Result<(), Refusal>
+        ensures { SealsCore self.old result self.new }
+    {
+        if self.store.is_stuck() {
+            return Err(Refusal::LogFull);
+        }
+        if self.parts.reserve(1).is_err() {
+            return Err(Refusal::OutOfMemory);
+        }
+        let part = self.store.seal(alloc)?;
+        self.parts.push_reserved(part);
+        Ok(())
+    }
+
+    /// The parts that were sealed so far, the oldest first: joined, they are the history up to the last seal, and the tasks that were gone
+    /// by then.
+    pub fn parts(&self) -> &[Sealed]
+        ensures parts { result.now ≡ self.now.parts }
+        ensures history { AreParts self.now.parts self.now.store.past }
+    {
+        self.parts.as_slice()
+    }
+
+    /// Whether a worker that looks for work seals first: the machine is quiescent and open, and the history since the last seal is longer
+    /// than half its limit.
+    pub fn is_seal_due(&mut self) -> bool
+        ensures due { result ≡ may_be_sealed self.old.store.past }
+        ensures same { self.new ≡ self.old }
+    {
+        self.store.is_half_full() && !self.store.is_shut() && self.store.is_quiescent()
+    }
+}

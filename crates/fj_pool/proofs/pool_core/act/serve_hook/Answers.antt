@@ -1,6 +1,0 @@
-use Rattle.fj_pool.proofs.Acts.{takes_leave}
-use Rattle.fj_pool.proofs.Bare.{still_fits}
-use Rattle.fj_pool.proofs.pool_core.act.serve_hook.Goals as goal
-
-pub returns-in-Take-clause-fits : goal.returns-in-Take-clause-fits
-returns-in-Take-clause-fits g c = still_fits _ _ _ (takes_leave _ _ _ _ c.take.ensures.takes).hands c.requires.fits
