@@ -1,0 +1,10 @@
+-- what each call of a core leaves of its lanes
+mod Lanes
+-- the ends of lanes and gate meet, one after another
+mod Settling
+-- a lane for each entrant
+mod Seating
+-- the tickets, the lanes and the end that a record tells of
+mod Records
+-- a hand that holds something asks
+mod Asking

@@ -1,0 +1,12 @@
+-- the gate of no pool
+pub mod Names
+-- a submitter's ends of gate and lane
+pub mod Seats
+-- the lanes of a pool
+pub mod Lanes
+-- the parts of a pool, before it is opened
+pub mod Parts
+-- what is asked and heard under the lock
+pub mod Turning
+-- what is left of a pool
+pub mod Winding

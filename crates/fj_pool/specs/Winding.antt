@@ -1,0 +1,50 @@
+-- What is left of a pool that is wound up.
+use Rattle.std.specs.Prelude.{ℕ, ◌≡◌, ◌&&◌, Bool, List, [], ◌∷◌, ◌++◌, Option, Some, length, map, slice_get}
+use Rattle.fj_model.specs.declared.event.Event.{Event}
+use Rattle.fj_model.specs.declared.owner.Owner.TheVariants.{Sub}
+use Rattle.fj_model.specs.Answers.{is_quiet}
+use Rattle.fj_model.specs.Pasts.{Past}
+use Rattle.fj_model.specs.Queues.{pushed}
+use Rattle.fj_gate.specs.Ends.{drawn_by}
+use Rattle.fj_lane.specs.declared.parcel.Parcel.{Parcel}
+use Rattle.fj_lane.specs.Ends.{DrainState}
+use Rattle.fj_core.specs.declared.booking.Booking.{Booking}
+use Rattle.fj_core.specs.Booked.{booked_by}
+use Rattle.fj_core.specs.Closings.{is_over}
+use Rattle.fj_core.specs.Closes.{is_number}
+use Rattle.fj_pool.specs.Seats.{SeatState, tickets}
+
+module _ {B : Type 0} where
+  -- these are so many submitters, by their numbers
+  abbrev pub AreAll : ℕ → List (SeatState B) → Type 0
+  AreAll count seats = (length seats ≡ count) × ((n : ℕ) (seat : SeatState B) → slice_get seats n ≡ Some seat → seat.number ≡ n)
+
+  -- the tickets that these submitters drew, joined
+  abbrev pub tickets_of : List (SeatState B) → List ℕ
+  tickets_of seats = drawn_by (map (λ s. s.entrant) seats)
+
+  -- lane by lane, what the drain took, and then what is left, is what was pushed
+  abbrev pub HaveMet : List (DrainState B) → List (SeatState B) → List (List (Parcel B)) → Type 0
+  HaveMet [] [] [] = Unit {0}
+  HaveMet (d ∷ ds) (s ∷ ss) (r ∷ rs) = (d.drained ++ r ≡ s.feed.fed) × HaveMet ds ss rs
+  HaveMet [] [] (r ∷ rs) = ⊥
+  HaveMet [] (s ∷ ss) rs = ⊥
+  HaveMet (d ∷ ds) [] rs = ⊥
+  HaveMet (d ∷ ds) (s ∷ ss) [] = ⊥
+
+  -- what was taken in from a submitter, and then what its lane still holds, is what it pushed; the tasks taken in are those that it pushed
+  -- into its queue
+  pub record IsSettled (h : List Event) (bookings : List Booking) (seat : SeatState B) (rest : List (Parcel B)) : Type 0 where
+    pub tickets_all : map (λ b. b.ticket) (booked_by bookings seat.number) ++ tickets rest ≡ tickets seat.feed.fed
+    pub tasks : map (λ b. b.serial) (booked_by bookings seat.number) ≡ pushed h (Sub seat.number)
+
+  -- the same of each submitter and its lane
+  abbrev pub AreSettled : List Event → List Booking → List (SeatState B) → List (List (Parcel B)) → Type 0
+  AreSettled h bookings [] [] = Unit {0}
+  AreSettled h bookings (seat ∷ seats) (rest ∷ rests) = IsSettled h bookings seat rest × AreSettled h bookings seats rests
+  AreSettled h bookings [] (rest ∷ rests) = ⊥
+  AreSettled h bookings (seat ∷ seats) [] = ⊥
+
+-- whether it had terminated: exactly the closing number of submissions was taken in, it was shut, and all is quiet
+abbrev pub has_terminated : Option ℕ → List Booking → Past → Bool
+has_terminated closed bookings past = is_number closed (length bookings) && is_over past.events && is_quiet past.pool.limits past.events

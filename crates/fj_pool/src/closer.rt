@@ -1,0 +1,43 @@
+ghost use Rattle.std.specs.Prelude.{◌≡◌};
+ghost use Rattle.fj_gate.specs.Ends.{ClosedBy, Watched};
+
+use crate::naming::Naming;
+use fj_gate::{Closing, Look};
+use std::marker::{Model, PhantomData};
+
+/// Shuts a pool down. There is one for each pool. Java has no counterpart: there any thread may.
+#[derive(Drop)]
+pub struct Closer<N: Naming> {
+    pub(crate) end: fj_gate::Closer,
+    pub(crate) of: PhantomData<N>,
+}
+
+impl<N: Naming> Model for Closer<N> {
+    ghost use Rattle.std.specs.Prelude.{◌≡◌, length};
+    ghost use Rattle.fj_gate.specs.Ends.{CloserState};
+
+    ghost Value = { CloserState };
+
+    ghost view = { λ c. c.end };
+
+    ghost invariant = { λ c. (c.end.gate ≡ N.gate) × (c.end.submitters ≡ length N.lanes) };
+}
+
+impl<N: Naming> Closer<N> {
+    /// Closes the gate, by one exchange, and nothing else: what was admitted is run all the same, and the pool goes on until it is shut
+    /// down. It takes no lock and waits for nobody.
+    ///
+    /// The first call answers `First` with the number of admissions so far, every later one `Already` with that number.
+    pub fn close(&mut self) -> Closing
+        ensures { ClosedBy self.old result self.new }
+    {
+        self.end.close()
+    }
+
+    /// Looks at the gate, by one load. `Open` has the number of admissions so far.
+    pub fn look(&mut self) -> Look
+        ensures { Watched self.old result self.new }
+    {
+        self.end.look()
+    }
+}

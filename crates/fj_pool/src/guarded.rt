@@ -1,0 +1,55 @@
+ghost use Rattle.std.specs.Prelude.{◌≡◌, IfOk, length};
+ghost use Rattle.fj_pool.specs.Lanes.{lanes_of};
+
+mod outside;
+mod serve;
+
+use crate::naming::Naming;
+use fj_core::Core;
+use fj_gate::Entrant;
+use fj_lane::Rest;
+use fj_store::Body;
+use std::alloc::{AllocError, Global};
+use std::marker::{Model, PhantomData};
+
+/// What stands behind the lock of a pool: its core, and room for what is left of the lanes when it is wound up.
+#[derive(Drop)]
+pub struct Guarded<B: Body, N: Naming> {
+    pub(crate) core: Core<B>,
+    pub(crate) entrants: Vec<Entrant>,
+    pub(crate) rests: Vec<Rest<B>>,
+    pub(crate) of: PhantomData<N>,
+}
+
+impl<B: Body, N: Naming> Model for Guarded<B, N> {
+    ghost use Rattle.std.specs.Prelude.{◌≡◌, ◌≤◌, [], length, vec_capacity};
+    ghost use Rattle.fj_core.specs.Cores.{CoreState};
+    ghost use Rattle.fj_pool.specs.Lanes.{lanes_of};
+
+    ghost Value = { CoreState B B.Key B.Out };
+
+    ghost view = { λ g. g.core };
+
+    ghost invariant = { λ g.
+        (lanes_of g.core.lanes ≡ N.lanes)
+        × (g.entrants.items ≡ [])
+        × (length N.lanes ≤ vec_capacity g.entrants)
+        × (g.rests.items ≡ [])
+        × (length N.lanes ≤ vec_capacity g.rests) };
+}
+
+impl<B: Body, N: Naming> Guarded<B, N> {
+    /// A core, with room for so many lanes. Precondition: these are its lanes, and so many.
+    pub fn new(alloc: Global, core: Core<B>, lanes: usize) -> Result<Guarded<B, N>, AllocError>
+        requires lanes { lanes_of core.lanes ≡ N.lanes }
+        requires count { lanes ≡ length N.lanes }
+        ensures { IfOk result (λ g. g ≡ core) }
+    {
+        Ok(Guarded {
+            core,
+            entrants: Vec::with_capacity(alloc, lanes)?,
+            rests: Vec::with_capacity(alloc, lanes)?,
+            of: PhantomData,
+        })
+    }
+}

@@ -1,0 +1,38 @@
+//! A pool of workers that run bodies in threads: submitters hand bodies in without a lock, workers run them, and each submission has one
+//! outcome.
+//!
+//! ```
+//! match submitter.submit(body) {
+//!     // The outcome is asked for with this ticket.
+//!     Ok(ticket) => pool.await_done(&rt, ticket),
+//!     // The lane is spent, or the pool is shut down. The body is the caller's again.
+//!     Err((refusal, body)) => ..,
+//! }
+//! ```
+#![tactic(auto)]
+
+mod closer;
+mod guarded;
+mod idle;
+mod naming;
+mod next;
+mod parts;
+mod pool;
+mod record;
+mod seat;
+mod submitter;
+mod turns;
+mod turnstile;
+
+pub use closer::Closer;
+pub use fj_core::{Booking, Bookings, Core, Intake};
+pub use fj_gate::{Closing, Ticket};
+pub use fj_lane::{Parcel, Rest};
+pub use fj_shelf::Hand;
+pub use fj_store::{Ask, Body, Heard, Kept, Outcome, Told};
+pub use naming::Naming;
+pub use parts::Parts;
+pub use pool::Pool;
+pub use record::Record;
+pub use submitter::Submitter;
+pub use turnstile::{Open, Turnstile};

@@ -1,0 +1,105 @@
+ghost use Rattle.std.specs.Prelude.{◌≡◌, ◌≤◌, All, IfOk, IfErr, vec_len};
+ghost use Rattle.fj_model.specs.declared.limits.TheConstants.{MAX_SUBMITTERS};
+ghost use Rattle.fj_lane.specs.declared.new_lane.TheConstants.{MAX_CAPACITY};
+ghost use Rattle.fj_gate.specs.Ends.{new_entrant};
+ghost use Rattle.fj_pool.specs.Parts.{AreNew, AreSeated, RefusesPool};
+
+use crate::seat::Seat;
+use fj_core::Core;
+use fj_gate::{Entrant, gate};
+use fj_lane::{Drain, MAX_CAPACITY, lane};
+use fj_model::{Limits, Mode, OutOfMemory, Refusal, SubId};
+use fj_shelf::Hand;
+use fj_store::Body;
+use std::alloc::Global;
+use std::marker::Model;
+
+/// All that a pool is made of. `Pool::open` puts it together, under a name that the caller picks.
+#[derive(Drop)]
+pub struct Parts<B: Body> {
+    pub(crate) core: Core<B>,
+    pub(crate) hands: Vec<Hand<B>>,
+    pub(crate) seats: Vec<Seat<B>>,
+    pub(crate) closer: fj_gate::Closer,
+}
+
+impl<B: Body> Model for Parts<B> {
+    ghost use Rattle.fj_pool.specs.Lanes.{lanes_of};
+    ghost use Rattle.fj_pool.specs.Parts.{ArePaired, PartsState};
+
+    ghost Value = { PartsState B B.Key B.Out };
+
+    ghost view = { λ p. record { core = p.core; hands = p.hands.items; seats = p.seats.items; closer = p.closer } };
+
+    ghost invariant = { λ p. ArePaired p.closer (lanes_of p.core.lanes) p.seats.items };
+}
+
+impl<B: Body> Parts<B> {
+    /// The parts of a new pool. All memory but that of its lock is taken here.
+    ///
+    /// `BadLimits` where the capacity of a lane, the number of bodies that each submitter may hand in over its life, is not from 1 to
+    /// 65,536. `OutOfMemory` where memory is refused. `start` is the scan word of worker 0; that of each further one is one more.
+    pub fn new(
+        alloc: Global,
+        mode: Mode,
+        limits: Limits,
+        lane_capacity: u32,
+        start: u32,
+    ) -> Result<Parts<B>, Refusal>
+        ensures ok { IfOk result (λ parts. AreNew mode limits lane_capacity start parts) }
+        ensures err { IfErr result (λ refusal. RefusesPool lane_capacity refusal) }
+    {
+        if lane_capacity == 0 || lane_capacity > MAX_CAPACITY {
+            return Err(Refusal::BadLimits);
+        }
+        match make(alloc, mode, limits, lane_capacity, start) {
+            Ok(parts) => Ok(parts),
+            Err(_) => Err(Refusal::OutOfMemory),
+        }
+    }
+}
+
+/// The same, within its range.
+fn make<B: Body>(
+    alloc: Global,
+    mode: Mode,
+    limits: Limits,
+    lane_capacity: u32,
+    start: u32,
+) -> Result<Parts<B>, OutOfMemory>
+    requires capacity { (1 ≤ lane_capacity) × (lane_capacity ≤ MAX_CAPACITY) }
+    ensures { IfOk result (λ parts. AreNew mode limits lane_capacity start parts) }
+{
+    let (entrants, closer) = gate(alloc, limits.submitters(), lane_capacity)?;
+    let (seats, drains) = seat_all(alloc, entrants, lane_capacity)?;
+    let (core, hands) = Core::new(alloc, mode, limits, lane_capacity, drains, start)?;
+    Ok(Parts {
+        core,
+        hands,
+        seats,
+        closer,
+    })
+}
+
+/// A lane for each entrant, and both with a number. Precondition: the entrants are new, and not too many.
+fn seat_all<B: Drop>(
+    alloc: Global,
+    entrants: Vec<Entrant>,
+    lane_capacity: u32,
+) -> Result<(Vec<Seat<B>>, Vec<Drain<B>>), OutOfMemory>
+    requires capacity { (1 ≤ lane_capacity) × (lane_capacity ≤ MAX_CAPACITY) }
+    requires new { All (λ e. e ≡ new_entrant e.gate lane_capacity) entrants.items }
+    requires few { vec_len entrants ≤ MAX_SUBMITTERS }
+    ensures { IfOk result (λ r. AreSeated lane_capacity entrants.items r.0.items r.1.items) }
+{
+    let mut seats = Vec::with_capacity(alloc, entrants.len())?;
+    let mut drains = Vec::with_capacity(alloc, entrants.len())?;
+    let mut number = 0u32;
+    for entrant in entrants {
+        let (feed, drain) = lane(alloc, lane_capacity)?;
+        seats.push(Seat::new(SubId(number), entrant, feed, lane_capacity))?;
+        drains.push(drain)?;
+        number += 1;
+    }
+    Ok((seats, drains))
+}

@@ -1,0 +1,112 @@
+ghost use Rattle.std.specs.Prelude.{◌≡◌, All, IfOk, length};
+ghost use Rattle.fj_pool.specs.Lanes.{lanes_of};
+ghost use Rattle.fj_pool.specs.Seats.{IsNamed};
+
+mod outside;
+mod work;
+
+use crate::closer::Closer;
+use crate::guarded::Guarded;
+use crate::naming::Naming;
+use crate::next::Wake;
+use crate::parts::Parts;
+use crate::seat::Seat;
+use crate::submitter::Submitter;
+use fj_model::OutOfMemory;
+use fj_shelf::Hand;
+use fj_store::Body;
+use std::alloc::{AllocError, Global};
+use std::marker::PhantomData;
+use std::sync::{Condvar, Mutex};
+
+/// A pool: its core under one lock, and those who wait. Threads share it; each worker brings its own hand. It follows `ForkJoinPool`.
+#[derive(Drop)]
+pub struct Pool<B: Body, N: Naming> {
+    pub(crate) alloc: Global,
+    pub(crate) lanes: usize,
+    ghost counted: { lanes ≡ length N.lanes },
+    pub(crate) core: Mutex<Guarded<B, N>>,
+    /// Workers that joined a task which is not done.
+    pub(crate) joining: Condvar,
+    /// Workers that found nothing to do.
+    pub(crate) idle: Condvar,
+    /// Whoever awaits an outcome.
+    pub(crate) awaiting: Condvar,
+}
+
+/// A pool that was opened, with what its users need: a hand for each worker, what each submitter hands in with, and what shuts it down.
+pub type Opened<B, N> = (Pool<B, N>, Vec<Hand<B>>, Vec<Submitter<B, N>>, Closer<N>);
+
+impl<B: Body, N: Naming> Pool<B, N> {
+    /// Opens a pool under a name: a hand for each worker, a submitter for each submitter, in order, and the end that shuts it down.
+    ///
+    /// `OutOfMemory` where memory is refused. Precondition: the name is that of these parts.
+    pub fn open(alloc: Global, parts: Parts<B>) -> Result<Opened<B, N>, OutOfMemory>
+        requires gate { N.gate ≡ parts.closer.gate }
+        requires lanes { N.lanes ≡ lanes_of parts.core.lanes }
+        ensures hands { IfOk result (λ r. r.1.items ≡ parts.hands) }
+        ensures submitters { IfOk result (λ r. r.2.items ≡ parts.seats) }
+        ensures closer { IfOk result (λ r. r.3 ≡ parts.closer) }
+    {
+        let Parts {
+            core,
+            hands,
+            seats,
+            closer,
+        } = parts;
+        let lanes = seats.len();
+        let core = Guarded::new(alloc, core, lanes)?;
+        let submitters = name_all(alloc, seats)?;
+        let pool = Pool {
+            alloc,
+            lanes,
+            core: Mutex::new(core),
+            joining: Condvar::new(),
+            idle: Condvar::new(),
+            awaiting: Condvar::new(),
+        };
+        let closer = Closer {
+            end: closer,
+            of: PhantomData,
+        };
+        Ok((pool, hands, submitters, closer))
+    }
+
+    /// Wakes those whose wait may have ended.
+    fn wake(&self, wake: Wake) {
+        match wake {
+            Wake::Nobody => {}
+            Wake::One => {
+                self.idle.notify_one();
+                self.joining.notify_one();
+            }
+            Wake::Waiting => {
+                self.joining.notify_all();
+                self.awaiting.notify_all();
+            }
+            Wake::Everybody => {
+                self.joining.notify_all();
+                self.awaiting.notify_all();
+                self.idle.notify_all();
+            }
+        }
+    }
+}
+
+/// The submitters, by name. Precondition: the name is that of these ends.
+fn name_all<B: Drop, N: Naming>(
+    alloc: Global,
+    seats: Vec<Seat<B>>,
+) -> Result<Vec<Submitter<B, N>>, AllocError>
+    requires { All (λ s. IsNamed N.gate N.lanes s) seats.items }
+    ensures { IfOk result (λ v. v.items ≡ seats.items) }
+{
+    let mut submitters = Vec::with_capacity(alloc, seats.len())?;
+    for seat in seats {
+        submitters.push(Submitter {
+            seat,
+            of: PhantomData,
+        })?;
+    }
+    Ok(submitters)
+}

@@ -1,0 +1,74 @@
+//! What is asked of a pool by those who do not work for it.
+use crate::closer::Closer;
+use crate::naming::Naming;
+use crate::next::Wake;
+use crate::pool::Pool;
+use fj_gate::{Closing, Ticket};
+use fj_model::Refusal;
+use fj_store::{Body, Outcome};
+use std::sync::Wait;
+
+impl<B: Body, N: Naming> Pool<B, N> {
+    /// Waits for the outcome of what was submitted under a ticket, which is told once: `ForkJoinTask.join`. A result in it is right for the
+    /// key beside it.
+    ///
+    /// `Unknown` where the outcome was told before, or where all that was admitted was taken in, and nothing under this ticket. `LogFull`
+    /// where the core is stuck.
+    pub fn await_done<R: Wait>(&self, rt: &R, ticket: Ticket) -> Result<Outcome<B>, Refusal> {
+        let mut guard = self.core.lock(rt);
+        for _ in rt.forever() {
+            let core = &mut *guard;
+            if let Some(answer) = core.collect(ticket) {
+                return answer;
+            }
+            guard = self.awaiting.wait(rt, guard);
+        }
+        unreachable!()
+    }
+
+    /// Nothing more is admitted; what was admitted is run, and then the workers leave: `ForkJoinPool.shutdown`. A repeat has no effect.
+    pub fn shutdown<R: Wait>(&self, rt: &R, closer: &mut Closer<N>) {
+        let number = number_of(closer.close());
+        let mut guard = self.core.lock(rt);
+        let core = &mut *guard;
+        core.close_at(number);
+        drop(guard);
+        self.wake(Wake::Everybody);
+    }
+
+    /// Nothing more is admitted; once all that was admitted was taken in, every task that is undone is cancelled, and the workers leave:
+    /// `ForkJoinPool.shutdownNow`. It also serves after a shutdown. A repeat has no effect.
+    pub fn shutdown_now<R: Wait>(&self, rt: &R, closer: &mut Closer<N>) {
+        let number = number_of(closer.close());
+        let mut guard = self.core.lock(rt);
+        let core = &mut *guard;
+        core.stop_at(number);
+        drop(guard);
+        self.wake(Wake::Everybody);
+    }
+
+    /// Whether all queues are empty and no worker runs anything, once what the lanes show was taken in: `ForkJoinPool.isQuiescent`.
+    pub fn is_quiescent<R: Wait>(&self, rt: &R) -> bool {
+        let mut guard = self.core.lock(rt);
+        let core = &mut *guard;
+        let wake = core.take_in(self.alloc);
+        let quiescent = core.is_quiescent();
+        drop(guard);
+        self.wake(wake);
+        quiescent
+    }
+
+    /// Whether it was shut down or stopped, all that was admitted was taken in, and it is quiescent: `ForkJoinPool.isTerminated`.
+    pub fn is_terminated<R: Wait>(&self, rt: &R) -> bool {
+        let mut guard = self.core.lock(rt);
+        let core = &mut *guard;
+        core.is_terminated()
+    }
+}
+
+/// How many were admitted.
+fn number_of(closing: Closing) -> u64 {
+    match closing {
+        Closing::First(number) | Closing::Already(number) => number,
+    }
+}

@@ -1,0 +1,93 @@
+//! What a worker does, from its start to the end of its pool.
+ghost use Rattle.std.specs.Prelude.{IfSome};
+ghost use Rattle.fj_pool.specs.Turning.{MayAsk, NextRight};
+
+use crate::idle::Idle;
+use crate::naming::Naming;
+use crate::next::{Next, Served};
+use crate::pool::Pool;
+use crate::turns::take_turn;
+use crate::turnstile::Turnstile;
+use fj_model::Refusal;
+use fj_shelf::Hand;
+use fj_store::{Ask, Body, Heard};
+use std::sync::Wait;
+use std::thread;
+use std::time::Duration;
+
+/// After so many seconds a worker that waits looks again, though nobody has woken it.
+const LONGEST_WAIT: u64 = 1;
+
+impl<B: Body, N: Naming> Pool<B, N> {
+    /// Works with a hand until the pool has terminated: takes tasks, runs their bodies outside the lock, and does what they ask. A body
+    /// that joins or helps stands on the explicit stack of the hand while another one runs. It follows what a `ForkJoinWorkerThread` runs.
+    ///
+    /// `NoSuch` where the hand does not fit the pool: it is of another one, or of a worker that is not there. `LogFull` where the core is
+    /// stuck. Both are tested each time that it gets the lock.
+    pub fn work<R: Wait, T: Turnstile>(
+        &self,
+        rt: &R,
+        hand: &mut Hand<B>,
+        turnstile: &T,
+    ) -> Result<(), Refusal> {
+        let mut ask: Option<Ask<B>> = None;
+        let mut idle = Idle::new();
+        for _ in rt.forever() {
+            match self.serve(rt, hand, ask.take(), &mut idle) {
+                Next::Turn(heard) => ask = take_turn(hand, heard),
+                Next::Begin(t) => {
+                    idle = Idle::new();
+                    turnstile.before(hand.worker(), t);
+                    ask = take_turn(hand, Heard::Start(t));
+                }
+                Next::Leave(answer) => return answer,
+                Next::Again | Next::Wait | Next::Rest => {}
+            }
+        }
+        unreachable!()
+    }
+
+    /// Takes the lock once, wakes those whose wait has ended by what was done, and waits where there is nothing to do.
+    fn serve<R: Wait>(
+        &self,
+        rt: &R,
+        hand: &mut Hand<B>,
+        ask: Option<Ask<B>>,
+        idle: &mut Idle,
+    ) -> Next<B>
+        requires { IfSome ask (λ a. MayAsk B.right B.key_of hand.old a) }
+        ensures { NextRight B.right result }
+    {
+        let mut guard = self.core.lock(rt);
+        let core = &mut *guard;
+        let Served {
+            next,
+            ended,
+            skipped,
+            wake,
+        } = core.serve(self.alloc, hand, ask);
+        if matches!(next, Next::Wait) {
+            // Under the lock, so that what it wakes is not taken for a change, and no change after this is missed.
+            self.wake(wake);
+            let seen = self.joining.notifications();
+            drop(guard);
+            drop(ended);
+            drop(skipped);
+            self.joining
+                .sleep(rt, seen, Duration::from_secs(LONGEST_WAIT));
+            return next;
+        }
+        let seen = self.idle.notifications();
+        drop(guard);
+        self.wake(wake);
+        drop(ended);
+        drop(skipped);
+        if matches!(next, Next::Rest) {
+            match idle.next_sleep() {
+                Some(sleep) => self.idle.sleep(rt, seen, sleep),
+                None => thread::yield_now(),
+            }
+        }
+        next
+    }
+}

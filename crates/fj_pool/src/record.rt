@@ -1,0 +1,146 @@
+ghost use Rattle.std.specs.Prelude.{◌≡◌, ◌≤◌, ◌↔◌, [], All, IfSome, IsTrue, length, map, reverse, vec_len, vec_capacity};
+ghost use Rattle.fj_gate.specs.Numbers.{IsNumbersBelow};
+ghost use Rattle.fj_model.specs.Epochs.{IsPast};
+ghost use Rattle.fj_core.specs.Cores.{AreParts};
+ghost use Rattle.fj_pool.specs.Lanes.{lanes_of};
+ghost use Rattle.fj_pool.specs.Winding.{AreAll, AreSettled, HaveMet, has_terminated, tickets_of};
+
+use crate::closer::Closer;
+use crate::guarded::Guarded;
+use crate::naming::Naming;
+use crate::pool::Pool;
+use crate::seat::Seat;
+use crate::submitter::Submitter;
+use fj_core::{Bookings, Remains};
+use fj_gate::{Entrant, meet as meet_gate};
+use fj_lane::{Drain, Rest, meet};
+use fj_machine::Machine;
+use fj_model::Sealed;
+use fj_shelf::Shelf;
+use fj_store::{Body, Kept};
+
+/// What is left of a pool. Java has no counterpart.
+#[derive(Drop)]
+pub struct Record<B: Body> {
+    /// The machine, with what happened since the last seal.
+    pub machine: Machine,
+    /// The results that were not taken, each under its task's number.
+    pub results: Shelf<Kept<B>>,
+    /// What was taken in, in that order.
+    pub bookings: Bookings,
+    /// The sealed parts of the history, the oldest first.
+    pub parts: Vec<Sealed>,
+    /// What each lane still holds, by the number of its submitter.
+    pub lanes: Vec<Rest<B>>,
+    /// How many submissions were admitted.
+    pub admitted: u64,
+    /// The number at which the gate was closed, if it was.
+    pub closed: Option<u64>,
+    /// Whether it had terminated: it was shut down or stopped, exactly the closing number of submissions was taken in, and all is quiet.
+    pub terminated: bool,
+}
+
+impl<B: Body, N: Naming> Pool<B, N> {
+    /// Takes the pool apart, when its workers have left: `ForkJoinPool.close` has no counterpart of what it gives. It waits for nobody and
+    /// takes no memory; bodies that the core still holds are dropped.
+    ///
+    /// Precondition: all submitters come, by their numbers.
+    pub fn wind_up(self, submitters: Vec<Submitter<B, N>>, closer: Closer<N>) -> Record<B>
+        requires { AreAll (length N.lanes) submitters.items }
+        ensures run { IsPast result.machine }
+        ensures history { AreParts result.parts.items result.machine }
+        // What was taken in from a submitter, and then what its lane still holds, is what it pushed.
+        ensures lanes { AreSettled result.machine.events result.bookings.bookings submitters.items result.lanes.items }
+        // The tickets that were drawn are the numbers below that of the admissions, which is the closing number of a closed gate.
+        ensures admitted { IsNumbersBelow result.admitted (tickets_of submitters.items) }
+        ensures closed { result.closed ≡ closer.closed }
+        ensures at_close { IfSome result.closed (λ n. result.admitted ≡ n) }
+        ensures terminated { result.terminated ≡ has_terminated closer.closed result.bookings.bookings result.machine }
+    {
+        let Pool {
+            alloc: _,
+            lanes: _,
+            core,
+            joining: _,
+            idle: _,
+            awaiting: _,
+        } = self;
+        let Guarded {
+            mut core,
+            entrants,
+            rests,
+            of: _,
+        } = core.into_inner();
+        let shut = core.is_shut();
+        let quiet = core.is_quiescent();
+        let Remains {
+            machine,
+            results,
+            drains,
+            bookings,
+            parts,
+        } = core.into_remains();
+        let (entrants, lanes) = settle(submitters, drains, entrants, rests);
+        let tickets = meet_gate(entrants, closer.end);
+        let reached = tickets.closed == Some(bookings.len() as u64) && shut;
+        let terminated = reached && quiet;
+        Record {
+            machine,
+            results,
+            bookings,
+            parts,
+            lanes,
+            admitted: tickets.drawn,
+            closed: tickets.closed,
+            terminated,
+        }
+    }
+}
+
+impl<B: Body, N: Naming> Pool<B, N> {
+    /// Whether these are all submitters of the pool, by their numbers.
+    pub fn are_all(&self, submitters: &[Submitter<B, N>]) -> bool
+        ensures { IsTrue result ↔ AreAll (length N.lanes) submitters.now }
+    {
+        if submitters.len() != self.lanes {
+            return false;
+        }
+        for n in 0..submitters.len() {
+            if submitters[n].number().0 as usize != n {
+                return false;
+            }
+        }
+        true
+    }
+}
+
+/// Each lane's ends meet, and the ends of the gate are laid together, the last first.
+fn settle<B: Drop, N: Naming>(
+    mut submitters: Vec<Submitter<B, N>>,
+    mut drains: Vec<Drain<B>>,
+    mut entrants: Vec<Entrant>,
+    mut rests: Vec<Rest<B>>,
+) -> (Vec<Entrant>, Vec<Rest<B>>)
+    requires all { AreAll (length N.lanes) submitters.items }
+    requires lanes { lanes_of drains.items ≡ N.lanes }
+    requires empty { (entrants.items ≡ []) × (rests.items ≡ []) }
+    requires room { (vec_len submitters ≤ vec_capacity entrants) × (vec_len submitters ≤ vec_capacity rests) }
+    ensures entrants { result.0.items ≡ reverse (map (λ s. s.entrant) submitters.items) }
+    ensures gates { All (λ e. e.gate ≡ N.gate) result.0.items }
+    ensures rests { HaveMet drains.items submitters.items result.1.items }
+{
+    while let Some(submitter) = submitters.pop() {
+        let Some(drain) = drains.pop() else {
+            unreachable!();
+        };
+        let Seat {
+            number: _,
+            entrant,
+            feed,
+        } = submitter.seat;
+        entrants.push_reserved(entrant);
+        rests.push_reserved(meet(feed, drain));
+    }
+    rests.reverse();
+    (entrants, rests)
+}

@@ -1,0 +1,50 @@
+ghost use Rattle.std.specs.Prelude.{◌≡◌, IfOk, IfErr};
+ghost use Rattle.fj_pool.specs.Seats.{IsNamed, IsSeat, RefusesSubmission, Submits};
+
+use crate::naming::Naming;
+use crate::seat::Seat;
+use fj_gate::Ticket;
+use fj_model::{Refusal, SubId};
+use std::marker::{Model, PhantomData};
+
+/// Hands bodies in. There is one for each submitter of a pool. Java has no counterpart: there any thread may submit.
+#[derive(Drop)]
+pub struct Submitter<B, N: Naming> {
+    pub(crate) seat: Seat<B>,
+    pub(crate) of: PhantomData<N>,
+}
+
+impl<B, N: Naming> Model for Submitter<B, N> {
+    ghost use Rattle.fj_pool.specs.Seats.{IsNamed, SeatState};
+
+    ghost Value = { SeatState B };
+
+    ghost view = { λ s. s.seat };
+
+    ghost invariant = { λ s. IsNamed N.gate N.lanes s.seat };
+}
+
+impl<B, N: Naming> Submitter<B, N> {
+    /// Hands a body in, by one exchange on the gate and one push into the lane of this submitter: `ForkJoinPool.submit`. It takes no lock,
+    /// waits for nobody, and is never refused for being out of memory. The outcome is told under the ticket.
+    ///
+    /// `LaneSpent` once as many were handed in as the lane takes in its life; then no exchange is made. `Closed` once the pool was shut
+    /// down or stopped. The body comes back in both cases.
+    pub fn submit(&mut self, body: B) -> Result<Ticket, (Refusal, B)>
+        ensures ok { IfOk result (λ ticket. Submits self.old ticket body self.new) }
+        ensures refused { IfErr result (λ e. RefusesSubmission self.old e.0 self.new) }
+        ensures body { IfErr result (λ e. e.1 ≡ body) }
+        // In every submitter the tickets of what was pushed are those that it drew.
+        ensures tickets { IsSeat self.new }
+    {
+        self.seat.submit(body)
+    }
+
+    /// Which submitter it is, from 0.
+    pub fn number(&self) -> SubId
+        ensures number { result ≡ self.now.number }
+        ensures named { IsNamed N.gate N.lanes self.now }
+    {
+        self.seat.number
+    }
+}

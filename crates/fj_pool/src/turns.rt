@@ -1,0 +1,26 @@
+ghost use Rattle.std.specs.Prelude.{IfSome};
+ghost use Rattle.fj_store.specs.Turns.{HeardRight};
+ghost use Rattle.fj_pool.specs.Turning.{MayAsk};
+
+use fj_shelf::Hand;
+use fj_store::{Ask, Body, Heard};
+
+/// The hook of a hand, or else its running body, takes a turn. None of an empty hand.
+pub fn take_turn<B: Body>(hand: &mut Hand<B>, heard: Heard<B>) -> Option<Ask<B>>
+    requires { HeardRight B.right heard }
+    ensures { IfSome result (λ ask. MayAsk B.right B.key_of hand.new ask) }
+{
+    if hand.hooked().is_some() {
+        let (c, mut body) = hand.take_hook();
+        let ask = body.turn(heard);
+        hand.give_hook(c, body);
+        return Some(ask);
+    }
+    if hand.is_empty() {
+        return None;
+    }
+    let (t, mut body) = hand.pop();
+    let ask = body.turn(heard);
+    hand.push(t, body);
+    Some(ask)
+}
