@@ -4,8 +4,8 @@ use crate::shown::{part, shown};
 use anyhow::Result;
 use fj_machine::{Machine, run_epochs};
 use fj_model::{
-    Answer, Ending, Kind, Limits, Mode, Move, Owner, Place, Refusal, Said, Serial, Status, Step,
-    SubId, SubmittedKind, WorkerId, read_head, read_step,
+    Answer, Ending, Kind, Limits, Mode, Move, OutOfMemory, Owner, Place, Refusal, Said, Sealed,
+    Serial, Status, Step, SubId, SubmittedKind, WorkerId, read_head, read_step,
 };
 use fj_replay::replayed;
 use std::alloc::Global;
@@ -61,15 +61,22 @@ pub fn heading(head: &str) -> Option<(Mode, Limits)> {
     Some((mode, limits))
 }
 
+/// The answers of a new machine. It has one way out, since each proves the drop of the machine.
 fn of_machine(alloc: Global, mode: Mode, limits: Limits, lines: &[Line<'_>]) -> Result<String> {
     let mut machine = Machine::new(alloc, mode, limits)?;
+    asked_of(alloc, &mut machine, &limits, lines)
+}
+
+/// The answers of a machine that is lent.
+fn asked_of(
+    alloc: Global,
+    machine: &mut Machine,
+    limits: &Limits,
+    lines: &[Line<'_>],
+) -> Result<String> {
     let mut text = String::new(alloc);
     for line in lines {
-        writeln!(
-            text,
-            "{}",
-            answer(alloc, &mut machine, &limits, line.asked)?
-        )?;
+        writeln!(text, "{}", answer(alloc, machine, limits, line.asked)?)?;
     }
     Ok(text)
 }
@@ -113,15 +120,32 @@ fn moves_in(alloc: Global, lines: &[Line<'_>]) -> Result<Vec<Move>> {
     Ok(moves)
 }
 
+/// The answers of `run_epochs`.
 fn of_run_epochs(alloc: Global, mode: Mode, limits: Limits, moves: &[Move]) -> Result<String> {
+    let (parts, answers) = without_machine(alloc, mode, limits, moves)?;
+    told(alloc, &limits, parts.as_slice(), answers.as_slice())
+}
+
+/// What `run_epochs` gives but for the machine, which is dropped here.
+fn without_machine(
+    alloc: Global,
+    mode: Mode,
+    limits: Limits,
+    moves: &[Move],
+) -> Result<(Vec<Sealed>, Vec<Answer>), OutOfMemory> {
     // As in `move_of`.
     let _inside: Option<(Said, Place, Status, Owner, Refusal, Serial, SubId, WorkerId)> = None;
     let (_machine, parts, answers) = run_epochs(alloc, mode, limits, moves)?;
+    Ok((parts, answers))
+}
+
+/// The lines of answers. Each seal that was made has handed out the next part.
+fn told(alloc: Global, limits: &Limits, parts: &[Sealed], answers: &[Answer]) -> Result<String> {
     let mut text = String::new(alloc);
     let mut parts = parts.iter();
-    for answer in answers.iter() {
+    for answer in answers {
         match answer {
-            Answer::Said(said) => writeln!(text, "{}", said.display(&limits))?,
+            Answer::Said(said) => writeln!(text, "{}", said.display(limits))?,
             Answer::Sealed => match parts.next() {
                 Some(sealed) => writeln!(text, "{}", part(alloc, sealed)?)?,
                 None => writeln!(text, "no part")?,

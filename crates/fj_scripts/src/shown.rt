@@ -11,23 +11,32 @@ use std::fmt::Write;
 pub fn shown(alloc: Global, machine: &Machine, asked: &str) -> Result<String> {
     let (word, number) = asked.split_once(' ').unwrap_or((asked, "0"));
     let Ok(number) = number.parse::<u32>() else {
-        return Ok(format!(in alloc; "no step")?);
+        return no_step(alloc);
     };
-    let tasks = match word {
-        "submitter" => queue(alloc, machine, Owner::Sub(SubId(number)))?,
-        "worker" => queue(alloc, machine, Owner::Work(WorkerId(number)))?,
-        "stack" => numbers(alloc, machine.stack(WorkerId(number)))?,
-        "open" => numbers(alloc, machine.open())?,
-        "gone" => numbers(alloc, machine.gone())?,
-        "hand" => hand(alloc, machine, number)?,
-        "parent" => maybe(alloc, machine.parent(Serial(u64::from(number))))?,
-        "limits" => limits(alloc, machine.limits())?,
-        "submission" => submission(alloc, machine, SubId(number))?,
-        "epoch" => format!(in alloc; "{}", machine.epoch())?,
-        "events" => events(alloc, machine, number)?,
-        _ => format!(in alloc; "no step")?,
-    };
-    Ok(tasks)
+    match word {
+        "submitter" => queue(alloc, machine, Owner::Sub(SubId(number))),
+        "worker" => queue(alloc, machine, Owner::Work(WorkerId(number))),
+        "stack" => numbers(alloc, machine.stack(WorkerId(number))),
+        "open" => numbers(alloc, machine.open()),
+        "gone" => numbers(alloc, machine.gone()),
+        "hand" => hand(alloc, machine, number),
+        "parent" => maybe(alloc, machine.parent(Serial(u64::from(number)))),
+        "limits" => limits(alloc, machine.limits()),
+        "submission" => submission(alloc, machine, SubId(number)),
+        "epoch" => epoch(alloc, machine),
+        "events" => events(alloc, machine, number),
+        _ => no_step(alloc),
+    }
+}
+
+/// What is neither a step nor a question.
+fn no_step(alloc: Global) -> Result<String> {
+    Ok(format!(in alloc; "no step")?)
+}
+
+/// The number of seals.
+fn epoch(alloc: Global, machine: &Machine) -> Result<String> {
+    Ok(format!(in alloc; "{}", machine.epoch())?)
 }
 
 /// How many events a part has that was sealed, and its gone tasks.
