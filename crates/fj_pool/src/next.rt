@@ -57,12 +57,8 @@ impl Wake {
 pub fn woken_by<B: Body>(ask: &Ask<B>) -> Wake {
     match ask {
         Ask::Fork(_, _) => Wake::One,
-        Ask::Trigger(_, _)
-        | Ask::Join(_)
-        | Ask::Help
-        | Ask::Take(_)
-        | Ask::Add(_, _)
-        | Ask::State(_) => Wake::Nobody,
+        Ask::Trigger(_, _) | Ask::Help | Ask::Add(_, _) | Ask::State(_) => Wake::Nobody,
+        // A result that is taken is an outcome that cannot be told any more.
         _ => Wake::Waiting,
     }
 }

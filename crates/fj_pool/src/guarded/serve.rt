@@ -38,14 +38,14 @@ impl<B: Body, N: Naming> Guarded<B, N> {
         note(hand, &ask);
         match self.core.act(hand, ask) {
             Told::Hear(heard) => served(Next::Turn(heard), wake),
-            Told::Run(t) => served(Next::Begin(t), wake),
+            Told::Run(t) => served(Next::Begin(t), Wake::Nobody),
             Told::Skip(_, body) => Served {
                 next: Next::Again,
                 ended: None,
                 skipped: Some(body),
-                wake,
+                wake: Wake::Nobody,
             },
-            Told::None => served(after_none(helps), wake),
+            Told::None => served(after_none(helps), Wake::Nobody),
             Told::Hook(_, caller) => served(Next::Turn(Heard::Hook(caller)), wake),
             Told::Over(body) => {
                 let then = self.resume(alloc, hand);
@@ -87,7 +87,7 @@ impl<B: Body, N: Naming> Guarded<B, N> {
         ensures { NextRight B.right result.next }
     {
         match self.core.act(hand, Ask::Join(t)) {
-            Told::Hear(heard) => served(Next::Turn(heard), Wake::Nobody),
+            Told::Hear(heard) => served(Next::Turn(heard), Wake::Waiting),
             Told::Run(u) => served(Next::Begin(u), Wake::Nobody),
             Told::Skip(_, body) => Served {
                 next: Next::Again,

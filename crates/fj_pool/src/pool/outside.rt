@@ -19,6 +19,8 @@ impl<B: Body, N: Naming> Pool<B, N> {
         for _ in rt.forever() {
             let core = &mut *guard;
             if let Some(answer) = core.collect(ticket) {
+                // Whoever awaits the same ticket is told now that it was told before.
+                self.awaiting.notify_all();
                 return answer;
             }
             guard = self.awaiting.wait(rt, guard);
