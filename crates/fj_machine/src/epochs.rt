@@ -1,4 +1,4 @@
-ghost use Rattle.std.specs.Prelude.{◌≡◌, ◌++◌, length, IfOk, OnOk};
+ghost use Rattle.std.specs.Prelude.{◌≡◌, ◌++◌, [], length, IfOk, OnOk};
 ghost use Rattle.std.specs.List.{filter_map};
 ghost use Rattle.fj_model.specs.Places.{gone};
 ghost use Rattle.fj_model.specs.Pasts.{fresh, present, gone_since};
@@ -49,21 +49,39 @@ pub fn run_epochs(
     // The replies `task` are the tasks accepted, one for one and in order; so are `run` the tasks handed out, `hook` the `onCompletion`s.
     ensures replies { IfOk result (λ r. RepliesTell r.0.events (filter_map reply_in r.2.items)) }
 {
-    // The check wants each type inside a reply to be named where one is moved.
-    let _inside: Option<(Said, Place, Owner, Status, Refusal, Serial, SubId, WorkerId)> = None;
-    let Ok(mut machine) = Machine::new(alloc, mode, limits) else {
-        return Err(OutOfMemory);
-    };
     let seals = moves
         .iter()
         .filter(|asked| matches!(asked, Move::Seal))
         .count();
     let mut parts = Vec::with_capacity(alloc, seals)?;
     let mut answers = Vec::with_capacity(alloc, moves.len())?;
-    for asked in moves {
-        answers.push(make_move(alloc, &mut machine, &mut parts, asked)?)?;
-    }
+    let Ok(mut machine) = Machine::new(alloc, mode, limits) else {
+        return Err(OutOfMemory);
+    };
+    move_all(alloc, &mut machine, moves, &mut parts, &mut answers)?;
     Ok((machine, parts, answers))
+}
+
+/// Makes all moves. Preconditions: nothing has happened to the machine, and the lists are empty.
+fn move_all(
+    alloc: Global,
+    machine: &mut Machine,
+    moves: &[Move],
+    parts: &mut Vec<Sealed>,
+    answers: &mut Vec<Answer>,
+) -> Result<(), OutOfMemory>
+    requires nothing { machine.old ≡ fresh machine.old.pool.mode machine.old.pool.limits }
+    requires none { (parts.old.items ≡ []) × (answers.old.items ≡ []) }
+    ensures pool { OnOk result (machine.new.pool ≡ machine.old.pool) }
+    ensures runs { OnOk result (MovesFrom machine.old moves.now answers.new.items machine.new) }
+    ensures parts { OnOk result (Fits parts.new.items machine.new) }
+{
+    // The check wants each type inside a reply to be named where one is moved.
+    let _inside: Option<(Said, Place, Owner, Status, Refusal, Serial, SubId, WorkerId)> = None;
+    for asked in moves {
+        answers.push(make_move(alloc, machine, parts, asked)?)?;
+    }
+    Ok(())
 }
 
 /// Makes one move. A part that is handed out is put behind those before it.
