@@ -1,5 +1,5 @@
 -- The parts that a core keeps stay those of its history.
-use Rattle.std.proofs.Common.{◌≡◌, Bool, true, false, inl, inr, List, refl, ap, sym, ◌∙◌, subst}
+use Rattle.std.proofs.Common.{◌≡◌, Bool, true, false, inl, inr, List, [], ◌∷◌, ◌++◌, refl, ap, sym, ◌∙◌, subst, append_assoc, append-nil}
 use Rattle.fj_model.specs.declared.epoch.Sealed.{Sealed}
 use Rattle.fj_model.specs.declared.event.Event.{Event}
 use Rattle.fj_model.specs.Pasts.{Past, grown, sealed_now}
@@ -9,6 +9,7 @@ use Rattle.fj_store.specs.Stores.{StoreState}
 use Rattle.fj_store.specs.Sealing.{HandsPart}
 use Rattle.fj_core.specs.declared.booking.Booking.{Booking}
 use Rattle.fj_core.specs.declared.closing.Closing.{Closing}
+use Rattle.fj_core.specs.Archives.{Archived}
 use Rattle.fj_core.specs.Closes.{Dues}
 use Rattle.fj_core.specs.Cores.{AreParts, IsCore, StaysInside}
 use Rattle.fj_core.proofs.Frames.{releases_stay}
@@ -30,6 +31,19 @@ grown_keeps old new es is = record { sealed = ap (λ (p : Past). p.sealed) is; s
 
 same_sealed : (past : Past) → KeepsSealed past past
 same_sealed past = record { sealed = refl; seals = refl }
+
+-- one part more is kept
+pub parts_kept : (old ready new : Archived) (part : Sealed) (past : Past) → ready ≡ record old { room = ready.room } → new ≡ record ready { kept = ready.kept ++ part ∷ [] } → AreParts (old.handed ++ old.kept ++ part ∷ []) past
+    → AreParts (new.handed ++ new.kept) past
+parts_kept old ready new part past reserved pushed are =
+    let more : new.handed ++ new.kept ≡ old.handed ++ old.kept ++ part ∷ [] =
+    ap (λ (a : Archived). a.handed ++ a.kept) pushed ∙ ap (λ (a : Archived). a.handed ++ (a.kept ++ part ∷ [])) reserved ∙ sym (append_assoc old.handed old.kept (part ∷ [])) in
+    subst (λ (ps : List Sealed). AreParts ps past) (sym more) are
+
+-- those that were kept count as handed out
+pub parts_handed : (old new : Archived) (past : Past) → new ≡ record { handed = old.handed ++ old.kept; kept = []; room = new.room } → AreParts (old.handed ++ old.kept) past → AreParts (new.handed ++ new.kept) past
+parts_handed old new past handed are =
+    subst (λ (ps : List Sealed). AreParts ps past) (sym (ap (λ (a : Archived). a.handed ++ a.kept) handed ∙ append-nil (old.handed ++ old.kept))) are
 
 module _ {B K O : Type 0} where
   inside_keeps : (old new : StoreState B K O) → StaysInside old new → KeepsSealed old.past new.past

@@ -5,11 +5,6 @@ use Rattle.fj_model.specs.declared.epoch.Sealed.{Sealed}
 use Rattle.fj_model.specs.declared.mode.Mode.{Mode}
 use Rattle.fj_model.specs.declared.refusal.Refusal.{Refusal}
 use Rattle.fj_model.specs.declared.refusal.Refusal.TheVariants.{LogFull, Unknown}
-use Rattle.fj_model.specs.declared.step.Step.{Step}
-use Rattle.fj_model.specs.declared.step.Step.TheVariants as ask
-use Rattle.fj_model.specs.declared.owner.Owner.TheVariants.{Sub}
-use Rattle.fj_model.specs.Queues.{pushed}
-use Rattle.fj_model.specs.Allowed.{is_closed, is_stopped}
 use Rattle.fj_model.specs.Bounds.{Bounds}
 use Rattle.fj_model.specs.Parts.{Fits}
 use Rattle.fj_model.specs.Pasts.{Past, fresh}
@@ -29,12 +24,14 @@ use Rattle.fj_core.specs.Closings.{IsClosing, is_due}
 abbrev pub AreParts : List Sealed → Past → Type 0
 AreParts parts past = Fits parts past
 
--- what contracts see of a core: its store, the drain of each submitter, what was taken in, the closing number, and the sealed parts
+-- what contracts see of a core: its store, the drain of each submitter, what was taken in, the closing number, and the sealed parts, those
+-- that were handed out and those that are kept
 pub record CoreState (B K O : Type 0) : Type 0 where
   pub store : StoreState B K O
   pub lanes : List (DrainState B)
   pub bookings : List Booking
   pub closing : Closing
+  pub handed : List Sealed
   pub parts : List Sealed
 
 -- the first hands: worker w scans from `start + w` on, which wraps in 32 bits
@@ -57,6 +54,7 @@ module _ {B K O : Type 0} where
     pub lanes_same : core.lanes ≡ lanes
     pub bookings : core.bookings ≡ []
     pub closing : core.closing ≡ record { number = None; stopping = false }
+    pub handed : core.handed ≡ []
     pub parts : core.parts ≡ []
 
   -- what a call that reaches only the store leaves of it

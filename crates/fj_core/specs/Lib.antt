@@ -2,6 +2,8 @@
 pub mod Booked
 -- the closing number
 pub mod Closings
+-- the sealed parts
+pub mod Archives
 -- the core
 pub mod Cores
 -- the closing number is set, and what is due is made

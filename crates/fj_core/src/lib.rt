@@ -1,6 +1,7 @@
 //! The core of a pool: what a worker does while it holds the lock.
 #![tactic(auto)]
 
+mod archive;
 mod booking;
 mod bookings;
 mod closing;
@@ -9,6 +10,7 @@ mod first_hands;
 mod pool_core;
 mod taken_in;
 
+pub use archive::Archive;
 pub use booking::Booking;
 pub use bookings::Bookings;
 pub use closing::Closing;

@@ -11,12 +11,13 @@ mod intake;
 mod remains;
 mod seal;
 
+use crate::archive::Archive;
 use crate::bookings::Bookings;
 use crate::closing::Closing;
 use crate::first_hands::new_hands;
 use fj_gate::Ticket;
 use fj_lane::Drain;
-use fj_model::{Limits, Mode, OutOfMemory, Refusal, Sealed};
+use fj_model::{Limits, Mode, OutOfMemory, Refusal};
 use fj_shelf::Hand;
 use fj_store::{Body, Outcome, Store, Told};
 pub use remains::Remains;
@@ -30,22 +31,22 @@ pub struct Core<B: Body> {
     drains: Vec<Drain<B>>,
     bookings: Bookings,
     closing: Closing,
-    parts: Vec<Sealed>,
+    archive: Archive,
 }
 
 impl<B: Body> Model for Core<B> {
-    ghost use Rattle.std.specs.Prelude.{◌≤◌};
+    ghost use Rattle.std.specs.Prelude.{◌≤◌, ◌++◌};
     ghost use Rattle.std.specs.List.{sum_by};
     ghost use Rattle.fj_core.specs.Cores.{AreParts, CoreState, IsCore};
 
     ghost Value = { CoreState B B.Key B.Out };
 
-    ghost view = { λ c. record { store = c.store; lanes = c.drains.items; bookings = c.bookings.bookings; closing = c.closing; parts = c.parts.items } };
+    ghost view = { λ c. record { store = c.store; lanes = c.drains.items; bookings = c.bookings.bookings; closing = c.closing; handed = c.archive.handed; parts = c.archive.kept } };
 
     ghost invariant = { λ c.
         IsCore c.store c.drains.items c.bookings.bookings c.closing
         × (sum_by (λ d. d.capacity) c.drains.items ≤ c.bookings.room)
-        × AreParts c.parts.items c.store.past };
+        × AreParts (c.archive.handed ++ c.archive.kept) c.store.past };
 }
 
 impl<B: Body> Core<B> {
@@ -76,7 +77,7 @@ impl<B: Body> Core<B> {
             drains,
             bookings,
             closing: Closing::new(),
-            parts: Vec::new(alloc),
+            archive: Archive::new(alloc),
         };
         Ok((core, hands))
     }

@@ -131,6 +131,33 @@ fn seals(rt: HostRuntime) -> Result<(), Fail> {
     check(&rt, rt.alloc(), [1, 8, 5], &submissions::seals())
 }
 
+/// How many events each part has that is left of a core after these calls. None if a call told something else than stands beside it.
+fn left(
+    alloc: Global,
+    owners: &Rc<u8>,
+    rows: &[(Call, Tells)],
+) -> Result<Option<Vec<usize>>, Fail> {
+    let mut driver = drive(alloc, owners, 1, 8, 64)?;
+    if first_other(alloc, &mut driver, rows)?.is_some() {
+        return Ok(None);
+    }
+    let mut lengths = Vec::new(alloc);
+    for part in driver.into_archive().into_kept() {
+        lengths.push(part.events.len())?;
+    }
+    Ok(Some(lengths))
+}
+
+/// What is left has the release of the first task and the four events of the last one.
+#[test]
+fn parts(rt: HostRuntime) -> Result<(), Fail> {
+    check(&rt, rt.alloc(), [1, 8, 64], &submissions::parts())?;
+    let owners = Rc::new(rt.alloc(), 0u8)?;
+    let lengths = left(rt.alloc(), &owners, &submissions::parts())?;
+    assert!(rt; lengths.is_some_and(|lengths| lengths.as_slice() == [5].as_slice()));
+    Ok(())
+}
+
 #[test]
 fn stuck_at_an_intake(rt: HostRuntime) -> Result<(), Fail> {
     check(&rt, rt.alloc(), [1, 8, 4], &stuck::stuck_at_an_intake())

@@ -1,7 +1,7 @@
 //! A core that is driven by hand, call by call.
 use crate::tells::{Tells, collected, told};
 use crate::work::Work;
-use fj_core::{Core, Intake};
+use fj_core::{Archive, Core, Intake, Remains};
 use fj_gate::Ticket;
 use fj_lane::{Feed, Parcel, lane};
 use fj_model::{Kind, Limits, Mode, Refusal, Serial, SubId};
@@ -27,8 +27,10 @@ pub enum Call {
     /// The outcome under a ticket.
     Collect(u64),
     Seal,
-    /// How many parts are sealed.
+    /// How many parts are sealed, and were not taken.
     Parts,
+    /// The parts are taken; how many they are.
+    TakeParts,
     /// How many bodies there are.
     Bodies,
     /// The calls from here on are made by this worker.
@@ -115,6 +117,7 @@ impl Driver {
                 Err(refusal) => Tells::Refused(refusal),
             },
             Call::Parts => Tells::Number(self.core.parts().len()),
+            Call::TakeParts => Tells::Number(self.core.take_parts(alloc).len()),
             Call::Bodies => {
                 // Two owners are the driver and who made it.
                 Tells::Number(Rc::strong_count(&self.owners).saturating_sub(2))
@@ -129,6 +132,25 @@ impl Driver {
                 self.act(ask)
             }
         })
+    }
+
+    /// The parts that nobody has taken.
+    pub fn into_archive(self) -> Archive {
+        let Driver {
+            core,
+            feed: _,
+            hands: _,
+            owners: _,
+            by: _,
+        } = self;
+        let Remains {
+            machine: _,
+            results: _,
+            drains: _,
+            bookings: _,
+            archive,
+        } = core.into_remains();
+        archive
     }
 
     /// A body is pushed into the lane.

@@ -1,14 +1,14 @@
-ghost use Rattle.std.specs.Prelude.{◌≡◌};
+ghost use Rattle.std.specs.Prelude.{◌≡◌, ◌++◌};
 ghost use Rattle.fj_model.specs.Epochs.{IsPast};
 ghost use Rattle.fj_shelf.specs.Shelves.{entries};
 ghost use Rattle.fj_core.specs.Booked.{AreBooked};
 ghost use Rattle.fj_core.specs.Cores.{AreParts};
 
+use crate::archive::Archive;
 use crate::bookings::Bookings;
 use crate::pool_core::Core;
 use fj_lane::Drain;
 use fj_machine::Machine;
-use fj_model::Sealed;
 use fj_shelf::Shelf;
 use fj_store::{Body, Kept};
 
@@ -23,8 +23,8 @@ pub struct Remains<B: Body> {
     pub drains: Vec<Drain<B>>,
     /// What was taken in.
     pub bookings: Bookings,
-    /// The sealed parts of the history.
-    pub parts: Vec<Sealed>,
+    /// The sealed parts of the history that were not handed out.
+    pub archive: Archive,
 }
 
 impl<B: Body> Core<B> {
@@ -34,17 +34,18 @@ impl<B: Body> Core<B> {
         ensures results { entries result.results ≡ entries self.store.results }
         ensures drains { result.drains.items ≡ self.lanes }
         ensures bookings { result.bookings.bookings ≡ self.bookings }
-        ensures parts { result.parts.items ≡ self.parts }
+        ensures handed { result.archive.handed ≡ self.handed }
+        ensures parts { result.archive.kept ≡ self.parts }
         ensures run { IsPast self.store.past }
         ensures booked { AreBooked self.store.past self.lanes self.bookings }
-        ensures history { AreParts self.parts self.store.past }
+        ensures history { AreParts (self.handed ++ self.parts) self.store.past }
     {
         let Core {
             store,
             drains,
             bookings,
             closing: _,
-            parts,
+            archive,
         } = self;
         let (machine, results) = store.into_parts();
         Remains {
@@ -52,7 +53,7 @@ impl<B: Body> Core<B> {
             results,
             drains,
             bookings,
-            parts,
+            archive,
         }
     }
 }

@@ -1,4 +1,4 @@
-ghost use Rattle.std.specs.Prelude.{◌≡◌};
+ghost use Rattle.std.specs.Prelude.{◌≡◌, [], ◌++◌};
 ghost use Rattle.fj_core.specs.Cores.{AreParts};
 ghost use Rattle.fj_core.specs.Sealing.{SealsCore, may_be_sealed};
 
@@ -20,21 +20,31 @@ impl<B: Body> Core<B> {
         if self.store.is_stuck() {
             return Err(Refusal::LogFull);
         }
-        if self.parts.reserve(1).is_err() {
+        if self.archive.reserve().is_err() {
             return Err(Refusal::OutOfMemory);
         }
         let part = self.store.seal(alloc)?;
-        self.parts.push_reserved(part);
+        self.archive.push(part);
         Ok(())
     }
 
-    /// The parts that were sealed so far, the oldest first: joined, they are the history up to the last seal, and the tasks that were gone
-    /// by then.
+    /// The parts that are kept, the oldest first: joined behind those that were handed out, they are the history up to the last seal, and
+    /// the tasks that were gone by then.
     pub fn parts(&self) -> &[Sealed]
         ensures parts { result.now ≡ self.now.parts }
-        ensures history { AreParts self.now.parts self.now.store.past }
+        ensures history { AreParts (self.now.handed ++ self.now.parts) self.now.store.past }
     {
-        self.parts.as_slice()
+        self.archive.as_slice()
+    }
+
+    /// The parts that are kept, the oldest first. From then on they count as handed out, so the next call begins where these end; nothing
+    /// else changes. It takes no memory, and also serves where the core is stuck or shut.
+    pub fn take_parts(&mut self, alloc: Global) -> Vec<Sealed>
+        ensures parts { result.items ≡ self.old.parts }
+        ensures handed { self.new ≡ record self.old { handed = self.old.handed ++ self.old.parts; parts = [] } }
+        ensures history { AreParts self.new.handed self.new.store.past }
+    {
+        self.archive.take(alloc)
     }
 
     /// Whether a worker that looks for work seals first: the machine is quiescent and open, and the history since the last seal is longer

@@ -127,6 +127,40 @@ pub fn taken_once() -> [(Call, Tells); 12] {
     ]
 }
 
+/// Each part is handed out once: two seals and the first take, one seal and the second. A part is left in the end.
+pub fn parts() -> [(Call, Tells); 28] {
+    [
+        (TakeParts, Number(0)),
+        (Push(0, 70, None), Done),
+        (Push(1, 71, None), Done),
+        (Push(2, 72, None), Done),
+        (Push(3, 73, None), Done),
+        (Intake, Took(0)),
+        (Poll, Run(0)),
+        (Act(Ok(40)), Over(None)),
+        (Seal, Done),
+        (Intake, Took(1)),
+        (Poll, Run(1)),
+        (Act(Ok(41)), Over(None)),
+        (Seal, Done),
+        (Parts, Number(2)),
+        (TakeParts, Number(2)),
+        (TakeParts, Number(0)),
+        (Parts, Number(0)),
+        (Intake, Took(2)),
+        (Poll, Run(2)),
+        (Act(Ok(42)), Over(None)),
+        (Seal, Done),
+        (TakeParts, Number(1)),
+        (Collect(0), Normal(true)),
+        (Intake, Took(3)),
+        (Poll, Run(3)),
+        (Act(Ok(43)), Over(None)),
+        (Seal, Done),
+        (Parts, Number(1)),
+    ]
+}
+
 /// A seal makes room for five events again. The release of 1 finds none: it is stuck from then on.
 pub fn seals() -> [(Call, Tells); 16] {
     [

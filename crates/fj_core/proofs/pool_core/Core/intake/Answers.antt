@@ -55,7 +55,7 @@ invariant_of-self-in-Some-take g c =
           (submitted_kind (kind_rooted (g.B.Body.rooted_as p.body))) d c.take.new.self p c.s.view_is c.in_default.ensures.3 c.hand_in-serial.ensures.event at c.in-Some-take.ensures.taken c.take.ensures.within c.push.ensures c.len.ensures
           c.make_due.ensures c.self.invariant.0,
       rw c.push.ensures (same_capacity lanes c.s.inside.0 _ d c.take.new.self at (ap (λ (x : DrainState g.row.B.Denot). x.capacity) c.in-Some-take.ensures.taken) c.self.invariant.1),
-      parts_taken self.parts.items _ _ self.store c.ready.new.store c.hand_in-serial.new.store c.make_due.new.store _ c.in_default.ensures.3 c.hand_in-serial.ensures.event c.make_due.ensures c.self.invariant.2,
+      parts_taken (self.archive.handed ++ self.archive.kept) _ _ self.store c.ready.new.store c.hand_in-serial.new.store c.make_due.new.store _ c.in_default.ensures.3 c.hand_in-serial.ensures.event c.make_due.ensures c.self.invariant.2,
     )
 
 pub returns-in-None : goal.returns-in-None
@@ -66,9 +66,9 @@ returns-in-None g c =
     let within : c.s.inside.0 < length lanes = omega (arith, c.requires, ap (λ (x : CoreState g.row.B.Denot g.row.B-Key.Denot g.row.B-Out.Denot). x.store.past.pool.limits.submitters) c.self.view_is, c.self.invariant.0.booked.lane_each, c.s.view_is) in
     let at : slice_get lanes c.s.inside.0 ≡ Some d = slice_get_read lanes (length lanes) c.s.inside.0 d refl within c.index_mut.ensures.value in
     let with_store : StoreState g.row.B.Denot g.row.B-Key.Denot g.row.B-Out.Denot → CoreState g.row.B.Denot g.row.B-Key.Denot g.row.B-Out.Denot =
-    λ st. record { store = st; lanes = slice_set lanes c.s.inside.0 c.take.new.self; bookings = self.bookings.bookings; closing = self.closing; parts = self.parts.items } in
+    λ st. record { store = st; lanes = slice_set lanes c.s.inside.0 c.take.new.self; bookings = self.bookings.bookings; closing = self.closing; handed = self.archive.handed; parts = self.archive.kept } in
     let with_lanes : List (DrainState g.row.B.Denot) → CoreState g.row.B.Denot g.row.B-Key.Denot g.row.B-Out.Denot =
-    λ ls. record { store = self.store; lanes = ls; bookings = self.bookings.bookings; closing = self.closing; parts = self.parts.items } in
+    λ ls. record { store = self.store; lanes = ls; bookings = self.bookings.bookings; closing = self.closing; handed = self.archive.handed; parts = self.archive.kept } in
     rw (← c.self.view_is) (inr (record {
       free = c.in_default.ensures.0;
       goes_on = c.in_default.ensures.1;
@@ -94,9 +94,9 @@ returns-in-Some-take g c =
     let new_lanes : slice_set lanes c.s.inside.0 c.take.new.self ≡ slice_set lanes c.args.s (with_drained d p) =
     ap (λ j. slice_set lanes j c.take.new.self) c.s.view_is ∙ ap (λ (e : DrainState g.row.B.Denot). slice_set lanes c.args.s e) c.in-Some-take.ensures.taken in
     let with_lanes : List (DrainState g.row.B.Denot) → CoreState g.row.B.Denot g.row.B-Key.Denot g.row.B-Out.Denot =
-    λ ls. record { store = c.make_due.new.store; lanes = ls; bookings = c.push.new.self.bookings; closing = self.closing; parts = self.parts.items } in
+    λ ls. record { store = c.make_due.new.store; lanes = ls; bookings = c.push.new.self.bookings; closing = self.closing; handed = self.archive.handed; parts = self.archive.kept } in
     let with_bookings : List Booking → CoreState g.row.B.Denot g.row.B-Key.Denot g.row.B-Out.Denot =
-    λ bs. record { store = c.make_due.new.store; lanes = slice_set lanes c.args.s (with_drained d p); bookings = bs; closing = self.closing; parts = self.parts.items } in
+    λ bs. record { store = c.make_due.new.store; lanes = slice_set lanes c.args.s (with_drained d p); bookings = bs; closing = self.closing; handed = self.archive.handed; parts = self.archive.kept } in
     rw (← c.self.view_is) (record {
       free = c.in_default.ensures.0;
       goes_on = c.in_default.ensures.1;

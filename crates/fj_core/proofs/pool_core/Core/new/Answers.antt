@@ -1,7 +1,8 @@
-use Rattle.std.proofs.Common.{rules, ◌≡◌, ◌∙◌, [], ap, sym, subst, refl}
+use Rattle.std.proofs.Common.{rules, ◌≡◌, ◌∙◌, [], ◌++◌, ap, sym, subst, refl}
 use Rattle.fj_model.proofs.Headline.Parting.{fits_none}
 use Rattle.fj_core.proofs.Lanes.{new_booked, enough_room}
 use Rattle.fj_core.proofs.Reached.{new_closing}
+use Rattle.fj_core.specs.Archives.{Archived}
 use Rattle.fj_core.specs.Booked.{AreBooked, Booked}
 use Rattle.fj_core.specs.Cores.{AreParts}
 use Rattle.fj_core.proofs.pool_core.Core.new.Goals as goal
@@ -16,7 +17,7 @@ invariant_of-core g c =
         closes = new_closing _ _ _ _ (ap (λ p. p.events) past) (ap (λ k. k.number) c.new-3.ensures);
       },
       enough_room _ c.args.lane_capacity c.args.limits.submitters _ c.requires.capacities (sym c.args.drains.ok.0 ∙ c.requires.lanes) (search rules),
-      subst (λ ps. AreParts ps c.in_ok-store.store.past) (sym c.new-4.ensures.items) (subst (AreParts []) (sym past) (fits_none _ _)),
+      subst (λ (a : Archived). AreParts (a.handed ++ a.kept) c.in_ok-store.store.past) (sym c.new-4.ensures) (subst (AreParts []) (sym past) (fits_none _ _)),
     )
 
 pub returns-clause-core : goal.returns-clause-core
@@ -29,5 +30,6 @@ returns-clause-core g c = record {
   lanes_same = refl;
   bookings = ap (λ (b : Booked). b.bookings) c.in_ok-bookings.ensures;
   closing = c.new-3.ensures;
-  parts = c.new-4.ensures.items;
+  handed = ap (λ (a : Archived). a.handed) c.new-4.ensures;
+  parts = ap (λ (a : Archived). a.kept) c.new-4.ensures;
 }
