@@ -69,9 +69,9 @@ impl<B: Body> Core<B> {
         ensures core { IfOk result (λ r. IsNew mode limits drains.items r.0) }
         ensures hands { IfOk result (λ r. r.1.items ≡ first_hands limits.workers start) }
     {
-        let store = Store::new(alloc, mode, limits)?;
         let bookings = Bookings::new(alloc, limits.submitters() * lane_capacity)?;
         let hands = new_hands(alloc, limits.workers(), start)?;
+        let store = Store::new(alloc, mode, limits)?;
         let core = Core {
             store,
             drains,

@@ -72,14 +72,17 @@ impl<B: Body> Store<B> {
         let room = limits.tasks() as usize;
         // Tells that the limits are within their ranges.
         let _workers = limits.workers();
+        let bodies = Shelf::new(alloc, room)?;
+        let results = Shelf::new(alloc, room)?;
+        let taken = Vec::with_capacity(alloc, room)?;
         let Ok(machine) = Machine::new(alloc, mode, limits) else {
             return Err(OutOfMemory);
         };
         Ok(Store {
             machine,
-            bodies: Shelf::new(alloc, room)?,
-            results: Shelf::new(alloc, room)?,
-            taken: Vec::with_capacity(alloc, room)?,
+            bodies,
+            results,
+            taken,
             due: Due::Nothing,
             stuck: false,
         })
