@@ -25,7 +25,7 @@ mod turns;
 mod turnstile;
 
 pub use closer::Closer;
-pub use fj_core::{Booking, Bookings, Core, Intake};
+pub use fj_core::{Archive, Booking, Bookings, Core, Intake};
 pub use fj_gate::{Closing, Ticket};
 pub use fj_lane::{Parcel, Rest};
 pub use fj_shelf::Hand;

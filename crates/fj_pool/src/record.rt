@@ -1,4 +1,4 @@
-ghost use Rattle.std.specs.Prelude.{◌≡◌, ◌≤◌, ◌↔◌, [], All, IfSome, IsTrue, length, map, reverse, vec_len, vec_capacity};
+ghost use Rattle.std.specs.Prelude.{◌≡◌, ◌≤◌, ◌↔◌, [], ◌++◌, All, IfSome, IsTrue, length, map, reverse, vec_len, vec_capacity};
 ghost use Rattle.fj_gate.specs.Numbers.{IsNumbersBelow};
 ghost use Rattle.fj_model.specs.Epochs.{IsPast};
 ghost use Rattle.fj_core.specs.Cores.{AreParts};
@@ -11,11 +11,10 @@ use crate::naming::Naming;
 use crate::pool::Pool;
 use crate::seat::Seat;
 use crate::submitter::Submitter;
-use fj_core::{Bookings, Remains};
+use fj_core::{Archive, Bookings, Remains};
 use fj_gate::{Entrant, meet as meet_gate};
 use fj_lane::{Drain, Rest, meet};
 use fj_machine::Machine;
-use fj_model::Sealed;
 use fj_shelf::Shelf;
 use fj_store::{Body, Kept};
 
@@ -28,8 +27,8 @@ pub struct Record<B: Body> {
     pub results: Shelf<Kept<B>>,
     /// What was taken in, in that order.
     pub bookings: Bookings,
-    /// The sealed parts of the history, the oldest first.
-    pub parts: Vec<Sealed>,
+    /// The sealed parts of the history that were not handed out, the oldest first.
+    pub archive: Archive,
     /// What each lane still holds, by the number of its submitter.
     pub lanes: Vec<Rest<B>>,
     /// How many submissions were admitted.
@@ -48,7 +47,8 @@ impl<B: Body, N: Naming> Pool<B, N> {
     pub fn wind_up(self, submitters: Vec<Submitter<B, N>>, closer: Closer<N>) -> Record<B>
         requires { AreAll (length N.lanes) submitters.items }
         ensures run { IsPast result.machine }
-        ensures history { AreParts result.parts.items result.machine }
+        // The parts that were handed out, and then those of the record, are the history up to the last seal.
+        ensures history { AreParts (result.archive.handed ++ result.archive.kept) result.machine }
         // What was taken in from a submitter, and then what its lane still holds, is what it pushed.
         ensures lanes { AreSettled result.machine.events result.bookings.bookings submitters.items result.lanes.items }
         // The tickets that were drawn are the numbers below that of the admissions, which is the closing number of a closed gate.
@@ -78,7 +78,7 @@ impl<B: Body, N: Naming> Pool<B, N> {
             results,
             drains,
             bookings,
-            parts,
+            archive,
         } = core.into_remains();
         let (entrants, lanes) = settle(submitters, drains, entrants, rests);
         let tickets = meet_gate(entrants, closer.end);
@@ -88,7 +88,7 @@ impl<B: Body, N: Naming> Pool<B, N> {
             machine,
             results,
             bookings,
-            parts,
+            archive,
             lanes,
             admitted: tickets.drawn,
             closed: tickets.closed,

@@ -6,7 +6,7 @@ use crate::naming::Naming;
 use crate::next::Wake;
 use fj_core::{Core, Intake};
 use fj_gate::Ticket;
-use fj_model::{MAX_SUBMITTERS, Refusal, SubId};
+use fj_model::{MAX_SUBMITTERS, Refusal, Sealed, SubId};
 use fj_store::{Body, Outcome};
 use std::alloc::Global;
 
@@ -23,6 +23,11 @@ impl<B: Body, N: Naming> Guarded<B, N> {
     /// The outcome under a ticket, as `Core::collect` tells it.
     pub fn collect(&mut self, ticket: Ticket) -> Option<Result<Outcome<B>, Refusal>> {
         self.core.collect(ticket)
+    }
+
+    /// The sealed parts that are kept, which count as handed out from then on.
+    pub fn take_parts(&mut self, alloc: Global) -> Vec<Sealed> {
+        self.core.take_parts(alloc)
     }
 
     /// The closing number, at which the Shutdown is made.

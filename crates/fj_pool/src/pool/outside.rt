@@ -4,7 +4,7 @@ use crate::naming::Naming;
 use crate::next::Wake;
 use crate::pool::Pool;
 use fj_gate::{Closing, Ticket};
-use fj_model::Refusal;
+use fj_model::{Refusal, Sealed};
 use fj_store::{Body, Outcome};
 use std::sync::Wait;
 
@@ -26,6 +26,17 @@ impl<B: Body, N: Naming> Pool<B, N> {
             guard = self.awaiting.wait(rt, guard);
         }
         unreachable!()
+    }
+
+    /// The sealed parts of the history that nobody has taken yet, the oldest first. It takes no memory, and waits for the lock alone.
+    ///
+    /// Each part is given once, in order: two calls give consecutive runs of the history, and the record of a pool that is wound up begins
+    /// where the last call ended. Nobody has to call it: what is not taken is kept for the record. Java has no counterpart: it keeps no
+    /// history.
+    pub fn take_parts<R: Wait>(&self, rt: &R) -> Vec<Sealed> {
+        let mut guard = self.core.lock(rt);
+        let core = &mut *guard;
+        core.take_parts(self.alloc)
     }
 
     /// Nothing more is admitted; what was admitted is run, and then the workers leave: `ForkJoinPool.shutdown`. A repeat has no effect.
