@@ -1,4 +1,4 @@
-ghost use Rattle.std.specs.Prelude.{◌≡◌, All, IfOk, length};
+ghost use Rattle.std.specs.Prelude.{◌≡◌, All, IfOk, length, vec_len};
 ghost use Rattle.fj_pool.specs.Lanes.{lanes_of};
 ghost use Rattle.fj_pool.specs.Seats.{IsNamed};
 
@@ -12,6 +12,7 @@ use crate::next::Wake;
 use crate::parts::Parts;
 use crate::seat::Seat;
 use crate::submitter::Submitter;
+use fj_core::Core;
 use fj_model::OutOfMemory;
 use fj_shelf::Hand;
 use fj_store::Body;
@@ -54,17 +55,7 @@ impl<B: Body, N: Naming> Pool<B, N> {
             seats,
             closer,
         } = parts;
-        let lanes = seats.len();
-        let core = Guarded::new(alloc, core, lanes)?;
-        let submitters = name_all(alloc, seats)?;
-        let pool = Pool {
-            alloc,
-            lanes,
-            core: Mutex::new(core),
-            joining: Condvar::new(),
-            idle: Condvar::new(),
-            awaiting: Condvar::new(),
-        };
+        let (pool, submitters) = put_together(alloc, core, seats)?;
         let closer = Closer {
             end: closer,
             of: PhantomData,
@@ -91,6 +82,31 @@ impl<B: Body, N: Naming> Pool<B, N> {
             }
         }
     }
+}
+
+/// A pool with this core, and its submitters by name. Preconditions: the name is that of these lanes and ends.
+fn put_together<B: Body, N: Naming>(
+    alloc: Global,
+    core: Core<B>,
+    seats: Vec<Seat<B>>,
+) -> Result<(Pool<B, N>, Vec<Submitter<B, N>>), AllocError>
+    requires lanes { lanes_of core.lanes ≡ N.lanes }
+    requires count { vec_len seats ≡ length N.lanes }
+    requires named { All (λ s. IsNamed N.gate N.lanes s) seats.items }
+    ensures { IfOk result (λ r. r.1.items ≡ seats.items) }
+{
+    let lanes = seats.len();
+    let submitters = name_all(alloc, seats)?;
+    let core = Guarded::new(alloc, core, lanes)?;
+    let pool = Pool {
+        alloc,
+        lanes,
+        core: Mutex::new(core),
+        joining: Condvar::new(),
+        idle: Condvar::new(),
+        awaiting: Condvar::new(),
+    };
+    Ok((pool, submitters))
 }
 
 /// The submitters, by name. Precondition: the name is that of these ends.
