@@ -1,10 +1,11 @@
-# Sourced by epochs.sh, steps.sh, cores.sh, admissions.sh and pairs.sh, at the top of the repository. A loader is no crate of the repository: it is proved
-# and built in a folder of its own, beside copies of the crates that it uses.
+# Sourced by the scripts beside it, at the top of the repository. A loader is no crate of the repository: it is built in a folder of its own,
+# beside copies of the crates that it uses, and where nothing else is said proved there.
 
-# build_loader NAME CRATE..: proves and builds the loader of bench/NAME/, which stands on CRATE.., and names its program in `loader`.
-# `NAME.antt.in` in its folder has the invariants of the loop in a function NAME; `proofs/` has whole files of proofs.
-build_loader() {
-    local name=$1 folder invariants
+# lay_out_loader NAME CRATE..: lays out the loader of bench/NAME/ beside CRATE.., which it stands on, in a folder that is removed at the end, and
+# names the loader's own folder there in `loader`. `NAME.antt.in` in bench/NAME/ has the invariants of the loop in a function NAME; `proofs/` has
+# whole files of proofs.
+lay_out_loader() {
+    local name=$1 folder source invariants
     shift
     folder=$(mktemp -d)
     # The folder's name is put in now: it is gone when the trap is run.
@@ -13,7 +14,9 @@ build_loader() {
     mkdir -p "$loader/src"
     cp HANDLES "$folder"
     cp -r "${@/#/crates/}" "$folder/crates"
-    cp "bench/$name/main.rt.in" "$loader/src/main.rt"
+    for source in "bench/$name"/*.rt.in; do
+        cp "$source" "$loader/src/$(basename "$source" .in)"
+    done
     for invariants in "bench/$name"/*.antt.in; do
         [[ -e $invariants ]] || continue
         mkdir -p "$loader/proofs/$(basename "$invariants" .antt.in)"
@@ -27,11 +30,16 @@ build_loader() {
     fi
     grep -E "^($(IFS='|'; echo "$*")):" crates.txt > "$folder/crates.txt"
     echo "$name: $* anyhow" >> "$folder/crates.txt"
-    if ! (cd "$loader" && rt run -- 1 1) > "$folder/log" 2>&1; then
-        cat "$folder/log" >&2
+}
+
+# build_loader NAME CRATE..: lays the loader out, proves and builds it, and names its program in `loader`.
+build_loader() {
+    lay_out_loader "$@"
+    if ! (cd "$loader" && rt run -- 1 1) > "$loader.log" 2>&1; then
+        cat "$loader.log" >&2
         exit 1
     fi
-    loader=$loader/out/$name
+    loader=$loader/out/$1
 }
 
 # time_loader WHAT THREADS ROUNDS: runs the loader, and prints how many of WHAT it made, the seconds, and how many a second.

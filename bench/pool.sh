@@ -1,0 +1,89 @@
+#!/usr/bin/env bash
+# Times a pool by threads: submissions and tasks in a second, the locks of a task, the delay of a body in an idle pool, and what that takes.
+# Usage: bench/pool.sh [LOAD..]
+#   LOAD is submit, outside, forked, delay or idle (default: all of them)
+# OPTIMISED=1 bench/pool.sh ..   compiles the loader's module with -O3; else it is run as `rt try` runs it, which is far slower
+# RUNS=N bench/pool.sh ..        the least time of N runs counts (default: 1, OPTIMISED 5); of delay and idle there is one run
+set -euo pipefail
+cd "$(dirname "${BASH_SOURCE[0]}")/.."
+
+optimised=${OPTIMISED:-}
+runs=${RUNS:-${optimised:+5}}
+runs=${runs:-1}
+# The bodies of no time that fork: as many as give a time that can be read.
+roots=${optimised:+1000}
+roots=${roots:-64}
+
+. bench/loader.sh
+. bench/unproved.sh
+lay_out_loader pool fj_model fj_queues fj_tree fj_ledger fj_machine fj_gate fj_lane fj_shelf fj_store fj_core fj_pool
+patch -s -p1 -d "$loader/.." < bench/pool/count.patch
+cases=$loader/cases
+mkdir "$cases"
+
+# add RUNS NAME WORD..: so many cases, NAME_1 and so on, of a loader with these words.
+add() {
+    local run most=$1 name=$2
+    shift 2
+    for ((run = 1; run <= most; run++)); do
+        : > "$cases/${name}_$run"
+        printf '%s\n' "$@" > "$cases/${name}_$run.args"
+    done
+}
+
+# add_load LOAD: the cases of a load.
+add_load() {
+    local submitters workers micros
+    case $1 in
+    submit)
+        for submitters in 1 4; do
+            add "$runs" "submit_0_$submitters" submit 0 "$submitters" 65536
+            add "$runs" "submit_4_$submitters" submit 4 "$submitters" $((4000 / submitters))
+        done
+        ;;
+    outside | forked)
+        for micros in 0 1 100; do
+            for workers in 1 2 4; do
+                if [[ $1 == outside ]]; then
+                    add "$runs" "outside_${workers}_$micros" tasks "$workers" 4000 0 "$micros"
+                else
+                    add "$runs" "forked_${workers}_$micros" tasks "$workers" "$((micros < 100 ? roots : 64))" 64 "$micros"
+                fi
+            done
+        done
+        ;;
+    delay) add 1 delay_4_0 delay 4 200 ;;
+    idle) add 1 idle_4_0 idle 4 5 ;;
+    *)
+        echo "no such load: $1" >&2
+        exit 1
+        ;;
+    esac
+}
+
+# print_figures: reads lines LOAD_WORKERS_OTHER_RUN and three numbers of the loader, and prints the figures of each load, by its least time.
+print_figures() {
+    sort -V | awk '
+        function flush() {
+            if (load == "submit") printf "submit   workers: %d  submitters: %d  submissions: %d  seconds: %.4f  submissions/second: %.0f\n", workers, other, count, least / 1e9, count / least * 1e9
+            if (load == "outside" || load == "forked") printf "%-8s workers: %d  microseconds: %3d  tasks: %d  seconds: %.4f  tasks/second: %.0f  locks/task: %.2f\n", load, workers, other, count, least / 1e9, count / least * 1e9, locks / count
+            if (load == "delay") printf "delay    workers: %d  milliseconds: median %.3f  99 of 100 within %.3f  greatest %.3f\n", workers, count / 1e6, least / 1e6, locks / 1e6
+            if (load == "idle") printf "idle     workers: %d  seconds: %.2f  processor seconds: %.4f  of one core: %.2f %%\n", workers, least / 1e9, count / 1e9, count / least * 100
+        }
+        {
+            split($1, part, "_")
+            name = part[1] "_" part[2] "_" part[3]
+            if (name != last) { flush(); last = name; load = part[1]; workers = part[2]; other = part[3]; least = 0 }
+            if (least == 0 || $3 < least) { count = $2; least = $3; locks = $4 }
+        }
+        END { flush() }'
+}
+
+(($#)) || set -- submit outside forked delay idle
+for load; do add_load "$load"; done
+if [[ $optimised ]]; then
+    optimise_loader
+    run_cases "$cases" | print_figures
+else
+    try_cases "$cases" | print_figures
+fi
