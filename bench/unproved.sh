@@ -37,9 +37,10 @@ optimise_loader() {
 
 # run_cases CASES: as try_cases, with the program `program`.
 run_cases() {
-    local words case
+    local words case figures
     for words in "$1"/*.args; do
         mapfile -t case < "$words"
-        echo "$(basename "$words" .args) $(timeout 60 "$program" "${case[@]}")"
+        figures=$(timeout 60 "$program" "${case[@]}")
+        echo "$(basename "$words" .args) $figures"
     done
 }
