@@ -1,4 +1,5 @@
 //! What is asked of a pool from outside, and what its lanes show.
+ghost use Rattle.std.specs.Prelude.{◌≡◌};
 ghost use Rattle.fj_pool.specs.Lanes.{KeepsLanes};
 
 use crate::guarded::Guarded;
@@ -26,7 +27,9 @@ impl<B: Body, N: Naming> Guarded<B, N> {
     }
 
     /// The sealed parts that are kept, which count as handed out from then on.
-    pub fn take_parts(&mut self, alloc: Global) -> Vec<Sealed> {
+    pub fn take_parts(&mut self, alloc: Global) -> Vec<Sealed>
+        ensures { result.items ≡ self.old.parts }
+    {
         self.core.take_parts(alloc)
     }
 
