@@ -12,6 +12,9 @@ impl<B: Body, N: Naming> Pool<B, N> {
     /// Waits for the outcome of what was submitted under a ticket, which is told once: `ForkJoinTask.join`. A result in it is right for the
     /// key beside it.
     ///
+    /// A task keeps its place among the live tasks until its outcome was told. So where more is submitted than there are places, the
+    /// outcomes are to be asked for in the order of the submissions, or by as many threads.
+    ///
     /// `Unknown` where the outcome was told before, or where all that was admitted was taken in, and nothing under this ticket. `LogFull`
     /// where the core is stuck.
     pub fn await_done<R: Wait>(&self, rt: &R, ticket: Ticket) -> Result<Outcome<B>, Refusal> {
@@ -40,6 +43,8 @@ impl<B: Body, N: Naming> Pool<B, N> {
     }
 
     /// Nothing more is admitted; what was admitted is run, and then the workers leave: `ForkJoinPool.shutdown`. A repeat has no effect.
+    ///
+    /// It finds its end only where all that was admitted can be taken in: a task keeps its place until its outcome was told.
     pub fn shutdown<R: Wait>(&self, rt: &R, closer: &mut Closer<N>) {
         let number = number_of(closer.close());
         let mut guard = self.core.lock(rt);
@@ -50,7 +55,7 @@ impl<B: Body, N: Naming> Pool<B, N> {
     }
 
     /// Nothing more is admitted; once all that was admitted was taken in, every task that is undone is cancelled, and the workers leave:
-    /// `ForkJoinPool.shutdownNow`. It also serves after a shutdown. A repeat has no effect.
+    /// `ForkJoinPool.shutdownNow`. It also serves after a shutdown. A repeat has no effect. What a shutdown needs for its end this needs too.
     pub fn shutdown_now<R: Wait>(&self, rt: &R, closer: &mut Closer<N>) {
         let number = number_of(closer.close());
         let mut guard = self.core.lock(rt);
