@@ -1,7 +1,8 @@
 #!/usr/bin/env bash
 # Times a pool by threads: submissions and tasks in a second, the locks of a task, the delay of a body in an idle pool, and what that takes.
 # Usage: bench/pool.sh [LOAD..]
-#   LOAD is submit, outside, forked, delay or idle (default: all of them)
+#   LOAD is submit, outside, forked, delay or idle (default: all of them), or, with OPTIMISED=1 and as the only one, days: the peak memory of
+#   a pool through which 131,072 and 2,097,152 submissions pass
 # OPTIMISED=1 bench/pool.sh ..   compiles the loader's module with -O3; else it is run as `rt try` runs it, which is far slower
 # RUNS=N bench/pool.sh ..        the least time of N runs counts (default: 1, OPTIMISED 5); of delay and idle there is one run
 set -euo pipefail
@@ -79,7 +80,23 @@ print_figures() {
         END { flush() }'
 }
 
+# print_peaks: the time and the peak memory of a pool through which a sixteenth, and all, of 2,097,152 submissions pass, of five tasks each.
+print_peaks() {
+    local each figures
+    for each in 4096 65536; do
+        figures=$(/usr/bin/time -o "$loader.peak" -f %M timeout 600 "$program" days 4 32 "$each" 4)
+        echo "$figures $(cat "$loader.peak")" | awk '{
+            printf "days     workers: 4  submissions: %d  tasks: %d  seconds: %.1f  parts taken: %d  peak memory: %.0f MiB\n", $1, $1 * 5, $2 / 1e9, $3, $4 / 1024
+        }'
+    done
+}
+
 (($#)) || set -- submit outside forked delay idle
+if [[ $* == days && $optimised ]]; then
+    optimise_loader
+    print_peaks
+    exit
+fi
 for load; do add_load "$load"; done
 if [[ $optimised ]]; then
     optimise_loader
