@@ -1,10 +1,10 @@
 -- Where something stands in a list.
 use Rattle.std.proofs.Common.{ℕ, ◌≡◌, ◌+◌, Bool, true, false, List, [], ◌∷◌, ◌++◌, length, Some, None, refl, ap, ◌∙◌, arith, slice_index_or, ◌<◌, length-append}
-use Rattle.std.specs.Prelude.{◌==◌, if◌then◌else◌}
+use Rattle.std.specs.Prelude.{◌==◌, if◌then◌else◌, is_some}
 use Rattle.std.specs.List.{position_from, remove}
 use Rattle.std.proofs.lemmas.Bool.{eqb-true}
 use Rattle.fj_model.specs.Lists.{is_in}
-use Rattle.fj_shelf.specs.Aside.{numbers, Without}
+use Rattle.fj_shelf.specs.Aside.{numbers, entry_in, Without}
 
 pub not_found : {T : Type 0} (n : ℕ) (i : ℕ) (xs : List (ℕ × T)) → position_from (λ y. y.0 == n) i xs ≡ None → is_in n (numbers xs) ≡ false
 not_found n i [] is = refl
@@ -14,6 +14,17 @@ not_found n i (x ∷ xs) is = go (x.0 == n) refl is (not_found n (i + 1) xs)
         → (position_from (λ y. y.0 == n) (i + 1) xs ≡ None → is_in n (numbers xs) ≡ false) → is_in n (numbers (x ∷ xs)) ≡ false
     go true at none rest = absurd cc
     go false at none rest = rw at (rest none)
+
+-- an entry that has a place is one that is there
+pub has_place : {T : Type 0} (n : ℕ) (i : ℕ) (xs : List (ℕ × T)) → is_some (position_from (λ y. y.0 == n) i xs) ≡ is_some (entry_in xs n)
+unfolding entry_in
+has_place n i [] = refl
+has_place n i (x ∷ xs) = go (x.0 == n) (has_place n (i + 1) xs)
+  where
+    go : (b : Bool) → is_some (position_from (λ y. y.0 == n) (i + 1) xs) ≡ is_some (entry_in xs n)
+        → is_some (if b then Some i else position_from (λ y. y.0 == n) (i + 1) xs) ≡ is_some (if b then Some x.1 else entry_in xs n)
+    go true rest = refl
+    go false rest = rest
 
 record Found {T : Type 0} (xs : List (ℕ × T)) (n i k : ℕ) : Type 0 where
   before : List (ℕ × T)

@@ -4,3 +4,7 @@ pub mod Found
 pub mod TakenOut
 -- What stands under each number of a shelf, from how it is kept.
 pub mod Standing
+-- Whether something stands under a number of a shelf.
+pub mod Looking
+-- The marks of the numbers in a list.
+pub mod Marking

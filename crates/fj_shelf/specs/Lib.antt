@@ -1,4 +1,5 @@
 pub mod Aside
 pub mod Slots
 pub mod Shelves
+pub mod Marked
 pub mod Hands

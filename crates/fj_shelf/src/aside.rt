@@ -1,6 +1,6 @@
-ghost use Rattle.std.specs.Prelude.{◌≡◌, ◌<◌, ◌∷◌, [], ◌++◌, length, IfOk, ◌==◌};
+ghost use Rattle.std.specs.Prelude.{◌≡◌, ◌<◌, ◌∷◌, [], ◌++◌, length, IfOk, ◌==◌, is_some};
 ghost use Rattle.std.specs.List.{position_from};
-ghost use Rattle.fj_shelf.specs.Aside.{Takes};
+ghost use Rattle.fj_shelf.specs.Aside.{Takes, entry_in};
 
 use fj_model::Serial;
 use std::alloc::{AllocError, Global};
@@ -62,6 +62,13 @@ impl<T: Drop> Aside<T> {
         ensures { result ≡ (length self.now.items == 0) }
     {
         self.items.is_empty()
+    }
+
+    /// Whether there is an entry under a number.
+    pub fn has(&self, number: Serial) -> bool
+        ensures { result ≡ is_some (entry_in self.now.items number) }
+    {
+        self.find(number).is_some()
     }
 
     /// Where the first entry under this number stands.

@@ -8,5 +8,5 @@ mod shelf;
 mod slots;
 
 pub use hand::Hand;
-pub use serials::{has, take_out};
+pub use serials::Serials;
 pub use shelf::Shelf;

@@ -42,6 +42,17 @@ impl<T: Drop> Shelf<T> {
         })
     }
 
+    /// Whether something stands under a number.
+    pub fn has(&self, number: Serial) -> bool
+        ensures { result ≡ is_there (entries self.now) number }
+    {
+        let at = guess(&self.slots, number);
+        if has_number(&self.slots, at, number) {
+            return true;
+        }
+        self.aside.has(number)
+    }
+
     /// Puts an entry under a number. Precondition: nothing stands there, and there is room.
     pub fn put(&mut self, number: Serial, item: T)
         requires free { entries self.old number ≡ None }

@@ -17,8 +17,8 @@ use crate::body::Body;
 use crate::due::Due;
 use crate::kept::Kept;
 use fj_machine::Machine;
-use fj_model::{Limits, Mode, OutOfMemory, Serial};
-use fj_shelf::Shelf;
+use fj_model::{Limits, Mode, OutOfMemory};
+use fj_shelf::{Serials, Shelf};
 use std::alloc::Global;
 use std::marker::Model;
 
@@ -29,14 +29,14 @@ pub struct Store<B: Body> {
     bodies: Shelf<B>,
     results: Shelf<Kept<B>>,
     /// Kept tasks whose outcome or result was taken: each goes as soon as it can.
-    taken: Vec<Serial>,
+    taken: Serials,
     /// Which of them may be such that they can be released: none, but where a step has just been made.
     due: Due,
     stuck: bool,
 }
 
 impl<B: Body> Model for Store<B> {
-    ghost use Rattle.std.specs.Prelude.{◌≡◌, ◌≤◌, false, vec_capacity};
+    ghost use Rattle.std.specs.Prelude.{◌≡◌, ◌≤◌, false};
     ghost use Rattle.fj_shelf.specs.Shelves.{entries};
     ghost use Rattle.fj_store.specs.Stores.{StoreState, IsStored};
     ghost use Rattle.fj_store.specs.DueTasks.{AreDue};
@@ -55,7 +55,7 @@ impl<B: Body> Model for Store<B> {
         IsStored s.machine (entries s.bodies) (entries s.results) s.taken.items
         × (s.machine.pool.limits.tasks ≤ s.bodies.room)
         × (s.machine.pool.limits.tasks ≤ s.results.room)
-        × (s.machine.pool.limits.tasks ≤ vec_capacity s.taken)
+        × (s.machine.pool.limits.tasks ≤ s.taken.room)
         × (s.machine.pool.limits.tasks ≤ 4096)
         × (s.stuck ≡ false → AreDue s.machine.events s.taken.items s.due) };
 }
@@ -74,7 +74,7 @@ impl<B: Body> Store<B> {
         let _workers = limits.workers();
         let bodies = Shelf::new(alloc, room)?;
         let results = Shelf::new(alloc, room)?;
-        let taken = Vec::with_capacity(alloc, room)?;
+        let taken = Serials::new(alloc, room)?;
         let Ok(machine) = Machine::new(alloc, mode, limits) else {
             return Err(OutOfMemory);
         };

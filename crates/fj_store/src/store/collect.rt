@@ -12,7 +12,6 @@ use crate::outcomes::{Outcome, told_outcome};
 use crate::places::is_gone;
 use crate::store::Store;
 use fj_model::{Owner, Place, Refusal, Said, Serial, Status, Step, SubId, WorkerId};
-use fj_shelf::has;
 
 impl<B: Body> Store<B> {
     /// Keeps a result under a task's number, or drops it where the task's result was taken.
@@ -21,7 +20,7 @@ impl<B: Body> Store<B> {
         ensures kept { Keeps self.old t kept self.new }
         ensures past { self.new.past ≡ self.old.past }
     {
-        if has(self.taken.as_slice(), t) {
+        if self.taken.has(t) {
             return;
         }
         let _old = self.results.take(t);
@@ -34,7 +33,7 @@ impl<B: Body> Store<B> {
     {
         match self.results.take(t) {
             Some(kept) => {
-                self.taken.push_reserved(t);
+                self.taken.push(t);
                 self.due = after(self.due, t);
                 Some(kept)
             }
@@ -50,7 +49,7 @@ impl<B: Body> Store<B> {
         ensures marks { Marks self.old t self.new }
     {
         let kept = self.results.take(t);
-        self.taken.push_reserved(t);
+        self.taken.push(t);
         self.due = after(self.due, t);
         kept
     }
@@ -94,7 +93,7 @@ impl<B: Body> Store<B> {
     {
         // The check wants each type inside a reply to be named where one is moved.
         let _inside: Option<(Place, Owner, Status, Refusal, Serial, SubId, WorkerId)> = None;
-        if has(self.taken.as_slice(), t) {
+        if self.taken.has(t) {
             return Some(Err(Refusal::Unknown));
         }
         match self.machine.step(&Step::State { t }) {

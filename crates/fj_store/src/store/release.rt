@@ -9,7 +9,6 @@ use crate::hooked::is_hooked;
 use crate::store::Store;
 use crate::tries::Tried;
 use fj_model::{Owner, Place, Refusal, Said, Serial, Status, Step, SubId, WorkerId};
-use fj_shelf::{has, take_out};
 
 impl<B: Body> Store<B> {
     /// Releases what can be released of the tasks whose outcome or result was taken: the one that the last step was about, then its parent,
@@ -55,7 +54,7 @@ impl<B: Body> Store<B> {
         requires { OnlyGoes self.old.past.events self.old.taken t }
         ensures { ReleasesHere self.old result self.new }
     {
-        if !has(self.taken.as_slice(), t) {
+        if !self.taken.has(t) {
             return None;
         }
         let parent = self.machine.parent(t);
@@ -76,8 +75,8 @@ impl<B: Body> Store<B> {
     fn release_one(&mut self) -> bool
         ensures { ReleasesOne self.old result self.new }
     {
-        for i in 0..self.taken.len() {
-            let t = self.taken[i];
+        for i in 0..self.taken.as_slice().len() {
+            let t = self.taken.as_slice()[i];
             match self.try_release(t) {
                 Tried::Released => return true,
                 Tried::Full => return false,
@@ -99,7 +98,7 @@ impl<B: Body> Store<B> {
         }
         match self.machine.step(&Step::Release { t }) {
             Said::Done => {
-                take_out(&mut self.taken, t);
+                self.taken.take_out(t);
                 self.due = Due::All;
                 Tried::Released
             }

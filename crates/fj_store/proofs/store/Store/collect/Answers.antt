@@ -16,7 +16,7 @@ returns-then-is_undone g c =
     let past = c.self.inside.machine in
     let same = state_same past c.step.new.self c.args.t c.step.ensures.step.1 in
     let shown = state_shown past c.args.t c.step.result c.in-State.field-0 c.in-State.status (history_fits past c.self.invariant.0.run) c.step.ensures.step.0 c.in-State.is in
-    let free : is_in c.args.t c.self.inside.taken.items ≡ false = rw c.as_slice.ensures.value at (sym c.has.ensures ∙ c.if-has.false) in
+    let free : is_in c.args.t c.self.inside.taken.items ≡ false = sym c.has.ensures ∙ c.if-has.false in
     let undone : is_undone (status past.events c.args.t) ≡ true = ap is_undone (sym shown.1) ∙ sym c.is_undone.ensures ∙ c.if-is_undone.true in
     rw (← c.self.view_is, same) (shown.0, free, undone, refl)
 
@@ -42,7 +42,7 @@ returns-else-is_undone g c =
     let past = c.self.inside.machine in
     let same = state_same past c.step.new.self c.args.t c.step.ensures.step.1 in
     let shown = state_shown past c.args.t c.step.result c.in-State.field-0 c.in-State.status (history_fits past c.self.invariant.0.run) c.step.ensures.step.0 c.in-State.is in
-    let free : is_in c.args.t c.self.inside.taken.items ≡ false = rw c.as_slice.ensures.value at (sym c.has.ensures ∙ c.if-has.false) in
+    let free : is_in c.args.t c.self.inside.taken.items ≡ false = sym c.has.ensures ∙ c.if-has.false in
     let done : is_undone (status past.events c.args.t) ≡ false = ap is_undone (sym shown.1) ∙ sym c.is_undone.ensures ∙ c.if-is_undone.false in
     rw (← c.self.view_is) (record {
       is = shown.0;

@@ -18,7 +18,7 @@ pub invariant_of-self : goal.invariant_of-self
 invariant_of-self g c =
     let past = c.self.inside.machine in
     let kept : is_kept past.events c.args.t ≡ true = ap (λ s. is_kept s.past.events c.args.t) c.self.view_is ∙ c.requires in
-    let free : is_in c.args.t c.self.inside.taken.items ≡ false = rw c.as_slice.ensures.value at (sym c.has.ensures ∙ c.if-has.false) in (
+    let free : is_in c.args.t c.self.inside.taken.items ≡ false = sym c.has.ensures ∙ c.if-has.false in (
       result_stored past _ (entries c.self.inside.results) (entries c.put.new.self) _ c.args.t _ c.self.invariant.0 kept free (c.put.ensures.entries ∙ ap (λ all. with_entry all c.args.t c.args.kept) c.take-old.ensures.entries),
       c.self.invariant.1,
       rw (c.put.ensures.room, c.take-old.ensures.room) c.self.invariant.2,
@@ -29,6 +29,6 @@ invariant_of-self g c =
 
 pub returns-clause-kept : goal.returns-clause-kept
 returns-clause-kept g c =
-    let free : is_in c.args.t c.self.inside.taken.items ≡ false = rw c.as_slice.ensures.value at (sym c.has.ensures ∙ c.if-has.false) in
+    let free : is_in c.args.t c.self.inside.taken.items ≡ false = sym c.has.ensures ∙ c.if-has.false in
     rw (← c.self.view_is, free)
     (c.put.ensures.entries ∙ ap (λ all. with_entry all c.args.t c.args.kept) c.take-old.ensures.entries ∙ with_again (entries c.self.inside.results) c.args.t c.args.kept, refl)

@@ -6,19 +6,22 @@ use Rattle.fj_store.proofs.Results.{marked_stored, marked_room}
 use Rattle.fj_store.proofs.DueTasks.{marked_due}
 use Rattle.fj_store.proofs.store.Store.take_away.Goals as goal
 
-pub push_reserved-requires : goal.push_reserved-requires
-push_reserved-requires g c =
+pub push-requires-clause-new : goal.push-requires-clause-new
+push-requires-clause-new g c = ap (λ s. is_in c.args.t s.taken) c.self.view_is ∙ c.requires.free
+
+pub push-requires-clause-room : goal.push-requires-clause-room
+push-requires-clause-room g c =
     let past = c.self.inside.machine in
     let kept : is_kept past.events c.args.t ≡ true = ap (λ s. is_kept s.past.events c.args.t) c.self.view_is ∙ c.requires.kept in
     let free : is_in c.args.t c.self.inside.taken.items ≡ false = ap (λ s. is_in c.args.t s.taken) c.self.view_is ∙ c.requires.free in
-    omega (arith, marked_room past _ (entries c.self.inside.results) _ c.args.t c.self.invariant.0 kept free, c.self.invariant.3, c.self.inside.taken.ok)
+    omega (arith, marked_room past _ (entries c.self.inside.results) _ c.args.t c.self.invariant.0 kept free, c.self.invariant.3)
 
 pub invariant_of-self : goal.invariant_of-self
 invariant_of-self g c =
     let past = c.self.inside.machine in
     let kept : is_kept past.events c.args.t ≡ true = ap (λ s. is_kept s.past.events c.args.t) c.self.view_is ∙ c.requires.kept in
     let free : is_in c.args.t c.self.inside.taken.items ≡ false = ap (λ s. is_in c.args.t s.taken) c.self.view_is ∙ c.requires.free in
-    rw (c.push_reserved.ensures.items, c.push_reserved.ensures.capacity, c.take-kept.ensures.room) (
+    rw (c.push.ensures, c.take-kept.ensures.room) (
       marked_stored past _ (entries c.self.inside.results) _ _ c.args.t c.self.invariant.0 kept free c.take-kept.ensures.entries,
       c.self.invariant.1,
       c.self.invariant.2,

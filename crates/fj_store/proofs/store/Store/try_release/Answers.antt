@@ -16,7 +16,7 @@ invariant_of-self g c =
     let free = sym c.if-is_hooked.false ∙ c.is_hooked.ensures in
     let made = (went past c.args.t c.step.result free c.step.ensures.step.0 c.in-Done.is).1 in
     let taken : is_in c.args.t c.self.inside.taken.items ≡ true = ap (λ s. is_in c.args.t s.taken) c.self.view_is ∙ c.requires in
-    rw (c.take_out.ensures.items, c.step.ensures.step.1, c.take_out.ensures.room)
+    rw (c.take_out.ensures, c.step.ensures.step.1)
     (release_stored past c.args.t _ _ _ c.self.invariant.0 taken free made, c.self.invariant.1, c.self.invariant.2, c.self.invariant.3, c.self.invariant.4, λ free. tt)
 
 pub unreachable-requires : goal.unreachable-requires
@@ -25,7 +25,7 @@ unreachable-requires g c = release_replies c.self.inside.machine c.args.t c.step
 pub returns-in-Done : goal.returns-in-Done
 returns-in-Done g c =
     let is = went c.self.inside.machine c.args.t c.step.result (sym c.if-is_hooked.false ∙ c.is_hooked.ensures) c.step.ensures.step.0 c.in-Done.is in
-    rw (← c.self.view_is, c.step.ensures.step.1, c.take_out.ensures.items, is.1) (is.0, refl)
+    rw (← c.self.view_is, c.step.ensures.step.1, c.take_out.ensures, is.1) (is.0, refl)
 
 pub returns-in-LogFull : goal.returns-in-LogFull
 returns-in-LogFull g c =
