@@ -6,5 +6,7 @@ mod Settling
 mod Seating
 -- the tickets, the lanes and the end that a record tells of
 mod Records
+-- where all that was admitted was taken in, the lanes are empty
+mod Emptied
 -- a hand that holds something asks
 mod Asking

@@ -1,14 +1,15 @@
 -- The ends of each lane meet, the last first, and the ends of the gate are laid together.
-use Rattle.std.proofs.Common.{ℕ, ◌≡◌, List, [], ◌∷◌, ◌++◌, Some, length, map, reverse, refl, sym, ap, ◌∙◌, subst, arith, append_assoc, length-append}
+use Rattle.std.proofs.Common.{ℕ, ◌≡◌, All, List, [], ◌∷◌, ◌++◌, Some, length, map, reverse, refl, sym, ap, ◌∙◌, subst, arith, append_assoc, length-append}
 use Rattle.std.specs.Prelude.{slice_get}
 use Rattle.std.specs.Option.{option_map}
 use Rattle.std.proofs.lemmas.List.{append-nil, length-map, reverse-append}
+use Rattle.std.proofs.lemmas.List.Elements.{All-cons, All-nil}
 use Rattle.std.proofs.lemmas.Option.{slice_get-map}
 use Rattle.fj_gate.specs.Ends.{EntrantState}
 use Rattle.fj_lane.specs.declared.parcel.Parcel.{Parcel}
 use Rattle.fj_lane.specs.Ends.{DrainState, LaneId}
 use Rattle.fj_pool.specs.Lanes.{lanes_of}
-use Rattle.fj_pool.specs.Seats.{SeatState}
+use Rattle.fj_pool.specs.Seats.{IsSeat, SeatState}
 use Rattle.fj_pool.specs.Winding.{AreAll, HaveMet}
 
 some_inj : {A : Type 0} (x y : A) → Some x ≡ Some y → x ≡ y
@@ -32,6 +33,7 @@ module _ {B : Type 0} where
     pub all_is : all ≡ seats ++ pushed
     pub entrants_are : entrants ≡ reverse (map (λ s. s.entrant) pushed)
     pub done : HaveMet taken pushed (reverse rests)
+    pub seated : All IsSeat pushed
 
   pub begins : (lanes : List LaneId) (all : List (SeatState B)) (drains : List (DrainState B)) (entrants : List EntrantState) (rests : List (List (Parcel B))) → AreAll (length lanes) all → lanes_of drains ≡ lanes → entrants ≡ [] → rests ≡ [] → Halfway drains all drains all entrants rests
   begins lanes all drains entrants rests are same no_entrants none = record {
@@ -42,6 +44,7 @@ module _ {B : Type 0} where
     all_is = sym (append-nil all);
     entrants_are = no_entrants;
     done = subst (λ (l : List (List (Parcel B))). HaveMet [] [] (reverse l)) (sym none) tt;
+    seated = All-nil IsSeat;
   }
 
   -- one seat and one drain fewer are as many
@@ -67,8 +70,8 @@ module _ {B : Type 0} where
 
   -- these have met, too
   pub steps : (core : List (DrainState B)) (all : List (SeatState B)) (drains ds : List (DrainState B)) (d : DrainState B) (seats ss : List (SeatState B)) (s : SeatState B) (entrants entrants' : List EntrantState) (rests rests' : List (List (Parcel B))) (r : List (Parcel B))
-      → Halfway core all drains seats entrants rests → drains ≡ ds ++ d ∷ [] → seats ≡ ss ++ s ∷ [] → d.drained ++ r ≡ s.feed.fed → entrants' ≡ entrants ++ s.entrant ∷ [] → rests' ≡ rests ++ r ∷ [] → Halfway core all ds ss entrants' rests'
-  steps core all drains ds d seats ss s entrants entrants' rests rests' r before drains_are seats_are met entrants_more rests_more =
+      → Halfway core all drains seats entrants rests → drains ≡ ds ++ d ∷ [] → seats ≡ ss ++ s ∷ [] → d.drained ++ r ≡ s.feed.fed → IsSeat s → entrants' ≡ entrants ++ s.entrant ∷ [] → rests' ≡ rests ++ r ∷ [] → Halfway core all ds ss entrants' rests'
+  steps core all drains ds d seats ss s entrants entrants' rests rests' r before drains_are seats_are met seat entrants_more rests_more =
       let w = at_end core all drains (ds ++ d ∷ []) seats (ss ++ s ∷ []) entrants rests before drains_are seats_are in record {
         taken = d ∷ w.taken;
         pushed = s ∷ w.pushed;
@@ -77,4 +80,5 @@ module _ {B : Type 0} where
         all_is = w.all_is ∙ append_assoc ss (s ∷ []) w.pushed;
         entrants_are = entrants_more ∙ ap (λ (es : List EntrantState). es ++ s.entrant ∷ []) w.entrants_are ∙ sym (reverse-append (s.entrant ∷ []) (map entrant w.pushed));
         done = subst (λ (l : List (List (Parcel B))). HaveMet (d ∷ w.taken) (s ∷ w.pushed) l) (sym (ap reverse rests_more ∙ reverse-append rests (r ∷ []))) (met, w.done);
+        seated = All-cons IsSeat s w.pushed seat w.seated;
       }

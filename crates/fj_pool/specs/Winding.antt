@@ -1,5 +1,5 @@
 -- What is left of a pool that is wound up.
-use Rattle.std.specs.Prelude.{ℕ, ◌≡◌, ◌&&◌, Bool, List, [], ◌∷◌, ◌++◌, Option, Some, length, map, slice_get}
+use Rattle.std.specs.Prelude.{ℕ, ◌≡◌, ◌&&◌, All, Bool, List, [], ◌∷◌, ◌++◌, Option, Some, length, map, slice_get}
 use Rattle.fj_model.specs.declared.event.Event.{Event}
 use Rattle.fj_model.specs.declared.owner.Owner.TheVariants.{Sub}
 use Rattle.fj_model.specs.Answers.{is_quiet}
@@ -44,6 +44,10 @@ module _ {B : Type 0} where
   AreSettled h bookings (seat ∷ seats) (rest ∷ rests) = IsSettled h bookings seat rest × AreSettled h bookings seats rests
   AreSettled h bookings [] (rest ∷ rests) = ⊥
   AreSettled h bookings (seat ∷ seats) [] = ⊥
+
+  -- the lanes hold nothing any more
+  abbrev pub AreEmpty : List (List (Parcel B)) → Type 0
+  AreEmpty rests = All (λ r. r ≡ []) rests
 
 -- whether it had terminated: exactly the closing number of submissions was taken in, it was shut, and all is quiet
 abbrev pub has_terminated : Option ℕ → List Booking → Past → Bool

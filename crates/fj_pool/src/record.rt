@@ -1,9 +1,10 @@
-ghost use Rattle.std.specs.Prelude.{◌≡◌, ◌≤◌, ◌↔◌, [], ◌++◌, All, IfSome, IsTrue, length, map, reverse, vec_len, vec_capacity};
+ghost use Rattle.std.specs.Prelude.{◌≡◌, ◌≤◌, ◌↔◌, [], ◌++◌, All, IfSome, IsTrue, true, length, map, reverse, vec_len, vec_capacity};
 ghost use Rattle.fj_gate.specs.Numbers.{IsNumbersBelow};
 ghost use Rattle.fj_model.specs.Epochs.{IsPast};
 ghost use Rattle.fj_core.specs.Cores.{AreParts};
 ghost use Rattle.fj_pool.specs.Lanes.{lanes_of};
-ghost use Rattle.fj_pool.specs.Winding.{AreAll, AreSettled, HaveMet, has_terminated, tickets_of};
+ghost use Rattle.fj_pool.specs.Seats.{IsSeat};
+ghost use Rattle.fj_pool.specs.Winding.{AreAll, AreEmpty, AreSettled, HaveMet, has_terminated, tickets_of};
 
 use crate::closer::Closer;
 use crate::guarded::Guarded;
@@ -56,6 +57,7 @@ impl<B: Body, N: Naming> Pool<B, N> {
         ensures closed { result.closed ≡ closer.closed }
         ensures at_close { IfSome result.closed (λ n. result.admitted ≡ n) }
         ensures terminated { result.terminated ≡ has_terminated closer.closed result.bookings.bookings result.machine }
+        ensures emptied { result.terminated ≡ true → AreEmpty result.lanes.items }
     {
         let Pool {
             alloc: _,
@@ -127,6 +129,7 @@ fn settle<B: Drop, N: Naming>(
     requires room { (vec_len submitters ≤ vec_capacity entrants) × (vec_len submitters ≤ vec_capacity rests) }
     ensures entrants { result.0.items ≡ reverse (map (λ s. s.entrant) submitters.items) }
     ensures gates { All (λ e. e.gate ≡ N.gate) result.0.items }
+    ensures seats { All (λ s. IsSeat s) submitters.items }
     ensures rests { HaveMet drains.items submitters.items result.1.items }
 {
     while let Some(submitter) = submitters.pop() {

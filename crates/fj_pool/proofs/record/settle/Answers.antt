@@ -1,6 +1,6 @@
 use Rattle.std.proofs.Common.{◌≡◌, [], ◌∷◌, ◌++◌, ap, ◌∙◌, subst, arith, rules}
 use Rattle.std.proofs.lemmas.List.Elements.{All-push}
-use Rattle.fj_pool.specs.Seats.{IsNamed, SeatState}
+use Rattle.fj_pool.specs.Seats.{IsNamed, IsSeat, SeatState}
 use Rattle.fj_pool.proofs.Settling.{begins, meets, steps}
 use Rattle.fj_pool.proofs.record.settle.Goals as goal
 use Rattle.fj_pool.proofs.record.settle.Given as given
@@ -43,6 +43,6 @@ loop-submitter-preserved g c =
       rest_room = omega (arith, before.rest_room, c.in-Some.ensures.len, rests.len, rests.capacity);
       gates = rw entrants.items (All-push (λ e. e.gate ≡ g.N.Naming.gate) c.loop-submitter.entrants.items opened.entrant before.gates (ap (λ (s : S g). s.entrant.gate) same ∙ named.0));
       halfway = steps c.args.drains.items c.args.submitters.items c.loop-submitter.drains.items c.pop-in-Some.new.self.items c.in-Some-pop.drain c.loop-submitter.submitters.items c.pop.new.self.items c.in-Some.submitter c.loop-submitter.entrants.items
-          c.push_reserved.new.self.items c.loop-submitter.rests.items c.push_reserved-in-Some.new.self.items c.meet.result before.halfway c.in-Some-pop.ensures.items c.in-Some.ensures.items (c.meet.ensures.all ∙ ap (λ (s : S g). s.feed.fed) same)
+          c.push_reserved.new.self.items c.loop-submitter.rests.items c.push_reserved-in-Some.new.self.items c.meet.result before.halfway c.in-Some-pop.ensures.items c.in-Some.ensures.items (c.meet.ensures.all ∙ ap (λ (s : S g). s.feed.fed) same) (subst IsSeat same c.submitter-inside.invariant)
           (subst (λ (s : S g). c.push_reserved.new.self.items ≡ c.loop-submitter.entrants.items ++ s.entrant ∷ []) same entrants.items) rests.items;
     }

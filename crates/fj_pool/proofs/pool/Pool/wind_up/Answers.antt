@@ -1,5 +1,6 @@
-use Rattle.std.proofs.Common.{◌≡◌, ◌&&◌, List, Some, length, map, sym, ap, ◌∙◌, subst}
-use Rattle.std.specs.Prelude.{slice_get}
+use Rattle.std.proofs.Common.{◌≡◌, ◌&&◌, true, List, Some, length, map, sym, ap, ◌∙◌, subst}
+use Rattle.std.specs.Prelude.{IfSome, slice_get}
+use Rattle.std.specs.List.{sum_by}
 use Rattle.std.specs.Option.{option_eq}
 use Rattle.std.proofs.Math.Dec.{eqb}
 use Rattle.fj_model.specs.Answers.{is_quiet}
@@ -13,6 +14,8 @@ use Rattle.fj_core.specs.declared.booking.Booking.{Booking}
 use Rattle.fj_core.specs.Booked.{IsBooked}
 use Rattle.fj_pool.specs.Lanes.{lanes_of}
 use Rattle.fj_pool.specs.Seats.{SeatState}
+use Rattle.fj_pool.specs.Winding.{has_terminated}
+use Rattle.fj_pool.proofs.Emptied.{all_admitted, emptied}
 use Rattle.fj_pool.proofs.Records.{all_settled, numbers_either_way, same_number, second_made, second_spared, third_after}
 use Rattle.fj_pool.proofs.pool.Pool.wind_up.Goals.{then-eq, else-eq, then-reached, else-reached}
 use Rattle.fj_pool.proofs.pool.Pool.wind_up.Goals as goal
@@ -58,3 +61,16 @@ returns-clause-terminated g c =
       | else-reached w ↦ second_spared c.if-eq.reached c.is_quiescent-quiet.result c.if-reached.terminated w.if-reached.false w.terminated-is
     ] in
     third_after c.eq.result c.is_shut-shut.result c.is_quiescent-quiet.result c.if-eq.reached c.if-reached.terminated reached both ∙ (λ i. number i && shut i && quiet i)
+
+pub returns-clause-emptied : goal.returns-clause-emptied
+returns-clause-emptied g c terminated =
+    let left = c.into_remains-machine.ensures in
+    let machine = c.into_remains-machine.result.machine in
+    let bookings = c.into_remains-machine.result.bookings.bookings in
+    let reached : has_terminated c.args.closer.closed bookings machine ≡ true = sym (returns-clause-terminated g c) ∙ terminated in
+    let closed : c.meet-tickets.result.closed ≡ c.args.closer.closed = c.meet-tickets.ensures.closed ∙ ap (λ closer. closer.closed) c.closer.view_is in
+    let admitted : c.meet-tickets.result.drawn ≡ length bookings =
+    all_admitted c.args.closer.closed bookings machine c.meet-tickets.result.drawn reached (subst (λ o. IfSome o (λ m. c.meet-tickets.result.drawn ≡ m)) closed c.meet-tickets.ensures.at_close) in
+    emptied c.into_remains-machine.result.drains.items c.args.submitters.items c.settle-entrants.result.1.items (length bookings) c.settle-entrants.ensures.rests c.settle-entrants.ensures.seats
+    (ap (λ (bs : List Booking). length bs) left.bookings ∙ left.booked.all ∙ ap (λ (ds : List (DrainState g.row.B.Denot)). sum_by (λ d. length d.drained) ds) (sym left.drains))
+    ((returns-clause-admitted g c).0 ∙ admitted)
