@@ -1,8 +1,10 @@
 -- Names, as words of a line.
-use Rattle.std.proofs.Common.{◌≡◌, ℕ, ◌≤◌, Bool, true, false, ◌&&◌, ◌||◌, eqb, List, [], ◌∷◌, length, Option, Some, None, refl, sym, ap, subst, ◌∙◌, arith, inl, inr}
+use Rattle.std.proofs.Common.{◌≡◌, ℕ, ◌≤◌, ◌<◌, Bool, true, false, ◌&&◌, ◌||◌, eqb, List, [], ◌∷◌, length, Option, Some, None, refl, sym, ap, subst, ◌∙◌, arith, inl, inr}
 use Rattle.std.specs.Prelude.{codes, nat_le}
 use Rattle.std.specs.List.{list_all}
-use Rattle.std.specs.Str.{bytes_eq}
+use Rattle.std.specs.Str.{IsAscii, IsUtf8, bytes_eq}
+use Rattle.std.proofs.lemmas.Str.{IsUtf8-from_ascii}
+use Rattle.std.proofs.lemmas.Str.Ascii.{IsAscii-nil, IsAscii-cons}
 use Rattle.std.proofs.lemmas.Bool.{and_parts, or_cases, eqb-true, leb-true}
 use Rattle.std.proofs.lemmas.Bool.Decides.{nat_tests}
 use Rattle.fj_model.specs.declared.name.TheConstants.{MAX_NAME}
@@ -58,6 +60,35 @@ name_len (b ∷ bs) is =
     let first = and_parts (is_letter b) (nat_le (length (b ∷ bs)) MAX_NAME && list_all is_name_byte bs) is in
     let others = and_parts (nat_le (length (b ∷ bs)) MAX_NAME) (list_all is_name_byte bs) first.1 in
     leb-true (length (b ∷ bs)) MAX_NAME others.0
+
+-- ---- a name is text
+
+byte_ascii : (b : ℕ) → is_name_byte b ≡ true → b < 128
+byte_ascii b is =
+    elim (or_cases (is_letter b) ((nat_le 48 b && nat_le b 57) || eqb b 95) is) [
+      | inl letter ↦ let most = leb-true b 122 (and_parts (nat_le 97 b) (nat_le b 122) letter).1 in omega arith
+      | inr other ↦ elim (or_cases (nat_le 48 b && nat_le b 57) (eqb b 95) other) [
+        | inl digit ↦ let most = leb-true b 57 (and_parts (nat_le 48 b) (nat_le b 57) digit).1 in omega arith
+        | inr line ↦ let same = eqb-true b 95 line in omega arith
+      ]
+    ]
+
+bytes_ascii : (bs : List ℕ) → list_all is_name_byte bs ≡ true → IsAscii bs
+bytes_ascii [] all = IsAscii-nil
+bytes_ascii (b ∷ bs) all =
+    let both = and_parts (is_name_byte b) (list_all is_name_byte bs) all in
+    IsAscii-cons b bs (byte_ascii b both.0) (bytes_ascii bs both.1)
+
+name_ascii : (name : List ℕ) → IsName name → IsAscii name
+name_ascii [] is = absurd cc
+name_ascii (b ∷ bs) is =
+    let first = and_parts (is_letter b) (nat_le (length (b ∷ bs)) MAX_NAME && list_all is_name_byte bs) is in
+    let others = and_parts (nat_le (length (b ∷ bs)) MAX_NAME) (list_all is_name_byte bs) first.1 in
+    let most = leb-true b 122 (and_parts (nat_le 97 b) (nat_le b 122) first.0).1 in
+    IsAscii-cons b bs (omega arith) (bytes_ascii bs others.1)
+
+pub name_utf8 : (name : List ℕ) → IsName name → IsUtf8 name
+name_utf8 name is = IsUtf8-from_ascii name (name_ascii name is)
 
 -- a dash is no name
 pub name_no_dash : (name : List ℕ) (dash : Bool) → IsName name → dash ≡ bytes_eq name (codes "-") → dash ≡ false
