@@ -7,6 +7,7 @@ use Rattle.fj_model.specs.declared.said.Said.{Said}
 use Rattle.fj_model.specs.Bounds.{Bounds, Pool}
 use Rattle.fj_model.specs.Answers.{answer}
 use Rattle.fj_model.specs.Pasts.{Past, grown}
+use Rattle.fj_model.specs.Runs.{RunsFrom}
 use Rattle.fj_model.specs.Lines.{step_in, reply_line}
 use Rattle.fj_replay.specs.declared.naming.Naming.TheVariants.{Numbers}
 use Rattle.fj_replay.specs.declared.replied.Replied.TheVariants.{Said as Says}
@@ -15,7 +16,7 @@ use Rattle.fj_replay.specs.declared.stage.Stage.TheVariants.{Start, Plays}
 use Rattle.fj_replay.specs.Cuts.{lines}
 use Rattle.fj_replay.specs.Namings.{replied_line}
 use Rattle.fj_replay.specs.Plays.{Play, play_after, reply_text}
-use Rattle.fj_replay.specs.Scripts.{pool_in, start, opened, text_from, text, before_those, steps_of, replies, joined, said, numbered_text, is_titled}
+use Rattle.fj_replay.specs.Scripts.{pool_in, start, opened, text_from, text, before_those, steps_of, replies, joined, said, after, numbered_text, AreRun, is_titled}
 use Rattle.fj_replay.proofs.NameTables.{numbered_line}
 
 -- a play by numbers
@@ -49,3 +50,11 @@ lines_numbered (l ∷ ls) e = rw e (open_numbered (pool_in l) ls)
 -- the replies of the steps, each in its line
 pub text_numbered : (b : List ℕ) → is_titled (lines b) ≡ false → text b ≡ numbered_text (lines b)
 text_numbered b e = lines_numbered (lines b) e
+
+runs_from : (past : Past) (asked : List Step) → RunsFrom past asked (replies past asked) (after past asked)
+runs_from past [] = refl
+runs_from past (x ∷ xs) = ((answer past x).1, refl, runs_from (grown past (answer past x).1) xs)
+
+-- the steps with the replies to them are a run
+pub are_run : (p : Pool) (asked : List Step) → AreRun p asked
+are_run p asked = runs_from (start p) asked

@@ -8,9 +8,11 @@ use Rattle.fj_model.specs.declared.limits.TheConstants.{MAX_WORKERS, MAX_SUBMITT
 use Rattle.fj_model.specs.declared.mode.Mode.{Mode}
 use Rattle.fj_model.specs.declared.step.Step.{Step}
 use Rattle.fj_model.specs.declared.said.Said.{Said}
+use Rattle.fj_model.specs.declared.event.Event.{Event}
 use Rattle.fj_model.specs.Bounds.{Bounds, Pool}
 use Rattle.fj_model.specs.Answers.{answer}
 use Rattle.fj_model.specs.Pasts.{Past, fresh, grown}
+use Rattle.fj_model.specs.Runs.{Runs}
 use Rattle.fj_model.specs.Epochs.{IsPast}
 use Rattle.fj_model.specs.Lines.{head_in, step_in, reply_line}
 use Rattle.fj_replay.specs.declared.naming.Naming.{Naming}
@@ -109,6 +111,15 @@ abbrev pub replies : Past → List Step → List Said
 replies past [] = []
 replies past (asked ∷ later) = (answer past asked).0 ∷ replies (grown past (answer past asked).1) later
 
+-- the history to which the steps lead from this past
+abbrev pub history : Past → List Step → List Event
+history past [] = past.events
+history past (asked ∷ later) = history (grown past (answer past asked).1) later
+
+-- the past to which they lead
+abbrev pub after : Past → List Step → Past
+after past asked = record past { events = history past asked }
+
 -- the lines of the replies, joined
 abbrev pub joined : Bounds → List Said → List ℕ
 joined limits [] = []
@@ -123,6 +134,10 @@ said (Some p) asked = joined p.limits (replies (start p) asked)
 abbrev pub numbered_text : List (List ℕ) → List ℕ
 numbered_text [] = []
 numbered_text (head ∷ others) = said (pool_in head) (steps_of others)
+
+-- the steps with these replies are a run of the pool
+abbrev pub AreRun : Pool → List Step → Type 0
+AreRun p asked = Runs p.mode p.limits asked (replies (start p) asked) (after (start p) asked)
 
 -- whether the first line says that the script is of version 2
 abbrev pub is_titled : List (List ℕ) → Bool
