@@ -2,6 +2,8 @@
 #![tactic(auto)]
 
 #[cfg(test)]
+mod name_tests;
+#[cfg(test)]
 mod stream_tests;
 #[cfg(test)]
 mod test_rows;

@@ -12,5 +12,7 @@ pub mod Steps
 pub mod Headline
 -- Lines and what they say.
 pub mod Reading
+-- Lines in which tasks have names.
+pub mod Reading2
 -- Sample scripts, computed by the definitions.
 pub mod Samples

@@ -21,6 +21,9 @@ pub mod Runs
 pub mod Headline
 pub mod Words
 pub mod Readings
+pub mod Names
+pub mod Readings2
+pub mod Lines2
 pub mod Replies
 pub mod Shown
 pub mod Lines

@@ -9,8 +9,10 @@ mod event;
 mod ids;
 mod kind;
 mod limits;
+mod line2;
 mod memory;
 mod mode;
+mod name;
 mod owner;
 mod place;
 mod read;
@@ -26,11 +28,15 @@ pub use event::{Event, How};
 pub use ids::{Serial, SubId, WorkerId};
 pub use kind::{Kind, SubmittedKind};
 pub use limits::{Limits, MAX_EVENTS, MAX_PENDING, MAX_SUBMITTERS, MAX_TASKS, MAX_WORKERS};
+pub use line2::{Line2, NamedKind};
 pub use memory::OutOfMemory;
 pub use mode::Mode;
+pub use name::{MAX_NAME, Name};
 pub use owner::Owner;
 pub use place::Place;
-pub use read::{LINE_FEED, LineFault, MAX_LINE, read_head, read_number, read_step};
+pub use read::{
+    LINE_FEED, LineFault, MAX_LINE, MAX_LINE2, read_head, read_line2, read_number, read_step,
+};
 pub use refusal::Refusal;
 pub use reply::Reply;
 pub use said::Said;

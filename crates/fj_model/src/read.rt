@@ -1,6 +1,7 @@
 //! The reader of lines.
 mod fault;
 mod head;
+mod line2;
 mod number;
 mod numbers;
 mod step;
@@ -8,6 +9,7 @@ mod words;
 
 pub use fault::LineFault;
 pub use head::read_head;
+pub use line2::{MAX_LINE2, read_line2};
 pub use number::read_number;
 pub use step::read_step;
 

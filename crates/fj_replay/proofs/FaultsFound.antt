@@ -1,21 +1,24 @@
 -- What a session has found when it stops.
-use Rattle.std.specs.Prelude.{◌==◌, if◌then◌else◌, true, false, is_some}
-use Rattle.std.proofs.Common.{ℕ, ◌≡◌, ◌≢◌, ◌+◌, ◌<◌, ◌≤◌, List, [], ◌∷◌, ◌++◌, refl, arith, ◌∙◌, sym, ap, take, drop, length, length-append, append_assoc, ◌⊎◌, inl, inr, Option, None, Some}
+use Rattle.std.specs.Prelude.{◌==◌, if◌then◌else◌, true, false}
+use Rattle.std.proofs.Common.{ℕ, ◌≡◌, ◌≢◌, ◌+◌, ◌<◌, ◌≤◌, List, [], ◌∷◌, ◌++◌, refl, arith, ◌∙◌, sym, ap, subst, take, drop, length, length-append, append_assoc, ◌⊎◌, inl, inr, Option, Some}
 use Rattle.std.proofs.lemmas.List.{append-nil, take-append-drop}
 use Rattle.std.proofs.Math.Seq.{take-append_seam}
 use Rattle.std.proofs.Math.ListN.{get_or}
 use Rattle.std.specs.Io.KnownBytes.{Appends, Consumes, IsAtEnd, Keeps}
-use Rattle.fj_model.specs.declared.read.TheConstants.{MAX_LINE}
+use Rattle.fj_model.specs.declared.read.line2.TheConstants.{MAX_LINE2}
 use Rattle.fj_replay.specs.declared.fault.ReplayFault.{ReplayFault}
 use Rattle.fj_replay.specs.declared.fault.ReplayFault.TheVariants.{Line, Limits, Memory, Read, Write}
 use Rattle.fj_streams.specs.Beginnings.{AppendsSome}
 use Rattle.fj_replay.specs.Cuts.{cut, left, lines, rest}
-use Rattle.fj_replay.specs.Scripts.{text}
-use Rattle.fj_replay.specs.Faults.{Stands, IsUnended, IsOutOfLimits, OpensOutOfLimits, Ends, FaultOf, IsReplayed}
-use Rattle.fj_replay.specs.Sessions.{Kept, IsAt, EndsEarly, FaultAt, IsFaulty, past_of, line_text}
+use Rattle.fj_replay.specs.declared.stage.Stage.{Stage}
+use Rattle.fj_replay.specs.declared.stage.Stage.TheVariants.{Start, Titled}
+use Rattle.fj_replay.specs.Scripts.{stage_after, stage_from, line_text, text_from, is_good, text}
+use Rattle.fj_replay.specs.Faults.{Stands, IsUnended, IsFaulty, IsHeadless, LacksHeading, IsOutOfLimits, Ends, FaultOf, IsReplayed}
+use Rattle.fj_replay.specs.Sessions.{Kept, IsAt, MayEnd, EndsEarly, FaultAtEnd, FaultWithin, FaultAt}
 use Rattle.fj_streams.proofs.Bytes.{appends_keeps, appends_twice}
-use Rattle.fj_replay.proofs.Lines.{cut-append, left-append, left-uncut, none-cut}
-use Rattle.fj_replay.proofs.Pasts.{text_from, text-stops, text-begins, text-none, faulty_after, faulty_behind, too_long, no_past, is_run}
+use Rattle.fj_replay.proofs.Lines.{cut-append, left-append, left-uncut}
+use Rattle.fj_replay.proofs.Stages.{stage_there, some_stage, text-line, text-stops, faulty_after, headless_silent, too_long}
+use Rattle.fj_replay.proofs.Runs.{is_run}
 use Rattle.fj_replay.proofs.Steps.{tens, no_ten, text_at, and_rest}
 
 -- ---- parts of a text
@@ -30,100 +33,106 @@ some_twice a b c s t u p (k, q) =
     rw whole (first_part a c (s ++ take k t) (drop k t ++ u) (appends_twice a b c s (take k t) p q))
 
 -- nothing more was written
-wrote_all : (b ys : List ℕ) (v : Kept) (s n m : Option (List ℕ)) → IsAt b v s n → text_from (past_of (lines b)) (cut (rest b) ys) ≡ [] → Appends n m [] → Appends s m (text (b ++ ys))
+wrote_all : (b ys : List ℕ) (v : Kept) (s n m : Option (List ℕ)) → IsAt b v s n → text_from v.stage (cut (rest b) ys) ≡ [] → Appends n m [] → Appends s m (text (b ++ ys))
 wrote_all b ys v s n m at none wrote =
-    let whole : text (b ++ ys) ≡ text b ++ [] = text_at b ys at.good ∙ ap (λ t. text b ++ t) none in
+    let whole : text (b ++ ys) ≡ text b ++ [] = text_at b ys v.stage at.stage ∙ ap (λ t. text b ++ t) none in
     rw whole (appends_twice s n m (text b) [] at.written wrote)
 
 -- the reply to a line was not written whole
-stopped : (b more : List ℕ) (v : Kept) (x : ℕ) (s n m : Option (List ℕ)) → IsAt b v s n → x ≡ 10 → AppendsSome n m (line_text v.past v.line) → AppendsSome s m (text (b ++ x ∷ more))
-stopped b more v x s n m at ends some =
+stopped : (b more : List ℕ) (v : Kept) (x : ℕ) (s n m : Option (List ℕ)) → IsAt b v s n → x ≡ 10 → MayEnd v → AppendsSome n m (line_text v.stage v.line) → AppendsSome s m (text (b ++ x ∷ more))
+stopped b more v x s n m at ends may some =
     let e = tens x ends in
     let one : cut (rest b) (x ∷ more) ≡ rest b ∷ cut [] more = rw e refl in
-    let said_line : line_text v.past v.line ≡ line_text (past_of (lines b)) (rest b) = rw (at.past, at.line) refl in
-    let begins = text-begins (past_of (lines b)) (rest b) (cut [] more) in
-    let tail : text_from (past_of (lines b)) (cut (rest b) (x ∷ more)) ≡ line_text v.past v.line ++ begins.0 = rw (one, said_line) begins.1 in
-    let whole : text (b ++ x ∷ more) ≡ text b ++ (line_text v.past v.line ++ begins.0) = text_at b (x ∷ more) at.good ∙ ap (λ t. text b ++ t) tail in
-    rw whole (some_twice s n m (text b) (line_text v.past v.line) begins.0 at.written some)
+    let there = stage_there (stage_after v.stage v.line) may in
+    let there_too : stage_after v.stage (rest b) ≡ Some there.0 = rw (← at.line) there.1 in
+    let said_line : line_text v.stage v.line ≡ line_text v.stage (rest b) = rw at.line refl in
+    let later : List ℕ = text_from there.0 (cut [] more) in
+    let tail : text_from v.stage (cut (rest b) (x ∷ more)) ≡ line_text v.stage v.line ++ later = rw (one, said_line) (text-line v.stage there.0 (rest b) (cut [] more) there_too) in
+    let whole : text (b ++ x ∷ more) ≡ text b ++ (line_text v.stage v.line ++ later) = text_at b (x ∷ more) v.stage at.stage ∙ ap (λ t. text b ++ t) tail in
+    rw whole (some_twice s n m (text b) (line_text v.stage v.line) later at.written some)
 
 -- ---- a line that stands whole
 
-stands : (b more line : List ℕ) (after : List (List ℕ)) (k : ℕ) (v : Kept) (s n m ahead : Option (List ℕ)) → IsAt b v s n → k ≡ v.count + 1 → cut (rest b) more ≡ line ∷ after → IsFaulty (past_of (lines b)) line → Appends n m [] → FaultOf (Line k) (b ++ more) ahead s m
+stands : (b more line : List ℕ) (after : List (List ℕ)) (k : ℕ) (v : Kept) (s n m ahead : Option (List ℕ)) → IsAt b v s n → k ≡ v.count + 1 → cut (rest b) more ≡ line ∷ after → IsFaulty v.stage line → Appends n m [] → FaultOf (Line k) (b ++ more) ahead s m
 stands b more line after k v s n m ahead at number one faulty wrote =
     let cuts : lines (b ++ more) ≡ lines b ++ line ∷ after = cut-append [] b more ∙ ap (λ ls. lines b ++ ls) one in
-    let none : text_from (past_of (lines b)) (cut (rest b) more) ≡ [] = rw one (text-stops (past_of (lines b)) line after (faulty_after (past_of (lines b)) line faulty)) in
+    let none : text_from v.stage (cut (rest b) more) ≡ [] = rw one (text-stops v.stage line after (faulty_after v.stage line faulty)) in
     let here : Stands k (b ++ more) (lines b) line after = record {
+      stage = v.stage;
       cut = cuts;
       number = number ∙ ap (λ i. i + 1) at.count;
-      good = at.good;
-      faulty = faulty_behind (lines b) line at.good faulty;
+      good = at.stage;
+      faulty = faulty;
     } in
     (inl (lines b, line, after, here), wrote_all b more v s n m at none wrote)
 
 -- ---- a line that is too long
 
 -- where a long line goes on, it is the first of the lines or what is left
-long_or : (before xs : List ℕ) → MAX_LINE < length before → (cut before xs ≡ []) ⊎ ((line : List ℕ) × (after : List (List ℕ)) × (cut before xs ≡ line ∷ after) × (MAX_LINE < length line))
+long_or : (before xs : List ℕ) → MAX_LINE2 < length before → (cut before xs ≡ []) ⊎ ((line : List ℕ) × (after : List (List ℕ)) × (cut before xs ≡ line ∷ after) × (MAX_LINE2 < length line))
 long_or before [] long = inl refl
 long_or before (x ∷ xs) long =
-    elim (x == 10) as (λ t. ((if t then (before ∷ cut [] xs) else cut (before ++ x ∷ []) xs) ≡ []) ⊎ ((line : List ℕ) × (after : List (List ℕ)) × ((if t then (before ∷ cut [] xs) else cut (before ++ x ∷ []) xs) ≡ line ∷ after) × (MAX_LINE < length line))) [
+    elim (x == 10) as (λ t. ((if t then (before ∷ cut [] xs) else cut (before ++ x ∷ []) xs) ≡ []) ⊎ ((line : List ℕ) × (after : List (List ℕ)) × ((if t then (before ∷ cut [] xs) else cut (before ++ x ∷ []) xs) ≡ line ∷ after) × (MAX_LINE2 < length line))) [
       | true ↦ inr (before, cut [] xs, refl, long)
       | false ↦ long_or (before ++ x ∷ []) xs (simp length-append (omega arith))
     ]
 
-unended : (b more : List ℕ) (k : ℕ) (v : Kept) (s n m ahead : Option (List ℕ)) → IsAt b v s n → k ≡ v.count + 1 → cut (rest b) more ≡ [] → MAX_LINE < length (left (rest b) more) → Appends n m [] → FaultOf (Line k) (b ++ more) ahead s m
+unended : (b more : List ℕ) (k : ℕ) (v : Kept) (s n m ahead : Option (List ℕ)) → IsAt b v s n → k ≡ v.count + 1 → cut (rest b) more ≡ [] → MAX_LINE2 < length (left (rest b) more) → Appends n m [] → FaultOf (Line k) (b ++ more) ahead s m
 unended b more k v s n m ahead at number none long wrote =
     let cuts : lines (b ++ more) ≡ lines b = cut-append [] b more ∙ (ap (λ ls. lines b ++ ls) none ∙ append-nil (lines b)) in
-    let quiet : text_from (past_of (lines b)) (cut (rest b) more) ≡ [] = rw none (text-none (past_of (lines b))) in
+    let quiet : text_from v.stage (cut (rest b) more) ≡ [] = rw none refl in
     let open_line : IsUnended k (b ++ more) = record {
       number = number ∙ rw cuts (ap (λ i. i + 1) at.count);
-      good = rw cuts at.good;
+      good = rw cuts (some_stage (stage_from Start (lines b)) v.stage at.stage);
     } in
     (inr (open_line, inl (rw (left-append [] b more) long)), wrote_all b more v s n m at quiet wrote)
 
-long_line : (b more : List ℕ) (x k : ℕ) (v : Kept) (s n m ahead : Option (List ℕ)) → IsAt b v s n → k ≡ v.count + 1 → x ≢ 10 → MAX_LINE ≤ length v.line → Appends n m [] → FaultOf (Line k) (b ++ x ∷ more) ahead s m
+long_line : (b more : List ℕ) (x k : ℕ) (v : Kept) (s n m ahead : Option (List ℕ)) → IsAt b v s n → k ≡ v.count + 1 → x ≢ 10 → MAX_LINE2 ≤ length v.line → Appends n m [] → FaultOf (Line k) (b ++ x ∷ more) ahead s m
 long_line b more x k v s n m ahead at number goes full wrote =
     let e = no_ten x goes in
     let same : length v.line ≡ length (rest b) = ap length at.line in
-    let long : MAX_LINE < length (rest b ++ x ∷ []) = simp length-append (omega arith) in
+    let long : MAX_LINE2 < length (rest b ++ x ∷ []) = simp length-append (omega arith) in
     let on : cut (rest b) (x ∷ more) ≡ cut (rest b ++ x ∷ []) more = rw e refl in
     let on_left : left (rest b) (x ∷ more) ≡ left (rest b ++ x ∷ []) more = rw e refl in
     elim (long_or (rest b ++ x ∷ []) more long) [
       | inl none ↦
-          let far : MAX_LINE < length (left (rest b) (x ∷ more)) = rw (on_left, left-uncut (rest b ++ x ∷ []) more none, length-append) (omega arith) in
+          let far : MAX_LINE2 < length (left (rest b) (x ∷ more)) = rw (on_left, left-uncut (rest b ++ x ∷ []) more none, length-append) (omega arith) in
           unended b (x ∷ more) k v s n m ahead at number (on ∙ none) far wrote
-      | inr l ↦ stands b (x ∷ more) l.0 l.1 k v s n m ahead at number (on ∙ l.2) (too_long (past_of (lines b)) l.0 l.3) wrote
+      | inr l ↦ stands b (x ∷ more) l.0 l.1 k v s n m ahead at number (on ∙ l.2) (too_long v.stage l.0 l.3) wrote
     ]
 
 -- ---- a heading out of its limits
 
-opens_out : (ls : List (List ℕ)) (line : List ℕ) (after : List (List ℕ)) → ls ≡ [] → IsOutOfLimits line → OpensOutOfLimits (ls ++ line ∷ after)
-opens_out ls line after none out = rw none out
-
-out_of_limits : (b more : List ℕ) (x : ℕ) (v : Kept) (s n m ahead : Option (List ℕ)) → IsAt b v s n → x ≡ 10 → v.past ≡ None → IsOutOfLimits v.line → Appends n m [] → FaultOf Limits (b ++ x ∷ more) ahead s m
-out_of_limits b more x v s n m ahead at ends none out wrote =
+out_of_limits : (b more : List ℕ) (x : ℕ) (v : Kept) (s n m ahead : Option (List ℕ)) → IsAt b v s n → x ≡ 10 → IsHeadless v.stage → IsOutOfLimits v.line → Appends n m [] → FaultOf Limits (b ++ x ∷ more) ahead s m
+out_of_limits b more x v s n m ahead at ends headless out wrote =
     let e = tens x ends in
-    let first : lines b ≡ [] = no_past (lines b) at.good (sym at.past ∙ none) in
     let cuts : lines (b ++ x ∷ more) ≡ lines b ++ rest b ∷ cut [] more = cut-append [] b (x ∷ more) ∙ rw e refl in
-    let quiet : text b ≡ [] = rw first refl in
-    (rw cuts (opens_out (lines b) (rest b) (cut [] more) first (rw at.line at out)), appends_twice s n m [] [] (rw quiet at at.written) wrote)
+    let quiet : text b ≡ [] = headless_silent v.stage (lines b) at.stage headless in
+    ((lines b, rest b, cut [] more, v.stage, cuts, at.stage, headless, rw at.line at out), appends_twice s n m [] [] (rw quiet at at.written) wrote)
 
 -- ---- all faults
 
+at_end_of_line : (f : ReplayFault) (b more : List ℕ) (v : Kept) (x : ℕ) (s n m ahead : Option (List ℕ)) → IsAt b v s n → x ≡ 10 → FaultAtEnd f (v.count + 1) v.stage v.line n m → FaultOf f (b ++ x ∷ more) ahead s m
+at_end_of_line (Line k) b more v x s n m ahead at ends p =
+    let e = tens x ends in
+    let one : cut (rest b) (x ∷ more) ≡ rest b ∷ cut [] more = rw e refl in
+    stands b (x ∷ more) (rest b) (cut [] more) k v s n m ahead at p.0 one (rw at.line at p.1) p.2
+at_end_of_line Limits b more v x s n m ahead at ends p = out_of_limits b more x v s n m ahead at ends p.0 p.1 p.2
+at_end_of_line Memory b more v x s n m ahead at ends p = stopped b more v x s n m at ends p.0 p.1
+at_end_of_line Read b more v x s n m ahead at ends p = absurd p
+at_end_of_line Write b more v x s n m ahead at ends p = stopped b more v x s n m at ends p.0 p.1
+
+within_line : (f : ReplayFault) (b more : List ℕ) (v : Kept) (x : ℕ) (s n m ahead : Option (List ℕ)) → IsAt b v s n → x ≢ 10 → FaultWithin f v n m → FaultOf f (b ++ x ∷ more) ahead s m
+within_line (Line k) b more v x s n m ahead at goes p = long_line b more x k v s n m ahead at p.0 goes p.1 p.2
+within_line Limits b more v x s n m ahead at goes p = absurd p
+within_line Memory b more v x s n m ahead at goes p = absurd p
+within_line Read b more v x s n m ahead at goes p = absurd p
+within_line Write b more v x s n m ahead at goes p = absurd p
+
 -- a fault at a byte, whatever follows it
 pub faulted : (f : ReplayFault) (b more : List ℕ) (v : Kept) (x : ℕ) (s n m ahead : Option (List ℕ)) → IsAt b v s n → FaultAt f v x n m → FaultOf f (b ++ x ∷ more) ahead s m
-faulted (Line k) b more v x s n m ahead at p =
-    elim p.1 [
-      | inl ends ↦
-          let e = tens x ends.0 in
-          let one : cut (rest b) (x ∷ more) ≡ rest b ∷ cut [] more = rw e refl in
-          stands b (x ∷ more) (rest b) (cut [] more) k v s n m ahead at p.0 one (rw (at.past, at.line) at ends.1) p.2
-      | inr long ↦ long_line b more x k v s n m ahead at p.0 long.0 long.1 p.2
-    ]
-faulted Limits b more v x s n m ahead at p = out_of_limits b more x v s n m ahead at p.0 p.1 p.2 p.3
-faulted Memory b more v x s n m ahead at p = stopped b more v x s n m at p.0 p.1
-faulted Read b more v x s n m ahead at p = absurd p
-faulted Write b more v x s n m ahead at p = stopped b more v x s n m at p.0 p.1
+faulted f b more v x s n m ahead at (inl ends) = at_end_of_line f b more v x s n m ahead at ends.0 ends.1
+faulted f b more v x s n m ahead at (inr goes) = within_line f b more v x s n m ahead at goes.0 goes.1
 
 -- a fault at one byte of many
 pub fault_next : (f : ReplayFault) (b xs : List ℕ) (i : ℕ) (v : Kept) (s n m ahead : Option (List ℕ)) → i < length xs → IsAt (b ++ take i xs) v s n → FaultAt f v (get_or xs i 0) n m → FaultOf f (b ++ xs) ahead s m
@@ -131,19 +140,12 @@ fault_next f b xs i v s n m ahead h at p = rw (and_rest b xs i h) (faulted f (b 
 
 -- ---- the end of the input
 
-is_empty_or : (l : List ℕ) → (l ≡ []) ⊎ (l ≢ [])
-is_empty_or [] = inl refl
-is_empty_or (x ∷ xs) = inr (λ e. absurd cc)
-
-cut_short : (b : List ℕ) (k : ℕ) (v : Kept) (s n ahead : Option (List ℕ)) → k ≡ v.count + 1 → (v.line ≢ []) ⊎ (v.past ≡ None) → IsAt b v s n → IsAtEnd ahead → FaultOf (Line k) b ahead s n
+cut_short : (b : List ℕ) (k : ℕ) (v : Kept) (s n ahead : Option (List ℕ)) → k ≡ v.count + 1 → (v.line ≢ []) ⊎ IsHeadless v.stage → IsAt b v s n → IsAtEnd ahead → FaultOf (Line k) b ahead s n
 cut_short b k v s n ahead number why at ends =
-    let open_line : IsUnended k b = record { number = number ∙ ap (λ i. i + 1) at.count; good = at.good } in
-    let over : (rest b ≢ []) ⊎ (b ≡ []) = elim why [
+    let open_line : IsUnended k b = record { number = number ∙ ap (λ i. i + 1) at.count; good = some_stage (stage_from Start (lines b)) v.stage at.stage } in
+    let over : (rest b ≢ []) ⊎ LacksHeading b = elim why [
       | inl some ↦ inl (λ e. some (at.line ∙ e))
-      | inr none ↦ elim (is_empty_or (rest b)) [
-        | inl e ↦ inr (none-cut b (no_past (lines b) at.good (sym at.past ∙ none)) e)
-        | inr ne ↦ inl ne
-      ]
+      | inr headless ↦ inr (v.stage, at.stage, headless)
     ] in
     (inr (open_line, inr (ends, over)), at.written)
 
@@ -155,22 +157,32 @@ ended Memory b v s n ahead p at ends = absurd p
 ended Read b v s n ahead p at ends = absurd p
 ended Write b v s n ahead p at ends = absurd p
 
+no_start : (t : Stage) → (IsHeadless t → ⊥) → t ≡ Start → ⊥
+no_start t plays is = plays (subst (λ (u : Stage). IsHeadless u) (sym is) tt)
+
+no_title : (t : Stage) → (IsHeadless t → ⊥) → t ≡ Titled → ⊥
+no_title t plays is = plays (subst (λ (u : Stage). IsHeadless u) (sym is) tt)
+
 -- the script is whole
-pub replayed_whole : (b : List ℕ) (v : Kept) (before ahead s n : Option (List ℕ)) → Consumes before ahead b → IsAtEnd ahead → IsAt b v s n → v.line ≡ [] → is_some v.past ≡ true → IsReplayed b before ahead s n
-replayed_whole b v before ahead s n read ends at none there = record {
+pub replayed_whole : (b : List ℕ) (v : Kept) (before ahead s n : Option (List ℕ)) → Consumes before ahead b → IsAtEnd ahead → IsAt b v s n → v.line ≡ [] → (IsHeadless v.stage → ⊥) → IsReplayed b before ahead s n
+replayed_whole b v before ahead s n read ends at none plays = record {
   read = read;
   whole = ends;
   script = record {
-    good = at.good;
+    good = some_stage (stage_from Start (lines b)) v.stage at.stage;
     ended = sym at.line ∙ none;
-    run = is_run b (rw at.past at there);
+    run = is_run b v.stage at.stage (no_start v.stage plays) (no_title v.stage plays);
   };
   written = at.written;
 }
 
+-- what is kept is of good bytes
+pub good_at : (b : List ℕ) (v : Kept) (start now : Option (List ℕ)) → IsAt b v start now → is_good (lines b) ≡ true
+good_at b v start now at = some_stage (stage_from Start (lines b)) v.stage at.stage
+
 -- a flush changes nothing of it
 pub flushed_at : (b : List ℕ) (v : Kept) (start now after : Option (List ℕ)) → IsAt b v start now → Keeps now after → IsAt b v start after
-flushed_at b v start now after at kept = record { count = at.count; line = at.line; short = at.short; past = at.past; good = at.good; written = appends_keeps start now after (text b) at.written kept }
+flushed_at b v start now after at kept = record { count = at.count; line = at.line; short = at.short; stage = at.stage; written = appends_keeps start now after (text b) at.written kept }
 
 -- replies that lie in memory are refused a byte only where it is out of memory
 pub write_is_memory : (b : List ℕ) (before ahead start now : Option (List ℕ)) → Ends Write b before ahead start now → Ends Memory b before ahead start now

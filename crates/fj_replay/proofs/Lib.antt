@@ -1,7 +1,13 @@
 -- bytes that are read in two parts, and their lines
 pub mod Lines
--- what more lines say, behind good ones
-pub mod Pasts
+-- where more lines lead, behind good ones
+pub mod Stages
+-- names and their places in a table
+pub mod NameTables
+-- what is replied to a script of version 1, by itself
+pub mod Version1
+-- what has happened in a play is the history of a run
+pub mod Runs
 -- a session takes one byte more
 pub mod Steps
 -- what a session has found when it stops

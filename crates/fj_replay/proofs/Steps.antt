@@ -1,19 +1,21 @@
 -- A session that takes one byte more.
-use Rattle.std.specs.Prelude.{◌==◌, true, false, is_some}
-use Rattle.std.proofs.Common.{ℕ, ◌≡◌, ◌≢◌, ◌+◌, ◌<◌, ◌≤◌, List, [], ◌∷◌, ◌++◌, refl, arith, ◌∙◌, sym, ap, take, drop, length, length-append, append_assoc, inl, inr, Option}
+use Rattle.std.specs.Prelude.{◌==◌, true, false}
+use Rattle.std.proofs.Common.{ℕ, ◌≡◌, ◌≢◌, ◌+◌, ◌<◌, ◌≤◌, List, [], ◌∷◌, ◌++◌, refl, arith, ◌∙◌, sym, ap, take, drop, length, length-append, append_assoc, inl, inr, Option, Some}
 use Rattle.std.proofs.lemmas.List.{append-nil, take-append-drop}
 use Rattle.std.proofs.Math.Seq.{take-suc, drop-cons}
 use Rattle.std.proofs.Math.ListN.{get_or}
 use Rattle.std.proofs.Math.Numerals.{add-one}
 use Rattle.std.proofs.lemmas.Bool.Decides.{nat_tests}
 use Rattle.std.specs.Io.KnownBytes.{Appends}
-use Rattle.fj_model.specs.declared.read.TheConstants.{MAX_LINE}
+use Rattle.fj_model.specs.declared.read.line2.TheConstants.{MAX_LINE2}
 use Rattle.fj_replay.specs.Cuts.{cut, lines, rest}
-use Rattle.fj_replay.specs.Scripts.{is_good, text}
-use Rattle.fj_replay.specs.Sessions.{Kept, IsAt, Goes, next_kept, fed, past_of, past_after, line_text}
+use Rattle.fj_replay.specs.declared.stage.Stage.{Stage}
+use Rattle.fj_replay.specs.declared.stage.Stage.TheVariants.{Start}
+use Rattle.fj_replay.specs.Scripts.{stage_after, stage_from, line_text, text_from, text}
+use Rattle.fj_replay.specs.Sessions.{Kept, IsAt, Goes, next_kept, fed}
 use Rattle.fj_streams.proofs.Bytes.{appends_twice}
 use Rattle.fj_replay.proofs.Lines.{yes_or_no, cut-append, left-append}
-use Rattle.fj_replay.proofs.Pasts.{text_from, text-append, text-line, text-none, past-snoc, good-snoc}
+use Rattle.fj_replay.proofs.Stages.{stage-snoc, stage_there, text-append, text-line}
 
 pub tens : (x : ℕ) → x ≡ 10 → (x == 10) ≡ true
 tens x e = grind (arith, nat_tests)
@@ -22,52 +24,48 @@ pub no_ten : (x : ℕ) → x ≢ 10 → (x == 10) ≡ false
 no_ten x ne = grind (arith, nat_tests)
 
 -- the text of more bytes, behind good ones
-pub text_at : (b ys : List ℕ) → is_good (lines b) ≡ true → text (b ++ ys) ≡ text b ++ text_from (past_of (lines b)) (cut (rest b) ys)
-text_at b ys good = rw (cut-append [] b ys) (text-append (lines b) (cut (rest b) ys) good)
+pub text_at : (b ys : List ℕ) (s : Stage) → stage_from Start (lines b) ≡ Some s → text (b ++ ys) ≡ text b ++ text_from s (cut (rest b) ys)
+text_at b ys s good = rw (cut-append [] b ys) (text-append Start s (lines b) (cut (rest b) ys) good)
 
-at_end : (b : List ℕ) (v w : Kept) (x : ℕ) (s n m : Option (List ℕ)) → IsAt b v s n → w ≡ next_kept v x → Appends n m (fed v x) → (x == 10) ≡ true → is_some (past_after v.past v.line) ≡ true → IsAt (b ++ x ∷ []) w s m
-at_end b v w x s n m at next wrote e there =
-    let past : past_after v.past v.line ≡ past_after (past_of (lines b)) (rest b) = rw (at.past, at.line) refl in
-    let said_line : line_text v.past v.line ≡ line_text (past_of (lines b)) (rest b) = rw (at.past, at.line) refl in
-    let good : is_some (past_after (past_of (lines b)) (rest b)) ≡ true = ap is_some (sym past) ∙ there in
-    let now : w ≡ record { count = v.count + 1; line = []; past = past_after v.past v.line } = next ∙ rw e refl in
+at_end : (b : List ℕ) (v w : Kept) (u : Stage) (x : ℕ) (s n m : Option (List ℕ)) → IsAt b v s n → w ≡ next_kept v x → Appends n m (fed v x) → (x == 10) ≡ true → stage_after v.stage v.line ≡ Some u → IsAt (b ++ x ∷ []) w s m
+at_end b v w u x s n m at next wrote e there =
+    let now : w ≡ record { count = v.count + 1; line = []; stage = u } = next ∙ rw (e, there) refl in
     let cuts : lines (b ++ x ∷ []) ≡ lines b ++ rest b ∷ [] = cut-append [] b (x ∷ []) ∙ rw e refl in
     let none : rest (b ++ x ∷ []) ≡ [] = left-append [] b (x ∷ []) ∙ rw e refl in
     let one : cut (rest b) (x ∷ []) ≡ rest b ∷ [] = rw e refl in
-    let empty : w.line ≡ [] = ap (λ u. u.line) now in
-    let tail : text_from (past_of (lines b)) (cut (rest b) (x ∷ [])) ≡ line_text v.past v.line =
-    rw (one, said_line) (text-line (past_of (lines b)) (rest b) [] good ∙ rw (text-none, append-nil) refl) in
-    let whole : text (b ++ x ∷ []) ≡ text b ++ line_text v.past v.line = text_at b (x ∷ []) at.good ∙ ap (λ t. text b ++ t) tail in
-    let here : fed v x ≡ line_text v.past v.line = rw e refl in
+    let empty : w.line ≡ [] = ap (λ k. k.line) now in
+    let there_too : stage_after v.stage (rest b) ≡ Some u = rw (← at.line) there in
+    let tail : text_from v.stage (cut (rest b) (x ∷ [])) ≡ line_text v.stage (rest b) =
+    rw one (text-line v.stage u (rest b) [] there_too ∙ append-nil (line_text v.stage (rest b))) in
+    let whole : text (b ++ x ∷ []) ≡ text b ++ line_text v.stage (rest b) = text_at b (x ∷ []) v.stage at.stage ∙ ap (λ t. text b ++ t) tail in
+    let here : fed v x ≡ line_text v.stage (rest b) = rw (e, at.line) refl in
     record {
-      count = ap (λ u. u.count) now ∙ (ap (λ k. k + 1) at.count ∙ (rw (cuts, length-append) refl));
+      count = ap (λ k. k.count) now ∙ (ap (λ k. k + 1) at.count ∙ (rw (cuts, length-append) refl));
       line = empty ∙ sym none;
       short = rw empty (omega arith);
-      past = ap (λ u. u.past) now ∙ (past ∙ rw cuts (sym (past-snoc (lines b) (rest b) at.good good)));
-      good = rw cuts (good-snoc (lines b) (rest b) at.good good);
-      written = rw whole (appends_twice s n m (text b) (line_text v.past v.line) at.written (rw here at wrote));
+      stage = rw cuts (stage-snoc Start v.stage u (lines b) (rest b) at.stage there_too) ∙ ap (λ k. Some k.stage) (sym now);
+      written = rw whole (appends_twice s n m (text b) (line_text v.stage (rest b)) at.written (rw here at wrote));
     }
 
-at_more : (b : List ℕ) (v w : Kept) (x : ℕ) (s n m : Option (List ℕ)) → IsAt b v s n → w ≡ next_kept v x → Appends n m (fed v x) → (x == 10) ≡ false → length v.line + 1 ≤ MAX_LINE → IsAt (b ++ x ∷ []) w s m
+at_more : (b : List ℕ) (v w : Kept) (x : ℕ) (s n m : Option (List ℕ)) → IsAt b v s n → w ≡ next_kept v x → Appends n m (fed v x) → (x == 10) ≡ false → length v.line + 1 ≤ MAX_LINE2 → IsAt (b ++ x ∷ []) w s m
 at_more b v w x s n m at next wrote e few =
-    let now : w ≡ record { count = v.count; line = v.line ++ x ∷ []; past = v.past } = next ∙ rw e refl in
+    let now : w ≡ record { count = v.count; line = v.line ++ x ∷ []; stage = v.stage } = next ∙ rw e refl in
     let cuts : lines (b ++ x ∷ []) ≡ lines b = cut-append [] b (x ∷ []) ∙ rw (e, append-nil) refl in
     let none : rest (b ++ x ∷ []) ≡ rest b ++ x ∷ [] = left-append [] b (x ∷ []) ∙ rw e refl in
-    let longer : w.line ≡ v.line ++ x ∷ [] = ap (λ u. u.line) now in
+    let longer : w.line ≡ v.line ++ x ∷ [] = ap (λ k. k.line) now in
     let here : fed v x ≡ [] = rw e refl in
     let same : text (b ++ x ∷ []) ≡ text b ++ [] = rw (cuts, append-nil) refl in
     record {
-      count = ap (λ u. u.count) now ∙ rw cuts at.count;
+      count = ap (λ k. k.count) now ∙ rw cuts at.count;
       line = longer ∙ (ap (λ l. l ++ x ∷ []) at.line ∙ sym none);
       short = rw (longer, length-append) few;
-      past = ap (λ u. u.past) now ∙ rw cuts at.past;
-      good = rw cuts at.good;
+      stage = rw cuts at.stage ∙ ap (λ k. Some k.stage) (sym now);
       written = rw same (appends_twice s n m (text b) [] at.written (rw here at wrote));
     }
 
 -- one byte more
 pub at_snoc : (b : List ℕ) (v w : Kept) (x : ℕ) (s n m : Option (List ℕ)) → IsAt b v s n → Goes v x → w ≡ next_kept v x → Appends n m (fed v x) → IsAt (b ++ x ∷ []) w s m
-at_snoc b v w x s n m at (inl ends) next wrote = at_end b v w x s n m at next wrote (tens x ends.0) ends.1
+at_snoc b v w x s n m at (inl ends) next wrote = let there = stage_there (stage_after v.stage v.line) ends.1 in at_end b v w there.0 x s n m at next wrote (tens x ends.0) there.1
 at_snoc b v w x s n m at (inr goes) next wrote = at_more b v w x s n m at next wrote (no_ten x goes.0) goes.1
 
 one_more : (b xs : List ℕ) (i : ℕ) → i < length xs → b ++ take (i + 1) xs ≡ (b ++ take i xs) ++ get_or xs i 0 ∷ []

@@ -1,26 +1,41 @@
 -- What the end of a replay says of the bytes that were read.
-use Rattle.std.specs.Prelude.{ℕ, ◌≡◌, ◌≢◌, ◌+◌, ◌<◌, ◌≤◌, ◌⊎◌, List, [], ◌∷◌, ◌++◌, Option, Some, None, true, length}
+use Rattle.std.specs.Prelude.{ℕ, ◌≡◌, ◌≢◌, ◌+◌, ◌<◌, ◌≤◌, ◌⊎◌, List, [], ◌∷◌, ◌++◌, Option, Some, None, true, false, length}
 use Rattle.std.specs.Io.KnownBytes.{Appends, Consumes, IsAtEnd}
-use Rattle.fj_model.specs.declared.read.TheConstants.{MAX_LINE}
+use Rattle.fj_model.specs.declared.read.line2.TheConstants.{MAX_LINE2}
 use Rattle.fj_model.specs.declared.mode.Mode.{Mode}
-use Rattle.fj_model.specs.Lines.{head_in, step_in}
+use Rattle.fj_model.specs.Lines.{head_in}
 use Rattle.fj_replay.specs.declared.fault.ReplayFault.{ReplayFault}
 use Rattle.fj_replay.specs.declared.fault.ReplayFault.TheVariants.{Line, Limits, Memory, Read, Write}
 use Rattle.fj_streams.specs.Beginnings.{AppendsSome}
 use Rattle.fj_replay.specs.Cuts.{lines, rest}
-use Rattle.fj_replay.specs.Scripts.{pool_of, is_good, text, IsRun}
+use Rattle.fj_replay.specs.declared.stage.Stage.{Stage}
+use Rattle.fj_replay.specs.declared.stage.Stage.TheVariants.{Start, Titled, Plays}
+use Rattle.fj_replay.specs.Plays.{asked_in, is_title}
+use Rattle.fj_replay.specs.Scripts.{pool_of, stage_from, is_good, text, IsRun}
 
--- the line is not canonical where it stands: the first line must be a heading, the others steps
-abbrev pub IsFaultyAfter : List (List ℕ) → List ℕ → Type 0
-IsFaultyAfter [] line = head_in line ≡ None
-IsFaultyAfter (head ∷ others) line = step_in line ≡ None
+-- the line is not canonical where it stands: a heading must stand first, or behind `fj 2`, and then steps of that version
+abbrev pub IsFaulty : Stage → List ℕ → Type 0
+IsFaulty Start line = (is_title line ≡ false) × (head_in line ≡ None)
+IsFaulty Titled line = head_in line ≡ None
+IsFaulty (Plays play) line = asked_in play.naming line ≡ None
+
+-- no heading has come yet
+abbrev pub IsHeadless : Stage → Type 0
+IsHeadless Start = Unit {0}
+IsHeadless Titled = Unit {0}
+IsHeadless (Plays play) = ⊥
+
+-- the bytes are good so far, and have no heading
+abbrev pub LacksHeading : List ℕ → Type 0
+LacksHeading b = (stage : Stage) × (stage_from Start (lines b) ≡ Some stage) × IsHeadless stage
 
 -- the line with this number stands whole and is faulty, and all before it are good
 pub record Stands (n : ℕ) (b : List ℕ) (before : List (List ℕ)) (line : List ℕ) (after : List (List ℕ)) : Type 0 where
+  pub stage : Stage
   pub cut : lines b ≡ before ++ line ∷ after
   pub number : n ≡ length before + 1
-  pub good : is_good before ≡ true
-  pub faulty : IsFaultyAfter before line
+  pub good : stage_from Start before ≡ Some stage
+  pub faulty : IsFaulty stage line
 
 -- the line with this number has not ended, and all before it are good
 pub record IsUnended (n : ℕ) (b : List ℕ) : Type 0 where
@@ -28,25 +43,26 @@ pub record IsUnended (n : ℕ) (b : List ℕ) : Type 0 where
   pub good : is_good (lines b) ≡ true
 
 -- this line is the first that is faulty or that does not end: it stands whole, or it is longer than any canonical line, or the
--- input ends within it or before the first line
+-- input ends within it or before the heading
 abbrev pub IsFirstFault : ℕ → List ℕ → Option (List ℕ) → Type 0
 IsFirstFault n b ahead =
     ((before : List (List ℕ)) × (line : List ℕ) × (after : List (List ℕ)) × Stands n b before line after)
-    ⊎ (IsUnended n b × ((MAX_LINE < length (rest b)) ⊎ (IsAtEnd ahead × ((rest b ≢ []) ⊎ (b ≡ [])))))
+    ⊎ (IsUnended n b × ((MAX_LINE2 < length (rest b)) ⊎ (IsAtEnd ahead × ((rest b ≢ []) ⊎ LacksHeading b))))
 
 -- the line is a heading with a limit out of its range
 abbrev pub IsOutOfLimits : List ℕ → Type 0
 IsOutOfLimits line = (head : Mode × List ℕ) × (head_in line ≡ Some head) × (pool_of head ≡ None)
 
--- the first line is a heading with a limit out of its range
+-- the line where the heading must stand is one with a limit out of its range
 abbrev pub OpensOutOfLimits : List (List ℕ) → Type 0
-OpensOutOfLimits [] = ⊥
-OpensOutOfLimits (head ∷ others) = IsOutOfLimits head
+OpensOutOfLimits ls =
+    (before : List (List ℕ)) × (line : List ℕ) × (after : List (List ℕ)) × (stage : Stage)
+    × (ls ≡ before ++ line ∷ after) × (stage_from Start before ≡ Some stage) × IsHeadless stage × IsOutOfLimits line
 
 -- so far all is good: the whole lines are canonical, the heading is within the limits, and the line that goes on is not too long
 pub record IsGoodSoFar (b : List ℕ) : Type 0 where
   pub good : is_good (lines b) ≡ true
-  pub short : length (rest b) ≤ MAX_LINE
+  pub short : length (rest b) ≤ MAX_LINE2
 
 -- what a fault says of the bytes that were read, of those ahead, and of what was written
 abbrev pub FaultOf : ReplayFault → List ℕ → Option (List ℕ) → Option (List ℕ) → Option (List ℕ) → Type 0

@@ -1,6 +1,8 @@
 pub use Rattle.fj_streams.specs.Calls
 pub use Rattle.fj_streams.specs.Beginnings
 pub mod Cuts
+pub mod Namings
+pub mod Plays
 pub mod Scripts
 pub mod Faults
 pub mod Tells

@@ -1,7 +1,9 @@
 -- What a script says, and what is replied to it.
-use Rattle.std.specs.Prelude.{ℕ, Bool, true, ◌≡◌, ◌&&◌, nat_le, if◌then◌else◌, List, [], ◌∷◌, ◌++◌, Option, Some, None, is_some, slice_index}
-use Rattle.std.specs.Option.{option_and_then}
-use Rattle.std.specs.List.{list_all}
+--
+-- A script is of version 2, in which tasks have names, where its first line is `fj 2`: its heading is the second line, and in one of
+-- version 1 the first.
+use Rattle.std.specs.Prelude.{ℕ, Bool, false, ◌≡◌, ◌&&◌, nat_le, if◌then◌else◌, List, [], ◌∷◌, ◌++◌, Option, Some, None, is_some, option_map, slice_index}
+use Rattle.std.specs.Option.{option_and_then, option_map_or}
 use Rattle.fj_model.specs.declared.limits.TheConstants.{MAX_WORKERS, MAX_SUBMITTERS, MAX_TASKS, MAX_EVENTS}
 use Rattle.fj_model.specs.declared.mode.Mode.{Mode}
 use Rattle.fj_model.specs.declared.step.Step.{Step}
@@ -11,10 +13,16 @@ use Rattle.fj_model.specs.Bounds.{Bounds, Pool}
 use Rattle.fj_model.specs.Answers.{answer}
 use Rattle.fj_model.specs.Pasts.{Past, fresh, grown}
 use Rattle.fj_model.specs.Runs.{Runs}
+use Rattle.fj_model.specs.Epochs.{IsPast}
 use Rattle.fj_model.specs.Lines.{head_in, step_in, reply_line}
+use Rattle.fj_replay.specs.declared.naming.Naming.{Naming}
+use Rattle.fj_replay.specs.declared.naming.Naming.TheVariants.{Numbers, Names}
+use Rattle.fj_replay.specs.declared.stage.Stage.{Stage}
+use Rattle.fj_replay.specs.declared.stage.Stage.TheVariants.{Start, Titled, Plays}
 use Rattle.fj_replay.specs.Cuts.{lines}
+use Rattle.fj_replay.specs.Plays.{Play, asked_in, play_after, reply_text, is_title}
 
--- ---- from lines to the pool and the steps
+-- ---- headings
 
 -- the limits that the four numbers of a heading say
 abbrev pub limits_of : List ℕ → Bounds
@@ -40,18 +48,54 @@ pool_of head = if is_within (limits_of head.1) then Some (record { mode = head.0
 abbrev pub pool_in : List ℕ → Option Pool
 pool_in line = option_and_then pool_of (head_in line)
 
-abbrev pub is_step : List ℕ → Bool
-is_step line = is_some (step_in line)
+-- a new pool
+abbrev pub start : Pool → Past
+start p = fresh p.mode p.limits
 
--- whether the first of the lines is a heading within the limits, and the others are steps
+-- ---- from line to line
+
+-- at its steps, where the heading has a pool
+abbrev pub opened : Naming → Option Pool → Option Stage
+opened naming None = None
+opened naming (Some p) = Some (Plays (record { past = start p; naming = naming }))
+
+-- where a script stands after one line more, if this line may stand there
+abbrev pub stage_after : Stage → List ℕ → Option Stage
+stage_after Start line = if is_title line then Some Titled else opened Numbers (pool_in line)
+stage_after Titled line = opened (Names []) (pool_in line)
+stage_after (Plays play) line = option_map (λ asked. Plays (play_after play asked)) (asked_in play.naming line)
+
+-- what is replied to the line
+abbrev pub line_text : Stage → List ℕ → List ℕ
+line_text Start line = []
+line_text Titled line = []
+line_text (Plays play) line = option_map_or (λ asked. reply_text play asked) (asked_in play.naming line) []
+
+-- where it stands after these lines, if each of them may stand where it does
+abbrev pub stage_from : Stage → List (List ℕ) → Option Stage
+stage_from stage [] = Some stage
+stage_from stage (line ∷ later) = option_and_then (λ next. stage_from next later) (stage_after stage line)
+
+-- what is replied to these lines, up to the first that may not stand where it does
+abbrev pub text_from : Stage → List (List ℕ) → List ℕ
+text_from stage [] = []
+text_from stage (line ∷ later) = option_map_or (λ next. line_text stage line ++ text_from next later) (stage_after stage line) []
+
+-- whether each of the lines of a script may stand where it does
 abbrev pub is_good : List (List ℕ) → Bool
-is_good [] = true
-is_good (head ∷ others) = is_some (pool_in head) && list_all is_step others
+is_good ls = is_some (stage_from Start ls)
 
--- the pool that the first line opens
-abbrev pub pool : List (List ℕ) → Option Pool
-pool [] = None
-pool (head ∷ others) = pool_in head
+-- ---- from bytes to bytes
+
+-- what is replied to these bytes: nothing where the heading is missing, faulty or out of the limits
+abbrev pub text : List ℕ → List ℕ
+text b = text_from Start (lines b)
+
+-- the lines lead to a play, and what has happened in it is the history of a run, with seals or without
+abbrev pub IsRun : List ℕ → Type 0
+IsRun b = (play : Play) × (stage_from Start (lines b) ≡ Some (Plays play)) × IsPast play.past
+
+-- ---- version 1, by itself
 
 abbrev pub before_those : Option Step → List Step → List Step
 before_those None steps = []
@@ -61,13 +105,6 @@ before_those (Some asked) steps = asked ∷ steps
 abbrev pub steps_of : List (List ℕ) → List Step
 steps_of [] = []
 steps_of (line ∷ others) = before_those (step_in line) (steps_of others)
-
--- the steps behind the first line
-abbrev pub steps : List (List ℕ) → List Step
-steps [] = []
-steps (head ∷ others) = steps_of others
-
--- ---- from steps to replies
 
 -- the replies to the steps at this past
 abbrev pub replies : Past → List Step → List Said
@@ -83,10 +120,6 @@ history past (asked ∷ later) = history (grown past (answer past asked).1) late
 abbrev pub after : Past → List Step → Past
 after past asked = record past { events = history past asked }
 
--- a new pool
-abbrev pub start : Pool → Past
-start p = fresh p.mode p.limits
-
 -- the lines of the replies, joined
 abbrev pub joined : Bounds → List Said → List ℕ
 joined limits [] = []
@@ -97,15 +130,16 @@ abbrev pub said : Option Pool → List Step → List ℕ
 said None asked = []
 said (Some p) asked = joined p.limits (replies (start p) asked)
 
--- ---- from bytes to bytes
+-- what is replied to the lines of a script of version 1
+abbrev pub numbered_text : List (List ℕ) → List ℕ
+numbered_text [] = []
+numbered_text (head ∷ others) = said (pool_in head) (steps_of others)
 
--- what is replied to these bytes: nothing where the heading is missing, faulty or out of the limits
-abbrev pub text : List ℕ → List ℕ
-text b = said (pool (lines b)) (steps (lines b))
+-- the steps with these replies are a run of the pool
+abbrev pub AreRun : Pool → List Step → Type 0
+AreRun p asked = Runs p.mode p.limits asked (replies (start p) asked) (after (start p) asked)
 
--- the steps with the replies in the text are a run of the pool
-abbrev pub IsRun : List ℕ → Type 0
-IsRun b =
-    (p : Pool) × (pool (lines b) ≡ Some p)
-    × (text b ≡ joined p.limits (replies (start p) (steps (lines b))))
-    × Runs p.mode p.limits (steps (lines b)) (replies (start p) (steps (lines b))) (after (start p) (steps (lines b)))
+-- whether the first line says that the script is of version 2
+abbrev pub is_titled : List (List ℕ) → Bool
+is_titled [] = false
+is_titled (first ∷ others) = is_title first

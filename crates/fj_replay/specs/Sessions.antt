@@ -1,44 +1,34 @@
 -- What a session keeps, and what one byte does to it.
-use Rattle.std.specs.Prelude.{ℕ, ⊤, ◌≡◌, ◌≢◌, ◌+◌, ◌≤◌, ◌==◌, ◌⊎◌, if◌then◌else◌, List, [], ◌∷◌, ◌++◌, Option, Some, None, true, is_some, length}
+use Rattle.std.specs.Prelude.{ℕ, ⊤, ◌≡◌, ◌≢◌, ◌+◌, ◌≤◌, ◌==◌, ◌⊎◌, if◌then◌else◌, List, [], ◌∷◌, ◌++◌, Option, Some, None, true, is_some, unwrap_or, length}
 use Rattle.std.specs.Io.KnownBytes.{Appends}
-use Rattle.fj_model.specs.declared.read.TheConstants.{LINE_FEED, MAX_LINE}
-use Rattle.fj_model.specs.declared.step.Step.{Step}
-use Rattle.fj_model.specs.Bounds.{Pool}
-use Rattle.fj_model.specs.Answers.{answer}
-use Rattle.fj_model.specs.Runs.{Past, grown}
-use Rattle.fj_model.specs.Lines.{head_in, step_in, reply_line}
+use Rattle.fj_model.specs.declared.read.TheConstants.{LINE_FEED}
+use Rattle.fj_model.specs.declared.read.line2.TheConstants.{MAX_LINE2}
+use Rattle.fj_model.specs.Lines.{head_in}
 use Rattle.fj_replay.specs.declared.fault.ReplayFault.{ReplayFault}
 use Rattle.fj_replay.specs.declared.fault.ReplayFault.TheVariants.{Line, Limits, Memory, Read, Write}
+use Rattle.fj_replay.specs.declared.stage.Stage.{Stage}
+use Rattle.fj_replay.specs.declared.stage.Stage.TheVariants.{Start}
 use Rattle.fj_streams.specs.Beginnings.{AppendsSome}
 use Rattle.fj_replay.specs.Cuts.{lines, rest}
-use Rattle.fj_replay.specs.Scripts.{pool_in, is_good, pool, steps, after, start, text}
-use Rattle.fj_replay.specs.Faults.{FaultOf, IsOutOfLimits}
+use Rattle.fj_replay.specs.Scripts.{pool_in, stage_after, stage_from, line_text, text}
+use Rattle.fj_replay.specs.Faults.{FaultOf, IsFaulty, IsHeadless, IsOutOfLimits}
 
--- what a session keeps: the number of whole lines, the line that goes on, and the machine's past once there is a heading
+-- what a session keeps: the number of whole lines, the line that goes on, and where the script stands
 pub record Kept : Type 0 where
   pub count : ℕ
   pub line : List ℕ
-  pub past : Option Past
+  pub stage : Stage
 
 -- before anything was read
 abbrev pub nothing_kept : Kept
-nothing_kept = record { count = 0; line = []; past = None }
-
-abbrev pub opened : Option Pool → List Step → Option Past
-opened None asked = None
-opened (Some p) asked = Some (after (start p) asked)
-
--- the machine's past after these lines
-abbrev pub past_of : List (List ℕ) → Option Past
-past_of ls = opened (pool ls) (steps ls)
+nothing_kept = record { count = 0; line = []; stage = Start }
 
 -- these bytes are good so far, this is kept of them, and their text was written
 pub record IsAt (b : List ℕ) (v : Kept) (start now : Option (List ℕ)) : Type 0 where
   pub count : v.count ≡ length (lines b)
   pub line : v.line ≡ rest b
-  pub short : length v.line ≤ MAX_LINE
-  pub past : v.past ≡ past_of (lines b)
-  pub good : is_good (lines b) ≡ true
+  pub short : length v.line ≤ MAX_LINE2
+  pub stage : stage_from Start (lines b) ≡ Some v.stage
   pub written : Appends start now (text b)
 
 -- after any good bytes of which the old is kept, these bytes more are good too, and of them all the new is kept
@@ -51,66 +41,54 @@ abbrev pub EndsInside : ReplayFault → List ℕ → Kept → Option (List ℕ) 
 EndsInside fault bytes old written now =
     (b : List ℕ) (start ahead : Option (List ℕ)) → IsAt b old start written → FaultOf fault (b ++ bytes) ahead start now
 
--- ---- the end of a line
-
-abbrev pub stepped : Past → Option Step → Option Past
-stepped past None = None
-stepped past (Some asked) = Some (grown past (answer past asked).1)
-
--- the past after the line, if the line is good
-abbrev pub past_after : Option Past → List ℕ → Option Past
-past_after None line = opened (pool_in line) []
-past_after (Some past) line = stepped past (step_in line)
-
--- the line of the reply to a step
-abbrev pub reply_text : Past → Step → List ℕ
-reply_text past asked = reply_line past.pool.limits (answer past asked).0
-
-abbrev pub replied : Past → Option Step → List ℕ
-replied past None = []
-replied past (Some asked) = reply_text past asked
-
--- what is written at the end of the line
-abbrev pub line_text : Option Past → List ℕ → List ℕ
-line_text None line = []
-line_text (Some past) line = replied past (step_in line)
-
--- the line is no canonical one after this past
-abbrev pub IsFaulty : Option Past → List ℕ → Type 0
-IsFaulty None line = head_in line ≡ None
-IsFaulty (Some past) line = step_in line ≡ None
-
 -- ---- one byte
+
+-- whether the line may stand where it does
+abbrev pub MayEnd : Kept → Type 0
+MayEnd v = is_some (stage_after v.stage v.line) ≡ true
 
 -- the line may go on with the byte, or is good if the byte ends it
 abbrev pub Goes : Kept → ℕ → Type 0
-Goes v x = (x ≡ LINE_FEED × (is_some (past_after v.past v.line) ≡ true)) ⊎ ((x ≢ LINE_FEED) × (length v.line + 1 ≤ MAX_LINE))
+Goes v x = (x ≡ LINE_FEED × MayEnd v) ⊎ ((x ≢ LINE_FEED) × (length v.line + 1 ≤ MAX_LINE2))
 
 -- what is kept after one byte more
 abbrev pub next_kept : Kept → ℕ → Kept
 next_kept v x =
-    if x == LINE_FEED then record { count = v.count + 1; line = []; past = past_after v.past v.line }
-    else record { count = v.count; line = v.line ++ x ∷ []; past = v.past }
+    if x == LINE_FEED then record { count = v.count + 1; line = []; stage = unwrap_or (stage_after v.stage v.line) v.stage }
+    else record { count = v.count; line = v.line ++ x ∷ []; stage = v.stage }
 
 -- what is written at the byte
 abbrev pub fed : Kept → ℕ → List ℕ
-fed v x = if x == LINE_FEED then line_text v.past v.line else []
+fed v x = if x == LINE_FEED then line_text v.stage v.line else []
+
+-- what a fault at the end of a line says, which has this number
+abbrev pub FaultAtEnd : ReplayFault → ℕ → Stage → List ℕ → Option (List ℕ) → Option (List ℕ) → Type 0
+FaultAtEnd (Line n) number stage line old new = (n ≡ number) × IsFaulty stage line × Appends old new []
+FaultAtEnd Limits number stage line old new = IsHeadless stage × IsOutOfLimits line × Appends old new []
+FaultAtEnd Memory number stage line old new = (is_some (stage_after stage line) ≡ true) × AppendsSome old new (line_text stage line)
+FaultAtEnd Read number stage line old new = ⊥
+FaultAtEnd Write number stage line old new = (is_some (stage_after stage line) ≡ true) × AppendsSome old new (line_text stage line)
+
+-- what a fault at a byte within a line says: the line is too long
+abbrev pub FaultWithin : ReplayFault → Kept → Option (List ℕ) → Option (List ℕ) → Type 0
+FaultWithin (Line n) v old new = (n ≡ v.count + 1) × (MAX_LINE2 ≤ length v.line) × Appends old new []
+FaultWithin Limits v old new = ⊥
+FaultWithin Memory v old new = ⊥
+FaultWithin Read v old new = ⊥
+FaultWithin Write v old new = ⊥
 
 -- what a fault at a byte says
 abbrev pub FaultAt : ReplayFault → Kept → ℕ → Option (List ℕ) → Option (List ℕ) → Type 0
-FaultAt (Line n) v x old new = (n ≡ v.count + 1) × (((x ≡ LINE_FEED) × IsFaulty v.past v.line) ⊎ ((x ≢ LINE_FEED) × (MAX_LINE ≤ length v.line))) × Appends old new []
-FaultAt Limits v x old new = (x ≡ LINE_FEED) × (v.past ≡ None) × IsOutOfLimits v.line × Appends old new []
-FaultAt Memory v x old new = (x ≡ LINE_FEED) × AppendsSome old new (line_text v.past v.line)
-FaultAt Read v x old new = ⊥
-FaultAt Write v x old new = (x ≡ LINE_FEED) × AppendsSome old new (line_text v.past v.line)
+FaultAt fault v x old new =
+    ((x ≡ LINE_FEED) × FaultAtEnd fault (v.count + 1) v.stage v.line old new) ⊎ ((x ≢ LINE_FEED) × FaultWithin fault v old new)
 
--- what a fault at a heading says
-abbrev pub IsHeadFault : ReplayFault → List ℕ → Type 0
-IsHeadFault (Line n) line = (n ≡ 1) × (head_in line ≡ None)
-IsHeadFault Limits line = IsOutOfLimits line
-IsHeadFault Memory line = is_some (pool_in line) ≡ true
-IsHeadFault Read line = ⊥
-IsHeadFault Write line = ⊥
+-- what a fault at a heading says, which stands at this line
+abbrev pub IsHeadFault : ReplayFault → ℕ → List ℕ → Type 0
+IsHeadFault (Line n) number line = (n ≡ number) × (head_in line ≡ None)
+IsHeadFault Limits number line = IsOutOfLimits line
+IsHeadFault Memory number line = is_some (pool_in line) ≡ true
+IsHeadFault Read number line = ⊥
+IsHeadFault Write number line = ⊥
 
 -- a reply was not written whole
 abbrev pub IsReplyFault : ReplayFault → Type 0
@@ -122,7 +100,7 @@ IsReplyFault Write = ⊤
 
 -- what a fault at the end of the input says: the input ends within a line, or before the heading
 abbrev pub EndsEarly : ReplayFault → Kept → Type 0
-EndsEarly (Line n) v = (n ≡ v.count + 1) × ((v.line ≢ []) ⊎ (v.past ≡ None))
+EndsEarly (Line n) v = (n ≡ v.count + 1) × ((v.line ≢ []) ⊎ IsHeadless v.stage)
 EndsEarly Limits v = ⊥
 EndsEarly Memory v = ⊥
 EndsEarly Read v = ⊥

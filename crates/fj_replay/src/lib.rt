@@ -1,15 +1,24 @@
 //! Scripts of a fork-join pool over any reader and writer.
 //!
 //! [`replay`] reads a script from any reader, makes its steps on a `Machine` and writes the replies: what it writes is `text` of the
-//! bytes that it read, or a beginning of it where memory or the writer failed. `text` is a definition of `specs/Scripts.antt`. Over a
+//! bytes that it read, or a beginning of it where memory or the writer failed. `text` is a definition of `specs/Scripts.antt`. Where the
+//! first line is `fj 2` the tasks go by names, and else by their numbers: a `Naming` alone tells the two apart. Over a
 //! reader and a writer that are `Watched` contracts see too that a fault of reading or writing is told exactly where one came.
 #![tactic(auto)]
 
+mod asked;
 mod fault;
 mod in_memory;
+mod names;
+mod naming;
 mod replay_script;
+mod replied;
 mod responder;
 mod session;
+mod stage;
+mod task_told;
+mod title;
 
 pub use fault::ReplayFault;
 pub use replay_script::{replay, replayed};
+pub use title::is_title;

@@ -1,26 +1,30 @@
-ghost use Rattle.std.specs.Prelude.{◌≡◌, Some, OnOk, OnErr, IfOk, IfErr, Option};
+ghost use Rattle.std.specs.Prelude.{◌≡◌, Some, OnOk, OnErr, IfOk, IfErr};
 ghost use Rattle.std.specs.Io.KnownBytes.{Appends};
-ghost use Rattle.fj_model.specs.Answers.{answer};
-ghost use Rattle.fj_model.specs.Pasts.{grown};
+ghost use Rattle.fj_model.specs.Words.{Reads};
 ghost use Rattle.fj_streams.specs.Calls.{IsFine};
 ghost use Rattle.fj_replay.specs.Tells.{WriterTells};
 ghost use Rattle.fj_streams.specs.Beginnings.{AppendsSome};
+ghost use Rattle.fj_replay.specs.Namings.{replied_line};
+ghost use Rattle.fj_replay.specs.Plays.{asked_in, play_after, replied, reply_text};
 ghost use Rattle.fj_replay.specs.Scripts.{pool_in, start};
-ghost use Rattle.fj_replay.specs.Sessions.{IsHeadFault, IsReplyFault, reply_text};
+ghost use Rattle.fj_replay.specs.Sessions.{IsHeadFault, IsReplyFault};
 
+use crate::asked::Asked;
 use crate::fault::ReplayFault;
+use crate::naming::Naming;
+use crate::replied::Replied;
+use crate::task_told::is_task;
 use fj_machine::Machine;
-use fj_model::{
-    Limits, Mode, Owner, Place, Refusal, Serial, Status, Step, SubId, WorkerId, read_head,
-};
+use fj_model::{Limits, LineFault, Name, OutOfMemory, Refusal, Said, Step, read_head};
 use fj_streams::{Sink, write_whole};
 use std::alloc::Global;
 use std::marker::Model;
 
-/// A machine, and what its replies are written with. It is known by the machine's past.
+/// A machine, by what its tasks go, and what its replies are written with. It is known by the machine's past and the naming.
 #[derive(Drop)]
 pub struct Responder {
     machine: Machine,
+    naming: Naming,
     limits: Limits,
     // the line of the last reply
     line: String,
@@ -28,24 +32,31 @@ pub struct Responder {
 
 impl Model for Responder {
     ghost use Rattle.std.specs.Prelude.{◌≡◌};
-    ghost use Rattle.fj_model.specs.Runs.{Past};
+    ghost use Rattle.fj_replay.specs.Plays.{Play};
 
-    ghost Value = { Past };
+    ghost Value = { Play };
 
-    ghost view = { λ r. r.machine };
+    ghost view = { λ r. record { past = r.machine; naming = r.naming } };
 
     ghost invariant = { λ r. r.limits ≡ r.machine.pool.limits };
 }
 
 impl Responder {
-    /// A new machine, as the heading says. `Line` where the line is no heading, `Limits` where a limit is out of its range.
-    pub fn open(alloc: Global, heading: &[u8]) -> Result<Responder, ReplayFault>
-        ensures pool { IfOk result (λ r. pool_in heading.now ≡ Some r.pool) }
-        ensures fresh { IfOk result (λ r. r ≡ start r.pool) }
-        ensures err { IfErr result (λ fault. IsHeadFault fault heading.now) }
+    /// A new machine, as the heading says, which stands at this line. `Line` where it is no heading, `Limits` where a limit is out of its
+    /// range.
+    pub fn open(
+        alloc: Global,
+        heading: &[u8],
+        number: u64,
+        naming: Naming,
+    ) -> Result<Responder, ReplayFault>
+        ensures pool { IfOk result (λ r. pool_in heading.now ≡ Some r.past.pool) }
+        ensures fresh { IfOk result (λ r. r.past ≡ start r.past.pool) }
+        ensures naming { IfOk result (λ r. r.naming ≡ naming) }
+        ensures err { IfErr result (λ fault. IsHeadFault fault number heading.now) }
     {
         let Ok(head) = read_head(heading) else {
-            return Err(ReplayFault::Line(1));
+            return Err(ReplayFault::Line(number));
         };
         let numbers = head.1;
         let Ok(limits) = Limits::new(numbers[0], numbers[1], numbers[2], numbers[3]) else {
@@ -54,6 +65,7 @@ impl Responder {
         match Machine::new(alloc, head.0, limits) {
             Ok(machine) => Ok(Responder {
                 machine,
+                naming,
                 limits,
                 line: String::new(alloc),
             }),
@@ -61,20 +73,90 @@ impl Responder {
         }
     }
 
-    /// Makes the step, and writes the reply. `Memory` or `Write` where only a first part of the reply, or nothing, was written.
-    pub fn reply<W: Sink>(&mut self, asked: &Step, w: &mut W) -> Result<(), ReplayFault>
-        ensures past { OnOk result (self.new ≡ grown self.old (answer self.old asked.now).1) }
-        ensures written { OnOk result (Appends (W.contents w.old) (W.contents w.new) (reply_text self.old asked.now)) }
+    /// Reads what a line asks for. A fault where it is no line of this version.
+    pub fn read(&self, line: &[u8]) -> Result<Asked, LineFault>
+        ensures { Reads (asked_in self.now.naming line.now) result }
+    {
+        self.naming.read(line)
+    }
+
+    /// Does what is asked for, and writes the reply. `Memory` or `Write` where only a first part of the reply, or nothing, was written.
+    pub fn reply<W: Sink>(
+        &mut self,
+        alloc: Global,
+        asked: Asked,
+        w: &mut W,
+    ) -> Result<(), ReplayFault>
+        ensures play { OnOk result (self.new ≡ play_after self.old asked) }
+        ensures written { OnOk result (Appends (W.contents w.old) (W.contents w.new) (reply_text self.old asked)) }
         ensures err { IfErr result (λ fault. IsReplyFault fault) }
         ensures fine { OnOk result (IsFine (W.calls w.old) (W.calls w.new)) }
         ensures told { IfErr result (λ fault. WriterTells fault (W.calls w.old) (W.calls w.new)) }
-        ensures some { OnErr result (AppendsSome (W.contents w.old) (W.contents w.new) (reply_text self.old asked.now)) }
+        ensures some { OnErr result (AppendsSome (W.contents w.old) (W.contents w.new) (reply_text self.old asked)) }
     {
-        // The check wants each type inside a reply to be named where one is moved.
-        let _inside: Option<(Place, Owner, Status, Refusal, Serial, SubId, WorkerId)> = None;
-        let said = self.machine.step(asked);
+        match self.make(alloc, asked) {
+            Ok(reply) => self.write(reply, w),
+            Err(_) => Err(ReplayFault::Memory),
+        }
+    }
+
+    /// Does what is asked for, and tells the reply. Out of memory where a name can't be kept, and then no step is made, or where a seal
+    /// finds no memory.
+    fn make(&mut self, alloc: Global, asked: Asked) -> Result<Replied, OutOfMemory>
+        ensures play { OnOk result (self.new ≡ play_after self.old asked) }
+        ensures reply { IfOk result (λ reply. reply ≡ replied self.old asked) }
+    {
+        match asked {
+            Asked::Step(step) => Ok(Replied::Said(self.machine.step(&step))),
+            Asked::Accept(name, step) => self.accept(name, &step),
+            Asked::Seal => self.seal(alloc),
+            Asked::Epoch => {
+                let events = self.machine.history().len() as u64;
+                Ok(Replied::Epoch(self.machine.epoch(), events))
+            }
+        }
+    }
+
+    /// A step whose task is to have this name. The name is kept before the step is made, and given back where no task was accepted.
+    fn accept(&mut self, name: Name, step: &Step) -> Result<Replied, OutOfMemory>
+        ensures play { OnOk result (self.new ≡ play_after self.old (Asked.Accept name step.now)) }
+        ensures reply { IfOk result (λ reply. reply ≡ replied self.old (Asked.Accept name step.now)) }
+    {
+        if !self.naming.add(name)? {
+            return Ok(Replied::NameTaken);
+        }
+        let said = self.machine.step(step);
+        if !is_task(&said) {
+            self.naming.take_back();
+        }
+        Ok(Replied::Said(said))
+    }
+
+    /// A seal.
+    fn seal(&mut self, alloc: Global) -> Result<Replied, OutOfMemory>
+        ensures play { OnOk result (self.new ≡ play_after self.old Asked.Seal) }
+        ensures reply { IfOk result (λ reply. reply ≡ replied self.old Asked.Seal) }
+    {
+        let events = self.machine.history().len() as u64;
+        let epoch = self.machine.epoch();
+        match self.machine.seal(alloc) {
+            Ok(_) => Ok(Replied::Sealed(epoch, events)),
+            Err(Refusal::OutOfMemory) => Err(OutOfMemory),
+            Err(refusal) => Ok(Replied::Said(Said::Refused(refusal))),
+        }
+    }
+
+    /// Writes a reply. `Memory` or `Write` where only a first part of it, or nothing, was written.
+    fn write<W: Sink>(&mut self, reply: Replied, w: &mut W) -> Result<(), ReplayFault>
+        ensures same { self.new ≡ self.old }
+        ensures written { OnOk result (Appends (W.contents w.old) (W.contents w.new) (replied_line self.old.naming self.old.past.pool.limits reply)) }
+        ensures err { IfErr result (λ fault. IsReplyFault fault) }
+        ensures fine { OnOk result (IsFine (W.calls w.old) (W.calls w.new)) }
+        ensures told { IfErr result (λ fault. WriterTells fault (W.calls w.old) (W.calls w.new)) }
+        ensures some { OnErr result (AppendsSome (W.contents w.old) (W.contents w.new) (replied_line self.old.naming self.old.past.pool.limits reply)) }
+    {
         self.line.clear();
-        match said.push_line(&self.limits, &mut self.line) {
+        match self.naming.push_line(reply, &self.limits, &mut self.line) {
             Ok(()) => match write_whole(w, self.line.as_bytes()) {
                 Ok(()) => Ok(()),
                 Err(_) => Err(ReplayFault::Write),

@@ -1,13 +1,14 @@
-ghost use Rattle.std.specs.Prelude.{◌≡◌, ◌+◌, ◌-◌, ◌^◌, nat_le, ◌<◌, [], length, OnOk, IfOk, IfErr, true, is_some};
+ghost use Rattle.std.specs.Prelude.{◌≡◌, ◌+◌, ◌-◌, ◌^◌, nat_le, ◌<◌, [], length, OnOk, IfOk, IfErr};
 ghost use Rattle.std.specs.Io.KnownBytes.{Appends};
 ghost use Rattle.fj_streams.specs.Calls.{IsFine};
 ghost use Rattle.fj_replay.specs.Tells.{WriterTells};
 ghost use Rattle.fj_replay.specs.Cuts.{lines};
+ghost use Rattle.fj_replay.specs.Faults.{IsHeadless};
 ghost use Rattle.fj_replay.specs.Sessions.{Kept, nothing_kept, next_kept, fed, Goes, GoesOnBy, FaultAt, EndsEarly, EndsInside};
 
 use crate::fault::ReplayFault;
-use crate::responder::Responder;
-use fj_model::{LINE_FEED, MAX_LINE, read_step};
+use crate::stage::Stage;
+use fj_model::{LINE_FEED, MAX_LINE2};
 use fj_streams::Sink;
 use std::alloc::{AllocError, Global};
 use std::marker::Model;
@@ -22,20 +23,19 @@ pub struct Session {
     count: u64,
     // the line that goes on
     line: Vec<u8>,
-    // there once the heading was read
-    responder: Option<Responder>,
+    stage: Stage,
 }
 
 impl Model for Session {
-    ghost use Rattle.std.specs.Prelude.{◌≡◌, ◌≤◌, None, vec_capacity, vec_len};
-    ghost use Rattle.fj_model.specs.declared.read.TheConstants.{MAX_LINE};
+    ghost use Rattle.std.specs.Prelude.{◌≤◌, vec_capacity, vec_len};
+    ghost use Rattle.fj_model.specs.declared.read.line2.TheConstants.{MAX_LINE2};
     ghost use Rattle.fj_replay.specs.Sessions.{Kept};
 
     ghost Value = { Kept };
 
-    ghost view = { λ s. record { count = s.count; line = s.line.items; past = s.responder } };
+    ghost view = { λ s. record { count = s.count; line = s.line.items; stage = s.stage } };
 
-    ghost invariant = { λ s. (MAX_LINE ≤ vec_capacity s.line) × (vec_len s.line ≤ MAX_LINE) × (s.responder ≡ None → s.count ≡ 0) };
+    ghost invariant = { λ s. (MAX_LINE2 ≤ vec_capacity s.line) × (vec_len s.line ≤ MAX_LINE2) };
 }
 
 impl Session {
@@ -43,11 +43,11 @@ impl Session {
     pub fn new(alloc: Global) -> Result<Session, AllocError>
         ensures { IfOk result (λ s. s ≡ nothing_kept) }
     {
-        let line = Vec::with_capacity(alloc, MAX_LINE)?;
+        let line = Vec::with_capacity(alloc, MAX_LINE2)?;
         Ok(Session {
             count: 0,
             line,
-            responder: None,
+            stage: Stage::Start,
         })
     }
 
@@ -58,7 +58,7 @@ impl Session {
         self.count >= u64::MAX - CHUNK as u64
     }
 
-    /// Ends the line: opens the machine at the heading, and replies to any other line.
+    /// Ends the line.
     fn end_line<W: Sink>(&mut self, alloc: Global, w: &mut W) -> Result<(), ReplayFault>
         requires { self.old.count + 1 < 2 ^ 64 }
         ensures goes { OnOk result (Goes self.old LINE_FEED) }
@@ -68,21 +68,14 @@ impl Session {
         ensures fine { OnOk result (IsFine (W.calls w.old) (W.calls w.new)) }
         ensures told { IfErr result (λ fault. WriterTells fault (W.calls w.old) (W.calls w.new)) }
     {
-        match &mut self.responder {
-            None => self.responder = Some(Responder::open(alloc, self.line.as_slice())?),
-            Some(responder) => {
-                let Ok(asked) = read_step(self.line.as_slice()) else {
-                    return Err(ReplayFault::Line(self.count + 1));
-                };
-                responder.reply(&asked, w)?;
-            }
-        }
+        let number = self.count + 1;
+        self.stage.advance(alloc, self.line.as_slice(), number, w)?;
         self.line.clear();
         self.count += 1;
         Ok(())
     }
 
-    /// Takes one byte. A line is ended by a line feed, and is at fault as soon as it has more than `MAX_LINE` bytes.
+    /// Takes one byte. A line is ended by a line feed, and is at fault as soon as it has more than `MAX_LINE2` bytes.
     fn feed<W: Sink>(&mut self, alloc: Global, byte: u8, w: &mut W) -> Result<(), ReplayFault>
         requires { self.old.count + 1 < 2 ^ 64 }
         ensures goes { OnOk result (Goes self.old byte) }
@@ -95,7 +88,7 @@ impl Session {
         if byte == LINE_FEED {
             return self.end_line(alloc, w);
         }
-        if self.line.len() == MAX_LINE {
+        if self.line.len() == MAX_LINE2 {
             return Err(ReplayFault::Line(self.count + 1));
         }
         self.line.push_reserved(byte);
@@ -124,15 +117,15 @@ impl Session {
     /// Ends the input. `Line` where it ends within a line, or before the heading.
     pub fn finish(&self) -> Result<(), ReplayFault>
         requires { self.now.count + 1 < 2 ^ 64 }
-        ensures ok { OnOk result ((self.now.line ≡ []) × (is_some self.now.past ≡ true)) }
+        ensures ok { OnOk result ((self.now.line ≡ []) × ¬ (IsHeadless self.now.stage)) }
         ensures err { IfErr result (λ fault. EndsEarly fault self.now) }
     {
         if !self.line.is_empty() {
             return Err(ReplayFault::Line(self.count + 1));
         }
-        if self.responder.is_none() {
-            return Err(ReplayFault::Line(self.count + 1));
+        match self.stage {
+            Stage::Start | Stage::Titled => Err(ReplayFault::Line(self.count + 1)),
+            Stage::Plays(_) => Ok(()),
         }
-        Ok(())
     }
 }

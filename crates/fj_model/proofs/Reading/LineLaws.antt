@@ -22,12 +22,12 @@ use Rattle.fj_model.proofs.Reading.WordLaws.{lengths, length-joined-le}
 use Rattle.fj_model.proofs.Reading.StepLaws.{step_found}
 use Rattle.fj_model.proofs.Reading.HeadLaws.{head_found}
 
-number_len : (n : ℕ) → n < 2 ^ 32 → length (decimal n) ≤ 10
+pub number_len : (n : ℕ) → n < 2 ^ 32 → length (decimal n) ≤ 10
 number_len n small = (number_text n small).short
 
 -- the words behind a submitter, a worker that forks and a worker whose task ends are short
 
-relay_len : (relay : Bool) → length (relay_word relay) ≤ 5
+pub relay_len : (relay : Bool) → length (relay_word relay) ≤ 5
 relay_len true = omega arith
 relay_len false = omega arith
 
@@ -35,7 +35,7 @@ parent_len : (parent : Option ℕ) → IfSome parent IsSmall → length (parent_
 parent_len None fits = omega arith
 parent_len (Some t) fits = number_len t fits
 
-submitted_short : (k : SubmittedKind) → HasSmallSubmitted k → lengths (submitted_words k) ≤ 17
+pub submitted_short : (k : SubmittedKind) → HasSmallSubmitted k → lengths (submitted_words k) ≤ 17
 submitted_short submitted.Plain fits = omega arith
 submitted_short (submitted.Completer relay count) fits = omega (arith, number_len count fits, relay_len relay)
 
@@ -43,7 +43,7 @@ kind_short : (k : Kind) → HasSmallKind k → lengths (kind_words k) ≤ 28
 kind_short kind.Plain fits = omega arith
 kind_short (kind.Completer relay count parent) fits = omega (arith, parent_len parent fits.0, number_len count fits.1, relay_len relay)
 
-ending_short : (how : Ending) → HasSmallEnding how → lengths (ending_words how) ≤ 16
+pub ending_short : (how : Ending) → HasSmallEnding how → lengths (ending_words how) ≤ 16
 ending_short ending.Ok fits = omega arith
 ending_short ending.Quiet fits = omega arith
 ending_short ending.Try fits = omega arith

@@ -9,9 +9,9 @@ use crate::read::fault::LineFault;
 use crate::read::words::first_word;
 use crate::step::Step;
 
-mod accept;
+pub mod accept;
 mod completer;
-mod end;
+pub mod end;
 mod query;
 mod release;
 mod settle;

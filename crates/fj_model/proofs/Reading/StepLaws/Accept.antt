@@ -65,7 +65,7 @@ parent_is_word None fits = refl
 parent_is_word (Some t) fits = number_is_word t fits
 
 -- where words go on with a count and a relay word that are all that is left, these are all that stands there
-count_then : {A P : Type 0} (ws : List (List ℕ)) (f : ℕ × Bool → Option A) (y : A) → (count_and_relay ws >>= f) ≡ Some y
+pub count_then : {A P : Type 0} (ws : List (List ℕ)) (f : ℕ × Bool → Option A) (y : A) → (count_and_relay ws >>= f) ≡ Some y
     → ((count : ℕ) (relay : Bool) → count < 2 ^ 32 → ws ≡ decimal count ∷ relay_word relay ∷ [] → f (count, relay) ≡ Some y → P) → P
 unfolding count_and_relay
 count_then ws f y e then =
@@ -78,21 +78,21 @@ count_then ws f y e then =
     let all : ws ≡ decimal n ∷ relay_word relay ∷ [] = cc in
     then n relay small all (subst (λ (q : ℕ × Bool). f q ≡ Some y) (sym is) said))))))
 
-count_again : (count : ℕ) (relay : Bool) → count < 2 ^ 32 → count_and_relay (decimal count ∷ relay_word relay ∷ []) ≡ Some (count, relay)
+pub count_again : (count : ℕ) (relay : Bool) → count < 2 ^ 32 → count_and_relay (decimal count ∷ relay_word relay ∷ []) ≡ Some (count, relay)
 unfolding count_and_relay
 count_again count relay small = rw (number_again count small, relay_again relay) refl
 
-count_are_words : (count : ℕ) (relay : Bool) → count < 2 ^ 32 → list_all is_word (decimal count ∷ relay_word relay ∷ []) ≡ true
+pub count_are_words : (count : ℕ) (relay : Bool) → count < 2 ^ 32 → list_all is_word (decimal count ∷ relay_word relay ∷ []) ≡ true
 count_are_words count relay small =
     let first = number_is_word count small in
     rw (first, relay_is_word relay) refl
 
 -- ---- kinds
 
-abbrev AreSubmitted : SubmittedKind → List (List ℕ) → Type 0
+abbrev pub AreSubmitted : SubmittedKind → List (List ℕ) → Type 0
 AreSubmitted k ws = HasSmallSubmitted k × (ws ≡ submitted_words k)
 
-submitted_found : (ws : List (List ℕ)) (k : SubmittedKind) → submitted_said ws ≡ Some k → AreSubmitted k ws
+pub submitted_found : (ws : List (List ℕ)) (k : SubmittedKind) → submitted_said ws ≡ Some k → AreSubmitted k ws
 unfolding submitted_said submitted_completer
 submitted_found ws k e =
     chosen (is_last ws) (Some submitted.Plain) (submitted_completer ws) (Some k) e
@@ -105,7 +105,7 @@ unfolding submitted_said submitted_completer
 submitted_again submitted.Plain fits = refl
 submitted_again (submitted.Completer relay count) fits = rw (count_again count relay fits) refl
 
-submitted_are_words : (k : SubmittedKind) → HasSmallSubmitted k → list_all is_word (submitted_words k) ≡ true
+pub submitted_are_words : (k : SubmittedKind) → HasSmallSubmitted k → list_all is_word (submitted_words k) ≡ true
 submitted_are_words submitted.Plain fits = refl
 submitted_are_words (submitted.Completer relay count) fits = count_are_words count relay fits
 

@@ -19,7 +19,7 @@ use Rattle.fj_model.proofs.Reading.FormLaws.{AreWordsOf, said_words, one_then, o
 -- ---- endings
 
 -- the words are those of an ending whose code, if it has one, has 32 bits at most
-abbrev AreEnding : Ending → List (List ℕ) → Type 0
+abbrev pub AreEnding : Ending → List (List ℕ) → Type 0
 AreEnding how ws = HasSmallEnding how × (ws ≡ ending_words how)
 
 -- the word is this text, and this is the ending of that word alone
@@ -49,7 +49,7 @@ word_alone_found word ws how e =
     let found = ending_word_found word h read in
     subst (λ (g : Ending). AreEnding g (word ∷ ws)) is (found.0, ap (λ (rest : List (List ℕ)). word ∷ rest) none ∙ found.1)))
 
-ending_found : (ws : List (List ℕ)) (how : Ending) → ending_said ws ≡ Some how → AreEnding how ws
+pub ending_found : (ws : List (List ℕ)) (how : Ending) → ending_said ws ≡ Some how → AreEnding how ws
 unfolding ending_said
 ending_found ws how e =
     word_then ws _ how e (λ word rest all said.

@@ -45,8 +45,9 @@ pub fn trigger(behind: &[u8]) -> Result<Step, LineFault>
     })
 }
 
+/// Reads what stands behind the submitter: nothing, or of a completer its count and its relay word.
 #[tactic(auto, unfolding(crate::specs::Readings::Accept::submitted_said))]
-fn submitted_kind(behind: &[u8]) -> Result<SubmittedKind, LineFault>
+pub fn submitted_kind(behind: &[u8]) -> Result<SubmittedKind, LineFault>
     ensures { Reads (submitted_said (words_behind behind.now)) result }
 {
     if at_end(behind) {
@@ -89,8 +90,9 @@ fn forked_completer(behind: &[u8]) -> Result<Kind, LineFault>
     })
 }
 
+/// Reads a count and a relay word that are all that is left.
 #[tactic(auto, unfolding(crate::specs::Readings::Accept::count_and_relay))]
-fn count_and_relay(behind: &[u8]) -> Result<(u32, bool), LineFault>
+pub fn count_and_relay(behind: &[u8]) -> Result<(u32, bool), LineFault>
     ensures { Reads (count_and_relay (words_behind behind.now)) result }
 {
     let (count, behind) = next_number(behind)?;

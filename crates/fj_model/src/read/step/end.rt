@@ -21,8 +21,9 @@ pub fn end(behind: &[u8]) -> Result<Step, LineFault>
     })
 }
 
+/// Reads an ending, which is all that is left.
 #[tactic(auto, unfolding(crate::specs::Readings::End::ending_said))]
-fn ending(behind: &[u8]) -> Result<Ending, LineFault>
+pub fn ending(behind: &[u8]) -> Result<Ending, LineFault>
     ensures { Reads (ending_said (words_behind behind.now)) result }
 {
     let (word, behind) = next_word(behind)?;

@@ -8,7 +8,7 @@ use Rattle.fj_streams.proofs.Bytes.{consumes_twice, consumes_kept, read_end}
 use Rattle.fj_replay.proofs.Begun.{all_some}
 use Rattle.fj_streams.proofs.CallsMade.{fine_failed, fine_twice, goes_failed, goes_fine, goes_forever, goes_further}
 use Rattle.fj_replay.proofs.CallsTold.{ended_told, if_ok, told_later, writer_told}
-use Rattle.fj_replay.proofs.FaultsFound.{ended, flushed_at, replayed_whole}
+use Rattle.fj_replay.proofs.FaultsFound.{ended, flushed_at, good_at, replayed_whole}
 use Rattle.fj_replay.proofs.replay_script.replay_in.Goals as goal
 use Rattle.fj_replay.proofs.replay_script.replay_in.Goals.{in-Ok+in_ok-feed_all-in-Ok+else-is_err, in-Err+else-ne}
 
@@ -46,7 +46,7 @@ returns-then-is_full-clause-err g c =
       so_far.0,
       record {
         read = so_far.1;
-        means = (record { good = so_far.2.good; short = rw (← so_far.2.line) so_far.2.short }, so_far.2.written);
+        means = (record { good = good_at _ _ _ _ so_far.2; short = rw (← so_far.2.line) so_far.2.short }, so_far.2.written);
       },
       (inr (leb-true _ _ full), c.loop-reads.invariant.2),
     )
@@ -57,7 +57,7 @@ returns-then-ne-clause-err g c =
       so_far.0,
       record {
         read = consumes_kept _ _ _ _ so_far.1 c.in-Err.ensures.bytes;
-        means = (record { good = so_far.2.good; short = rw (← so_far.2.line) so_far.2.short }, so_far.2.written);
+        means = (record { good = good_at _ _ _ _ so_far.2; short = rw (← so_far.2.line) so_far.2.short }, so_far.2.written);
       },
       (inl (goes_failed _ _ _ _ c.loop-reads.invariant.1 (c.in-Err.ensures.counts.0 (search rules))), c.loop-reads.invariant.2),
     )
@@ -98,7 +98,7 @@ returns-clause-err g c =
       so_far.0,
       record {
         read = so_far.1;
-        means = (record { good = so_far.2.good; short = rw (← so_far.2.line) so_far.2.short }, so_far.2.written);
+        means = (record { good = good_at _ _ _ _ so_far.2; short = rw (← so_far.2.line) so_far.2.short }, so_far.2.written);
       },
       (inl (goes_forever _ _ _ c.loop-reads.invariant.1 c.loop-reads-test.false), c.loop-reads.invariant.2),
     )

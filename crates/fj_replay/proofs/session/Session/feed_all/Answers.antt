@@ -17,7 +17,7 @@ returns-in_err-feed-clause-told g c =
 
 pub loop-byte-preserved : goal.loop-byte-preserved
 loop-byte-preserved g c = (
-  next_count _ _ _ _ _ c.in_ok-feed.ensures.next c.loop-byte.invariant.0,
-  λ b s at. at_next b _ c.loop-byte.byte-index _ _ s _ _ c.loop-byte-test.true (c.loop-byte.invariant.1 b s at) c.in_ok-feed.ensures.goes c.in_ok-feed.ensures.next c.in_ok-feed.ensures.wrote,
+  next_count c.loop-byte.self _ _ _ _ c.in_ok-feed.ensures.next c.loop-byte.invariant.0,
+  λ b s at. at_next b _ c.loop-byte.byte-index c.loop-byte.self _ s _ _ c.loop-byte-test.true (c.loop-byte.invariant.1 b s at) c.in_ok-feed.ensures.goes c.in_ok-feed.ensures.next c.in_ok-feed.ensures.wrote,
   fine_twice _ _ _ c.loop-byte.invariant.2 c.in_ok-feed.ensures.fine,
 )

@@ -1,0 +1,92 @@
+-- By what the tasks of a script go: by their numbers, or by names.
+use Rattle.std.specs.Prelude.{ℕ, Bool, false, List, [], ◌∷◌, ◌++◌, Option, Some, None, unwrap_or, slice_get, codes, decimal}
+use Rattle.std.specs.List.{list_any, position_or_len}
+use Rattle.std.specs.Str.{bytes_eq}
+use Rattle.fj_model.specs.declared.read.TheConstants.{LINE_FEED}
+use Rattle.fj_model.specs.declared.kind.Kind.{Kind}
+use Rattle.fj_model.specs.declared.kind.Kind.TheVariants as kind
+use Rattle.fj_model.specs.declared.line2.NamedKind.{NamedKind}
+use Rattle.fj_model.specs.declared.line2.NamedKind.TheVariants as named
+use Rattle.fj_model.specs.declared.said.Said.{Said}
+use Rattle.fj_model.specs.declared.said.Said.TheVariants as said
+use Rattle.fj_model.specs.Bounds.{Bounds}
+use Rattle.fj_model.specs.Words.{joined}
+use Rattle.fj_model.specs.Replies.{reply_words}
+use Rattle.fj_replay.specs.declared.naming.Naming.{Naming}
+use Rattle.fj_replay.specs.declared.naming.Naming.TheVariants.{Numbers, Names}
+use Rattle.fj_replay.specs.declared.replied.Replied.{Replied}
+use Rattle.fj_replay.specs.declared.replied.Replied.TheVariants.{Said as Says, NameTaken, Sealed, Epoch}
+
+-- ---- from names to numbers. Names stand in the order in which their tasks were accepted, so each stands at its task's number
+
+-- the number of the task with this name. A name that belongs to no task stands for the next number, which no task has yet
+abbrev pub number_of : List (List ℕ) → List ℕ → ℕ
+number_of names name = position_or_len (bytes_eq name) names
+
+-- whether the name belongs to a task
+abbrev pub is_taken : List (List ℕ) → List ℕ → Bool
+is_taken names name = list_any (bytes_eq name) names
+
+abbrev pub numbered_parent : List (List ℕ) → Option (List ℕ) → Option ℕ
+numbered_parent names None = None
+numbered_parent names (Some name) = Some (number_of names name)
+
+-- the kind that names its parent by number
+abbrev pub numbered_kind : List (List ℕ) → NamedKind → Kind
+numbered_kind names named.Plain = kind.Plain
+numbered_kind names (named.Completer relay count parent) = kind.Completer relay count (numbered_parent names parent)
+
+-- whether the name belongs to a task, by this naming
+abbrev pub is_named : Naming → List ℕ → Bool
+is_named Numbers name = false
+is_named (Names names) name = is_taken names name
+
+-- with a name for the next task
+abbrev pub with_name : Naming → List ℕ → Naming
+with_name Numbers name = Numbers
+with_name (Names names) name = Names (names ++ name ∷ [])
+
+-- ---- from numbers to names
+
+-- how a task is called
+abbrev pub name_of : Naming → ℕ → List ℕ
+name_of Numbers t = decimal t
+name_of (Names names) t = unwrap_or (slice_get names t) []
+
+-- what a reply says of a task: its first word, and the task
+abbrev pub task_told : Said → Option (List ℕ × ℕ)
+task_told (said.Task t) = Some (codes "task", t)
+task_told (said.Run t) = Some (codes "run", t)
+task_told (said.Skip t) = Some (codes "skip", t)
+task_told (said.Counted t) = Some (codes "counted", t)
+task_told (said.Hook t) = Some (codes "hook", t)
+task_told (said.Spent t) = Some (codes "spent", t)
+task_told (said.Early t) = Some (codes "early", t)
+task_told (said.Root t) = Some (codes "root", t)
+task_told _ = None
+
+abbrev pub words_by : Naming → Option (List ℕ × ℕ) → List (List ℕ) → List (List ℕ)
+words_by naming None words = words
+words_by naming (Some told) words = told.0 ∷ name_of naming told.1 ∷ []
+
+-- the words of a reply: a task in it goes by its name, and all else is as in version 1
+abbrev pub said_words : Naming → Bounds → Said → List (List ℕ)
+said_words naming limits reply = words_by naming (task_told reply) (reply_words limits reply)
+
+abbrev pub replied_words : Naming → Bounds → Replied → List (List ℕ)
+replied_words naming limits (Says reply) = said_words naming limits reply
+replied_words naming limits NameTaken = codes "refused" ∷ codes "16" ∷ []
+replied_words naming limits (Sealed epoch events) = codes "sealed" ∷ decimal epoch ∷ decimal events ∷ []
+replied_words naming limits (Epoch epoch events) = codes "epoch" ∷ decimal epoch ∷ decimal events ∷ []
+
+-- a line of two words, of which the second is the name of a task
+abbrev pub told_line : List (List ℕ) → List ℕ → ℕ → List ℕ
+told_line names verb t = joined (verb ∷ name_of (Names names) t ∷ []) ++ LINE_FEED ∷ []
+
+-- the line of a reply of the machine
+abbrev pub said_line : Naming → Bounds → Said → List ℕ
+said_line naming limits reply = joined (said_words naming limits reply) ++ LINE_FEED ∷ []
+
+-- the line of a reply, with its line feed
+unfoldable pub replied_line : Naming → Bounds → Replied → List ℕ
+replied_line naming limits reply = joined (replied_words naming limits reply) ++ LINE_FEED ∷ []

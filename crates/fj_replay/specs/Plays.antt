@@ -1,0 +1,110 @@
+-- How a script is played, line after line.
+use Rattle.std.specs.Prelude.{ℕ, Bool, true, false, if◌then◌else◌, List, length, Option, Some, None, option_map, codes}
+use Rattle.std.specs.Str.{bytes_eq}
+use Rattle.fj_model.specs.declared.step.Step.TheVariants as step
+use Rattle.fj_model.specs.declared.line2.Line2.{Line2}
+use Rattle.fj_model.specs.declared.line2.Line2.TheVariants as line
+use Rattle.fj_model.specs.declared.event.Event.{Event}
+use Rattle.fj_model.specs.declared.refusal.Refusal.{Refusal}
+use Rattle.fj_model.specs.declared.said.Said.{Said}
+use Rattle.fj_model.specs.declared.said.Said.TheVariants as said
+use Rattle.fj_model.specs.Answers.{answer}
+use Rattle.fj_model.specs.Pasts.{Past, grown, present, sealed_now}
+use Rattle.fj_model.specs.Epochs.{seal_refusal}
+use Rattle.fj_model.specs.Lines.{step_in}
+use Rattle.fj_model.specs.Lines2.{line2_in}
+use Rattle.fj_replay.specs.declared.naming.Naming.{Naming}
+use Rattle.fj_replay.specs.declared.naming.Naming.TheVariants.{Numbers, Names}
+use Rattle.fj_replay.specs.declared.replied.Replied.{Replied}
+use Rattle.fj_replay.specs.declared.replied.Replied.TheVariants.{Said as Says, NameTaken, Sealed, Epoch}
+use Rattle.fj_replay.specs.declared.asked.Asked.{Asked}
+use Rattle.fj_replay.specs.declared.asked.Asked.TheVariants as ask
+use Rattle.fj_replay.specs.Namings.{number_of, numbered_kind, is_named, with_name, replied_line}
+
+-- how far a script has come: what has happened to its machine, and by what its tasks go
+pub record Play : Type 0 where
+  pub past : Past
+  pub naming : Naming
+
+-- ---- what a line asks for
+
+-- what a line of version 2 asks for, where these are the names so far
+abbrev pub asked_by : List (List ℕ) → Line2 → Asked
+-- accept
+asked_by names (line.Submit name s kind) = ask.Accept name (step.Submit s kind)
+asked_by names (line.Fork name w kind) = ask.Accept name (step.Fork w (numbered_kind names kind))
+asked_by names (line.Trigger name w count) = ask.Accept name (step.Trigger w count)
+-- take
+asked_by names (line.Poll w r) = ask.Step (step.Poll w r)
+asked_by names (line.Help w r) = ask.Step (step.Help w r)
+asked_by names (line.Join w t r) = ask.Step (step.Join w (number_of names t) r)
+-- end
+asked_by names (line.End w ending) = ask.Step (step.End w ending)
+asked_by names (line.HookDone w) = ask.Step (step.HookDone w)
+-- completer
+asked_by names (line.Add w c n) = ask.Step (step.Add w (number_of names c) n)
+asked_by names (line.QuietRoot w t) = ask.Step (step.QuietRoot w (number_of names t))
+-- settle
+asked_by names (line.Fault t code) = ask.Step (step.Fault (number_of names t) code)
+asked_by names (line.Cancel t) = ask.Step (step.Cancel (number_of names t))
+-- shut
+asked_by names line.Shutdown = ask.Step step.Shutdown
+asked_by names line.Stop = ask.Step step.Stop
+-- query
+asked_by names line.IsQuiescent = ask.Step step.IsQuiescent
+asked_by names (line.State t) = ask.Step (step.State (number_of names t))
+-- release
+asked_by names (line.Release t) = ask.Step (step.Release (number_of names t))
+-- epoch
+asked_by names line.Seal = ask.Seal
+asked_by names line.Epoch = ask.Epoch
+
+-- what a line asks for, if it is one: by numbers it is a line of version 1, by names one of version 2
+abbrev pub asked_in : Naming → List ℕ → Option Asked
+asked_in Numbers text = option_map ask.Step (step_in text)
+asked_in (Names names) text = option_map (asked_by names) (line2_in text)
+
+-- ---- what is replied, and what follows
+
+abbrev pub is_task : Said → Bool
+is_task (said.Task t) = true
+is_task _ = false
+
+-- the name is the new task's, if the reply accepts one
+abbrev pub named_if : Naming → List ℕ → Said → Naming
+named_if naming name reply = if is_task reply then with_name naming name else naming
+
+-- after a step, which this name goes with
+abbrev pub accepting : Play → List ℕ → Said × List Event → Play
+accepting play name answer = record { past = grown play.past answer.1; naming = named_if play.naming name answer.0 }
+
+-- after a seal, which may be refused
+abbrev pub sealing : Past → Option Refusal → Past
+sealing past None = sealed_now past
+sealing past (Some refusal) = past
+
+-- how far it has come after what a line asks for
+abbrev pub play_after : Play → Asked → Play
+play_after play (ask.Step wanted) = record play { past = grown play.past (answer play.past wanted).1 }
+play_after play (ask.Accept name wanted) = if is_named play.naming name then play else accepting play name (answer play.past wanted)
+play_after play ask.Seal = record play { past = sealing play.past (seal_refusal play.past) }
+play_after play ask.Epoch = play
+
+abbrev pub seal_reply : Past → Option Refusal → Replied
+seal_reply past None = Sealed past.seals (length (present past))
+seal_reply past (Some refusal) = Says (said.Refused refusal)
+
+-- what is replied: a name that belongs to a task is refused before the machine is asked
+abbrev pub replied : Play → Asked → Replied
+replied play (ask.Step wanted) = Says (answer play.past wanted).0
+replied play (ask.Accept name wanted) = if is_named play.naming name then NameTaken else Says (answer play.past wanted).0
+replied play ask.Seal = seal_reply play.past (seal_refusal play.past)
+replied play ask.Epoch = Epoch play.past.seals (length (present play.past))
+
+-- the line of the reply
+abbrev pub reply_text : Play → Asked → List ℕ
+reply_text play asked = replied_line (play_after play asked).naming play.past.pool.limits (replied play asked)
+
+-- whether a script's first line says that it is of version 2
+abbrev pub is_title : List ℕ → Bool
+is_title line = bytes_eq line (codes "fj 2")

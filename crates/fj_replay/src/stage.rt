@@ -1,0 +1,80 @@
+ghost use Rattle.std.specs.Prelude.{◌≡◌, Some, OnOk, IfOk, IfErr, false};
+ghost use Rattle.std.specs.Io.KnownBytes.{Appends};
+ghost use Rattle.fj_streams.specs.Calls.{IsFine};
+ghost use Rattle.fj_replay.specs.Tells.{WriterTells};
+ghost use Rattle.fj_replay.specs.Plays.{is_title};
+ghost use Rattle.fj_replay.specs.Scripts.{stage_after, line_text};
+ghost use Rattle.fj_replay.specs.Sessions.{IsHeadFault, FaultAtEnd};
+
+use crate::fault::ReplayFault;
+use crate::names::Names;
+use crate::naming::Naming;
+use crate::responder::Responder;
+use crate::title::is_title;
+use fj_streams::Sink;
+use std::alloc::Global;
+
+/// Where a script stands.
+#[derive(Drop)]
+pub enum Stage {
+    /// Before its first line.
+    Start,
+    /// Behind a first line `fj 2`: the heading comes next.
+    Titled,
+    /// Behind its heading.
+    Plays(Responder),
+}
+
+impl Stage {
+    /// Goes on by a line, which has this number: at `fj 2` and at a heading nothing is written, at any other line its reply.
+    pub fn advance<W: Sink>(
+        &mut self,
+        alloc: Global,
+        line: &[u8],
+        number: u64,
+        w: &mut W,
+    ) -> Result<(), ReplayFault>
+        ensures next { OnOk result (stage_after self.old line.now ≡ Some self.new) }
+        ensures wrote { OnOk result (Appends (W.contents w.old) (W.contents w.new) (line_text self.old line.now)) }
+        ensures err { IfErr result (λ fault. FaultAtEnd fault number self.old line.now (W.contents w.old) (W.contents w.new)) }
+        ensures fine { OnOk result (IsFine (W.calls w.old) (W.calls w.new)) }
+        ensures told { IfErr result (λ fault. WriterTells fault (W.calls w.old) (W.calls w.new)) }
+    {
+        match self {
+            Stage::Start => {
+                *self = begun(alloc, line, number)?;
+                Ok(())
+            }
+            Stage::Titled => {
+                *self = titled(alloc, line, number)?;
+                Ok(())
+            }
+            Stage::Plays(responder) => match responder.read(line) {
+                Ok(asked) => responder.reply(alloc, asked, w),
+                Err(_) => Err(ReplayFault::Line(number)),
+            },
+        }
+    }
+}
+
+/// Where a script stands after its first line, which has this number.
+fn begun(alloc: Global, line: &[u8], number: u64) -> Result<Stage, ReplayFault>
+    ensures after { IfOk result (λ stage. stage_after Stage.Start line.now ≡ Some stage) }
+    ensures err { IfErr result (λ fault. (is_title line.now ≡ false) × IsHeadFault fault number line.now) }
+{
+    if is_title(line) {
+        return Ok(Stage::Titled);
+    }
+    let responder = Responder::open(alloc, line, number, Naming::Numbers)?;
+    Ok(Stage::Plays(responder))
+}
+
+/// Where a script of version 2 stands after its heading, which has this number.
+fn titled(alloc: Global, line: &[u8], number: u64) -> Result<Stage, ReplayFault>
+    ensures after { IfOk result (λ stage. stage_after Stage.Titled line.now ≡ Some stage) }
+    ensures err { IfErr result (λ fault. IsHeadFault fault number line.now) }
+{
+    let names = Names::new(alloc);
+    let responder = Responder::open(alloc, line, number, Naming::Names(names))?;
+    Ok(Stage::Plays(responder))
+}
