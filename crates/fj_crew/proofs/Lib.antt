@@ -1,0 +1,2 @@
+-- What a pool owns may go to another thread.
+pub mod Crossing

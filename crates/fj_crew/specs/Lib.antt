@@ -1,0 +1,2 @@
+-- What is told of a run, and why one is refused.
+pub mod Runs

@@ -1,0 +1,68 @@
+-- Bodies come nearer to their end.
+use Rattle.std.specs.Prelude.{Option, Some, IfSome}
+use Rattle.fj_jobs.specs.declared.node.Node.{Node}
+use Rattle.fj_jobs.specs.TreeValues.{node_at}
+use Rattle.fj_fold.specs.declared.tally.Tally.{Tally}
+use Rattle.fj_fold.specs.declared.course.Stage.{Stage}
+use Rattle.fj_fold.specs.declared.course.Course.{Course}
+use Rattle.fj_fold.specs.Families.{IsChild, child_from}
+use Rattle.fj_fold.specs.Tallies.{IsTally, numbers_from}
+use Rattle.fj_fold.specs.declared.course.Stage.TheVariants.{Taking}
+use Rattle.fj_fold.specs.Courses.{IsCourse, turns_in, turns_left}
+use Rattle.fj_fold.proofs.Children.{first_child, fewer_behind}
+use Rattle.std.proofs.Common.{ℕ, ◌≡◌, ◌+◌, ◌<◌, ◌≤◌, List, length, ap, arith}
+use Rattle.fj_store.specs.declared.body.Ask.{Ask}
+use Rattle.fj_store.specs.declared.body.Ask.TheVariants.{Fork, Trigger, Join, Help, Take, Add, QuietRoot, Cancel, Fault, State, Ok as AskOk, Quiet, Try, Pass, Complete, Fail, HookDone}
+use Rattle.fj_store.specs.Turns.{Nearer}
+
+-- from farther away it comes nearer too
+pub nearer_from : {B K O : Type 0} (new old farther : ℕ) (asked : Ask B K O) → old ≤ farther → Nearer new old asked → Nearer new farther asked
+nearer_from new old farther (Fork body kind) le near = omega arith
+nearer_from new old farther (Trigger body count) le near = omega arith
+nearer_from new old farther (Join t) le near = omega arith
+nearer_from new old farther Help le near = omega arith
+nearer_from new old farther (Take t) le near = omega arith
+nearer_from new old farther (Add c n) le near = omega arith
+nearer_from new old farther (QuietRoot t) le near = omega arith
+nearer_from new old farther (Cancel t) le near = omega arith
+nearer_from new old farther (Fault t code) le near = omega arith
+nearer_from new old farther (State t) le near = omega arith
+nearer_from new old farther (AskOk out) le near = tt
+nearer_from new old farther Quiet le near = tt
+nearer_from new old farther Try le near = tt
+nearer_from new old farther Pass le near = tt
+nearer_from new old farther Complete le near = tt
+nearer_from new old farther (Fail code) le near = tt
+nearer_from new old farther (HookDone out) le near = tt
+
+-- ---- courses
+
+pub course_new : (ns nodes : List Node) (stage : Stage) (t : Tally) (p : ℕ) (next : Option ℕ) → ns ≡ nodes → IsTally ns t → t.node ≡ p → next ≡ child_from ns 0 p → IsCourse nodes (record { stage = stage; next = next; tally = t })
+course_new ns nodes stage t p next same tally here first = record {
+  tally = rw same at tally;
+  next = rw here (first_child nodes 0 p next (omega arith) (rw same at first));
+}
+
+-- the next child is one too
+next_child : (nodes : List Node) (p c : ℕ) (next : Option ℕ) → IsChild nodes p c → ((q : ℕ) → (node_at nodes c).parent ≡ Some q → next ≡ child_from nodes (c + 1) q) → IfSome next (λ d. IsChild nodes p d)
+next_child nodes p c next child behind = let lt = child.0 in first_child nodes (c + 1) p next (omega arith) (behind p child.1)
+
+pub course_forked : (ns nodes : List Node) (stage : Stage) (old : Course) (c : ℕ) (next : Option ℕ) → ns ≡ nodes → IsCourse nodes old → old.next ≡ Some c → ((q : ℕ) → (node_at ns c).parent ≡ Some q → next ≡ child_from ns (c + 1) q)
+    → IsCourse nodes (record { stage = stage; next = next; tally = old.tally })
+course_forked ns nodes stage old c next same course is behind =
+    let child : IsChild nodes old.tally.node c = rw is at course.next in
+    record {
+      tally = course.tally;
+      next = next_child nodes old.tally.node c next child (rw same at behind);
+    }
+
+pub forks_fewer : (ns nodes : List Node) (old : Course) (c : ℕ) (next : Option ℕ) → ns ≡ nodes → IsCourse nodes old → old.next ≡ Some c → ((q : ℕ) → (node_at ns c).parent ≡ Some q → next ≡ child_from ns (c + 1) q)
+    → length nodes + 1 + numbers_from (length nodes) next < length nodes + 1 + numbers_from (length nodes) old.next
+forks_fewer ns nodes old c next same course is behind =
+    let child : IsChild nodes old.tally.node c = rw is at course.next in
+    let all = rw same at behind in
+    let fewer = fewer_behind nodes old.tally.node c next child (all old.tally.node child.1) in
+    rw is (omega arith)
+
+pub taking_left : (count : ℕ) (course : Course) → course.stage ≡ Taking → turns_left count course ≡ numbers_from count course.tally.child
+taking_left count course is = ap (λ stage. turns_in count stage course.next course.tally.child) is

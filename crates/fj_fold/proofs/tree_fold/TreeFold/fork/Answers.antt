@@ -1,0 +1,15 @@
+use Rattle.fj_fold.proofs.Turns.{course_forked, forks_fewer}
+use Rattle.fj_fold.proofs.tree_fold.TreeFold.fork.Goals as goal
+
+pub invariant_of-self-2 : goal.invariant_of-self-2
+invariant_of-self-2 g c =
+    let self = c.args.self.now in
+    record {
+      same = self.same;
+      right = course_forked self.family.now g.F.Tree.nodes _ self.course c.in-Some.child _ self.same self.right c.in-Some.is c.next_sibling-self.ensures.next;
+    }
+
+pub returns-clause-nearer : goal.returns-clause-nearer
+returns-clause-nearer g c =
+    let self = c.args.self.now in
+    forks_fewer self.family.now g.F.Tree.nodes self.course c.in-Some.child _ self.same self.right c.in-Some.is c.next_sibling-self.ensures.next

@@ -1,0 +1,75 @@
+ghost use Rattle.std.specs.Prelude.{◌≡◌, ◌<◌, ◌≤◌, IfErr, IfOk, length};
+ghost use Rattle.fj_jobs.specs.TreeValues.{node_value};
+ghost use Rattle.fj_crew.specs.Runs.{RefusesRun};
+
+use crate::family::Family;
+use crate::result::result_in;
+use crate::tree::Tree;
+use crate::tree_fold::TreeFold;
+use fj_crew::{Turnstile, run_alone};
+use fj_jobs::Nodes;
+use fj_model::{Limits, MAX_EVENTS, MAX_TASKS, Mode, Refusal};
+use std::alloc::Global;
+use std::marker::Brand;
+use std::sync::Wait;
+use std::thread::Threads;
+
+/// The value of the root of a tree, folded by so many workers, a thread for each: `ForkJoinPool.invoke` of a `CountedCompleter`. The
+/// turnstile is asked before the first turn of each node's body. Precondition: 1 to 32 workers.
+///
+/// `LogFull` where the history is full, or the root failed with code 3. `OutOfMemory` where memory or a thread was refused, and where the
+/// root has no result otherwise.
+pub fn fold_tree<R: Threads + Wait + Sync, T: Turnstile + Sync>(
+    rt: &R,
+    alloc: Global,
+    workers: u32,
+    nodes: &Nodes,
+    turnstile: &T,
+) -> Result<u64, Refusal>
+    requires some { 0 < workers }
+    requires few { workers ≤ 32 }
+    ensures ok { IfOk result (λ value. value ≡ node_value nodes.now 0) }
+    ensures err { IfErr result RefusesRun }
+{
+    // Tells that a tree has a root.
+    let _nodes = nodes.as_slice();
+    match Family::new(alloc, nodes) {
+        Ok(family) => fold_in::<Brand, R, T>(rt, alloc, workers, &family, turnstile),
+        Err(_) => Err(Refusal::OutOfMemory),
+    }
+}
+
+/// The same for the family of a tree. Preconditions: it is that of the tree that the type names, which has a root; 1 to 32 workers.
+fn fold_in<F: Tree + Send, R: Threads + Wait + Sync, T: Turnstile + Sync>(
+    rt: &R,
+    alloc: Global,
+    workers: u32,
+    family: &Family,
+    turnstile: &T,
+) -> Result<u64, Refusal>
+    requires same { family.now ≡ F.nodes }
+    requires there { 0 < length F.nodes }
+    requires some { 0 < workers }
+    requires few { workers ≤ 32 }
+    ensures ok { IfOk result (λ value. value ≡ node_value F.nodes 0) }
+    ensures err { IfErr result RefusesRun }
+{
+    let Ok(limits) = Limits::new(workers, 1, MAX_TASKS, MAX_EVENTS) else {
+        unreachable!()
+    };
+    let body: TreeFold<F> = TreeFold::new(alloc, family, 0);
+    let outcome = match run_alone(rt, alloc, Mode::Async, limits, 0, body, turnstile) {
+        Ok(outcome) => outcome,
+        Err(refusal) => return Err(refusal),
+    };
+    match result_in(outcome) {
+        Ok((key, value)) => {
+            if key == 0 {
+                Ok(value)
+            } else {
+                Err(Refusal::OutOfMemory)
+            }
+        }
+        Err(refusal) => Err(refusal),
+    }
+}

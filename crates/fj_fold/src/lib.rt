@@ -1,0 +1,28 @@
+//! A tree folded by counted completers: the value of a node is its own and k times that of its k-th child, modulo 1,000,000,007.
+//!
+//! ```
+//! let tree = read_tree(alloc, &mut b"- 5\n0 2\n0 3\n1 4\n".as_slice())?;
+//! // By 4 workers in threads: 5 + 1 * (2 + 1 * 4) + 2 * 3.
+//! let value = fold_tree(&rt, alloc, 4, &tree, &Open)?;
+//! ```
+#![tactic(auto)]
+
+mod course;
+mod family;
+mod folding;
+mod in_place;
+mod joining;
+mod member;
+mod result;
+mod tally;
+mod tree;
+mod tree_fold;
+
+pub use family::Family;
+pub use fj_crew::{Open, Turnstile};
+pub use fj_jobs::{Nodes, read_tree};
+pub use fj_model::Refusal;
+pub use fj_store::{Ask, Body, Heard};
+pub use folding::fold_tree;
+pub use tree::Tree;
+pub use tree_fold::TreeFold;

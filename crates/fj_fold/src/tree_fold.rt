@@ -1,0 +1,257 @@
+ghost use Rattle.std.specs.Prelude.{◌≡◌, ◌+◌, ◌<◌, Some, length};
+ghost use Rattle.fj_jobs.specs.TreeValues.{node_value};
+ghost use Rattle.fj_store.specs.Turns.{AskRight, HeardRight, Nearer};
+ghost use Rattle.fj_fold.specs.Asks.{AsksAsNode};
+ghost use Rattle.fj_fold.specs.Courses.{IsCourse, turns_left};
+ghost use Rattle.fj_fold.specs.Tallies.{numbers_from};
+ghost use Rattle.std.proofs.Props.{props};
+
+use crate::course::{Course, Stage};
+use crate::family::Family;
+use crate::in_place::value_in_place;
+use crate::tally::Tally;
+use crate::tree::Tree;
+use fj_model::{Kind, Serial};
+use fj_store::{Ask, Body, Heard};
+use std::alloc::Global;
+use std::marker::PhantomData;
+
+/// The body of a node: it forks a body for each child and sums their values in its completion action, as a `CountedCompleter` that sums a
+/// tree. It borrows the family, so it is as small for a node with 4,000 children as for a leaf until it forks them.
+#[derive(Drop)]
+pub struct TreeFold<'a, F: Tree> {
+    family: &'a Family,
+    course: Course,
+    /// The numbers of the tasks of its children, the first child's first.
+    forked: Vec<u64>,
+    of: PhantomData<F>,
+    ghost same: { family.now ≡ F.nodes },
+    ghost right: { IsCourse F.nodes course } by { Prim.hlevel props },
+}
+
+impl<'a, F: Tree> TreeFold<'a, F> {
+    /// The body of a node. Preconditions: the family is that of the tree that the type names, and has such a node.
+    pub fn new(alloc: Global, family: &'a Family, number: u32) -> TreeFold<'a, F>
+        requires same { family.now ≡ F.nodes }
+        requires there { number < length F.nodes }
+        ensures { result.course.tally.node ≡ number }
+    {
+        let course = Course {
+            stage: Stage::New,
+            next: family.first_child(number),
+            tally: Tally::new(family, number),
+        };
+        TreeFold {
+            family,
+            course,
+            forked: Vec::new(alloc),
+            of: PhantomData,
+        }
+    }
+
+    /// Its first turn, as this task: raises its pending count by the number of its children.
+    fn begin(&mut self, me: u64) -> Ask<TreeFold<'a, F>>
+        ensures key { self.new.course.tally.node ≡ self.old.course.tally.node }
+        ensures right { AskRight (λ k o. o ≡ node_value F.nodes k) self.old.course.tally.node result }
+        ensures nearer { Nearer (turns_left (length F.nodes) self.new.course) (turns_left (length F.nodes) self.old.course) result }
+        ensures asks { AsksAsNode F.nodes self.old.course.tally.node result }
+    {
+        let Stage::New = self.course.stage else {
+            return self.go_on_without();
+        };
+        self.course.stage = Stage::Adding(me);
+        Ask::Add(Serial(me), self.family.children(self.course.tally.node))
+    }
+
+    /// Its pending count was raised.
+    fn added(&mut self) -> Ask<TreeFold<'a, F>>
+        ensures key { self.new.course.tally.node ≡ self.old.course.tally.node }
+        ensures right { AskRight (λ k o. o ≡ node_value F.nodes k) self.old.course.tally.node result }
+        ensures nearer { Nearer (turns_left (length F.nodes) self.new.course) (turns_left (length F.nodes) self.old.course) result }
+        ensures asks { AsksAsNode F.nodes self.old.course.tally.node result }
+    {
+        let Stage::Adding(me) = self.course.stage else {
+            return self.go_on_without();
+        };
+        self.fork(me)
+    }
+
+    /// A child was forked as this task.
+    fn forked(&mut self, child: u64) -> Ask<TreeFold<'a, F>>
+        ensures key { self.new.course.tally.node ≡ self.old.course.tally.node }
+        ensures right { AskRight (λ k o. o ≡ node_value F.nodes k) self.old.course.tally.node result }
+        ensures nearer { Nearer (turns_left (length F.nodes) self.new.course) (turns_left (length F.nodes) self.old.course) result }
+        ensures asks { AsksAsNode F.nodes self.old.course.tally.node result }
+    {
+        let Stage::Forking(me) = self.course.stage else {
+            return self.go_on_without();
+        };
+        match self.forked.push(child) {
+            Ok(()) => self.fork(me),
+            Err(_) => self.fail(),
+        }
+    }
+
+    /// Its completion action begins.
+    fn hooked(&mut self) -> Ask<TreeFold<'a, F>>
+        ensures key { self.new.course.tally.node ≡ self.old.course.tally.node }
+        ensures right { AskRight (λ k o. o ≡ node_value F.nodes k) self.old.course.tally.node result }
+        ensures nearer { Nearer (turns_left (length F.nodes) self.new.course) (turns_left (length F.nodes) self.old.course) result }
+        ensures asks { AsksAsNode F.nodes self.old.course.tally.node result }
+    {
+        if let Stage::Taking = self.course.stage {
+            return self.go_on_without();
+        }
+        self.course.stage = Stage::Taking;
+        self.take()
+    }
+
+    /// The result of a child came, or one under another key.
+    fn got(&mut self, key: u32, value: u64) -> Ask<TreeFold<'a, F>>
+        requires { ∥ value ≡ node_value F.nodes key ∥₁ }
+        ensures key { self.new.course.tally.node ≡ self.old.course.tally.node }
+        ensures right { AskRight (λ k o. o ≡ node_value F.nodes k) self.old.course.tally.node result }
+        ensures nearer { Nearer (turns_left (length F.nodes) self.new.course) (turns_left (length F.nodes) self.old.course) result }
+        ensures asks { AsksAsNode F.nodes self.old.course.tally.node result }
+    {
+        let Stage::Taking = self.course.stage else {
+            return self.go_on_without();
+        };
+        let Some(child) = self.course.tally.child else {
+            return self.go_on_without();
+        };
+        if key != child {
+            return self.go_on_without();
+        }
+        self.add(child, value)
+    }
+
+    /// What was asked was refused, or something else was heard. In its completion action it computes the value of the child in place; before
+    /// that it fails.
+    fn go_on_without(&mut self) -> Ask<TreeFold<'a, F>>
+        ensures key { self.new.course.tally.node ≡ self.old.course.tally.node }
+        ensures right { AskRight (λ k o. o ≡ node_value F.nodes k) self.old.course.tally.node result }
+        ensures nearer { Nearer (turns_left (length F.nodes) self.new.course) (turns_left (length F.nodes) self.old.course) result }
+        ensures asks { AsksAsNode F.nodes self.old.course.tally.node result }
+    {
+        let Stage::Taking = self.course.stage else {
+            return self.fail();
+        };
+        let Some(child) = self.course.tally.child else {
+            return Ask::HookDone(self.course.tally.sum);
+        };
+        let value = value_in_place(self.family, child);
+        self.add(child, value)
+    }
+
+    /// Forks the next child, or ends where none is left.
+    fn fork(&mut self, me: u64) -> Ask<TreeFold<'a, F>>
+        ensures key { self.new.course.tally.node ≡ self.old.course.tally.node }
+        ensures right { AskRight (λ k o. o ≡ node_value F.nodes k) self.old.course.tally.node result }
+        ensures nearer { Nearer (turns_left (length F.nodes) self.new.course) (length F.nodes + 1 + numbers_from (length F.nodes) self.old.course.next) result }
+        ensures asks { AsksAsNode F.nodes self.old.course.tally.node result }
+    {
+        let Some(child) = self.course.next else {
+            self.course.stage = Stage::Ended;
+            return Ask::Try;
+        };
+        self.course.stage = Stage::Forking(me);
+        self.course.next = self.family.next_sibling(child);
+        let body = TreeFold::new(*self.forked.allocator(), self.family, child);
+        let kind = Kind::Completer {
+            relay: true,
+            count: 0,
+            parent: Some(Serial(me)),
+        };
+        Ask::Fork(body, kind)
+    }
+
+    /// Takes the result of the next child, or ends with the sum where none is left. Precondition: it is in its completion action.
+    fn take(&mut self) -> Ask<TreeFold<'a, F>>
+        requires { self.old.course.stage ≡ Stage.Taking }
+        ensures key { self.new.course.tally.node ≡ self.old.course.tally.node }
+        ensures right { AskRight (λ k o. o ≡ node_value F.nodes k) self.old.course.tally.node result }
+        ensures nearer { Nearer (turns_left (length F.nodes) self.new.course) (numbers_from (length F.nodes) self.old.course.tally.child + 1) result }
+        ensures asks { AsksAsNode F.nodes self.old.course.tally.node result }
+    {
+        let Some(_child) = self.course.tally.child else {
+            return Ask::HookDone(self.course.tally.sum);
+        };
+        // The child of weight 1 is the first.
+        match self.forked.get(self.course.tally.weight as usize - 1) {
+            Some(task) => Ask::Take(Serial(*task)),
+            // It was never forked.
+            None => Ask::HookDone(value_in_place(self.family, self.course.tally.node)),
+        }
+    }
+
+    /// Adds the value of the next child. Preconditions: it is in its completion action, this is the next child, and its value.
+    fn add(&mut self, child: u32, value: u64) -> Ask<TreeFold<'a, F>>
+        requires stage { self.old.course.stage ≡ Stage.Taking }
+        requires child { self.old.course.tally.child ≡ Some child }
+        requires value { value ≡ node_value F.nodes child }
+        ensures key { self.new.course.tally.node ≡ self.old.course.tally.node }
+        ensures right { AskRight (λ k o. o ≡ node_value F.nodes k) self.old.course.tally.node result }
+        ensures nearer { Nearer (turns_left (length F.nodes) self.new.course) (turns_left (length F.nodes) self.old.course) result }
+        ensures asks { AsksAsNode F.nodes self.old.course.tally.node result }
+    {
+        self.course.tally = self.course.tally.add(self.family, child, value);
+        self.take()
+    }
+
+    /// Ends with code 12.
+    fn fail(&mut self) -> Ask<TreeFold<'a, F>>
+        ensures key { self.new.course.tally.node ≡ self.old.course.tally.node }
+        ensures right { AskRight (λ k o. o ≡ node_value F.nodes k) self.old.course.tally.node result }
+        ensures nearer { Nearer 0 0 result }
+        ensures asks { AsksAsNode F.nodes self.old.course.tally.node result }
+    {
+        self.course.stage = Stage::Ended;
+        Ask::Fail(12)
+    }
+}
+
+impl<'a, F: Tree> Body for TreeFold<'a, F> {
+    type Key = u32;
+
+    type Out = u64;
+
+    ghost key_of = { λ b. b.course.tally.node };
+
+    ghost rooted_as = { λ b. Some 0 };
+
+    ghost right = { λ k o. o ≡ node_value F.nodes k };
+
+    ghost turns = { λ b. turns_left (length F.nodes) b.course };
+
+    fn key(&self) -> &u32 {
+        &self.course.tally.node
+    }
+
+    fn into_key(self) -> u32 {
+        self.course.tally.node
+    }
+
+    fn rooted(&self) -> Option<u16> {
+        Some(0)
+    }
+
+    fn turn(&mut self, heard: Heard<TreeFold<'a, F>>) -> Ask<TreeFold<'a, F>>
+        requires { HeardRight (λ k o. o ≡ node_value F.nodes k) heard }
+        ensures key { self.new.course.tally.node ≡ self.old.course.tally.node }
+        ensures rooted { self.new.course.tally.node ≡ self.old.course.tally.node }
+        ensures right { AskRight (λ k o. o ≡ node_value F.nodes k) self.old.course.tally.node result }
+        ensures nearer { Nearer (turns_left (length F.nodes) self.new.course) (turns_left (length F.nodes) self.old.course) result }
+        ensures asks { AsksAsNode F.nodes self.old.course.tally.node result }
+    {
+        // It is looked at, and not taken apart: the check does not do that to an enum with a `Serial` in a type that holds a reference.
+        match &heard {
+            Heard::Start(me) => self.begin(me.0),
+            Heard::Count(_) => self.added(),
+            Heard::Task(child) => self.forked(child.0),
+            Heard::Hook(_) => self.hooked(),
+            Heard::Got(key, value) => self.got(*key, *value),
+            _ => self.go_on_without(),
+        }
+    }
+}

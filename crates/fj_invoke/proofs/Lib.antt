@@ -1,0 +1,2 @@
+-- The left halves, and what stands right of them.
+pub mod Tails

@@ -1,0 +1,18 @@
+use Rattle.std.proofs.Common.{arith, ◌∙◌, sym, refl}
+use Rattle.fj_invoke.specs.Recursions.{left_value}
+use Rattle.fj_invoke.proofs.Tails.{fold_step}
+use Rattle.fj_invoke.proofs.lefts.fold_done.Goals as goal
+
+pub loop-left-preserved : goal.loop-left-preserved
+loop-left-preserved g c = (
+  c.loop-left.invariant.0
+      ∙ fold_step g.J.Divide.combined (left_value g.J.Divide.value) _ _ c.in-Some.left c.loop-left.value _ c.in-Some.ensures.items (rw c.in-Done.is c.combine-value.ensures),
+  omega arith,
+)
+
+pub returns-in-Forked-clause-one : goal.returns-in-Forked-clause-one
+returns-in-Forked-clause-one g c =
+    sym (
+    c.loop-left.invariant.0
+    ∙ fold_step g.J.Divide.combined (left_value g.J.Divide.value) _ _ c.in-Some.left c.loop-left.value _ c.in-Some.ensures.items (rw c.in-Forked.is refl)
+    )

@@ -1,0 +1,6 @@
+-- What a body of a job has in hand.
+pub mod Recursions
+-- What it asks where it cannot go on.
+pub mod Failures
+-- What is told of its outcome.
+pub mod Answers

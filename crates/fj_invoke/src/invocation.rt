@@ -1,0 +1,80 @@
+ghost use Rattle.std.specs.Prelude.{◌≡◌, IfOk, IfErr};
+ghost use Rattle.fj_crew.specs.Runs.{RefusesRun};
+ghost use Rattle.fj_invoke.specs.Answers.{RefusesKept, RefusesOutcome, refusal_of};
+
+use crate::recursive::Recursive;
+use fj_crew::{Turnstile, run_alone};
+use fj_jobs::Divide;
+use fj_model::{Limits, Mode, Refusal};
+use fj_store::{Kept, Outcome};
+use std::alloc::Global;
+use std::sync::Wait;
+use std::thread::Threads;
+
+/// The value of a job, by workers in threads, in a pool of its own: `ForkJoinPool.invoke`.
+///
+/// `start` is the scan word of worker 0; that of each further one is one more. The turnstile is asked before the first turn of each body:
+/// `Open` holds nobody.
+///
+/// `LogFull` where the history is full. `OutOfMemory` where memory is refused, or a thread cannot be started.
+pub fn invoke<J: Divide + Send, T: Turnstile + Sync, R: Threads + Wait + Sync>(
+    rt: &R,
+    alloc: Global,
+    mode: Mode,
+    limits: Limits,
+    start: u32,
+    job: J,
+    turnstile: &T,
+) -> Result<J::Out, Refusal>
+where
+    J::Key: Send,
+    J::Out: Send,
+    ensures ok { IfOk result (λ out. out ≡ J.value (J.key_of job)) }
+    ensures err { IfErr result RefusesRun }
+{
+    let key = job.key();
+    let body = Recursive::new(alloc, job);
+    match run_alone(rt, alloc, mode, limits, start, body, turnstile) {
+        Ok(outcome) => answer_of(outcome, key),
+        Err(refusal) => Err(refusal),
+    }
+}
+
+/// The value that an outcome gives, if it stands under this key. A failure by a full history is told as one; all else, that memory was
+/// refused.
+fn answer_of<J: Divide>(outcome: Outcome<Recursive<J>>, key: J::Key) -> Result<J::Out, Refusal>
+    ensures value { IfOk result (λ out. out ≡ J.value key) }
+    ensures refused { IfErr result (λ refusal. RefusesOutcome J.Key.eq key outcome refusal) }
+    ensures err { IfErr result RefusesRun }
+{
+    match outcome {
+        Outcome::Normal(Some(kept)) => value_under(kept, key),
+        Outcome::Exceptional(code) => Err(refusal_of(code)),
+        _ => Err(Refusal::OutOfMemory),
+    }
+}
+
+/// The value of a result, if it stands under this key.
+fn value_under<J: Divide>(kept: Kept<Recursive<J>>, key: J::Key) -> Result<J::Out, Refusal>
+    ensures value { IfOk result (λ out. out ≡ J.value key) }
+    ensures refused { IfErr result (λ refusal. RefusesKept J.Key.eq key kept refusal) }
+{
+    let (kept_key, out) = kept.into_parts();
+    if kept_key == key {
+        Ok(out)
+    } else {
+        Err(Refusal::OutOfMemory)
+    }
+}
+
+/// What is told of a failure with this code.
+fn refusal_of(code: u32) -> Refusal
+    ensures told { result ≡ refusal_of code }
+    ensures err { RefusesRun result }
+{
+    if code == Refusal::LogFull.number() {
+        Refusal::LogFull
+    } else {
+        Refusal::OutOfMemory
+    }
+}

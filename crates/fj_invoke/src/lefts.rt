@@ -1,0 +1,26 @@
+ghost use Rattle.std.specs.Prelude.{◌≡◌, ◌<◌, IfOk, IfErr, map, vec_len};
+ghost use Rattle.fj_invoke.specs.Recursions.{left_value, tail_value};
+
+use crate::stage::Left;
+use fj_jobs::Divide;
+use fj_model::Serial;
+
+/// Combines the values of the last left halves with what stands right of them, up to the last one that was forked: that is given, as its
+/// task with its key, and with the value of what stands right of it. Without one the whole value is given.
+pub fn fold_done<J: Divide>(
+    lefts: &mut Vec<Left<J>>,
+    tail: J::Out,
+) -> Result<J::Out, (Serial, J::Key, J::Out)>
+    ensures all { IfOk result (λ v. tail_value J.combined (map (left_value J.value) lefts.old.items) tail ≡ v) }
+    ensures one { IfErr result (λ w. tail_value J.combined (map (left_value J.value) lefts.new.items) (J.combined (J.value w.1) w.2) ≡ tail_value J.combined (map (left_value J.value) lefts.old.items) tail) }
+    ensures fewer { IfErr result (λ w. vec_len lefts.new < vec_len lefts.old) }
+{
+    let mut value = tail;
+    while let Some(left) = lefts.pop() {
+        match left {
+            Left::Done(out) => value = J::combine(out, value),
+            Left::Forked(task, key) => return Err((task, key, value)),
+        }
+    }
+    Ok(value)
+}

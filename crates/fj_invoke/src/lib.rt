@@ -1,0 +1,21 @@
+//! The value of a job that divides, by workers in threads: its halves are forked, and joined, in a pool of its own.
+//!
+//! ```
+//! let limits = Limits::new(4, 1, 4_096, 1_048_576)?; // workers, submitters, tasks, events
+//! let job = RangeSum { range: BlockedRange::new(1, 100_000, 1_000) };
+//! let sum = invoke(&rt, rt.alloc(), Mode::Joining, limits, 0, job, &Open)?; // 5_000_050_000
+//! ```
+#![tactic(auto)]
+
+mod invocation;
+mod lefts;
+mod recursive;
+mod stage;
+
+pub use fj_crew::{Open, Turnstile};
+pub use fj_jobs::{
+    BlockedRange, Divide, FirstHit, Interval, LinearMod, RangeMin, RangeSum, compute,
+};
+pub use fj_model::{Limits, Mode, Refusal, Serial, WorkerId};
+pub use invocation::invoke;
+pub use recursive::Recursive;

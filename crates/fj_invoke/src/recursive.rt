@@ -1,0 +1,224 @@
+ghost use Rattle.std.specs.Prelude.{◌≡◌, ℕ, ◌+◌, ◌*◌, ◌<◌, ◌≤◌, Option, None, IfOk, IfErr, IfSome, true, map, vec_len};
+ghost use Rattle.fj_model.specs.Replies.{refusal_number};
+ghost use Rattle.fj_store.specs.Turns.{HeardRight, AskRight, Nearer};
+ghost use Rattle.fj_invoke.specs.Recursions.{Gives, turns_of, left_value, tail_value};
+ghost use Rattle.fj_invoke.specs.Failures.{AsksFailing, is_want_of_room};
+
+use crate::lefts::fold_done;
+use crate::stage::{Left, Stage};
+use fj_jobs::{Divide, compute};
+use fj_model::{Kind, Refusal};
+use fj_store::{Ask, Body, Heard};
+use std::alloc::Global;
+use std::mem;
+
+/// A job as a body: it forks the left half, goes on with the right one in the same way, and then joins what it forked, the last one first.
+/// It is submitted as a plain task, with the key of its job: `RecursiveTask`.
+#[derive(Drop)]
+pub struct Recursive<J: Divide> {
+    key: J::Key,
+    /// What it forked, or had to compute in place, from left to right.
+    lefts: Vec<Left<J>>,
+    stage: Stage<J>,
+    ghost total: { ∥ Gives J.key_of J.value J.combined lefts.items stage (J.value key) ∥₁ },
+}
+
+/// Whether there was no room for a task: then it may be computed in place.
+fn is_want_of_room(refusal: Refusal) -> bool
+    ensures { result ≡ is_want_of_room refusal }
+{
+    matches!(refusal, Refusal::TooManyTasks | Refusal::LogFull)
+}
+
+/// The value of a body that was not forked, if its key is this one, and it was refused for want of room.
+fn in_place<J: Divide>(body: Recursive<J>, refusal: Refusal, key: J::Key) -> Option<J::Out>
+    ensures value { IfSome result (λ v. v ≡ J.value key) }
+    ensures room { IfSome result (λ v. is_want_of_room refusal ≡ true) }
+{
+    if is_want_of_room(refusal) {
+        body.value_at(key)
+    } else {
+        None
+    }
+}
+
+impl<J: Divide> Recursive<J> {
+    /// The job, before its first turn. It takes no memory.
+    pub fn new(alloc: Global, job: J) -> Recursive<J>
+        ensures { result.key ≡ J.key_of job }
+    {
+        Recursive {
+            key: job.key(),
+            lefts: Vec::new(alloc),
+            stage: Stage::Going(job),
+        }
+    }
+
+    /// The value of the job with which it begins, if its key is this one.
+    fn value_at(self, key: J::Key) -> Option<J::Out>
+        ensures { IfSome result (λ v. v ≡ J.value key) }
+    {
+        let Recursive {
+            key: _,
+            lefts: _,
+            stage,
+        } = self;
+        let Stage::Going(job) = stage else {
+            return None;
+        };
+        if job.key() != key {
+            return None;
+        }
+        Some(compute(job))
+    }
+
+    /// Ends with this code.
+    fn fail(&mut self, code: u32) -> Ask<Recursive<J>>
+        ensures key { self.new.key ≡ self.old.key }
+        ensures code { result ≡ Ask.Fail code }
+    {
+        self.stage = Stage::Over;
+        Ask::Fail(code)
+    }
+
+    /// Ends with the code of a run that is out of memory.
+    fn give_up(&mut self) -> Ask<Recursive<J>>
+        ensures key { self.new.key ≡ self.old.key }
+        ensures code { result ≡ Ask.Fail (refusal_number Refusal.OutOfMemory) }
+    {
+        self.fail(Refusal::OutOfMemory.number())
+    }
+}
+
+impl<J: Divide> Recursive<J> {
+    /// What stands right of the left halves has this value. Precondition: with theirs it gives the value of the whole.
+    fn finish(&mut self, tail: J::Out) -> Ask<Recursive<J>>
+        requires { tail_value J.combined (map (left_value J.value) self.old.lefts.items) tail ≡ J.value self.old.key }
+        ensures key { self.new.key ≡ self.old.key }
+        ensures right { AskRight (λ k o. o ≡ J.value k) self.new.key result }
+        ensures nearer { Nearer (turns_of J.size (vec_len self.new.lefts) self.new.stage) (2 * vec_len self.old.lefts) result }
+    {
+        self.stage = Stage::Over;
+        match fold_done(&mut self.lefts, tail) {
+            Ok(value) => Ask::Ok(value),
+            Err((task, key, tail)) => {
+                self.stage = Stage::Waiting(key, tail);
+                Ask::Join(task)
+            }
+        }
+    }
+
+    /// Splits a job, or takes it as a leaf. Precondition: with the left halves it gives the value of the whole.
+    fn go_on(&mut self, job: J) -> Ask<Recursive<J>>
+        requires { tail_value J.combined (map (left_value J.value) self.old.lefts.items) (J.value (J.key_of job)) ≡ J.value self.old.key }
+        ensures key { self.new.key ≡ self.old.key }
+        ensures right { AskRight (λ k o. o ≡ J.value k) self.new.key result }
+        ensures nearer { Nearer (turns_of J.size (vec_len self.new.lefts) self.new.stage) (4 * J.size job + 2 * vec_len self.old.lefts + 2) result }
+    {
+        self.stage = Stage::Over;
+        match job.split() {
+            Ok((left, right)) => {
+                let key = left.key();
+                let body = Recursive::new(*self.lefts.allocator(), left);
+                self.stage = Stage::Forking(right, key);
+                Ask::Fork(body, Kind::Plain)
+            }
+            Err(leaf) => {
+                let tail = leaf.leaf();
+                self.finish(tail)
+            }
+        }
+    }
+
+    /// Puts a left half aside, and goes on with the right one. Precondition: with the left halves before them they give the value of the
+    /// whole.
+    fn forked(&mut self, job: J, left: Left<J>) -> Ask<Recursive<J>>
+        requires { tail_value J.combined (map (left_value J.value) self.old.lefts.items) (J.combined (left_value J.value left) (J.value (J.key_of job))) ≡ J.value self.old.key }
+        ensures key { self.new.key ≡ self.old.key }
+        ensures right { AskRight (λ k o. o ≡ J.value k) self.new.key result }
+        ensures nearer { Nearer (turns_of J.size (vec_len self.new.lefts) self.new.stage) (4 * J.size job + 2 * vec_len self.old.lefts + 5) result }
+    {
+        self.stage = Stage::Over;
+        match self.lefts.push(left) {
+            Ok(()) => self.go_on(job),
+            Err(_) => self.give_up(),
+        }
+    }
+}
+
+impl<J: Divide> Body for Recursive<J> {
+    type Key = J::Key;
+
+    type Out = J::Out;
+
+    ghost key_of = { λ b. b.key };
+
+    ghost rooted_as = { λ b. None };
+
+    ghost right = { λ k o. o ≡ J.value k };
+
+    ghost turns = { λ b. turns_of J.size (vec_len b.lefts) b.stage };
+
+    fn key(&self) -> &J::Key {
+        &self.key
+    }
+
+    fn into_key(self) -> J::Key {
+        let Recursive {
+            key,
+            lefts: _,
+            stage: _,
+        } = self;
+        key
+    }
+
+    fn rooted(&self) -> Option<u16> {
+        None
+    }
+
+    fn turn(&mut self, heard: Heard<Recursive<J>>) -> Ask<Recursive<J>>
+        requires { HeardRight (λ k o. o ≡ J.value k) heard }
+        ensures key { self.new.key ≡ self.old.key }
+        ensures rooted { self.new.key ≡ self.old.key }
+        ensures right { AskRight (λ k o. o ≡ J.value k) self.old.key result }
+        ensures nearer { Nearer (turns_of J.size (vec_len self.new.lefts) self.new.stage) (turns_of J.size (vec_len self.old.lefts) self.old.stage) result }
+        ensures failing { AsksFailing J.Key.eq self.old.stage heard result }
+    {
+        let stage = mem::replace(&mut self.stage, Stage::Over);
+        match heard {
+            Heard::Start(_) => {
+                let Stage::Going(job) = stage else {
+                    return self.give_up();
+                };
+                self.go_on(job)
+            }
+            Heard::Task(task) => {
+                let Stage::Forking(job, key) = stage else {
+                    return self.give_up();
+                };
+                self.forked(job, Left::Forked(task, key))
+            }
+            Heard::Handed(body, refusal) => {
+                let Stage::Forking(job, key) = stage else {
+                    return self.give_up();
+                };
+                match in_place(body, refusal, key) {
+                    Some(value) => self.forked(job, Left::Done(value)),
+                    None => self.give_up(),
+                }
+            }
+            Heard::Got(heard_key, out) => {
+                let Stage::Waiting(key, tail) = stage else {
+                    return self.give_up();
+                };
+                if heard_key != key {
+                    return self.give_up();
+                }
+                self.finish(J::combine(out, tail))
+            }
+            Heard::Failed(code) => self.fail(code),
+            Heard::Refused(refusal) => self.fail(refusal.number()),
+            _ => self.give_up(),
+        }
+    }
+}

@@ -1,0 +1,22 @@
+use fj_jobs::Divide;
+use fj_model::Serial;
+
+/// A left half that was forked, as this task with this key, or its value.
+#[derive(Drop)]
+pub enum Left<J: Divide> {
+    Forked(Serial, J::Key),
+    Done(J::Out),
+}
+
+/// What a recursive body does, beside the left halves that it has put aside.
+#[derive(Drop)]
+pub enum Stage<J: Divide> {
+    /// It goes on with this job.
+    Going(J),
+    /// It forks a left half with this key, and goes on with this job.
+    Forking(J, J::Key),
+    /// It joins a left half with this key; what stands right of that has this value.
+    Waiting(J::Key, J::Out),
+    /// It has ended.
+    Over,
+}
