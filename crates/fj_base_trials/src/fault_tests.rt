@@ -5,7 +5,8 @@ use std::test::*;
 // Tables of lines that are no steps. A blank at the end of a line, a carriage return and a tab are written as escapes.
 
 /// Lines with another first word.
-const OTHER_FIRST_WORDS: &str = "
+fn other_first_words() -> &'static str {
+    "
 \x20
 -
 0
@@ -28,9 +29,11 @@ shutdownnow
 async 1 1 1 1
 joining 1 1 1 1
 fj 2
-aaaaaaaaaaaaaaaaaaaaaaaaaaaaaaaaaaaaaaaaaaaaaaaaaaaaaaaaaaaaaaaaa";
+aaaaaaaaaaaaaaaaaaaaaaaaaaaaaaaaaaaaaaaaaaaaaaaaaaaaaaaaaaaaaaaaa"
+}
 
-const OTHER_NUMBERS: &str = "
+fn other_numbers() -> &'static str {
+    "
 submit 00
 submit 01
 submit +1
@@ -50,9 +53,11 @@ end 0 fail 00
 fault 0 4294967296
 cancel 4294967296
 cancel 00
-state 01";
+state 01"
+}
 
-const OTHER_SPACES: &str = "
+fn other_spaces() -> &'static str {
+    "
 \x20submit 0
 submit\x20
 submit  0
@@ -71,9 +76,11 @@ end 0 fail\x20
 quiet\x20
 quiet\r
 stop\x20
-shutdown\x20";
+shutdown\x20"
+}
 
-const TOO_FEW_WORDS: &str = "
+fn too_few_words() -> &'static str {
+    "
 submit
 submit 0 1
 fork
@@ -104,9 +111,11 @@ fault
 fault 0
 cancel
 state
-release";
+release"
+}
 
-const TOO_MANY_WORDS: &str = "
+fn too_many_words() -> &'static str {
+    "
 submit 0 1 relay 0
 submit 0 1 relay stop
 fork 0 - 0 relay 0
@@ -133,9 +142,11 @@ shutdown 0
 stop 0
 quiet 0
 state 0 0
-release 0 0";
+release 0 0"
+}
 
-const OTHER_WORDS_OF_NEW_TASKS: &str = "
+fn other_words_of_new_tasks() -> &'static str {
+    "
 submit ok
 submit -
 submit 0 0
@@ -159,9 +170,11 @@ fork 0 none 0 relay
 fork 0 - 0 Stop
 fork 0 0 relay
 trigger 0 -
-trigger - 0";
+trigger - 0"
+}
 
-const OTHER_WORDS_OF_TASKS: &str = "
+fn other_words_of_tasks() -> &'static str {
+    "
 poll - 0
 join 0 - 0
 end 0 OK
@@ -184,7 +197,8 @@ fault - 1
 cancel -
 state -
 state ok
-release -";
+release -"
+}
 
 /// The lines of a table that are read as steps, each with a line end.
 fn steps_among(alloc: Global, table: &str) -> Result<String, AllocError> {
@@ -206,8 +220,18 @@ fn a_step_is_found_among_other_lines(rt: HostRuntime) -> Result<(), Fail> {
 }
 
 #[test]
-fn lines_that_begin_with_no_step_are_faults(rt: HostRuntime) -> Result<(), Fail> {
-    assert_eq!(rt; steps_among(rt.alloc(), OTHER_FIRST_WORDS)?.as_str(), "");
+fn other_lines_are_faults(rt: HostRuntime) -> Result<(), Fail> {
+    for table in [
+        other_first_words(),
+        other_numbers(),
+        other_spaces(),
+        too_few_words(),
+        too_many_words(),
+        other_words_of_new_tasks(),
+        other_words_of_tasks(),
+    ] {
+        assert_eq!(rt; steps_among(rt.alloc(), table)?.as_str(), "");
+    }
     Ok(())
 }
 
@@ -218,43 +242,4 @@ fn bytes_beyond_the_words_are_faults(rt: HostRuntime) {
     assert_eq!(rt; read_step(b"submit 0\0"), Err(LineFault));
     assert_eq!(rt; read_step(b"submit 0\n"), Err(LineFault));
     assert_eq!(rt; read_step(b"quiet\xff"), Err(LineFault));
-}
-
-#[test]
-fn other_numbers_are_faults(rt: HostRuntime) -> Result<(), Fail> {
-    assert_eq!(rt; steps_among(rt.alloc(), OTHER_NUMBERS)?.as_str(), "");
-    Ok(())
-}
-
-#[test]
-fn other_spaces_are_faults(rt: HostRuntime) -> Result<(), Fail> {
-    assert_eq!(rt; steps_among(rt.alloc(), OTHER_SPACES)?.as_str(), "");
-    Ok(())
-}
-
-#[test]
-fn too_few_words_are_faults(rt: HostRuntime) -> Result<(), Fail> {
-    assert_eq!(rt; steps_among(rt.alloc(), TOO_FEW_WORDS)?.as_str(), "");
-    Ok(())
-}
-
-#[test]
-fn too_many_words_are_faults(rt: HostRuntime) -> Result<(), Fail> {
-    assert_eq!(rt; steps_among(rt.alloc(), TOO_MANY_WORDS)?.as_str(), "");
-    Ok(())
-}
-
-#[test]
-fn other_words_of_new_tasks_are_faults(rt: HostRuntime) -> Result<(), Fail> {
-    assert_eq!(rt;
-        steps_among(rt.alloc(), OTHER_WORDS_OF_NEW_TASKS)?.as_str(),
-        ""
-    );
-    Ok(())
-}
-
-#[test]
-fn other_words_of_tasks_are_faults(rt: HostRuntime) -> Result<(), Fail> {
-    assert_eq!(rt; steps_among(rt.alloc(), OTHER_WORDS_OF_TASKS)?.as_str(), "");
-    Ok(())
 }

@@ -3,19 +3,22 @@ use std::alloc::{AllocError, Global};
 use std::test::*;
 
 /// Headings, each with the mode and the numbers that are read of it.
-const HEADINGS: &str = "async 1 1 1 4 > (Async, [1, 1, 1, 4])
+fn headings() -> &'static str {
+    "async 1 1 1 4 > (Async, [1, 1, 1, 4])
 joining 2 1 8 64 > (Joining, [2, 1, 8, 64])
 async 33 0 0 0 > (Async, [33, 0, 0, 0])
 joining 0 0 0 0 > (Joining, [0, 0, 0, 0])
 async 32 32 4096 1048576 > (Async, [32, 32, 4096, 1048576])
 async 4294967295 9 10 99 > (Async, [4294967295, 9, 10, 99])
 joining 4294967295 4294967294 4294967293 4294967292 > (Joining, [4294967295, 4294967294, 4294967293, 4294967292])
-";
+"
+}
 
 // Tables of lines that are no headings. A blank at the end of a line and a carriage return are written as escapes.
 
 /// Lines with another first word.
-const OTHER_FIRST_WORDS: &str = "
+fn other_first_words() -> &'static str {
+    "
 ASYNC 1 1 1 1
 asynch 1 1 1 1
 asyn 1 1 1 1
@@ -25,9 +28,11 @@ join 2 1 8 64
 async joining 1 1 1 1
 submit 0
 fj 2
-aaaaaaaaaaaaaaaaaaaaaaaaaaaaaaaaaaaaaaaaaaaaaaaaaaaaaaaaaaaaaaaaa";
+aaaaaaaaaaaaaaaaaaaaaaaaaaaaaaaaaaaaaaaaaaaaaaaaaaaaaaaaaaaaaaaaa"
+}
 
-const OTHER_NUMBERS: &str = "
+fn other_numbers() -> &'static str {
+    "
 async
 async 1
 async 1 1
@@ -52,7 +57,8 @@ joining 2 1 8 064
 joining 4294967296 1 8 64
 joining - 1 8 64
 joining  2 1 8 64
-\x20joining 2 1 8 64";
+\x20joining 2 1 8 64"
+}
 
 /// The lines of a table that are headings, each with what is read of it.
 fn headings_in(alloc: Global, table: &str) -> Result<String, AllocError> {
@@ -68,19 +74,15 @@ fn headings_in(alloc: Global, table: &str) -> Result<String, AllocError> {
 
 #[test]
 fn headings_are_read(rt: HostRuntime) -> Result<(), Fail> {
-    assert_eq!(rt; headings_in(rt.alloc(), HEADINGS)?.as_str(), HEADINGS);
+    assert_eq!(rt; headings_in(rt.alloc(), headings())?.as_str(), headings());
     Ok(())
 }
 
 #[test]
-fn other_first_words_are_faults(rt: HostRuntime) -> Result<(), Fail> {
-    assert_eq!(rt; headings_in(rt.alloc(), OTHER_FIRST_WORDS)?.as_str(), "");
-    Ok(())
-}
-
-#[test]
-fn other_numbers_are_faults(rt: HostRuntime) -> Result<(), Fail> {
-    assert_eq!(rt; headings_in(rt.alloc(), OTHER_NUMBERS)?.as_str(), "");
+fn other_lines_are_faults(rt: HostRuntime) -> Result<(), Fail> {
+    for table in [other_first_words(), other_numbers()] {
+        assert_eq!(rt; headings_in(rt.alloc(), table)?.as_str(), "");
+    }
     Ok(())
 }
 

@@ -6,7 +6,8 @@ use rows::wrong;
 use std::test::*;
 
 /// What scans meet.
-const SCANS: &str = "a scan meets the first queue with a number
+fn scans() -> &'static str {
+    "a scan meets the first queue with a number
 3 2; push 0 0 > done; push 2 1 > done; first 1 > 2; new 2 > 1; push 0 2 > done; new 0 > 2; old 0 > 0; first 0 > none
 
 a scan starts anywhere, also at the largest words: were the place after them 0, owner 0 would be met before owner 5
@@ -17,10 +18,12 @@ no queues
 0 2; owners > 0; room > 2; total > 0; first 4294967295 > none
 
 a thief takes the oldest
-4 3; push 2 7 > done; push 2 8 > done; first 3 > 2; old 2 > 7; new 2 > 8; old 2 > none";
+4 3; push 2 7 > done; push 2 8 > done; first 3 > 2; old 2 > 7; new 2 > 8; old 2 > none"
+}
 
 /// What is taken at both ends.
-const ENDS: &str = "the order at both ends
+fn ends() -> &'static str {
+    "the order at both ends
 2 3; owners > 2; room > 3; push 1 10 > done; push 1 11 > done; push 1 12 > done; len 0 > 0; len 1 > 3; total > 3;
 list 1 > 10 11 12; old 1 > 10; new 1 > 12; old 0 > none; new 0 > none; len 0 > 0; len 1 > 1; total > 1; list 1 > 11; list 0 >
 
@@ -32,20 +35,21 @@ three times its room goes through a queue, so that each cell is used again
 2 3; push 1 0 > done; push 1 1 > done; push 1 2 > done; list 1 > 0 1 2; old 1 > 0; push 1 3 > done; list 1 > 1 2 3; old 1 > 1;
 push 1 4 > done; list 1 > 2 3 4; old 1 > 2; push 1 5 > done; list 1 > 3 4 5; old 1 > 3; push 1 6 > done; list 1 > 4 5 6;
 old 1 > 4; push 1 7 > done; list 1 > 5 6 7; old 1 > 5; push 1 8 > done; list 1 > 6 7 8; old 1 > 6; new 1 > 8; new 1 > 7;
-total > 0";
+total > 0"
+}
 
 fn crosses<T: Send + Drop>(_value: T) {}
 
 #[test]
 fn scans_meet_the_first_queue_with_a_number(rt: HostRuntime) -> Result<(), Fail> {
-    let given = wrong(rt.alloc(), SCANS)?;
+    let given = wrong(rt.alloc(), scans())?;
     assert_eq!(rt; given.as_str(), "");
     Ok(())
 }
 
 #[test]
 fn order_at_both_ends(rt: HostRuntime) -> Result<(), Fail> {
-    let given = wrong(rt.alloc(), ENDS)?;
+    let given = wrong(rt.alloc(), ends())?;
     assert_eq!(rt; given.as_str(), "");
     Ok(())
 }

@@ -10,7 +10,8 @@ use std::test::Fail;
 use trial::Trial;
 
 /// Records, handles, and what is written.
-const MAKES: &str = "each make has the next number
+fn makes() -> &'static str {
+    "each make has the next number
 3; len > 0; make - 1 stop open > 0:0; make 0 65535 stop submitted > 1:1; len > 2;
 get 1 > Record { serial: Serial(1), kind: Completer { relay: false, count: 65535, parent: Some(Serial(0)) }, place: Queued(Sub(SubId(2))), status: Undone, pending: 65535, fired: false, children: 0 };
 state 0 > Open undone 1 unspent 1
@@ -36,10 +37,12 @@ state 2 > Gone exceptional 7 0 spent 0; state 3 > Held(WorkerId(3)) cancelled 0 
 all open tasks go
 5; make - 1 stop open > 0:0; make plain gone > 1:1; make plain held > 2:2; make - 2 stop open > 3:3; make plain submitted > 4:4;
 status 3 normal > done; close > done; state 0 > Gone undone 1 unspent 0; state 1 > Gone undone 0 unspent 0;
-state 2 > Held(WorkerId(3)) undone 0 unspent 0; state 3 > Gone normal 2 spent 0; state 4 > Queued(Sub(SubId(2))) undone 0 unspent 0; len > 5";
+state 2 > Held(WorkerId(3)) undone 0 unspent 0; state 3 > Gone normal 2 spent 0; state 4 > Queued(Sub(SubId(2))) undone 0 unspent 0; len > 5"
+}
 
 /// Arrivals and additions.
-const ARRIVALS: &str = "a completer fires at the arrival after its last
+fn arrivals() -> &'static str {
+    "a completer fires at the arrival after its last
 1; make - 1 stop forked > 0:0; arrive 0 > Counted; arrive 0 > Early; place 0 held > done; arrive 0 > Early; place 0 open > done;
 arrive 0 > Fire; arrive 0 > Spent
 
@@ -49,10 +52,12 @@ add 1 1 > 5; add 0 0 > 4
 
 an addition is refused by the first cause
 2; make - 65530 stop open > 0:0; make plain open > 1:1; add 0 5 > 65535; add 0 1 > refused 10; add 0 4294967295 > refused 10;
-add 1 4294967295 > refused 8; add 0:9 4294967295 > refused 5; add 0 0 > 65535";
+add 1 4294967295 > refused 8; add 0:9 4294967295 > refused 5; add 0 0 > 65535"
+}
 
 /// What climbs change.
-const CLIMBS: &str = "a climb makes the passed ones spent and lowers one count
+fn climbs() -> &'static str {
+    "a climb makes the passed ones spent and lowers one count
 4; make - 2 stop open > 0:0; make 0 0 stop open > 1:1; make 1 0 stop open > 2:2; make 2 0 stop open > 3:3; pass 2 > 2 0 Counted;
 state 0 > Open undone 1 unspent 1; state 1 > Open undone 0 spent 1; state 2 > Open undone 0 spent 1;
 state 3 > Open undone 0 unspent 0
@@ -67,10 +72,12 @@ pass 0 > 1 0 Root
 
 a climb is not early at its own task, held
 4; make - 0 stop open > 0:0; make 0 0 stop open > 1:1; make 1 0 stop open > 2:2; make 2 0 stop open > 3:3; place 0 held > done;
-pass 0 > 1 0 Root";
+pass 0 > 1 0 Root"
+}
 
 /// Relays.
-const RELAYS: &str = "a relay goes up to the root
+fn relays() -> &'static str {
+    "a relay goes up to the root
 3; make - 0 relay open > 0:0; make 0 0 relay gone > 1:1; make 1 0 relay open > 2:2; relay 1 7 > 2;
 state 0 > Open exceptional 7 0 spent 1; state 1 > Gone exceptional 7 0 spent 1; state 2 > Open undone 0 unspent 0; relay 2 8 > 1;
 state 2 > Open exceptional 8 0 spent 0; state 1 > Gone exceptional 7 0 spent 1
@@ -86,10 +93,12 @@ state 1 > Open normal 0 spent 1
 
 a plain task gets its status alone
 2; make - 0 relay open > 0:0; make plain open > 1:1; relay 1 3 > 1; state 1 > Open exceptional 3 0 spent 0;
-state 0 > Open undone 0 unspent 0";
+state 0 > Open undone 0 unspent 0"
+}
 
 /// Releases.
-const RELEASES: &str = "a release is refused by the first cause
+fn releases() -> &'static str {
+    "a release is refused by the first cause
 3; make - 0 stop open > 0:0; make plain held > 1:1; make - 0 stop gone > 2:2; release 0 > refused 9; release 1 > refused 9;
 release 0:9 > refused 5; len > 3; release 2 > done; release 2 > refused 5; len > 2
 
@@ -105,7 +114,8 @@ find 1 > none; find 2 > 2:2; make plain open > 1:3; find 1 > none; find 2 > 2:2;
 
 a key is used again but no number
 1; make plain gone > 0:0; make plain gone > refused 2; release 0 > done; find 0 > none; make plain gone > 0:1; get 0 > none;
-make 0 0 stop open > refused 5";
+make 0 0 stop open > refused 5"
+}
 
 /// What a climb gave in place of this end, which began so many completers below the one at which this was done.
 fn other_climb(
@@ -125,35 +135,35 @@ fn other_climb(
 
 #[test]
 fn records_are_made_and_written(rt: HostRuntime) -> Result<(), Fail> {
-    let given = wrong(rt.alloc(), MAKES)?;
+    let given = wrong(rt.alloc(), makes())?;
     assert_eq!(rt; given.as_str(), "");
     Ok(())
 }
 
 #[test]
 fn arrivals_and_additions(rt: HostRuntime) -> Result<(), Fail> {
-    let given = wrong(rt.alloc(), ARRIVALS)?;
+    let given = wrong(rt.alloc(), arrivals())?;
     assert_eq!(rt; given.as_str(), "");
     Ok(())
 }
 
 #[test]
 fn climbs_change_what_they_pass(rt: HostRuntime) -> Result<(), Fail> {
-    let given = wrong(rt.alloc(), CLIMBS)?;
+    let given = wrong(rt.alloc(), climbs())?;
     assert_eq!(rt; given.as_str(), "");
     Ok(())
 }
 
 #[test]
 fn relays_go_as_far_as_they_may(rt: HostRuntime) -> Result<(), Fail> {
-    let given = wrong(rt.alloc(), RELAYS)?;
+    let given = wrong(rt.alloc(), relays())?;
     assert_eq!(rt; given.as_str(), "");
     Ok(())
 }
 
 #[test]
 fn releases_keep_parents(rt: HostRuntime) -> Result<(), Fail> {
-    let given = wrong(rt.alloc(), RELEASES)?;
+    let given = wrong(rt.alloc(), releases())?;
     assert_eq!(rt; given.as_str(), "");
     Ok(())
 }

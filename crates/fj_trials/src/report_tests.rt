@@ -8,7 +8,8 @@ fn told(alloc: Global, text: &str, form: Form) -> Result<String, Fail> {
     Ok(format!(in alloc; "{} {}", report.scripts, report.mismatches)?)
 }
 
-const TWO: &str = "# About the file.
+fn two() -> &'static str {
+    "# About the file.
 
 # One task.
 async 1 1 1 4
@@ -19,11 +20,12 @@ poll 0 0 > run 0
 # A seal.
 async 1 1 1 4
 seal > sealed 0 events, gone none
-";
+"
+}
 
 #[test]
 fn good_scripts_are_counted(rt: HostRuntime) -> Result<(), Fail> {
-    assert_eq!(rt; told(rt.alloc(), TWO, Form::Plain)?.as_str(), "2 ");
+    assert_eq!(rt; told(rt.alloc(), two(), Form::Plain)?.as_str(), "2 ");
     Ok(())
 }
 
@@ -66,14 +68,19 @@ fn what_does_not_fit_is_told_with_its_place(rt: HostRuntime) -> Result<(), Fail>
 }
 
 /// The second heading and the last one have room for one event alone.
-const ALTERNATIVES: &str = "async 1 1 1 2 or async 1 1 1 1 or joining 1 1 1 1
+fn alternatives() -> &'static str {
+    "async 1 1 1 2 or async 1 1 1 1 or joining 1 1 1 1
 submit 0 > task 0
 poll 0 0 > run 0 or refused 3
-";
+"
+}
 
 #[test]
 fn each_heading_has_its_reply(rt: HostRuntime) -> Result<(), Fail> {
-    assert_eq!(rt; told(rt.alloc(), ALTERNATIVES, Form::Plain)?.as_str(), "1 ");
+    assert_eq!(rt;
+        told(rt.alloc(), alternatives(), Form::Plain)?.as_str(),
+        "1 "
+    );
     let text = "async 1 1 1 2 or async 1 1 1 1\nsubmit 0 > task 0\npoll 0 0 > run 0";
     assert_eq!(rt;
         told(rt.alloc(), text, Form::Plain)?.as_str(),
@@ -82,7 +89,8 @@ fn each_heading_has_its_reply(rt: HostRuntime) -> Result<(), Fail> {
     Ok(())
 }
 
-const DOCUMENT: &str = "# A page
+fn document() -> &'static str {
+    "# A page
 
 A line.
 
@@ -98,12 +106,13 @@ submit 0 > task 1
 ```
 
 async 1 1 1 4
-";
+"
+}
 
 #[test]
 fn a_document_has_scripts_in_its_blocks_alone(rt: HostRuntime) -> Result<(), Fail> {
     assert_eq!(rt;
-        told(rt.alloc(), DOCUMENT, Form::Document)?.as_str(),
+        told(rt.alloc(), document(), Form::Document)?.as_str(),
         "2 file:13: A section: submit 0 > task 0, and not task 1 (Machine at async 1 1 1 4)\nfile:16: A section: no steps\n"
     );
     Ok(())
