@@ -5,19 +5,25 @@ use fj_cli::{fj, without_words};
 use std::io::BufWriter;
 use std::process::ExitCode;
 use std::rt::Stderr;
+use std::sync::Wait;
+use std::thread::Threads;
 use std::{env, io};
 
 fn main(rt: HostRuntime) -> ExitCode {
     let mut err = rt.stderr();
-    let status = match run(&rt, &mut err) {
+    let status = match run(&rt, &rt, &mut err) {
         Ok(status) => status,
         Err(error) => without_words(&error, &mut err),
     };
     ExitCode::from(status)
 }
 
-/// Only the words and the buffer of the output can fail here.
-fn run(rt: &HostRuntime, err: &mut Stderr) -> io::Result<u8> {
+/// Only the words and the buffer of the output can fail here. The runtime starts threads, as `threads`, for its `main` alone.
+fn run<H: Threads + Wait + Sync>(
+    rt: &HostRuntime,
+    threads: &H,
+    err: &mut Stderr,
+) -> io::Result<u8> {
     let alloc = rt.alloc();
     let args: Vec<String> = env::args(rt)?.collect(alloc)?;
     let mut words = Vec::new(alloc);
@@ -26,5 +32,12 @@ fn run(rt: &HostRuntime, err: &mut Stderr) -> io::Result<u8> {
         words.push(arg.as_str())?;
     }
     let mut out = BufWriter::new(alloc, io::writer(rt))?;
-    Ok(fj(alloc, words.as_slice(), &mut rt.reader(), &mut out, err))
+    Ok(fj(
+        threads,
+        alloc,
+        words.as_slice(),
+        &mut rt.reader(),
+        &mut out,
+        err,
+    ))
 }

@@ -1,2 +1,6 @@
 -- what the kind of an error says of the words
 pub mod Answered
+-- what the end of a command says of its exit status
+pub mod Ended
+-- the number that was read for an option is that of its text
+pub mod Numbers

@@ -7,23 +7,33 @@ use Rattle.clap.specs.declared.error.Error.{Error}
 use Rattle.clap.specs.declared.error.kind.ErrorKind.TheVariants.{DisplayHelp, DisplayVersion, OutOfMemory}
 use Rattle.fj_cli.specs.declared.command_line.Subcommand.{Subcommand}
 use Rattle.fj_cli.specs.declared.command_line.Subcommand.TheVariants.{Replay}
+use Rattle.fj_cli.specs.Given.{IsAsked}
+use Rattle.fj_cli.specs.Options.{sum_line, min_line, find_line, tree_line}
+
+-- the program with its command for scripts
+abbrev pub script_line : App
+script_line =
+    with_subcommand (on_top (λ top. record top { has_version = true; subcommand_required = true }) (new_app (codes "fj"))) (new_app (codes "replay")).top
 
 -- what a parse reads of the whole command line
 abbrev pub whole_line : App
-whole_line =
-    with_subcommand (on_top (λ top. record top { has_version = true; subcommand_required = true }) (new_app (codes "fj"))) (new_app (codes "replay")).top
+whole_line = with_subcommand (with_subcommand (with_subcommand (with_subcommand script_line sum_line.top) min_line.top) find_line.top) tree_line.top
 
 -- the words of a replay
 abbrev pub replay_words : List Text
 replay_words = codes "fj" ∷ codes "replay" ∷ []
 
--- the name of the command that a parse meets in these words, if it meets one
-abbrev pub command_in : List Text → Option Text
-command_in words = option_map (λ (met : Text × List Row). met.0) (subcommand_of whole_line words)
+-- the command that a parse meets in these words, if it meets one, with what they give for its options
+abbrev pub command_in : List Text → Option (Text × List Row)
+command_in words = subcommand_of whole_line words
 
--- the words name the command replay
+-- the words ask for this
+abbrev pub Asks : List Text → Subcommand → Type 0
+Asks words asked = IsAsked (command_in words) asked
+
+-- they name the command for scripts
 abbrev pub NamesReplay : List Text → Type 0
-NamesReplay words = command_in words ≡ Some (codes "replay")
+NamesReplay words = option_map (λ (met : Text × List Row). met.0) (command_in words) ≡ Some (codes "replay")
 
 -- the words of a replay are read: as one, unless out of memory
 abbrev pub ReadsReplay : Result (Option Subcommand) Error → Type 0

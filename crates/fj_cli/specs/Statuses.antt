@@ -5,7 +5,10 @@ use Rattle.std.specs.declared.io.ErrorKind.{ErrorKind}
 use Rattle.std.specs.declared.io.ErrorKind.TheVariants.{InvalidData}
 use Rattle.fj_replay.specs.declared.fault.ReplayFault.{ReplayFault}
 use Rattle.fj_replay.specs.declared.fault.ReplayFault.TheVariants.{Line, Limits, Memory, Read, Write}
-use Rattle.fj_cli.specs.Commands.{AsksToShow, replay_words}
+use Rattle.fj_cli.specs.declared.command_line.Subcommand.{Subcommand}
+use Rattle.fj_cli.specs.declared.command_line.Subcommand.TheVariants.{Replay, Sum, Min, Find, Tree}
+use Rattle.fj_cli.specs.Answers.{EndsRange, EndsTree, hit_line, hit_of, least_line, least_of, number_line, sum_of}
+use Rattle.fj_cli.specs.Commands.{Asks, AsksToShow, IsAtFault, NamesReplay, replay_words}
 use Rattle.fj_replay.specs.Faults.{Begins, Ends, Replays}
 
 -- the exit status of a fault: 3 for the input, 4 for memory, 5 for a read or a write
@@ -29,14 +32,33 @@ StatusOfNoWords kind status = (kind ≡ InvalidData → status ≡ 2) × (kind �
 abbrev pub EndsKnown : List Text → ℕ → Option (List ℕ) → Option (List ℕ) → Option (List ℕ) → Option (List ℕ) → Type 0
 EndsKnown words status before ahead start now = words ≡ replay_words → status ≡ 0 → Replays before ahead start now
 
--- what status 0 says: a script was replayed, or what the words ask for of the command line was shown and nothing was read
-abbrev pub EndsWell : List Text → Option (List ℕ) → Option (List ℕ) → Option (List ℕ) → Option (List ℕ) → Type 0
-EndsWell words before ahead start now = Replays before ahead start now ⊎ (AsksToShow words × (ahead ≡ before))
+-- a replay ended with this exit status
+pub record EndsReplay (status : ℕ) (before ahead start now : Option (List ℕ)) : Type 0 where
+  pub known : (status ≡ 0) ⊎ ((status ≡ 3) ⊎ ((status ≡ 4) ⊎ (status ≡ 5)))
+  pub done : status ≡ 0 → Replays before ahead start now
+  pub fault : status ≡ 3 → EndsBy 3 before ahead start now
+  pub memory : status ≡ 4 → EndsBy 4 before ahead start now
+  -- whatever the status
+  pub begun : Begins before ahead start now
 
--- what status 4 says: a replay ended so, or nothing was read and nothing written
-abbrev pub LacksMemory : Option (List ℕ) → Option (List ℕ) → Option (List ℕ) → Option (List ℕ) → Type 0
-LacksMemory before ahead start now = EndsBy 4 before ahead start now ⊎ ((ahead ≡ before) × (now ≡ start))
+-- this command ended with this exit status; a job over a range reads nothing
+abbrev pub EndsCommand : Subcommand → ℕ → Option (List ℕ) → Option (List ℕ) → Option (List ℕ) → Option (List ℕ) → Type 0
+EndsCommand Replay status before ahead start now = EndsReplay status before ahead start now
+EndsCommand (Sum o) status before ahead start now = (ahead ≡ before) × EndsRange o status (number_line (sum_of o)) start now
+EndsCommand (Min o f) status before ahead start now = (ahead ≡ before) × EndsRange o status (least_line (least_of o f)) start now
+EndsCommand (Find o f want) status before ahead start now = (ahead ≡ before) × EndsRange o status (hit_line (hit_of o f want)) start now
+EndsCommand (Tree workers) status before ahead start now = EndsTree status before ahead start now
 
--- what each status says: what was written is a beginning of the replies to what was read, or nothing was read
-abbrev pub BeginsAtMost : Option (List ℕ) → Option (List ℕ) → Option (List ℕ) → Option (List ℕ) → Type 0
-BeginsAtMost before ahead start now = Begins before ahead start now ⊎ (ahead ≡ before)
+-- no command was run, and nothing read: at 0 the words ask for help or the version, at 2 there is a fault in them, or they do not name the
+-- command for scripts; at 2 and 4 nothing was written
+pub record EndsUnrun (words : List Text) (status : ℕ) (before ahead start now : Option (List ℕ)) : Type 0 where
+  pub known : (status ≡ 0) ⊎ ((status ≡ 2) ⊎ ((status ≡ 4) ⊎ (status ≡ 5)))
+  pub unread : ahead ≡ before
+  pub shown : status ≡ 0 → AsksToShow words
+  pub fault : status ≡ 2 → IsAtFault words ⊎ (¬ NamesReplay words)
+  pub silent : (status ≡ 2) ⊎ (status ≡ 4) → now ≡ start
+
+-- how the program ends: as the command that the words ask for, or without one
+abbrev pub EndsProgram : List Text → ℕ → Option (List ℕ) → Option (List ℕ) → Option (List ℕ) → Option (List ℕ) → Type 0
+EndsProgram words status before ahead start now =
+    ((asked : Subcommand) × Asks words asked × EndsCommand asked status before ahead start now) ⊎ EndsUnrun words status before ahead start now

@@ -1,68 +1,77 @@
-//! The command line: what its arguments ask for, and its help.
-ghost use Rattle.std.specs.Prelude.{◌≡◌, ◌↔◌, Some, IfOk, IfErr};
+//! The command line: what its arguments ask for.
+ghost use Rattle.std.specs.Prelude.{◌≡◌, ◌≢◌, ◌↔◌, Some, IfOk, IfErr, IfSome, codes};
 ghost use Rattle.clap.specs.Walk.{texts};
-ghost use Rattle.clap.specs.Words.{HasKind, app_of};
-ghost use Rattle.fj_cli.specs.Commands.{whole_line, replay_words, faults_in, NamesReplay, ReadsReplay};
+ghost use Rattle.clap.specs.Words.{HasKind, subcommand_name_of, subcommand_rows_of};
+ghost use Rattle.fj_cli.specs.Commands.{Asks, NamesReplay, ReadsReplay, faults_in, replay_words};
+ghost use Rattle.fj_cli.specs.Given.{IsAsked};
 
-use clap::{Command, Error};
-use std::alloc::{AllocError, Global};
+mod arguments;
+mod commands;
+mod given;
+mod help;
+mod options;
 
-/// What help says last: the form of the input, an example, the exit statuses.
-const INPUT: &str =
-    "Input of fj replay: a script on standard input, a heading and then one step a line; each line ends with a line feed
-  async WORKERS SUBMITTERS TASKS EVENTS      or joining, with the same four limits
-  submit 0      poll 0 0      end 0 ok       among other steps, each with one reply line
-
-Example:
-  $ printf 'async 1 1 8 64\\nsubmit 0\\npoll 0 0\\nend 0 ok\\n' | fj replay
-  task 0
-  run 0
-  done
-
-Exit status:
-  0  the whole script was replied to, or help or the version was written
-  2  a fault of the command line
-  3  a faulty line, told by its number, or a limit out of its range
-  4  out of memory
-  5  a read or a write failed";
+use clap::{ArgMatches, Error};
+use commands::command;
+use given::{read_function, read_range, read_want, read_workers};
+pub use options::{FunctionOptions, RangeOptions, Workers};
+use std::alloc::Global;
 
 /// What is to be run.
 #[derive(Clone, Copy)]
 pub enum Subcommand {
     /// A script on standard input.
     Replay,
+    /// The sum of a range.
+    Sum(RangeOptions),
+    /// The least value of a function over a range.
+    Min(RangeOptions, FunctionOptions),
+    /// The first number of a range at which a function has this value.
+    Find(RangeOptions, FunctionOptions, u32),
+    /// The value of a tree on standard input.
+    Tree(Workers),
 }
 
-/// The whole command line.
-fn command<'a>(alloc: Global) -> Result<Command<'a>, AllocError>
-    ensures { IfOk result (λ command. app_of command ≡ whole_line) }
-{
-    let replay = Command::new(alloc, "replay")
-        .about("Runs the script on standard input and writes its replies")
-        .override_usage("fj replay < SCRIPT")
-        .after_help(INPUT);
-    Command::new(alloc, "fj")
-        .version("0.1.0")
-        .about("A fork-join pool with counted completers")
-        .after_help(INPUT)
-        .subcommand_required(true)
-        .subcommand(replay)
-}
-
-/// Reads the arguments, of which the first is the program's name. `None` if they name no command.
+/// Reads the arguments, of which the first is the program's name. `None` if they ask for no command.
 pub fn read<'a>(alloc: Global, words: &'a [&'a str]) -> Result<Option<Subcommand>, Error>
-    ensures subcommand { IfOk result (λ asked. (asked ≡ Some Subcommand.Replay) ↔ NamesReplay (texts words.entry.now)) }
+    ensures asked { IfOk result (λ asked. IfSome asked (λ a. Asks (texts words.entry.now) a)) }
+    ensures replay { IfOk result (λ asked. (asked ≡ Some Subcommand.Replay) ↔ NamesReplay (texts words.entry.now)) }
     ensures fault { IfErr result (λ error. HasKind (faults_in (texts words.entry.now)) error) }
     ensures known { texts words.entry.now ≡ replay_words → ReadsReplay result }
 {
     match command(alloc)?.try_get_matches_from(words) {
-        Ok(matches) => {
-            if matches.subcommand_matches("replay").is_some() {
-                Ok(Some(Subcommand::Replay))
-            } else {
-                Ok(None)
-            }
-        }
+        Ok(matches) => Ok(asked(&matches)),
         Err(error) => Err(error),
     }
+}
+
+/// What the arguments ask for.
+fn asked(matches: &ArgMatches) -> Option<Subcommand>
+    ensures asked { IfSome result (λ a. IsAsked (subcommand_rows_of matches.now) a) }
+    ensures replay { (result ≡ Some Subcommand.Replay) ↔ (subcommand_name_of matches.now ≡ Some (codes "replay")) }
+{
+    if matches.subcommand_matches("replay").is_some() {
+        return Some(Subcommand::Replay);
+    }
+    asked_job(matches)
+}
+
+/// Which job the arguments ask for.
+fn asked_job(matches: &ArgMatches) -> Option<Subcommand>
+    ensures asked { IfSome result (λ a. IsAsked (subcommand_rows_of matches.now) a) }
+    ensures job { IfSome result (λ a. a ≢ Subcommand.Replay) }
+{
+    if let Some(given) = matches.subcommand_matches("sum") {
+        return Some(Subcommand::Sum(read_range(given)?));
+    }
+    if let Some(given) = matches.subcommand_matches("min") {
+        return Some(Subcommand::Min(read_range(given)?, read_function(given)?));
+    }
+    if let Some(given) = matches.subcommand_matches("find") {
+        return Some(Subcommand::Find(read_range(given)?, read_function(given)?, read_want(given)?));
+    }
+    if let Some(given) = matches.subcommand_matches("tree") {
+        return Some(Subcommand::Tree(read_workers(given)?));
+    }
+    None
 }

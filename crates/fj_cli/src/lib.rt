@@ -1,13 +1,23 @@
 //! The command line of the program `fj`.
 //!
-//! [`fj`] runs a command over any reader and writers. Who calls it has beside it what `fj_replay` gives for scripts, [`replay`],
-//! [`replayed`] and [`ReplayFault`], and the readers and writers of `fj_streams`.
+//! [`fj`] runs a command over any reader and writers. Who calls it has beside it what the commands stand on: of `fj_replay` [`replay`],
+//! [`replayed`] and [`ReplayFault`]; of `fj_streams` the readers and writers of which contracts know the calls; of `fj_invoke` the jobs that
+//! divide, with [`invoke`]; of `fj_fold` trees, with [`read_tree`] and [`fold_tree`].
 #![tactic(auto)]
 
+mod answer;
 mod command_line;
+mod job_commands;
 mod program;
 mod replay_command;
+mod tree_command;
 
+pub use fj_fold::{Family, Nodes, Tree, TreeFold, fold_tree, read_tree};
+pub use fj_invoke::{
+    BlockedRange, Divide, FirstHit, LinearMod, Open, RangeMin, RangeSum, Recursive, Turnstile,
+    invoke,
+};
+pub use fj_jobs::TreeFault;
 pub use fj_replay::{ReplayFault, replay, replayed};
 pub use fj_streams::{Sink, Source, Watched};
 pub use program::{fj, without_words};

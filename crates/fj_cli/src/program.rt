@@ -2,24 +2,30 @@ ghost use Rattle.std.specs.Prelude.{◌≡◌, ◌≢◌, ◌⊎◌};
 ghost use Rattle.clap.specs.Walk.{texts};
 ghost use Rattle.clap.specs.Words.{kind_of};
 ghost use Rattle.std.specs.IoError.{error_kind};
-ghost use Rattle.fj_cli.specs.Commands.{replay_words, IsAtFault, NamesReplay, TellsOfFault};
-ghost use Rattle.fj_cli.specs.Statuses.{BeginsAtMost, EndsBy, EndsKnown, EndsWell, LacksMemory, StatusOfNoWords};
+ghost use Rattle.fj_cli.specs.Commands.{TellsOfFault, replay_words};
+ghost use Rattle.fj_cli.specs.Statuses.{EndsCommand, EndsKnown, EndsProgram, StatusOfNoWords};
 
+use crate::answer::told;
 use crate::command_line::{Subcommand, read};
+use crate::job_commands::{run_find, run_min, run_sum};
 use crate::replay_command::run_replay;
+use crate::tree_command::run_tree;
 use clap::Error;
 use clap::error::ErrorKind;
 use fj_streams::flush_whole;
 use std::alloc::Global;
 use std::io::{self, Read, Write};
+use std::sync::Wait;
+use std::thread::Threads;
 
 /// Runs a command, and gives the exit status. `words` are the arguments, of which the first is the program's name.
 ///
-/// 0: it was run, or help or the version was asked for and written to `out`. 2: a fault of the arguments. 3: a fault of the input. 4: out of
-/// memory. 5: a read or a write failed. For all but 0 a text is sent to `err`, which may fail. `out` is flushed after a replay, and
-/// after help or the version; a failed flush gives 5.
-#[tactic(auto, using(crate::proofs::Answered::shown_asks))]
-pub fn fj<R: Read, W: Write, E: Write>(
+/// 0: it was run, or help or the version was asked for and written to `out`. 2: a fault of the arguments. 3: a fault of the input, or a job
+/// that the pool refused. 4: out of memory. 5: a read or a write failed. For all but 0 a text is sent to `err`, which may fail. `out` is
+/// flushed after a command, and after help or the version; a failed flush gives 5.
+#[tactic(auto, using(crate::proofs::Answered::shown_asks, crate::proofs::Answered::else_at_fault, crate::proofs::Ended::status_of_command, crate::proofs::Ended::known_of_replay))]
+pub fn fj<H: Threads + Wait + Sync, R: Read, W: Write, E: Write>(
+    rt: &H,
     alloc: Global,
     words: &[&str],
     input: &mut R,
@@ -30,21 +36,35 @@ pub fn fj<R: Read, W: Write, E: Write>(
     // The arguments of a replay run one, which is to its end at 0.
     ensures known { texts words.entry.now ≡ replay_words → result ≢ 2 }
     ensures replayed { EndsKnown (texts words.entry.now) result (R.remaining input.old) (R.remaining input.new) (W.contents out.old) (W.contents out.new) }
-    // Arguments that name no replay read nothing.
-    ensures unread { ¬ NamesReplay (texts words.entry.now) → R.remaining input.new ≡ R.remaining input.old }
-    // What else each status says.
-    ensures done { result ≡ 0 → EndsWell (texts words.entry.now) (R.remaining input.old) (R.remaining input.new) (W.contents out.old) (W.contents out.new) }
-    ensures words { result ≡ 2 → (R.remaining input.new ≡ R.remaining input.old) × (W.contents out.new ≡ W.contents out.old) }
-    ensures fault_of_words { result ≡ 2 → IsAtFault (texts words.entry.now) ⊎ (¬ NamesReplay (texts words.entry.now)) }
-    ensures fault_of_input { result ≡ 3 → EndsBy 3 (R.remaining input.old) (R.remaining input.new) (W.contents out.old) (W.contents out.new) }
-    ensures memory { result ≡ 4 → LacksMemory (R.remaining input.old) (R.remaining input.new) (W.contents out.old) (W.contents out.new) }
-    // Whatever the status: what was written is a beginning of the replies to what was read, or nothing was read.
-    ensures begun { BeginsAtMost (R.remaining input.old) (R.remaining input.new) (W.contents out.old) (W.contents out.new) }
+    // What the status says, whatever the arguments.
+    ensures ends { EndsProgram (texts words.entry.now) result (R.remaining input.old) (R.remaining input.new) (W.contents out.old) (W.contents out.new) }
 {
     match read(alloc, words) {
-        Ok(Some(Subcommand::Replay)) => run_replay(alloc, input, out, err),
+        Ok(Some(asked)) => run(rt, alloc, asked, input, out, err),
         Ok(None) => told(err, "no such command\n", 2),
-        Err(error) => answered(&error, out, err),
+        Err(error) => without_command(&error, out, err),
+    }
+}
+
+/// Runs the command that is asked for.
+fn run<H: Threads + Wait + Sync, R: Read, W: Write, E: Write>(
+    rt: &H,
+    alloc: Global,
+    asked: Subcommand,
+    input: &mut R,
+    out: &mut W,
+    err: &mut E,
+) -> u8
+    ensures { EndsCommand asked result (R.remaining input.old) (R.remaining input.new) (W.contents out.old) (W.contents out.new) }
+{
+    match asked {
+        Subcommand::Replay => run_replay(alloc, input, out, err),
+        Subcommand::Sum(options) => run_sum(rt, alloc, options, out, err),
+        Subcommand::Min(options, function) => run_min(rt, alloc, options, function, out, err),
+        Subcommand::Find(options, function, want) => {
+            run_find(rt, alloc, options, function, want, out, err)
+        }
+        Subcommand::Tree(workers) => run_tree(rt, alloc, workers, input, out, err),
     }
 }
 
@@ -65,7 +85,7 @@ pub fn without_words<E: Write>(error: &io::Error, err: &mut E) -> u8
 }
 
 /// Tells why the arguments name no command, or what they ask for of the command line itself.
-fn answered<W: Write, E: Write>(error: &Error, out: &mut W, err: &mut E) -> u8
+fn without_command<W: Write, E: Write>(error: &Error, out: &mut W, err: &mut E) -> u8
     ensures status { (result ≡ 0) ⊎ ((result ≡ 2) ⊎ ((result ≡ 4) ⊎ (result ≡ 5))) }
     ensures out_of_memory { kind_of error.now ≡ ErrorKind.OutOfMemory → result ≡ 4 }
     ensures shown { result ≡ 0 → (kind_of error.now ≡ ErrorKind.DisplayHelp) ⊎ (kind_of error.now ≡ ErrorKind.DisplayVersion) }
@@ -87,12 +107,4 @@ fn answered<W: Write, E: Write>(error: &Error, out: &mut W, err: &mut E) -> u8
             Err(_) => 5,
         },
     }
-}
-
-/// Writes a text on standard error. No exit status tells that this failed too.
-fn told<E: Write>(err: &mut E, text: &str, status: u8) -> u8
-    ensures { result ≡ status }
-{
-    let _ = err.write_all(text.as_bytes());
-    status
 }

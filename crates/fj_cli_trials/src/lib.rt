@@ -1,6 +1,8 @@
-//! Tests of the command line and of the replay of scripts.
+//! Tests of the command line, of its jobs, and of the replay of scripts.
 #![tactic(auto)]
 
+#[cfg(test)]
+mod job_tests;
 #[cfg(test)]
 mod name_tests;
 #[cfg(test)]

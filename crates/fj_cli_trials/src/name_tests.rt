@@ -1,7 +1,9 @@
 //! Scripts in which tasks have names.
 use crate::test_rows::{Row, first_other, other};
 use std::alloc::Global;
+use std::sync::Wait;
 use std::test::Fail;
+use std::thread::Threads;
 
 /// Scripts of version 2, their replies, and what ends them.
 const ROWS: [&str; 19] = [
@@ -29,7 +31,13 @@ const ROWS: [&str; 19] = [
 /// What is a line of 66 bytes, and of 67.
 const LONGEST: &str = "fork aaaaaaaaaaaaaaa1 4294967295 aaaaaaaaaaaaaaa2 4294967295 relay";
 
-fn other_longest(alloc: Global, line: &str, replies: &str, fault: &str) -> Result<String, Fail> {
+fn other_longest<H: Threads + Wait + Sync>(
+    rt: &H,
+    alloc: Global,
+    line: &str,
+    replies: &str,
+    fault: &str,
+) -> Result<String, Fail> {
     let script = format!(in alloc; "fj 2;async 1 1 2 8;{line};")?;
     let row = Row {
         name: "a long line",
@@ -38,12 +46,12 @@ fn other_longest(alloc: Global, line: &str, replies: &str, fault: &str) -> Resul
         fault,
         status: if fault.is_empty() { 0 } else { 3 },
     };
-    other(alloc, row)
+    other(rt, alloc, row)
 }
 
 #[test]
 fn tasks_go_by_their_names(rt: HostRuntime) -> Result<(), Fail> {
-    let other = first_other(rt.alloc(), ROWS.as_slice())?;
+    let other = first_other(&rt, rt.alloc(), ROWS.as_slice())?;
     assert_eq!(rt; other.as_str(), "");
     Ok(())
 }
@@ -52,10 +60,10 @@ fn tasks_go_by_their_names(rt: HostRuntime) -> Result<(), Fail> {
 fn a_line_has_66_bytes_at_most(rt: HostRuntime) -> Result<(), Fail> {
     let alloc = rt.alloc();
     assert_eq!(rt; LONGEST.len(), 66);
-    let other = other_longest(alloc, LONGEST, "refused 4;", "")?;
+    let other = other_longest(&rt, alloc, LONGEST, "refused 4;", "")?;
     assert_eq!(rt; other.as_str(), "");
     let longer = format!(in alloc; "{LONGEST}s")?;
-    let other = other_longest(alloc, &longer, "", "fault: line 3;")?;
+    let other = other_longest(&rt, alloc, &longer, "", "fault: line 3;")?;
     assert_eq!(rt; other.as_str(), "");
     Ok(())
 }

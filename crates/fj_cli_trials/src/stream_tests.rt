@@ -3,7 +3,9 @@ use crate::tests::{REPLIES, SCRIPT, ended, first_lines};
 use fj_cli::{ReplayFault, Watched, fj, replay, replayed};
 use std::alloc::{AllocError, Global};
 use std::io::{self, ErrorKind, Read, Write};
+use std::sync::Wait;
 use std::test::Fail;
+use std::thread::Threads;
 
 /// Gives one byte at each second read, is interrupted at the others, and fails at the end.
 #[derive(Drop)]
@@ -107,14 +109,18 @@ fn interruptions_change_nothing(rt: HostRuntime) -> Result<(), Fail> {
 }
 
 /// Whether a reader that fails behind a script is told, with the replies to the whole lines of it.
-fn is_read_failed(alloc: Global, script: &str) -> Result<bool, Fail> {
+fn is_read_failed<H: Threads + Wait + Sync>(
+    rt: &H,
+    alloc: Global,
+    script: &str,
+) -> Result<bool, Fail> {
     let mut input = Halting {
         bytes: bytes(alloc, script)?,
         at: 0,
         rests: false,
         fails: true,
     };
-    let ran = command(alloc, REPLAY.as_slice(), &mut input);
+    let ran = command(rt, alloc, REPLAY.as_slice(), &mut input);
     let whole = usize::saturating_sub(ended(script), 1);
     let replies = first_lines(alloc, REPLIES, whole)?;
     let is_replied = ran.out.as_slice() == bytes(alloc, &replies)?.as_slice();
@@ -125,17 +131,39 @@ fn is_read_failed(alloc: Global, script: &str) -> Result<bool, Fail> {
 fn a_reader_that_fails(rt: HostRuntime) -> Result<(), Fail> {
     for length in 0..SCRIPT.len() {
         let script = SCRIPT.get(..length).unwrap_or("");
-        assert!(rt; is_read_failed(rt.alloc(), script)?, "after {script}");
+        assert!(rt; is_read_failed(&rt, rt.alloc(), script)?, "after {script}");
     }
     Ok(())
 }
 
+#[test]
+fn a_tree_behind_a_reader_that_fails(rt: HostRuntime) -> Result<(), Fail> {
+    let alloc = rt.alloc();
+    let mut input = Halting {
+        bytes: bytes(alloc, "- 5;0 2;")?,
+        at: 0,
+        rests: false,
+        fails: true,
+    };
+    let ran = command(&rt, alloc, ["fj", "tree"].as_slice(), &mut input);
+    assert!(rt; ran.out.is_empty());
+    assert_eq!(rt; ran.err.as_slice(), b"read failed\n".as_slice());
+    assert_eq!(rt; ran.status, 5);
+    Ok(())
+}
+
 /// What a command gave that wrote into this sink.
-fn poured(alloc: Global, words: &[&str], script: &str, to: Narrow) -> Result<Ran, AllocError> {
+fn poured<H: Threads + Wait + Sync>(
+    rt: &H,
+    alloc: Global,
+    words: &[&str],
+    script: &str,
+    to: Narrow,
+) -> Result<Ran, AllocError> {
     let given = bytes(alloc, script)?;
     let mut out = to;
     let mut err = Vec::new(alloc);
-    let status = fj(alloc, words, &mut given.as_slice(), &mut out, &mut err);
+    let status = fj(rt, alloc, words, &mut given.as_slice(), &mut out, &mut err);
     let out = out.taken;
     Ok(Ran { status, out, err })
 }
@@ -147,8 +175,13 @@ fn is_write_failed(ran: &Ran, written: &[u8]) -> bool {
 }
 
 /// Whether a writer that ends after so many bytes is told, with the replies up to there.
-fn is_full_at(alloc: Global, room: usize, end: End) -> Result<bool, AllocError> {
-    let ran = poured(alloc, REPLAY.as_slice(), SCRIPT, sink(alloc, room, end))?;
+fn is_full_at<H: Threads + Wait + Sync>(
+    rt: &H,
+    alloc: Global,
+    room: usize,
+    end: End,
+) -> Result<bool, AllocError> {
+    let ran = poured(rt, alloc, REPLAY.as_slice(), SCRIPT, sink(alloc, room, end))?;
     let replies = bytes(alloc, REPLIES)?;
     Ok(match replies.as_slice().get(..room) {
         Some(written) => is_write_failed(&ran, written),
@@ -160,38 +193,54 @@ fn is_full_at(alloc: Global, room: usize, end: End) -> Result<bool, AllocError> 
 fn a_writer_that_fails(rt: HostRuntime) -> Result<(), Fail> {
     for end in [End::Fails, End::TakesNothing] {
         for room in 0..REPLIES.len() {
-            assert!(rt; is_full_at(rt.alloc(), room, end)?, "{end:?} after {room}");
+            assert!(rt;
+                is_full_at(&rt, rt.alloc(), room, end)?,
+                "{end:?} after {room}"
+            );
         }
     }
     Ok(())
 }
 
 /// Whether a flush that fails is told, with all the text written.
-fn is_unflushed(
+fn is_unflushed<H: Threads + Wait + Sync>(
+    rt: &H,
     alloc: Global,
     words: &[&str],
     script: &str,
     text: &str,
 ) -> Result<bool, AllocError> {
-    let ran = poured(alloc, words, script, sink(alloc, 1000, End::DoesNotFlush))?;
+    let ran = poured(
+        rt,
+        alloc,
+        words,
+        script,
+        sink(alloc, 1000, End::DoesNotFlush),
+    )?;
     let written = bytes(alloc, text)?;
     Ok(is_write_failed(&ran, written.as_slice()))
 }
 
 #[test]
 fn a_flush_that_fails(rt: HostRuntime) -> Result<(), Fail> {
-    let runs = [
-        (["fj", "replay"], "async 1 1 1 4;submit 0;", "task 0;"),
+    let runs: [(&[&str], &str, &str); 5] = [
+        (REPLAY.as_slice(), "async 1 1 1 4;submit 0;", "task 0;"),
         (
-            ["fj", "replay"],
+            REPLAY.as_slice(),
             "async 1 1 1 4;submit 0;no step;",
             "task 0;",
         ),
-        (["fj", "--version"], "", "fj 0.1.0;"),
+        (
+            ["fj", "sum", "--from", "1", "--to", "4"].as_slice(),
+            "",
+            "10;",
+        ),
+        (["fj", "tree"].as_slice(), "- 5;0 2;", "7;"),
+        (["fj", "--version"].as_slice(), "", "fj 0.1.0;"),
     ];
     for (words, script, text) in runs {
         assert!(rt;
-            is_unflushed(rt.alloc(), words.as_slice(), script, text)?,
+            is_unflushed(&rt, rt.alloc(), words, script, text)?,
             "{script}"
         );
     }

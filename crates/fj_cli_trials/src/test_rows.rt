@@ -2,7 +2,9 @@ use fj_cli::fj;
 use std::alloc::{AllocError, Global};
 use std::io::Read;
 use std::str;
+use std::sync::Wait;
 use std::test::Fail;
+use std::thread::Threads;
 
 /// What a command gave.
 #[derive(Drop)]
@@ -12,10 +14,15 @@ pub struct Ran {
     pub err: Vec<u8>,
 }
 
-pub fn command<R: Read>(alloc: Global, words: &[&str], input: &mut R) -> Ran {
+pub fn command<H: Threads + Wait + Sync, R: Read>(
+    rt: &H,
+    alloc: Global,
+    words: &[&str],
+    input: &mut R,
+) -> Ran {
     let mut out = Vec::new(alloc);
     let mut err = Vec::new(alloc);
-    let status = fj(alloc, words, input, &mut out, &mut err);
+    let status = fj(rt, alloc, words, input, &mut out, &mut err);
     Ran { status, out, err }
 }
 
@@ -76,9 +83,23 @@ fn read(text: &str) -> Row<'_> {
 }
 
 /// What a script gave in place of what its row says; empty where it gave that.
-pub fn other(alloc: Global, row: Row<'_>) -> Result<String, Fail> {
+pub fn other<H: Threads + Wait + Sync>(
+    rt: &H,
+    alloc: Global,
+    row: Row<'_>,
+) -> Result<String, Fail> {
+    other_for(rt, alloc, REPLAY.as_slice(), row)
+}
+
+/// The same of the command with these words.
+fn other_for<H: Threads + Wait + Sync>(
+    rt: &H,
+    alloc: Global,
+    words: &[&str],
+    row: Row<'_>,
+) -> Result<String, Fail> {
     let given = bytes(alloc, row.script)?;
-    let ran = command(alloc, REPLAY.as_slice(), &mut given.as_slice());
+    let ran = command(rt, alloc, words, &mut given.as_slice());
     if is_as_told(alloc, &ran, row)? {
         return Ok(String::new(alloc));
     }
@@ -98,10 +119,44 @@ fn is_as_told(alloc: Global, ran: &Ran, row: Row<'_>) -> Result<bool, AllocError
     Ok(is_said && ran.status == row.status)
 }
 
-/// The same of the first row that gave something else.
-pub fn first_other(alloc: Global, rows: &[&str]) -> Result<String, Fail> {
+/// The same of the first script that gave something else.
+pub fn first_other<H: Threads + Wait + Sync>(
+    rt: &H,
+    alloc: Global,
+    rows: &[&str],
+) -> Result<String, Fail> {
     for row in rows {
-        let other = other(alloc, read(row))?;
+        let other = other(rt, alloc, read(row))?;
+        if !other.is_empty() {
+            return Ok(other);
+        }
+    }
+    Ok(String::new(alloc))
+}
+
+/// The words of a command line: the program's name, and what stands between spaces.
+pub fn words<'a>(alloc: Global, line: &'a str, more: &'a str) -> Result<Vec<&'a str>, AllocError> {
+    let mut words = Vec::new(alloc);
+    words.push("fj")?;
+    for word in line.split(' ').chain(more.split(' ')) {
+        if !word.is_empty() {
+            words.push(word)?;
+        }
+    }
+    Ok(words)
+}
+
+/// What the first row gave in place of what it says. In these rows the name is the command line, and `more` stands behind it.
+pub fn first_other_command<H: Threads + Wait + Sync>(
+    rt: &H,
+    alloc: Global,
+    rows: &[&str],
+    more: &str,
+) -> Result<String, Fail> {
+    for row in rows {
+        let row = read(row);
+        let words = words(alloc, row.name, more)?;
+        let other = other_for(rt, alloc, words.as_slice(), row)?;
         if !other.is_empty() {
             return Ok(other);
         }

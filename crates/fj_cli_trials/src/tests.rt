@@ -1,6 +1,8 @@
 use crate::test_rows::{Row, first_other, other};
 use std::alloc::Global;
+use std::sync::Wait;
 use std::test::Fail;
+use std::thread::Threads;
 
 pub const SCRIPT: &str =
     "async 2 2 8 64;submit 1;submit 0;submit 1;poll 0 1;poll 1 1;end 0 ok;poll 0 0;end 0 ok;poll 0 3;";
@@ -50,7 +52,11 @@ const NO_STEPS: [&str; 22] = [
 ];
 
 /// What a script with a faulty third line gave in place of that fault.
-fn other_fault(alloc: Global, line: &str) -> Result<String, Fail> {
+fn other_fault<H: Threads + Wait + Sync>(
+    rt: &H,
+    alloc: Global,
+    line: &str,
+) -> Result<String, Fail> {
     let script = format!(in alloc; "async 1 1 1 4;submit 0;{line};submit 0;")?;
     let row = Row {
         name: "a faulty line",
@@ -59,7 +65,7 @@ fn other_fault(alloc: Global, line: &str) -> Result<String, Fail> {
         fault: "fault: line 3;",
         status: 3,
     };
-    other(alloc, row)
+    other(rt, alloc, row)
 }
 
 /// How many lines end in the text.
@@ -77,11 +83,16 @@ pub fn first_lines(alloc: Global, text: &str, count: usize) -> Result<String, Fa
 }
 
 /// What the beginning of a script gave in place of the replies to its whole lines, and of a fault where it ends within a line.
-fn other_beginning(alloc: Global, script: &str) -> Result<String, Fail> {
+fn other_beginning<H: Threads + Wait + Sync>(
+    rt: &H,
+    alloc: Global,
+    script: &str,
+) -> Result<String, Fail> {
     let whole = ended(script);
     let replies = first_lines(alloc, REPLIES, usize::saturating_sub(whole, 1))?;
     if script.ends_with(';') {
         return other(
+            rt,
             alloc,
             Row::good("a script that is cut short", script, &replies),
         );
@@ -95,12 +106,12 @@ fn other_beginning(alloc: Global, script: &str) -> Result<String, Fail> {
         fault: &fault,
         status: 3,
     };
-    other(alloc, row)
+    other(rt, alloc, row)
 }
 
 #[test]
 fn faults_end_a_script(rt: HostRuntime) -> Result<(), Fail> {
-    let other = first_other(rt.alloc(), ROWS.as_slice())?;
+    let other = first_other(&rt, rt.alloc(), ROWS.as_slice())?;
     assert_eq!(rt; other.as_str(), "");
     Ok(())
 }
@@ -108,7 +119,7 @@ fn faults_end_a_script(rt: HostRuntime) -> Result<(), Fail> {
 #[test]
 fn what_is_no_line_is_a_fault(rt: HostRuntime) -> Result<(), Fail> {
     for line in NO_STEPS {
-        let other = other_fault(rt.alloc(), line)?;
+        let other = other_fault(&rt, rt.alloc(), line)?;
         assert_eq!(rt; other.as_str(), "");
     }
     Ok(())
@@ -120,7 +131,7 @@ fn a_script_that_is_cut_short(rt: HostRuntime) -> Result<(), Fail> {
         let Some(script) = SCRIPT.get(..length) else {
             panic!(&rt; "no such beginning");
         };
-        let other = other_beginning(rt.alloc(), script)?;
+        let other = other_beginning(&rt, rt.alloc(), script)?;
         assert_eq!(rt; other.as_str(), "");
     }
     Ok(())

@@ -1,87 +1,91 @@
-use crate::test_rows::command;
+//! Arguments: their faults, help, the version.
+use crate::test_rows::{command, cut, words};
 use fj_cli::without_words;
 use std::alloc::Global;
 use std::io::{self, ErrorKind};
 use std::str;
+use std::sync::Wait;
 use std::test::Fail;
+use std::thread::Threads;
 
-/// Whether words without input end with this status, and show how `fj` is used: on standard output at 0, else on standard error. Nothing
-/// else is written.
-fn shows_usage(alloc: Global, words: &[&str], status: u8) -> Result<bool, Fail> {
-    let ran = command(alloc, words, &mut b"".as_slice());
+/// Command lines, and a part of what is told of each.
+const FAULTS: [&str; 17] = [
+    " | Usage: fj",
+    "add | unrecognized subcommand 'add'",
+    "sum | --from <N>",
+    "sum --from 1 | --to <N>",
+    "sum --from 1 --to x | invalid value 'x' for '--to <N>'",
+    "sum --from 1 --to 4294967296 | is not in 0..=4294967295",
+    "sum --from 1 --to 2 --grain 0 | is not in 1..=4294967295",
+    "sum --from 1 --to 2 --workers 0 | is not in 1..=32",
+    "sum --from 1 --to 2 --workers 33 | is not in 1..=32",
+    "sum --from 1 --to 2 --to 3 | '--to <N>' cannot be used multiple times",
+    "sum --from 1 --to 2 --mul 3 | unexpected argument '--mul'",
+    "min --from 1 --to 2 --mul 3 --add 4 | --mod <N>",
+    "min --from 1 --to 2 --mul 3 --add 4 --mod 0 | is not in 1..=4294967295",
+    "find --from 1 --to 2 --mul 3 --add 4 --mod 5 | --want <N>",
+    "tree --grain 2 | unexpected argument '--grain'",
+    "replay --fast | unexpected argument '--fast'",
+    "replay file | Usage: fj replay < SCRIPT",
+];
+
+/// Command lines, and parts of the help that each writes.
+const HELP: [&str; 7] = [
+    "--help | A fork-join pool | Usage: fj | sum     Writes the sum | Example:\n  $ printf | $ fj sum --from | Exit status:\n  0 | \n  5  a read or a write failed\n",
+    "help replay | Usage: fj replay < SCRIPT | Input of fj replay: a script on standard input | Exit status:\n  0",
+    "replay --help | Runs the script | Usage: fj replay < SCRIPT | Example:\n  $ printf | Exit status:\n  0 | \n  5  a read or a write failed\n",
+    "sum --help | Writes the sum | --from <N> | number, 0 to 4294967295 | --to <N> | --grain <N> | 1 to 4294967295 [default: 1] | --workers <N> | 1 to 32 [default: 1] | Example:\n  $ fj sum | Exit status:\n  0 | \n  5  a write failed\n",
+    "min --help | Writes the least value | --grain <N> | --mul <N> | function, 0 to 4294967295 | --add <N> | --mod <N> | function, 1 to 4294967295 | Example:\n  $ fj min | Exit status:\n  0 | \n  5  a write failed\n",
+    "find --help | Writes the first number | --want <N> | looked for, 0 to 4294967295 | --mod <N> | --workers <N> | Example:\n  $ fj find | Exit status:\n  0 | \n  5  a write failed\n",
+    "tree --help | Writes the value of the tree | 1 to 32 [default: 1] | Input of fj tree: a tree on standard input | Example:\n  $ printf | Exit status:\n  0 | \n  5  a read or a write failed\n",
+];
+
+/// What a command line without input tells in place of the parts that its row has; empty where it has them. At status 0 it tells it on
+/// standard output, else on standard error, and on the other one nothing.
+fn other_text<H: Threads + Wait + Sync>(
+    rt: &H,
+    alloc: Global,
+    row: &str,
+    status: u8,
+) -> Result<String, Fail> {
+    let (line, parts) = cut(row);
+    let words = words(alloc, line, "")?;
+    let ran = command(rt, alloc, words.as_slice(), &mut b"".as_slice());
     let (told, silent) = if status == 0 {
         (ran.out.as_slice(), ran.err.as_slice())
     } else {
         (ran.err.as_slice(), ran.out.as_slice())
     };
     let text = str::from_utf8(told)?;
-    Ok(ran.status == status && silent.is_empty() && text.contains("Usage: fj"))
+    let is_told = parts.split(" | ").all(|part| text.contains(part));
+    if ran.status == status && silent.is_empty() && is_told {
+        return Ok(String::new(alloc));
+    }
+    Ok(format!(in alloc; "{line} tells {text} {}", ran.status)?)
 }
 
 #[test]
 fn faults_of_the_words(rt: HostRuntime) -> Result<(), Fail> {
-    let lines: [&[&str]; 4] = [
-        ["fj"].as_slice(),
-        ["fj", "sum"].as_slice(),
-        ["fj", "replay", "more"].as_slice(),
-        ["fj", "replay", "--fast"].as_slice(),
-    ];
-    for words in lines {
-        assert!(rt; shows_usage(rt.alloc(), words, 2)?, "{words:?}");
+    for row in FAULTS {
+        let other = other_text(&rt, rt.alloc(), row, 2)?;
+        assert_eq!(rt; other.as_str(), "");
     }
     Ok(())
 }
 
 #[test]
 fn help_that_is_asked_for(rt: HostRuntime) -> Result<(), Fail> {
-    let lines: [&[&str]; 3] = [
-        ["fj", "--help"].as_slice(),
-        ["fj", "replay", "--help"].as_slice(),
-        ["fj", "help", "replay"].as_slice(),
-    ];
-    for words in lines {
-        assert!(rt; shows_usage(rt.alloc(), words, 0)?, "{words:?}");
+    for row in HELP {
+        let other = other_text(&rt, rt.alloc(), row, 0)?;
+        assert_eq!(rt; other.as_str(), "");
     }
-    Ok(())
-}
-
-#[test]
-fn help_ends_with_the_input_an_example_and_the_statuses(rt: HostRuntime) -> Result<(), Fail> {
-    let lines: [&[&str]; 2] = [
-        ["fj", "--help"].as_slice(),
-        ["fj", "replay", "--help"].as_slice(),
-    ];
-    for words in lines {
-        let ran = command(rt.alloc(), words, &mut b"".as_slice());
-        let text = str::from_utf8(ran.out.as_slice())?;
-        for part in [
-            "Input of fj replay: a script on standard input",
-            "Example:\n  $ ",
-            "Exit status:\n  0  ",
-        ] {
-            assert!(rt; text.contains(part), "{words:?}: {part}");
-        }
-        assert!(rt;
-            text.ends_with("\n  5  a read or a write failed\n"),
-            "{words:?}"
-        );
-    }
-    Ok(())
-}
-
-#[test]
-fn an_argument_too_many_is_told_where_the_script_goes(rt: HostRuntime) -> Result<(), Fail> {
-    let words = ["fj", "replay", "file"];
-    let ran = command(rt.alloc(), words.as_slice(), &mut b"".as_slice());
-    let text = str::from_utf8(ran.err.as_slice())?;
-    assert!(rt; text.contains("Usage: fj replay < SCRIPT"), "{text}");
     Ok(())
 }
 
 #[test]
 fn the_version(rt: HostRuntime) -> Result<(), Fail> {
     let words = ["fj", "--version"];
-    let ran = command(rt.alloc(), words.as_slice(), &mut b"".as_slice());
+    let ran = command(&rt, rt.alloc(), words.as_slice(), &mut b"".as_slice());
     assert_eq!(rt; ran.status, 0);
     assert_eq!(rt; ran.out.as_slice(), b"fj 0.1.0\n".as_slice());
     Ok(())

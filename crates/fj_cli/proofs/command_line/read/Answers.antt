@@ -3,9 +3,10 @@ use Rattle.clap.specs.Words.{App, HasKind, HasMatchesOf, Text, Row, fault_of, is
 use Rattle.clap.specs.declared.parser.matches.ArgMatches.{ArgMatches}
 use Rattle.clap.specs.declared.parser.matches.ArgMatches.TheViews.{out-ArgMatches, out-SubCommand}
 use Rattle.std.specs.Box.{box_value}
-use Rattle.std.specs.Prelude.{IsSome, is_some, false}
+use Rattle.std.specs.Prelude.{IfSome}
 use Rattle.clap.proofs.OnLiterals.{clap_on_literals}
 use Rattle.fj_cli.specs.Commands.{whole_line, replay_words, command_in}
+use Rattle.fj_cli.specs.Given.{IsAsked}
 use Rattle.fj_cli.proofs.command_line.read.Goals as goal
 
 is_taken : takes whole_line replay_words ≡ true
@@ -19,7 +20,7 @@ is_free = refl
 abbrev name_in : Option (Text × List Row) → Option Text
 name_in = option_map (λ met. met.0)
 
-is_met : command_in replay_words ≡ Some (codes "replay")
+is_met : name_in (command_in replay_words) ≡ Some (codes "replay")
 unfolding clap_on_literals
 is_met = refl
 
@@ -31,32 +32,31 @@ names m =
       | Some b ↦ refl
     ]
 
-not_both : {A : Type 0} → (o : Option A) → IsSome o → is_some o ≡ false → ⊥
-not_both o some e = absurd cc
+-- the command that the matches have is the one in the words
+met : (m : ArgMatches) (line : App) (words : List Text) → line ≡ whole_line → HasMatchesOf line words m → subcommand_rows_of m ≡ command_in words
+met m line words is has = (has (ap is_simple is)).1 ∙ ap (λ a. subcommand_of a words) is
 
--- the command that the matches name is the one in the words
-named : (m : ArgMatches) (line : App) (words : List Text) → line ≡ whole_line → HasMatchesOf line words m → subcommand_name_of m ≡ command_in words
-named m line words is has = sym (names m) ∙ ap name_in ((has (ap is_simple is)).1 ∙ ap (λ a. subcommand_of a words) is)
+named : (m : ArgMatches) (line : App) (words : List Text) → line ≡ whole_line → HasMatchesOf line words m → subcommand_name_of m ≡ name_in (command_in words)
+named m line words is has = sym (names m) ∙ ap name_in (met m line words is has)
 
-pub returns-clause-known : goal.returns-clause-known
-returns-clause-known c words_are = c.in-Err.ensures.passes (ap₂ takes c.in_ok-command.ensures words_are ∙ is_taken)
+pub returns-in-Ok-clause-asked : goal.returns-in-Ok-clause-asked
+returns-in-Ok-clause-asked c =
+    subst (λ there. IfSome c.asked.result (λ a. IsAsked there a)) (met c.in-Ok.matches _ _ c.in_ok-command.ensures c.in-Ok.ensures.matches) c.asked.ensures.asked
+
+pub returns-in-Ok-clause-replay : goal.returns-in-Ok-clause-replay
+returns-in-Ok-clause-replay c =
+    let name = named c.in-Ok.matches _ _ c.in_ok-command.ensures c.in-Ok.ensures.matches in
+    (λ e. sym name ∙ c.asked.ensures.replay.0 e, λ there. c.asked.ensures.replay.1 (name ∙ there))
 
 pub returns-in-Ok-clause-known : goal.returns-in-Ok-clause-known
 returns-in-Ok-clause-known c words_are =
     let name = named c.in-Ok.matches _ _ c.in_ok-command.ensures c.in-Ok.ensures.matches in
-    absurd (not_both c.subcommand_matches.result (c.subcommand_matches.ensures.found.1 (name ∙ (ap command_in words_are ∙ is_met))) (sym c.is_some.ensures ∙ c.if-is_some.false))
+    c.asked.ensures.replay.1 (name ∙ (ap (λ words. name_in (command_in words)) words_are ∙ is_met))
 
-pub returns-in-Ok-clause-subcommand : goal.returns-in-Ok-clause-subcommand
-returns-in-Ok-clause-subcommand c =
-    let name = named c.in-Ok.matches _ _ c.in_ok-command.ensures c.in-Ok.ensures.matches in
-    (λ e. absurd cc, λ met. absurd (not_both c.subcommand_matches.result (c.subcommand_matches.ensures.found.1 (name ∙ met)) (sym c.is_some.ensures ∙ c.if-is_some.false)))
+pub returns-in-Err-clause-known : goal.returns-in-Err-clause-known
+returns-in-Err-clause-known c words_are = c.in-Err.ensures.passes (ap₂ takes c.in_ok-command.ensures words_are ∙ is_taken)
 
-pub returns-then-is_some-clause-subcommand : goal.returns-then-is_some-clause-subcommand
-returns-then-is_some-clause-subcommand c =
-    let name = named c.in-Ok.matches _ _ c.in_ok-command.ensures c.in-Ok.ensures.matches in
-    (λ e. sym name ∙ c.subcommand_matches.ensures.found.0 (sym c.is_some.ensures ∙ c.if-is_some.true), λ met. refl)
-
-pub returns-clause-fault : goal.returns-clause-fault
-returns-clause-fault c =
+pub returns-in-Err-clause-fault : goal.returns-in-Err-clause-fault
+returns-in-Err-clause-fault c =
     let is = c.in_ok-command.ensures in
     subst (λ line. HasKind (fault_of line (map (λ word. word.now) c.args.words.now)) c.in-Err.error) is (c.in-Err.ensures.kinds (ap is_simple_and_free is ∙ is_free))

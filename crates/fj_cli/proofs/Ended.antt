@@ -1,0 +1,48 @@
+-- What the end of a command says of its exit status.
+use Rattle.std.proofs.Common.{ℕ, ◌≡◌, ◌≢◌, ◌⊎◌, ◌∙◌, refl, sym, subst, inl, inr, ⊎_elim, arith, List, Option, Some, codes}
+use Rattle.fj_jobs.specs.declared.tree_fault.TreeFault.{TreeFault}
+use Rattle.fj_jobs.specs.declared.tree_fault.TreeFault.TheVariants.{Line, Memory, Read}
+use Rattle.fj_cli.specs.declared.command_line.options.RangeOptions.{RangeOptions}
+use Rattle.fj_cli.specs.declared.command_line.Subcommand.{Subcommand}
+use Rattle.fj_cli.specs.declared.command_line.Subcommand.TheVariants.{Replay, Sum, Min, Find, Tree}
+use Rattle.fj_cli.specs.Answers.{EndsJob, EndsRange, EndsTree, status_of_fault}
+use Rattle.fj_cli.specs.Statuses.{EndsCommand, EndsReplay}
+use Rattle.fj_replay.specs.Faults.{Replays}
+
+-- an exit status of a command that does not end by 2
+abbrev IsOfCommand : ℕ → Type 0
+IsOfCommand status = (status ≡ 0) ⊎ ((status ≡ 3) ⊎ ((status ≡ 4) ⊎ (status ≡ 5)))
+
+abbrev pub IsOfProgram : ℕ → Type 0
+IsOfProgram status = (status ≡ 0) ⊎ ((status ≡ 2) ⊎ ((status ≡ 3) ⊎ ((status ≡ 4) ⊎ (status ≡ 5))))
+
+with_two : (status : ℕ) → IsOfCommand status → IsOfProgram status
+with_two status known = ⊎_elim (λ zero. inl zero) (λ others. inr (inr others)) known
+
+not_two : (status : ℕ) → IsOfCommand status → status ≢ 2
+not_two status known two = ⊎_elim (λ a. omega (arith, a, two)) (⊎_elim (λ b. omega (arith, b, two)) (⊎_elim (λ c. omega (arith, c, two)) (λ d. omega (arith, d, two)))) known
+
+of_fault : (fault : TreeFault) → IsOfCommand (status_of_fault fault)
+of_fault (Line n) = inr (inl refl)
+of_fault Memory = inr (inr (inl refl))
+of_fault Read = inr (inr (inr refl))
+
+module _ (status : ℕ) (before ahead start now : Option (List ℕ)) where
+  of_range : (o : RangeOptions) (line : List ℕ) → EndsRange o status line start now → IsOfProgram status
+  of_range o line ends = ⊎_elim (λ many. inr (inl many.1)) (λ few. with_two status few.1.known) ends
+
+  of_tree : EndsTree status before ahead start now → IsOfCommand status
+  of_tree ends = ⊎_elim (λ read. read.2.known) (λ unread. subst IsOfCommand (sym unread.1) (of_fault unread.0)) ends
+
+  pub status_of_command : (asked : Subcommand) → EndsCommand asked status before ahead start now → IsOfProgram status
+  status_of_command Replay ends = with_two status ends.known
+  status_of_command (Sum o) ends = of_range o _ ends.1
+  status_of_command (Min o f) ends = of_range o _ ends.1
+  status_of_command (Find o f want) ends = of_range o _ ends.1
+  status_of_command (Tree workers) ends = with_two status (of_tree ends)
+
+  -- a replay that is asked for does not end by 2, and at 0 the script was replayed
+  pub known_of_replay : (asked : Subcommand) → EndsCommand asked status before ahead start now → asked ≡ Replay → (status ≢ 2) × (status ≡ 0 → Replays before ahead start now)
+  known_of_replay asked ends is =
+      let replay : EndsReplay status before ahead start now = subst (λ (a : Subcommand). EndsCommand a status before ahead start now) is ends in
+      (not_two status replay.known, replay.done)

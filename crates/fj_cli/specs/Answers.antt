@@ -1,0 +1,94 @@
+-- What the commands that do a job write, and how they end.
+use Rattle.std.specs.Prelude.{ℕ, ◌≡◌, ◌+◌, ◌-◌, ◌<◌, ◌≤◌, ◌⊎◌, List, [], ◌∷◌, ◌++◌, codes, decimal, Option, Some, None}
+use Rattle.std.specs.Int.{div_ceil}
+use Rattle.std.specs.Io.KnownBytes.{Appends, IsAtEnd}
+use Rattle.fj_model.specs.declared.read.TheConstants.{LINE_FEED}
+use Rattle.fj_model.specs.declared.refusal.Refusal.{Refusal}
+use Rattle.fj_model.specs.declared.refusal.Refusal.TheVariants.{OutOfMemory}
+use Rattle.fj_jobs.specs.declared.node.Node.{Node}
+use Rattle.fj_jobs.specs.declared.tree_fault.TreeFault.{TreeFault}
+use Rattle.fj_jobs.specs.declared.tree_fault.TreeFault.TheVariants.{Line, Memory, Read}
+use Rattle.fj_jobs.specs.Ranges.{range_sum, residues_hit, residues_least}
+use Rattle.fj_jobs.specs.Trees.{FaultOf, IsTree, tree_text}
+use Rattle.fj_jobs.specs.TreeValues.{node_value}
+use Rattle.fj_streams.specs.Beginnings.{AppendsSome}
+use Rattle.fj_cli.specs.declared.command_line.options.RangeOptions.{RangeOptions}
+use Rattle.fj_cli.specs.declared.command_line.options.FunctionOptions.{FunctionOptions}
+
+-- ---- values
+
+-- how many numbers there are from first to last, and in how many blocks
+abbrev pub count_of : RangeOptions → ℕ
+count_of o = o.to + 1 - o.from
+
+abbrev pub blocks_of : RangeOptions → ℕ
+blocks_of o = div_ceil (count_of o) o.grain
+
+-- the values of the jobs that are asked for
+abbrev pub sum_of : RangeOptions → ℕ
+sum_of o = range_sum o.from (count_of o)
+
+abbrev pub least_of : RangeOptions → FunctionOptions → Option (ℕ × ℕ)
+least_of o f = residues_least f.mul f.add f.modulus o.from (count_of o)
+
+abbrev pub hit_of : RangeOptions → FunctionOptions → ℕ → Option ℕ
+hit_of o f want = residues_hit f.mul f.add f.modulus want o.from (count_of o)
+
+-- ---- lines
+
+-- how they are written, each on a line of its own
+abbrev pub number_line : ℕ → List ℕ
+number_line n = decimal n ++ LINE_FEED ∷ []
+
+abbrev pub least_line : Option (ℕ × ℕ) → List ℕ
+least_line (Some p) = decimal p.0 ++ 32 ∷ number_line p.1
+least_line None = codes "none" ++ LINE_FEED ∷ []
+
+abbrev pub hit_line : Option ℕ → List ℕ
+hit_line (Some x) = number_line x
+hit_line None = codes "none" ++ LINE_FEED ∷ []
+
+-- ---- ends
+
+-- the exit status of a job that was refused: 4 for memory
+abbrev pub status_of_refusal : Refusal → ℕ
+status_of_refusal OutOfMemory = 4
+status_of_refusal _ = 3
+
+-- a job ended with this exit status, whose value has this line: 0 where it was written; where a write failed some beginning of it was; else
+-- nothing
+pub record EndsJob (status : ℕ) (line : List ℕ) (start now : Option (List ℕ)) : Type 0 where
+  pub known : (status ≡ 0) ⊎ ((status ≡ 3) ⊎ ((status ≡ 4) ⊎ (status ≡ 5)))
+  pub written : status ≡ 0 → Appends start now line
+  pub begun : status ≡ 5 → AppendsSome start now line
+  pub silent : (status ≡ 3) ⊎ (status ≡ 4) → now ≡ start
+
+-- the same of a job over a range, which is done where it has at most 200,000 blocks, and else ends with 2
+abbrev pub EndsRange : RangeOptions → ℕ → List ℕ → Option (List ℕ) → Option (List ℕ) → Type 0
+EndsRange o status line start now =
+    ((200000 < blocks_of o) × (status ≡ 2) × (now ≡ start)) ⊎ ((blocks_of o ≤ 200000) × EndsJob status line start now)
+
+-- ---- trees
+
+-- the whole input is the text of this tree
+pub record IsTreeRead (nodes : List Node) (before ahead : Option (List ℕ)) : Type 0 where
+  pub tree : IsTree nodes
+  pub text : (input : List ℕ) → before ≡ Some input → input ≡ tree_text nodes
+  pub whole : IsAtEnd ahead
+
+-- the exit status of a fault of the tree
+abbrev pub status_of_fault : TreeFault → ℕ
+status_of_fault (Line n) = 3
+status_of_fault Memory = 4
+status_of_fault Read = 5
+
+-- no tree was read, as this exit status tells, and nothing was written
+abbrev pub ReadsNoTree : ℕ → Option (List ℕ) → Option (List ℕ) → Option (List ℕ) → Type 0
+ReadsNoTree status before start now =
+    (fault : TreeFault) × (status ≡ status_of_fault fault) × ((input : List ℕ) → before ≡ Some input → FaultOf fault input) × (now ≡ start)
+
+-- a fold ended with this exit status: that of the job of the tree that was read, of which the value of the root is written
+abbrev pub EndsTree : ℕ → Option (List ℕ) → Option (List ℕ) → Option (List ℕ) → Option (List ℕ) → Type 0
+EndsTree status before ahead start now =
+    ((nodes : List Node) × IsTreeRead nodes before ahead × EndsJob status (number_line (node_value nodes 0)) start now)
+    ⊎ ReadsNoTree status before start now

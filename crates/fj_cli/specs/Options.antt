@@ -1,0 +1,38 @@
+-- The options of the commands.
+use Rattle.std.specs.Prelude.{ℕ, Bool, true, false, List, [], ◌∷◌, codes, Some}
+use Rattle.clap.specs.Words.{App, Rule, Text, new_app, new_rule, with_rule}
+use Rattle.clap.specs.declared.builder.action.ArgAction.TheVariants.{Set}
+use Rattle.clap.specs.declared.builder.value_parser.ValueParser.TheVariants.{Unsigned}
+
+-- an option with a number in this range
+abbrev pub required_rule : Text → ℕ → ℕ → Bool → Rule
+required_rule name least most required =
+    record (new_rule name) { long = Some name; action = Some Set; value_names = 1; parser = Some (Unsigned least most); required = required }
+
+-- an option with a number from 1 on, which is 1 where it is not given
+abbrev pub defaulted_rule : Text → ℕ → Rule
+defaulted_rule name most = record (required_rule name 1 most false) { defaults = codes "1" ∷ [] }
+
+-- the options of a job over a range
+abbrev pub with_range : App → App
+with_range a =
+    with_rule (with_rule (with_rule (with_rule a (required_rule (codes "from") 0 4294967295 true)) (required_rule (codes "to") 0 4294967295 true))
+    (defaulted_rule (codes "grain") 4294967295)) (defaulted_rule (codes "workers") 32)
+
+-- the options of a function
+abbrev pub with_function : App → App
+with_function a =
+    with_rule (with_rule (with_rule a (required_rule (codes "mul") 0 4294967295 true)) (required_rule (codes "add") 0 4294967295 true))
+    (required_rule (codes "mod") 1 4294967295 true)
+
+abbrev pub sum_line : App
+sum_line = with_range (new_app (codes "sum"))
+
+abbrev pub min_line : App
+min_line = with_function (with_range (new_app (codes "min")))
+
+abbrev pub find_line : App
+find_line = with_rule (with_function (with_range (new_app (codes "find")))) (required_rule (codes "want") 0 4294967295 true)
+
+abbrev pub tree_line : App
+tree_line = with_rule (new_app (codes "tree")) (defaulted_rule (codes "workers") 32)

@@ -1,0 +1,60 @@
+//! What a command tells: its answer on standard output, or why it has none on standard error.
+ghost use Rattle.std.specs.Prelude.{◌≡◌, ℕ, List, IfOk, OnOk, OnErr, string_bytes};
+ghost use Rattle.std.specs.Io.KnownBytes.{Appends};
+ghost use Rattle.fj_streams.specs.Beginnings.{AppendsSome};
+ghost use Rattle.fj_cli.specs.Answers.{EndsJob, status_of_refusal};
+
+use fj_model::Refusal;
+use fj_streams::{flush_whole, write_whole};
+use std::alloc::AllocError;
+use std::io::{self, Write};
+
+/// Writes a text on standard error, and gives the status. No exit status tells that the write failed too.
+pub fn told<E: Write>(err: &mut E, text: &str, status: u8) -> u8
+    ensures { result ≡ status }
+{
+    let _ = err.write_all(text.as_bytes());
+    status
+}
+
+/// Tells why a job has no value, and gives the exit status.
+pub fn refused<E: Write>(refusal: Refusal, err: &mut E) -> u8
+    ensures { result ≡ status_of_refusal refusal }
+{
+    match refusal {
+        Refusal::OutOfMemory => told(err, "out of memory\n", 4),
+        _ => {
+            let _ = writeln!(err, "refused {}", refusal.number());
+            3
+        }
+    }
+}
+
+/// Writes a line, and flushes it.
+#[tactic(auto, using(fj_replay::proofs::Begun::all_some, fj_streams::proofs::Bytes::appends_keeps))]
+fn written<W: Write>(out: &mut W, line: &str) -> io::Result<()>
+    ensures ok { OnOk result (Appends (W.contents out.old) (W.contents out.new) line.now) }
+    ensures err { OnErr result (AppendsSome (W.contents out.old) (W.contents out.new) line.now) }
+{
+    match write_whole(out, line.as_bytes()) {
+        Ok(()) => flush_whole(out),
+        Err(error) => Err(error),
+    }
+}
+
+/// Writes the line of an answer: 0 where it was written and flushed, 4 where memory was refused to the line, 5 where a write failed.
+pub fn answered<W: Write, E: Write>(
+    line: Result<String, AllocError>,
+    out: &mut W,
+    err: &mut E,
+) -> u8
+    ensures { (text : List ℕ) → IfOk line (λ s. string_bytes s ≡ text) → EndsJob result text (W.contents out.old) (W.contents out.new) }
+{
+    let Ok(line) = line else {
+        return told(err, "out of memory\n", 4);
+    };
+    match written(out, &line) {
+        Ok(()) => 0,
+        Err(_) => told(err, "write failed\n", 5),
+    }
+}

@@ -1,0 +1,37 @@
+//! The options as the command line declares them: each has a number, in a range.
+ghost use Rattle.std.specs.Prelude.{◌≡◌, true, false};
+ghost use Rattle.clap.specs.Walk.{rule_of};
+ghost use Rattle.fj_cli.specs.Options.{defaulted_rule, required_rule};
+
+use clap::builder::ValueParser;
+use clap::{Arg, ArgAction};
+use std::alloc::Global;
+
+/// An option with a number in this range.
+fn option<'a>(alloc: Global, name: &'a str, least: u32, most: u32, help: &'a str) -> Arg<'a>
+    ensures rule { rule_of result ≡ required_rule name.entry.now least most false }
+    ensures local { result.global ≡ false }
+{
+    Arg::new(alloc, name)
+        .long(name)
+        .value_name("N")
+        .action(ArgAction::Set)
+        .value_parser(ValueParser::unsigned(u64::from(least), u64::from(most)))
+        .help(help)
+}
+
+/// An option that has to be given: a number from `least` to 4,294,967,295.
+pub fn required<'a>(alloc: Global, name: &'a str, least: u32, help: &'a str) -> Arg<'a>
+    ensures rule { rule_of result ≡ required_rule name.entry.now least 4294967295 true }
+    ensures local { result.global ≡ false }
+{
+    option(alloc, name, least, u32::MAX, help).required(true)
+}
+
+/// An option that is 1 where it is not given: a number from 1 to `most`.
+pub fn defaulted<'a>(alloc: Global, name: &'a str, most: u32, help: &'a str) -> Arg<'a>
+    ensures rule { rule_of result ≡ defaulted_rule name.entry.now most }
+    ensures local { result.global ≡ false }
+{
+    option(alloc, name, 1, most, help).default_value("1")
+}

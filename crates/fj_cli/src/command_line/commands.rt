@@ -1,0 +1,159 @@
+//! The commands as the command line declares them, each with its help.
+ghost use Rattle.std.specs.Prelude.{◌≡◌, IfOk, codes, false};
+ghost use Rattle.clap.specs.Words.{app_of, new_app, with_subcommand};
+ghost use Rattle.clap.specs.declared.builder.command.Command.TheViews.{out-Command};
+ghost use Rattle.fj_cli.specs.Commands.{script_line, whole_line};
+ghost use Rattle.fj_cli.specs.Options.{find_line, min_line, sum_line, tree_line, with_range, with_function};
+
+use crate::command_line::arguments::{defaulted, required};
+use crate::command_line::help;
+use clap::Command;
+use fj_model::MAX_WORKERS;
+use std::alloc::{AllocError, Global};
+
+/// The options of a job over a range. Precondition: the command has no option that its subcommands share.
+fn over_range<'a>(alloc: Global, command: Command<'a>) -> Result<Command<'a>, AllocError>
+    requires { (out-Command command).has_globals ≡ false }
+    ensures app { IfOk result (λ c. app_of c ≡ with_range (app_of command.entry)) }
+    ensures local { IfOk result (λ c. (out-Command c).has_globals ≡ false) }
+{
+    command
+        .arg(required(alloc, "from", 0, "The first number, 0 to 4294967295"))?
+        .arg(required(
+            alloc,
+            "to",
+            0,
+            "The last number, 0 to 4294967295; there are none where it is below the first",
+        ))?
+        .arg(defaulted(
+            alloc,
+            "grain",
+            u32::MAX,
+            "How many numbers a block has, 1 to 4294967295",
+        ))?
+        .arg(defaulted(
+            alloc,
+            "workers",
+            MAX_WORKERS,
+            "How many workers there are, 1 to 32",
+        ))
+}
+
+/// The options of a function. Precondition: the command has no option that its subcommands share.
+fn of_function<'a>(alloc: Global, command: Command<'a>) -> Result<Command<'a>, AllocError>
+    requires { (out-Command command).has_globals ≡ false }
+    ensures app { IfOk result (λ c. app_of c ≡ with_function (app_of command.entry)) }
+    ensures local { IfOk result (λ c. (out-Command c).has_globals ≡ false) }
+{
+    command
+        .arg(required(
+            alloc,
+            "mul",
+            0,
+            "The factor of the function, 0 to 4294967295",
+        ))?
+        .arg(required(
+            alloc,
+            "add",
+            0,
+            "The summand of the function, 0 to 4294967295",
+        ))?
+        .arg(required(
+            alloc,
+            "mod",
+            1,
+            "The divisor of the function, 1 to 4294967295",
+        ))
+}
+
+fn sum<'a>(alloc: Global) -> Result<Command<'a>, AllocError>
+    ensures app { IfOk result (λ c. app_of c ≡ sum_line) }
+    ensures local { IfOk result (λ c. (out-Command c).has_globals ≡ false) }
+{
+    let sum = Command::new(alloc, "sum")
+        .about("Writes the sum of the numbers of a range")
+        .after_help(help::SUM);
+    over_range(alloc, sum)
+}
+
+fn min<'a>(alloc: Global) -> Result<Command<'a>, AllocError>
+    ensures app { IfOk result (λ c. app_of c ≡ min_line) }
+    ensures local { IfOk result (λ c. (out-Command c).has_globals ≡ false) }
+{
+    let min = Command::new(alloc, "min")
+        .about(
+            "Writes the least value of a function over a range, and the first number that has it",
+        )
+        .after_help(help::MIN);
+    of_function(alloc, over_range(alloc, min)?)
+}
+
+fn find<'a>(alloc: Global) -> Result<Command<'a>, AllocError>
+    ensures app { IfOk result (λ c. app_of c ≡ find_line) }
+    ensures local { IfOk result (λ c. (out-Command c).has_globals ≡ false) }
+{
+    let find = Command::new(alloc, "find")
+        .about("Writes the first number of a range at which a function has a value")
+        .after_help(help::FIND);
+    of_function(alloc, over_range(alloc, find)?)?.arg(required(
+        alloc,
+        "want",
+        0,
+        "The value that is looked for, 0 to 4294967295",
+    ))
+}
+
+fn tree<'a>(alloc: Global) -> Result<Command<'a>, AllocError>
+    ensures app { IfOk result (λ c. app_of c ≡ tree_line) }
+    ensures local { IfOk result (λ c. (out-Command c).has_globals ≡ false) }
+{
+    Command::new(alloc, "tree")
+        .about("Writes the value of the tree on standard input")
+        .after_help(help::TREE)
+        .arg(defaulted(
+            alloc,
+            "workers",
+            MAX_WORKERS,
+            "How many workers there are, 1 to 32",
+        ))
+}
+
+fn replay<'a>(alloc: Global) -> Command<'a>
+    ensures app { app_of result ≡ new_app (codes "replay") }
+    ensures local { (out-Command result).has_globals ≡ false }
+{
+    Command::new(alloc, "replay")
+        .about("Runs the script on standard input and writes its replies")
+        .override_usage("fj replay < SCRIPT")
+        .after_help(help::REPLAY)
+}
+
+/// The program with its command for scripts.
+fn program<'a>(alloc: Global) -> Result<Command<'a>, AllocError>
+    ensures { IfOk result (λ c. app_of c ≡ script_line) }
+{
+    Command::new(alloc, "fj")
+        .version("0.1.0")
+        .about("A fork-join pool with counted completers")
+        .after_help(help::WHOLE)
+        .subcommand_required(true)
+        .subcommand(replay(alloc))
+}
+
+/// A command with one subcommand more. Precondition: this one has no option that its own subcommands share.
+fn with_one<'a>(command: Command<'a>, sub: Command<'a>) -> Result<Command<'a>, AllocError>
+    requires { (out-Command sub).has_globals ≡ false }
+    ensures { IfOk result (λ c. app_of c ≡ with_subcommand (app_of command.entry) (app_of sub.entry).top) }
+{
+    command.subcommand(sub)
+}
+
+/// The whole command line.
+pub fn command<'a>(alloc: Global) -> Result<Command<'a>, AllocError>
+    ensures { IfOk result (λ command. app_of command ≡ whole_line) }
+{
+    let with_sum = with_one(program(alloc)?, sum(alloc)?)?;
+    let with_min = with_one(with_sum, min(alloc)?)?;
+    let with_find = with_one(with_min, find(alloc)?)?;
+    with_one(with_find, tree(alloc)?)
+}

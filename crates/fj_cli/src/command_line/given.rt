@@ -1,0 +1,61 @@
+//! The options as the arguments give them.
+ghost use Rattle.std.specs.Prelude.{◌≤◌, IfSome, codes};
+ghost use Rattle.clap.specs.Words.{found_of, rows_of};
+ghost use Rattle.fj_cli.specs.Given.{Gives, GivesFunction, GivesRange};
+
+use crate::command_line::options::{FunctionOptions, RangeOptions, Workers};
+use clap::ArgMatches;
+use fj_model::MAX_WORKERS;
+
+/// The number of an option, where one in this range was given.
+fn number(matches: &ArgMatches, name: &str, least: u32, most: u32) -> Option<u32>
+    ensures range { IfSome result (λ n. (least ≤ n) × (n ≤ most)) }
+    ensures given { IfSome result (λ n. Gives (rows_of (found_of matches.now)) name.now n) }
+{
+    let number = matches.get_one::<u32>(name)?;
+    if number < least || most < number {
+        return None;
+    }
+    Some(number)
+}
+
+/// How many workers there are to be.
+pub fn read_workers(matches: &ArgMatches) -> Option<Workers>
+    ensures { IfSome result (λ w. Gives (rows_of (found_of matches.now)) (codes "workers") w.count) }
+{
+    let count = number(matches, "workers", 1, MAX_WORKERS)?;
+    Some(Workers { count })
+}
+
+/// The options of a job over a range.
+pub fn read_range(matches: &ArgMatches) -> Option<RangeOptions>
+    ensures { IfSome result (λ o. GivesRange (rows_of (found_of matches.now)) o) }
+{
+    let from = number(matches, "from", 0, u32::MAX)?;
+    let to = number(matches, "to", 0, u32::MAX)?;
+    let grain = number(matches, "grain", 1, u32::MAX)?;
+    let workers = read_workers(matches)?;
+    Some(RangeOptions {
+        from,
+        to,
+        grain,
+        workers,
+    })
+}
+
+/// The options of a function.
+pub fn read_function(matches: &ArgMatches) -> Option<FunctionOptions>
+    ensures { IfSome result (λ f. GivesFunction (rows_of (found_of matches.now)) f) }
+{
+    let mul = number(matches, "mul", 0, u32::MAX)?;
+    let add = number(matches, "add", 0, u32::MAX)?;
+    let modulus = number(matches, "mod", 1, u32::MAX)?;
+    Some(FunctionOptions { mul, add, modulus })
+}
+
+/// The wanted value.
+pub fn read_want(matches: &ArgMatches) -> Option<u32>
+    ensures { IfSome result (λ n. Gives (rows_of (found_of matches.now)) (codes "want") n) }
+{
+    number(matches, "want", 0, u32::MAX)
+}

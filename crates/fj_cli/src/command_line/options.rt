@@ -1,0 +1,32 @@
+//! What was given for the options of a command.
+ghost use Rattle.std.specs.Prelude.{◌≤◌};
+ghost use Rattle.fj_model.specs.declared.limits.TheConstants.{MAX_WORKERS};
+
+/// How many workers a job has: 1 to 32.
+#[derive(Clone, Copy)]
+pub struct Workers {
+    pub count: u32,
+    ghost some: { 1 ≤ count },
+    ghost few: { count ≤ MAX_WORKERS },
+}
+
+/// The numbers that a job goes over, from first to last, the blocks in which it does so, and by how many workers.
+#[derive(Clone, Copy)]
+pub struct RangeOptions {
+    pub from: u32,
+    pub to: u32,
+    /// How many numbers a block has, at least 1.
+    pub grain: u32,
+    ghost grained: { 1 ≤ grain },
+    pub workers: Workers,
+}
+
+/// The function with the value `(mul * x + add) mod modulus` at x.
+#[derive(Clone, Copy)]
+pub struct FunctionOptions {
+    pub mul: u32,
+    pub add: u32,
+    /// At least 1.
+    pub modulus: u32,
+    ghost divisor: { 1 ≤ modulus },
+}

@@ -1,0 +1,123 @@
+//! The commands that do a job over a range: each starts a pool of its own, and writes the value of its job.
+ghost use Rattle.std.specs.Prelude.{◌≡◌, ◌<◌, ◌≤◌, IfNone, IfOk, IfSome};
+ghost use Rattle.fj_cli.specs.Answers.{EndsRange, blocks_of, count_of, hit_line, hit_of, least_line, least_of, number_line, sum_of};
+
+use crate::answer::{answered, refused, told};
+use crate::command_line::{FunctionOptions, RangeOptions};
+use fj_invoke::{BlockedRange, Divide, FirstHit, LinearMod, Open, RangeMin, RangeSum, invoke};
+use fj_model::{Limits, MAX_EVENTS, MAX_TASKS, Mode, Refusal};
+use std::alloc::Global;
+use std::io::Write;
+use std::sync::Wait;
+use std::thread::Threads;
+
+/// More blocks than this are a fault of the command line: the events of more tasks might not fit into a history.
+const MAX_BLOCKS: u64 = 200_000;
+
+const TOO_MANY: &str = "too many leaves\n";
+
+/// Writes the sum of a range, and gives the exit status.
+pub fn run_sum<H: Threads + Wait + Sync, W: Write, E: Write>(
+    rt: &H,
+    alloc: Global,
+    options: RangeOptions,
+    out: &mut W,
+    err: &mut E,
+) -> u8
+    ensures { EndsRange options result (number_line (sum_of options)) (W.contents out.old) (W.contents out.new) }
+{
+    let Some(range) = blocks(options) else {
+        return told(err, TOO_MANY, 2);
+    };
+    match value(rt, alloc, options, RangeSum { range }) {
+        Ok(sum) => answered(format!(in alloc; "{sum}\n"), out, err),
+        Err(refusal) => refused(refusal, err),
+    }
+}
+
+/// Writes the least value of a function over a range with the first number that has it, `none` where the range is empty, and gives the
+/// exit status.
+pub fn run_min<H: Threads + Wait + Sync, W: Write, E: Write>(
+    rt: &H,
+    alloc: Global,
+    options: RangeOptions,
+    function: FunctionOptions,
+    out: &mut W,
+    err: &mut E,
+) -> u8
+    ensures { EndsRange options result (least_line (least_of options function)) (W.contents out.old) (W.contents out.new) }
+{
+    let Some(range) = blocks(options) else {
+        return told(err, TOO_MANY, 2);
+    };
+    let function = linear(function);
+    match value(rt, alloc, options, RangeMin { range, function }) {
+        Ok(Some((least, number))) => answered(format!(in alloc; "{least} {number}\n"), out, err),
+        Ok(None) => answered(format!(in alloc; "none\n"), out, err),
+        Err(refusal) => refused(refusal, err),
+    }
+}
+
+/// Writes the first number of a range at which a function has a value, `none` where there is none, and gives the exit status.
+pub fn run_find<H: Threads + Wait + Sync, W: Write, E: Write>(
+    rt: &H,
+    alloc: Global,
+    options: RangeOptions,
+    function: FunctionOptions,
+    want: u32,
+    out: &mut W,
+    err: &mut E,
+) -> u8
+    ensures { EndsRange options result (hit_line (hit_of options function want)) (W.contents out.old) (W.contents out.new) }
+{
+    let Some(range) = blocks(options) else {
+        return told(err, TOO_MANY, 2);
+    };
+    let job = FirstHit {
+        range,
+        function: linear(function),
+        want: u64::from(want),
+    };
+    match value(rt, alloc, options, job) {
+        Ok(Some(number)) => answered(format!(in alloc; "{number}\n"), out, err),
+        Ok(None) => answered(format!(in alloc; "none\n"), out, err),
+        Err(refusal) => refused(refusal, err),
+    }
+}
+
+/// The blocks that are asked for. None where they are too many.
+fn blocks(options: RangeOptions) -> Option<BlockedRange>
+    ensures some { IfSome result (λ range. (range.numbers.from ≡ options.from) × (range.numbers.count ≡ count_of options)) }
+    ensures few { IfSome result (λ range. blocks_of options ≤ 200000) }
+    ensures many { IfNone result (200000 < blocks_of options) }
+{
+    let range = BlockedRange::new(options.from, options.to, options.grain);
+    if range.blocks() > MAX_BLOCKS {
+        return None;
+    }
+    Some(range)
+}
+
+fn linear(function: FunctionOptions) -> LinearMod
+    ensures { (result.mul ≡ function.mul) × (result.add ≡ function.add) × (result.modulus ≡ function.modulus) }
+{
+    LinearMod::new(function.mul, function.add, function.modulus)
+}
+
+/// The value of a job, by as many workers as are asked for.
+fn value<J: Divide + Send, H: Threads + Wait + Sync>(
+    rt: &H,
+    alloc: Global,
+    options: RangeOptions,
+    job: J,
+) -> Result<J::Out, Refusal>
+where
+    J::Key: Send,
+    J::Out: Send,
+    ensures { IfOk result (λ out. out ≡ J.value (J.key_of job)) }
+{
+    let Ok(limits) = Limits::new(options.workers.count, 1, MAX_TASKS, MAX_EVENTS) else {
+        unreachable!()
+    };
+    invoke(rt, alloc, Mode::Joining, limits, 0, job, &Open)
+}

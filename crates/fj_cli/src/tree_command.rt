@@ -1,0 +1,63 @@
+//! The command that folds a tree.
+ghost use Rattle.std.specs.Prelude.{◌≡◌};
+ghost use Rattle.fj_jobs.specs.Trees.{IsTree};
+ghost use Rattle.fj_jobs.specs.TreeValues.{node_value};
+ghost use Rattle.fj_cli.specs.Answers.{EndsJob, EndsTree, number_line, status_of_fault};
+
+use crate::answer::{answered, refused};
+use crate::command_line::Workers;
+use fj_fold::{Nodes, Open, fold_tree, read_tree};
+use fj_jobs::TreeFault;
+use std::alloc::Global;
+use std::io::{Read, Write};
+use std::sync::Wait;
+use std::thread::Threads;
+
+/// Reads a tree to the end of the input, writes its value, and gives the exit status.
+pub fn run_tree<H: Threads + Wait + Sync, R: Read, W: Write, E: Write>(
+    rt: &H,
+    alloc: Global,
+    workers: Workers,
+    input: &mut R,
+    out: &mut W,
+    err: &mut E,
+) -> u8
+    ensures { EndsTree result (R.remaining input.old) (R.remaining input.new) (W.contents out.old) (W.contents out.new) }
+{
+    match read_tree(alloc, input) {
+        Ok(nodes) => fold(rt, alloc, workers, &nodes, out, err),
+        Err(fault) => told_of_fault(fault, err),
+    }
+}
+
+/// Folds the tree, and writes its value.
+fn fold<H: Threads + Wait + Sync, W: Write, E: Write>(
+    rt: &H,
+    alloc: Global,
+    workers: Workers,
+    nodes: &Nodes,
+    out: &mut W,
+    err: &mut E,
+) -> u8
+    // A tree that was read is one.
+    ensures tree { IsTree nodes.now }
+    ensures job { EndsJob result (number_line (node_value nodes.now 0)) (W.contents out.old) (W.contents out.new) }
+{
+    let _nodes = nodes.as_slice();
+    match fold_tree(rt, alloc, workers.count, nodes, &Open) {
+        Ok(value) => answered(format!(in alloc; "{value}\n"), out, err),
+        Err(refusal) => refused(refusal, err),
+    }
+}
+
+/// Tells why no tree was read, and gives the exit status.
+fn told_of_fault<E: Write>(fault: TreeFault, err: &mut E) -> u8
+    ensures { result ≡ status_of_fault fault }
+{
+    let _ = writeln!(err, "{fault}");
+    match fault {
+        TreeFault::Line(_) => 3,
+        TreeFault::Memory => 4,
+        TreeFault::Read => 5,
+    }
+}

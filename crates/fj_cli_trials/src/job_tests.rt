@@ -1,0 +1,59 @@
+//! The commands that do a job.
+use crate::test_rows::first_other_command;
+use std::test::Fail;
+
+/// Command lines without their workers, the input, and what is written; at a fault what is on standard error, and the status.
+const ROWS: [&str; 25] = [
+    "sum --from 5 --to 4 |  | 0;",
+    "sum --from 7 --to 7 |  | 7;",
+    "sum --from 0 --to 200000 |  |  | too many leaves; | 2",
+    "sum --from 0 --to 200000 --grain 1000 |  | 20000100000;",
+    "sum --from 4294967290 --to 4294967295 --grain 4 |  | 25769803755;",
+    "min --from 0 --to 9 --mul 7 --add 3 --mod 10 |  | 0 1;",
+    "min --from 0 --to 29 --grain 4 --mul 7 --add 3 --mod 10 |  | 0 1;",
+    "min --from 5 --to 4 --mul 7 --add 3 --mod 10 |  | none;",
+    "min --from 4294967295 --to 4294967295 --mul 4294967295 --add 4294967295 --mod 4294967295 |  | 0 4294967295;",
+    "min --from 0 --to 200000 --mul 1 --add 0 --mod 5 |  |  | too many leaves; | 2",
+    "find --from 0 --to 9 --mul 7 --add 3 --mod 10 --want 9 |  | 8;",
+    "find --from 0 --to 9 --mul 7 --add 3 --mod 10 --want 10 |  | none;",
+    "find --from 0 --to 29 --grain 4 --mul 7 --add 3 --mod 10 --want 9 |  | 8;",
+    "find --from 0 --to 4294967295 --mul 1 --add 0 --mod 5 --want 0 |  |  | too many leaves; | 2",
+    "tree | - 5;0 2;0 3;1 4; | 17;",
+    "tree | - 1000000006;0 1; | 0;",
+    "tree | - 5; | 5;",
+    "tree |  |  | fault: line 1; | 3",
+    "tree | - 5 |  | fault: line 1; | 3",
+    "tree | 0 5; |  | fault: line 1; | 3",
+    "tree | - 1000000007; |  | fault: line 1; | 3",
+    "tree | - 5;1 2; |  | fault: line 2; | 3",
+    "tree | - 5;- 2; |  | fault: line 2; | 3",
+    "tree | - 5;0 02; |  | fault: line 2; | 3",
+    "tree | - 5;0 2;0 3 |  | fault: line 3; | 3",
+];
+
+#[test]
+fn each_job_has_its_value_with_1_and_with_32_workers(rt: HostRuntime) -> Result<(), Fail> {
+    for workers in ["--workers 1", "--workers 32"] {
+        let other = first_other_command(&rt, rt.alloc(), ROWS.as_slice(), workers)?;
+        assert_eq!(rt; other.as_str(), "", "{workers}");
+    }
+    Ok(())
+}
+
+#[test]
+fn a_hundred_thousand_leaves_with_1_and_with_32_workers(rt: HostRuntime) -> Result<(), Fail> {
+    let rows = ["sum --from 1 --to 100000 --grain 1 |  | 5000050000;"];
+    for workers in ["--workers 1", "--workers 32"] {
+        let other = first_other_command(&rt, rt.alloc(), rows.as_slice(), workers)?;
+        assert_eq!(rt; other.as_str(), "", "{workers}");
+    }
+    Ok(())
+}
+
+#[test]
+fn as_many_leaves_as_may_be(rt: HostRuntime) -> Result<(), Fail> {
+    let rows = ["sum --from 0 --to 199999 |  | 19999900000;"];
+    let other = first_other_command(&rt, rt.alloc(), rows.as_slice(), "--workers 4")?;
+    assert_eq!(rt; other.as_str(), "");
+    Ok(())
+}
