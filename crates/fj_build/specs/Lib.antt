@@ -1,0 +1,4 @@
+-- What a target is built to.
+pub mod Artifacts
+-- How far a target has come.
+pub mod Courses

@@ -1,0 +1,30 @@
+ghost use Rattle.std.specs.Prelude.{◌≡◌, ◌+◌, IfSome, sum};
+
+/// What was built.
+#[derive(Drop)]
+pub struct Artifact {
+    /// Its bytes: those of its own objects and of its parts.
+    pub size: u64,
+    /// The sizes of its parts, those of the inputs of its target, in order.
+    pub parts: Vec<u64>,
+}
+
+/// Links objects of so many bytes with parts of these sizes. None where the artifact would be too large.
+pub fn link(own: u32, parts: Vec<u64>) -> Option<Artifact>
+    ensures parts { IfSome result (λ a. a.parts.items ≡ parts.items) }
+    ensures size { IfSome result (λ a. a.size ≡ own + sum parts.items) }
+{
+    let size = size_of(own, parts.as_slice())?;
+    Some(Artifact { size, parts })
+}
+
+/// The bytes of both together. None where they are too many.
+fn size_of(own: u32, parts: &[u64]) -> Option<u64>
+    ensures { IfSome result (λ size. size ≡ own + sum parts.now) }
+{
+    let mut size = u64::from(own);
+    for part in parts {
+        size = size.checked_add(*part)?;
+    }
+    Some(size)
+}

@@ -1,0 +1,78 @@
+ghost use Rattle.std.specs.Prelude.{IfOk, IfSome, length, slice_get};
+ghost use Rattle.fj_build.specs.Artifacts.{IsMadeOf};
+
+use crate::artifact::Artifact;
+use crate::fault::Fault;
+use crate::make::Make;
+use crate::target::Target;
+use fj_crew::{Body, Limits, Mode, Open, Outcome, run_alone};
+use fj_model::Status;
+use std::alloc::Global;
+use std::sync::Wait;
+use std::thread::Threads;
+
+/// The most tasks and events of a pool for one build.
+const TASKS: u32 = 4_096;
+
+const EVENTS: u32 = 65_536;
+
+/// Builds target 0 of a plan with all that it needs, by so many workers in threads.
+///
+/// What two targets need is built for each of them: a completer has one parent, so what is built is a tree. A plan in which a target needs
+/// itself runs out of room.
+///
+/// `Failed` where a target fails, whichever it is. `Refused` where the number of workers is not from 1 to 32, where memory or a thread was
+/// refused, or the history is full. `NoTarget` where there is no target.
+pub fn build<R: Threads + Wait + Sync>(
+    rt: &R,
+    alloc: Global,
+    workers: u32,
+    plan: &[Target],
+) -> Result<Artifact, Fault>
+    ensures { IfOk result (λ a. IfSome (slice_get plan.now 0) (λ t. ∥ IsMadeOf t.source (length t.inputs.now) a ∥₁)) }
+{
+    let Some(target) = plan.first() else {
+        return Err(Fault::NoTarget);
+    };
+    let limits = match Limits::new(workers, 1, TASKS, EVENTS) {
+        Ok(limits) => limits,
+        Err(refusal) => return Err(Fault::Refused(refusal)),
+    };
+    let body = Make::new(alloc, plan, *target);
+    let outcome = match run_alone(rt, alloc, Mode::Joining, limits, 0, body, &Open) {
+        Ok(outcome) => outcome,
+        Err(refusal) => return Err(Fault::Refused(refusal)),
+    };
+    match result_in(outcome) {
+        Ok((key, artifact)) => artifact_under(target, key, artifact),
+        Err(fault) => Err(fault),
+    }
+}
+
+/// The result of an outcome, with its key. `Failed` where it failed, and `Lost` where it has none.
+fn result_in<B: Body>(outcome: Outcome<B>) -> Result<(B::Key, B::Out), Fault>
+    ensures { IfOk result (λ r. ∥ B.right r.0 r.1 ∥₁) }
+{
+    if let Status::Exceptional(code) = outcome.status() {
+        return Err(Fault::Failed(code));
+    }
+    match outcome.into_kept() {
+        Some(kept) => Ok(kept.into_parts()),
+        None => Err(Fault::Lost),
+    }
+}
+
+/// The artifact of a result, if that stands under this target. Precondition: it is right for its key.
+fn artifact_under<'p>(
+    target: &Target<'p>,
+    key: Target<'p>,
+    artifact: Option<Artifact>,
+) -> Result<Artifact, Fault>
+    requires { ∥ IfSome artifact (λ a. IsMadeOf key.source (length key.inputs.now) a) ∥₁ }
+    ensures { IfOk result (λ a. ∥ IsMadeOf target.now.source (length target.now.inputs.now) a ∥₁) }
+{
+    match artifact {
+        Some(artifact) if key == *target => Ok(artifact),
+        _ => Err(Fault::Lost),
+    }
+}

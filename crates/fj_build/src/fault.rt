@@ -1,0 +1,19 @@
+use fj_crew::Refusal;
+use thiserror::Error;
+
+/// Why nothing was built.
+#[derive(Clone, Copy, Debug, PartialEq, Error)]
+pub enum Fault {
+    /// A target failed with this code, and with it all that stand on it: that of a compiler, or 12 where there was no room for a target.
+    #[error("failed with code {0}")]
+    Failed(u32),
+    /// The pool was refused, or its run: as `run_alone` says.
+    #[error("{0}")]
+    Refused(Refusal),
+    /// The plan has no such target.
+    #[error("no such target")]
+    NoTarget,
+    /// An artifact was not had: memory was refused while it was linked, or it is too large.
+    #[error("lost")]
+    Lost,
+}

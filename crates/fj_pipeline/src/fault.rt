@@ -1,0 +1,16 @@
+use fj_crew::Refusal;
+use thiserror::Error;
+
+/// Why an event has no level.
+#[derive(Clone, Copy, Debug, PartialEq, Error)]
+pub enum Fault {
+    /// It was given up with this code: 1 to 4 where the stage of that number rejected it, 12 where there was no room for a stage.
+    #[error("failed with code {0}")]
+    Failed(u32),
+    /// The pool was refused, or its run: as `run_alone` says.
+    #[error("{0}")]
+    Refused(Refusal),
+    /// A stage has not had the result of the next one. No pool answers so.
+    #[error("lost")]
+    Lost,
+}

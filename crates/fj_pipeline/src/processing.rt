@@ -1,0 +1,70 @@
+ghost use Rattle.std.specs.Prelude.{◌≡◌, IfOk, IfSome, Some};
+ghost use Rattle.fj_pipeline.specs.Stages.{result_from};
+
+use crate::fault::Fault;
+use crate::flow::Flow;
+use crate::item::Item;
+use crate::stage::Stage;
+use fj_crew::{Body, Limits, Mode, Open, Outcome, run_alone};
+use fj_model::Status;
+use std::alloc::Global;
+use std::sync::Wait;
+use std::thread::Threads;
+
+/// The most tasks and events of a pool for one event.
+const TASKS: u32 = 4;
+
+const EVENTS: u32 = 64;
+
+/// The level of the alarm that an event gives, by so many workers in threads.
+///
+/// `Failed` where a stage rejects it. `Refused` where the number of workers is not from 1 to 32, or memory or a thread was refused.
+pub fn process<R: Threads + Wait + Sync>(
+    rt: &R,
+    alloc: Global,
+    workers: u32,
+    word: u32,
+) -> Result<u32, Fault>
+    ensures { IfOk result (λ level. ∥ result_from Stage.Decode word ≡ Some level ∥₁) }
+{
+    let item = Item {
+        stage: Stage::Decode,
+        value: word,
+    };
+    let limits = match Limits::new(workers, 1, TASKS, EVENTS) {
+        Ok(limits) => limits,
+        Err(refusal) => return Err(Fault::Refused(refusal)),
+    };
+    let outcome = match run_alone(rt, alloc, Mode::Joining, limits, 0, Flow::new(item), &Open) {
+        Ok(outcome) => outcome,
+        Err(refusal) => return Err(Fault::Refused(refusal)),
+    };
+    match result_in(outcome) {
+        Ok((key, level)) => level_under(item, key, level),
+        Err(fault) => Err(fault),
+    }
+}
+
+/// The result of an outcome, with its key. `Failed` where it failed, and `Lost` where it has none.
+fn result_in<B: Body>(outcome: Outcome<B>) -> Result<(B::Key, B::Out), Fault>
+    ensures { IfOk result (λ r. ∥ B.right r.0 r.1 ∥₁) }
+{
+    if let Status::Exceptional(code) = outcome.status() {
+        return Err(Fault::Failed(code));
+    }
+    match outcome.into_kept() {
+        Some(kept) => Ok(kept.into_parts()),
+        None => Err(Fault::Lost),
+    }
+}
+
+/// The level of a result, if that stands under this number. Precondition: it is right for its key.
+fn level_under(item: Item, key: Item, level: Option<u32>) -> Result<u32, Fault>
+    requires { ∥ IfSome level (λ v. result_from key.stage key.value ≡ Some v) ∥₁ }
+    ensures { IfOk result (λ v. ∥ result_from item.stage item.value ≡ Some v ∥₁) }
+{
+    match level {
+        Some(level) if key == item => Ok(level),
+        _ => Err(Fault::Lost),
+    }
+}
