@@ -1,11 +1,13 @@
 /* Loaded before the C library: refuses the allocation whose number, counted from 1, is in REFUSE_AT, and grants all others.
-   At the end the number of allocations is written to the file that REFUSE_COUNT names. */
+   At the end the number of allocations is written to the file that REFUSE_COUNT names. A program with threads ends by _exit. */
 #define _GNU_SOURCE
 #include <dlfcn.h>
 #include <errno.h>
 #include <stdatomic.h>
 #include <stdio.h>
 #include <stdlib.h>
+#include <sys/syscall.h>
+#include <unistd.h>
 
 static void *(*granted_malloc)(size_t);
 static void *(*granted_realloc)(void *, size_t);
@@ -45,4 +47,10 @@ __attribute__((destructor)) static void finish(void) {
         fprintf(file, "%ld\n", (long)allocations);
         fclose(file);
     }
+}
+
+void _exit(int status) {
+    finish();
+    syscall(SYS_exit_group, status);
+    __builtin_unreachable();
 }

@@ -1,0 +1,20 @@
+#!/usr/bin/env bash
+# Refuses each allocation of some tests in turn. Those of what the test makes must be answered by it as out of memory; none comes after
+# the making, so with any later one refused the test must pass.
+# Needs a C compiler, and the built tests, as `rt ci` leaves them, or `rt test` in a crate's folder.
+set -euo pipefail
+. "$(dirname "${BASH_SOURCE[0]}")/trial.bash"
+
+# The crate, the test, what it makes, and how many allocations that may take.
+while read -r crate test made most; do
+    echo -n "$made: "
+    refuse_making "$most" $((most + 200)) "$crates/$crate/out/${crate}_tests" "$test"
+done <<'END'
+fj_base_trials queues_tests::many_owners_share_two_cells queues 8
+fj_base_trials tree_tests::a_task_is_found_behind_thousands_that_were_released tree 20
+fj_trials run_tests::the_largest_limits_hold machine 100
+fj_gate tests::a_look_is_remembered gate 20
+fj_lane tests::a_hundred_parcels_in_order lane 20
+fj_core_trials core_tests::tree core 100
+fj_core_trials core_tests::joins core 100
+END
