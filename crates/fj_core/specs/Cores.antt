@@ -1,5 +1,5 @@
 -- What contracts see of a core.
-use Rattle.std.specs.Prelude.{ℕ, ◌≡◌, ◌+◌, ◌%◌, ◌^◌, Bool, true, false, List, [], length, map, Option, Some, None, Result, Err}
+use Rattle.std.specs.Prelude.{ℕ, ◌≡◌, ◌+◌, ◌%◌, ◌^◌, ◌&&◌, Bool, true, false, not, List, [], length, map, Option, Some, None, Result, Err}
 use Rattle.std.specs.List.{range_with_len}
 use Rattle.fj_model.specs.declared.epoch.Sealed.{Sealed}
 use Rattle.fj_model.specs.declared.mode.Mode.{Mode}
@@ -9,6 +9,8 @@ use Rattle.fj_model.specs.Bounds.{Bounds}
 use Rattle.fj_model.specs.Parts.{Fits}
 use Rattle.fj_model.specs.Pasts.{Past, fresh}
 use Rattle.fj_model.specs.Inside.{IsInside}
+use Rattle.fj_model.specs.Statuses.{status, is_undone}
+use Rattle.fj_model.specs.Tasks.{is_kept}
 use Rattle.fj_lane.specs.Ends.{DrainState}
 use Rattle.fj_shelf.specs.Shelves.{entries, no_entries}
 use Rattle.fj_shelf.specs.Hands.{HandState, new_hand}
@@ -82,3 +84,12 @@ module _ {B K O : Type 0} where
 
   abbrev pub CollectsTicket : CoreState B K O → ℕ → Option (Result (Outcome B K O) Refusal) → CoreState B K O → Type 0
   CollectsTicket old ticket answer new = CollectsUnless old.store.stuck (booked_under old.bookings ticket) old answer new
+
+  -- whether the task that was booked is undone; where none was, whether one may still be
+  abbrev pub is_pending : Option ℕ → CoreState B K O → Bool
+  is_pending (Some t) core = is_kept core.store.past.events t && is_undone (status core.store.past.events t)
+  is_pending None core = not (is_due core.closing.number (length core.bookings))
+
+  -- whether the outcome under a ticket is still to come
+  abbrev pub is_awaited : CoreState B K O → ℕ → Bool
+  is_awaited core ticket = not core.store.stuck && is_pending (booked_under core.bookings ticket) core

@@ -1,9 +1,11 @@
-ghost use Rattle.std.specs.Prelude.{◌≡◌, ◌≤◌, [], None, All, IfOk, vec_len};
+ghost use Rattle.std.specs.Prelude.{◌≡◌, ◌≤◌, ◌&&◌, [], None, All, IfOk, vec_len};
 ghost use Rattle.fj_lane.specs.declared.new_lane.TheConstants.{MAX_CAPACITY};
 ghost use Rattle.fj_model.specs.Bounds.{IsWithin};
+ghost use Rattle.fj_model.specs.Statuses.{status, is_undone};
+ghost use Rattle.fj_model.specs.Tasks.{is_kept};
 ghost use Rattle.fj_store.specs.Choosing.{Polls};
 ghost use Rattle.fj_store.specs.Fitting.{Fits};
-ghost use Rattle.fj_core.specs.Cores.{ChangesStore, CollectsTicket, IsNew, first_hands};
+ghost use Rattle.fj_core.specs.Cores.{ChangesStore, CollectsTicket, IsNew, first_hands, is_awaited};
 
 mod act;
 mod close;
@@ -17,7 +19,7 @@ use crate::closing::Closing;
 use crate::first_hands::new_hands;
 use fj_gate::Ticket;
 use fj_lane::Drain;
-use fj_model::{Limits, Mode, OutOfMemory, Refusal};
+use fj_model::{Limits, Mode, OutOfMemory, Refusal, Serial};
 use fj_shelf::Hand;
 use fj_store::{Body, Outcome, Store, Told};
 pub use remains::Remains;
@@ -122,5 +124,28 @@ impl<B: Body> Core<B> {
                 }
             }
         }
+    }
+
+    /// Whether the outcome under a ticket is still to come: the core is not stuck, and the task that was taken in first under it is undone;
+    /// or nothing was taken in under it, and fewer submissions were taken in than there will be.
+    pub fn is_awaited(&mut self, ticket: Ticket) -> bool
+        ensures awaited { result ≡ is_awaited self.old ticket }
+        ensures same { self.new ≡ self.old }
+    {
+        if self.store.is_stuck() {
+            return false;
+        }
+        match self.bookings.find(ticket) {
+            Some(t) => self.store.is_undone(t),
+            None => !self.closing.is_due(self.bookings.len()),
+        }
+    }
+
+    /// Whether a task is kept and undone: not `ForkJoinTask.isDone`. It also serves where the core is stuck.
+    pub fn is_undone(&mut self, t: Serial) -> bool
+        ensures undone { result ≡ is_kept self.old.store.past.events t && is_undone (status self.old.store.past.events t) }
+        ensures same { self.new ≡ self.old }
+    {
+        self.store.is_undone(t)
     }
 }

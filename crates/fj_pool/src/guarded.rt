@@ -3,8 +3,10 @@ ghost use Rattle.fj_pool.specs.Lanes.{lanes_of};
 
 mod outside;
 mod serve;
+mod waiting;
 
 use crate::naming::Naming;
+use crate::waits::Waits;
 use fj_core::Core;
 use fj_gate::Entrant;
 use fj_lane::Rest;
@@ -12,10 +14,12 @@ use fj_store::Body;
 use std::alloc::{AllocError, Global};
 use std::marker::{Model, PhantomData};
 
-/// What stands behind the lock of a pool: its core, and room for what is left of the lanes when it is wound up.
+/// What stands behind the lock of a pool: its core, what those sleep for who wait, and room for what is left of the lanes when it is wound
+/// up.
 #[derive(Drop)]
 pub struct Guarded<B: Body, N: Naming> {
     pub(crate) core: Core<B>,
+    pub(crate) waits: Waits,
     pub(crate) entrants: Vec<Entrant>,
     pub(crate) rests: Vec<Rest<B>>,
     pub(crate) of: PhantomData<N>,
@@ -47,6 +51,7 @@ impl<B: Body, N: Naming> Guarded<B, N> {
     {
         Ok(Guarded {
             core,
+            waits: Waits::new(),
             entrants: Vec::with_capacity(alloc, lanes)?,
             rests: Vec::with_capacity(alloc, lanes)?,
             of: PhantomData,

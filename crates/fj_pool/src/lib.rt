@@ -23,6 +23,9 @@ mod seat;
 mod submitter;
 mod turns;
 mod turnstile;
+mod waits;
+mod wake;
+mod wanted;
 
 pub use closer::Closer;
 pub use fj_core::{Archive, Booking, Bookings, Core, Intake};

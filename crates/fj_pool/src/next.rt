@@ -18,18 +18,6 @@ pub enum Next<B: Body> {
     Leave(Result<(), Refusal>),
 }
 
-/// Whose wait may have ended.
-#[derive(Clone, Copy)]
-pub enum Wake {
-    Nobody,
-    /// A task was queued: that of one worker.
-    One,
-    /// A task may be done: that of each worker that joined it, and of whoever awaits its outcome.
-    Waiting,
-    /// The same, and there is more to do for idle workers.
-    Everybody,
-}
-
 /// What was done in one holding of the lock.
 #[derive(Drop)]
 pub struct Served<B: Body> {
@@ -38,27 +26,22 @@ pub struct Served<B: Body> {
     pub ended: Option<B>,
     /// A body that was skipped. It is dropped outside the lock.
     pub skipped: Option<B>,
-    pub wake: Wake,
 }
 
-impl Wake {
-    /// Both of them.
-    pub fn and(self, other: Wake) -> Wake {
-        match (self, other) {
-            (Wake::Everybody, _) | (_, Wake::Everybody) => Wake::Everybody,
-            (Wake::Waiting, _) | (_, Wake::Waiting) => Wake::Waiting,
-            (Wake::One, _) | (_, Wake::One) => Wake::One,
-            (Wake::Nobody, Wake::Nobody) => Wake::Nobody,
-        }
-    }
+/// What it may change for those who wait that something is asked.
+pub enum Effect {
+    Nothing,
+    /// A task is queued.
+    Queues,
+    /// A task is done, or its result is taken, which cannot be told as an outcome any more.
+    Ends,
 }
 
-/// Whose wait it may end that this is done.
-pub fn woken_by<B: Body>(ask: &Ask<B>) -> Wake {
+/// What it may change that this is asked.
+pub fn effect_of<B: Body>(ask: &Ask<B>) -> Effect {
     match ask {
-        Ask::Fork(_, _) => Wake::One,
-        Ask::Trigger(_, _) | Ask::Help | Ask::Add(_, _) | Ask::State(_) => Wake::Nobody,
-        // A result that is taken is an outcome that cannot be told any more.
-        _ => Wake::Waiting,
+        Ask::Fork(_, _) => Effect::Queues,
+        Ask::Trigger(_, _) | Ask::Help | Ask::Add(_, _) | Ask::State(_) => Effect::Nothing,
+        _ => Effect::Ends,
     }
 }

@@ -8,10 +8,10 @@ mod work;
 use crate::closer::Closer;
 use crate::guarded::Guarded;
 use crate::naming::Naming;
-use crate::next::Wake;
 use crate::parts::Parts;
 use crate::seat::Seat;
 use crate::submitter::Submitter;
+use crate::wake::{Wake, Woken};
 use fj_core::Core;
 use fj_model::OutOfMemory;
 use fj_shelf::Hand;
@@ -65,22 +65,18 @@ impl<B: Body, N: Naming> Pool<B, N> {
 
     /// Wakes those whose wait may have ended.
     fn wake(&self, wake: Wake) {
-        match wake {
-            Wake::Nobody => {}
-            Wake::One => {
-                self.idle.notify_one();
-                self.joining.notify_one();
-            }
-            Wake::Waiting => {
-                self.joining.notify_all();
-                self.awaiting.notify_all();
-            }
-            Wake::Everybody => {
-                self.joining.notify_all();
-                self.awaiting.notify_all();
-                self.idle.notify_all();
-            }
-        }
+        notify(&self.idle, wake.idle);
+        notify(&self.joining, wake.joining);
+        notify(&self.awaiting, wake.awaiting);
+    }
+}
+
+/// Wakes so many of those who sleep on a condition variable.
+fn notify(sleepers: &Condvar, woken: Woken) {
+    match woken {
+        Woken::Nobody => {}
+        Woken::One => sleepers.notify_one(),
+        Woken::Everybody => sleepers.notify_all(),
     }
 }
 

@@ -69,6 +69,7 @@ impl<B: Body, N: Naming> Pool<B, N> {
         } = self;
         let Guarded {
             mut core,
+            waits: _,
             entrants,
             rests,
             of: _,

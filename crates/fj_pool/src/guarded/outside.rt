@@ -4,26 +4,49 @@ ghost use Rattle.fj_pool.specs.Lanes.{KeepsLanes};
 
 use crate::guarded::Guarded;
 use crate::naming::Naming;
-use crate::next::Wake;
 use fj_core::{Core, Intake};
 use fj_gate::Ticket;
 use fj_model::{MAX_SUBMITTERS, Refusal, Sealed, SubId};
 use fj_store::{Body, Outcome};
 use std::alloc::Global;
 
+/// How many tasks a look at the lanes has queued.
+#[derive(Clone, Copy)]
+pub enum TakenIn {
+    Nothing,
+    One,
+    Several,
+}
+
 impl<B: Body, N: Naming> Guarded<B, N> {
-    /// Takes in what the lanes show, each submitter once by rising number. Before that the history is sealed, where that is due; a refusal
-    /// is ignored.
-    pub fn take_in(&mut self, alloc: Global) -> Wake {
+    /// Takes in what the lanes show, each submitter once by rising number, and tells how many tasks are queued by that. Before that the
+    /// history is sealed, where that is due; a refusal is ignored.
+    pub fn take_in(&mut self, alloc: Global) -> TakenIn {
         if self.core.is_seal_due() {
             let _sealed = self.core.seal(alloc);
         }
-        take_each(&mut self.core)
+        let taken = take_each(&mut self.core);
+        match taken {
+            TakenIn::Nothing => {}
+            // With the last submission a stop may have been made.
+            TakenIn::One => self.tasks_ended(),
+            TakenIn::Several => {
+                self.waits.tasks_queued();
+                self.tasks_ended();
+            }
+        }
+        taken
     }
 
-    /// The outcome under a ticket, as `Core::collect` tells it.
+    /// The outcome under a ticket, as `Core::collect` tells it. Where it tells none, somebody sleeps for it from now on.
     pub fn collect(&mut self, ticket: Ticket) -> Option<Result<Outcome<B>, Refusal>> {
-        self.core.collect(ticket)
+        let answer = self.core.collect(ticket);
+        match answer {
+            // Whoever awaits the same ticket is told now that it was told before.
+            Some(_) => self.tasks_ended(),
+            None => self.waits.awaited.add(ticket),
+        }
+        answer
     }
 
     /// The sealed parts that are kept, which count as handed out from then on.
@@ -36,15 +59,20 @@ impl<B: Body, N: Naming> Guarded<B, N> {
     /// The closing number, at which the Shutdown is made.
     pub fn close_at(&mut self, number: u64) {
         self.core.close_at(number);
+        self.all_ended();
     }
 
     /// The closing number, at which the Stop is made.
     pub fn stop_at(&mut self, number: u64) {
         self.core.stop_at(number);
+        self.all_ended();
     }
 
-    /// Whether all queues, stacks and hands are empty.
-    pub fn is_quiescent(&mut self) -> bool {
+    /// Whether all queues, stacks and hands are empty, once what the lanes show was taken in.
+    pub fn is_quiescent(&mut self, alloc: Global) -> bool {
+        if let TakenIn::One = self.take_in(alloc) {
+            self.task_queued();
+        }
         self.core.is_quiescent()
     }
 
@@ -54,21 +82,21 @@ impl<B: Body, N: Naming> Guarded<B, N> {
     }
 }
 
-/// One intake for each submitter. Tells who may have something to do now: more than one parcel is work for idle workers too.
-fn take_each<B: Body>(core: &mut Core<B>) -> Wake
+/// One intake for each submitter.
+fn take_each<B: Body>(core: &mut Core<B>) -> TakenIn
     ensures { KeepsLanes core.old core.new }
 {
-    let mut wake = Wake::Nobody;
+    let mut taken = TakenIn::Nothing;
     for s in 0..MAX_SUBMITTERS {
         if s >= core.limits().submitters() {
             break;
         }
         if let Intake::Took(_) = core.intake(SubId(s)) {
-            wake = match wake {
-                Wake::Nobody => Wake::Waiting,
-                _ => Wake::Everybody,
+            taken = match taken {
+                TakenIn::Nothing => TakenIn::One,
+                _ => TakenIn::Several,
             };
         }
     }
-    wake
+    taken
 }

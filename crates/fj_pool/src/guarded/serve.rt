@@ -5,7 +5,7 @@ ghost use Rattle.fj_pool.specs.Turning.{MayAsk, NextRight};
 
 use crate::guarded::Guarded;
 use crate::naming::Naming;
-use crate::next::{Next, Served, Wake, woken_by};
+use crate::next::{Effect, Next, Served, effect_of};
 use fj_model::{Refusal, Serial};
 use fj_shelf::Hand;
 use fj_store::{Ask, Body, Heard, Told};
@@ -19,7 +19,7 @@ impl<B: Body, N: Naming> Guarded<B, N> {
         ensures { NextRight B.right result.next }
     {
         if !self.core.fits(hand) {
-            return served(Next::Leave(Err(Refusal::NoSuch)), Wake::Nobody);
+            return served(Next::Leave(Err(Refusal::NoSuch)));
         }
         match ask {
             Some(ask) => self.serve_ask(alloc, hand, ask),
@@ -34,34 +34,25 @@ impl<B: Body, N: Naming> Guarded<B, N> {
         ensures { NextRight B.right result.next }
     {
         let helps = matches!(ask, Ask::Help);
-        let wake = woken_by(&ask);
+        let effect = effect_of(&ask);
         note(hand, &ask);
-        match self.core.act(hand, ask) {
-            Told::Hear(heard) => served(Next::Turn(heard), wake),
-            Told::Run(t) => served(Next::Begin(t), Wake::Nobody),
-            Told::Skip(_, body) => Served {
-                next: Next::Again,
-                ended: None,
-                skipped: Some(body),
-                wake: Wake::Nobody,
-            },
-            Told::None => served(after_none(helps), Wake::Nobody),
-            Told::Hook(_, caller) => served(Next::Turn(Heard::Hook(caller)), wake),
+        let told = self.core.act(hand, ask);
+        self.tell_waiting(effect);
+        match told {
+            Told::Hear(heard) => served(Next::Turn(heard)),
+            Told::Run(t) => served(Next::Begin(t)),
+            Told::Skip(_, body) => skipped(body),
+            Told::None => served(self.after_none(hand, helps)),
+            Told::Hook(_, caller) => served(Next::Turn(Heard::Hook(caller))),
             Told::Over(body) => {
                 let then = self.resume(alloc, hand);
                 Served {
                     ended: body,
-                    wake: wake.and(then.wake),
                     next: then.next,
                     skipped: then.skipped,
                 }
             }
-            Told::Stuck(body) => Served {
-                next: Next::Leave(Err(Refusal::LogFull)),
-                ended: body,
-                skipped: None,
-                wake: Wake::Everybody,
-            },
+            Told::Stuck(body) => self.leave_stuck(body),
         }
     }
 
@@ -76,7 +67,7 @@ impl<B: Body, N: Naming> Guarded<B, N> {
         match hand.joined() {
             Some(t) => self.join(hand, t),
             // It helped. So hears a body, too, that an earlier call left, since the core was stuck: that is told to its next ask.
-            None => served(Next::Turn(Heard::Helped(true)), Wake::Nobody),
+            None => served(Next::Turn(Heard::Helped(true))),
         }
     }
 
@@ -87,29 +78,24 @@ impl<B: Body, N: Naming> Guarded<B, N> {
         ensures { NextRight B.right result.next }
     {
         match self.core.act(hand, Ask::Join(t)) {
-            Told::Hear(heard) => served(Next::Turn(heard), Wake::Waiting),
-            Told::Run(u) => served(Next::Begin(u), Wake::Nobody),
-            Told::Skip(_, body) => Served {
-                next: Next::Again,
-                ended: None,
-                skipped: Some(body),
-                wake: Wake::Nobody,
-            },
-            Told::None => served(Next::Wait, Wake::Nobody),
+            Told::Hear(heard) => {
+                self.tasks_ended();
+                served(Next::Turn(heard))
+            }
+            Told::Run(u) => served(Next::Begin(u)),
+            Told::Skip(_, body) => skipped(body),
+            Told::None => {
+                self.sleep_for(t);
+                served(Next::Wait)
+            }
             // Endings alone are answered so.
-            Told::Hook(_, _) => served(Next::Again, Wake::Nobody),
+            Told::Hook(_, _) => served(Next::Again),
             Told::Over(body) => Served {
                 next: Next::Again,
                 ended: body,
                 skipped: None,
-                wake: Wake::Nobody,
             },
-            Told::Stuck(body) => Served {
-                next: Next::Leave(Err(Refusal::LogFull)),
-                ended: body,
-                skipped: None,
-                wake: Wake::Everybody,
-            },
+            Told::Stuck(body) => self.leave_stuck(body),
         }
     }
 
@@ -119,34 +105,23 @@ impl<B: Body, N: Naming> Guarded<B, N> {
         requires idle { (hand.old.stack ≡ []) × (hand.old.hook ≡ None) }
         ensures { NextRight B.right result.next }
     {
-        let wake = self.take_in(alloc);
+        let _taken = self.take_in(alloc);
         // An intake leaves each hand as it is; the contract of a poll wants to know.
         if !self.core.fits(hand) {
-            return served(Next::Leave(Err(Refusal::NoSuch)), wake);
+            return served(Next::Leave(Err(Refusal::NoSuch)));
         }
         match self.core.poll(hand) {
-            Told::Run(t) => served(Next::Begin(t), wake),
-            Told::Skip(_, body) => Served {
-                next: Next::Again,
-                ended: None,
-                skipped: Some(body),
-                wake,
-            },
-            Told::None => served(self.after_no_task(), wake),
-            Told::Stuck(body) => Served {
-                next: Next::Leave(Err(Refusal::LogFull)),
-                ended: body,
-                skipped: None,
-                wake: Wake::Everybody,
-            },
+            Told::Run(t) => served(Next::Begin(t)),
+            Told::Skip(_, body) => skipped(body),
+            Told::None => served(self.after_no_task()),
+            Told::Stuck(body) => self.leave_stuck(body),
             // A poll is not answered so.
-            Told::Hear(_) => served(Next::Again, wake),
-            Told::Hook(_, _) => served(Next::Again, wake),
+            Told::Hear(_) => served(Next::Again),
+            Told::Hook(_, _) => served(Next::Again),
             Told::Over(body) => Served {
                 next: Next::Again,
                 ended: body,
                 skipped: None,
-                wake,
             },
         }
     }
@@ -161,17 +136,64 @@ impl<B: Body, N: Naming> Guarded<B, N> {
             Next::Rest
         }
     }
+
+    /// What a body does that asked for another task and was given none: it waits for what it joined, or hears that there was none.
+    fn after_none(&mut self, hand: &Hand<B>, helps: bool) -> Next<B>
+        ensures next { NextRight B.right result }
+        ensures same { self.new ≡ self.old }
+    {
+        if helps {
+            return Next::Turn(Heard::Helped(false));
+        }
+        if let Some(t) = hand.joined() {
+            self.sleep_for(t);
+        }
+        Next::Wait
+    }
+
+    /// Who waits for what this may have changed is to be woken.
+    fn tell_waiting(&mut self, effect: Effect)
+        ensures { self.new ≡ self.old }
+    {
+        match effect {
+            Effect::Nothing => {}
+            Effect::Queues => self.task_queued(),
+            Effect::Ends => self.tasks_ended(),
+        }
+    }
+
+    /// The core is stuck: all leave.
+    fn leave_stuck(&mut self, body: Option<B>) -> Served<B>
+        ensures { NextRight B.right result.next }
+    {
+        self.all_ended();
+        Served {
+            next: Next::Leave(Err(Refusal::LogFull)),
+            ended: body,
+            skipped: None,
+        }
+    }
 }
 
 /// No body goes.
-fn served<B: Body>(next: Next<B>, wake: Wake) -> Served<B>
+fn served<B: Body>(next: Next<B>) -> Served<B>
     ensures { result.next ≡ next }
 {
     Served {
         next,
         ended: None,
         skipped: None,
-        wake,
+    }
+}
+
+/// A task was skipped, and its body goes. The worker looks on.
+fn skipped<B: Body>(body: B) -> Served<B>
+    ensures { NextRight B.right result.next }
+{
+    Served {
+        next: Next::Again,
+        ended: None,
+        skipped: Some(body),
     }
 }
 
@@ -186,16 +208,5 @@ fn note<B: Body>(hand: &mut Hand<B>, ask: &Ask<B>)
         Ask::Join(t) => hand.note_join(Some(*t)),
         Ask::Help => hand.note_join(None),
         _ => {}
-    }
-}
-
-/// What a body does that asked for another task and was given none: it waits for what it joined, or hears that there was none.
-fn after_none<B: Body>(helps: bool) -> Next<B>
-    ensures { NextRight B.right result }
-{
-    if helps {
-        Next::Turn(Heard::Helped(false))
-    } else {
-        Next::Wait
     }
 }

@@ -1,7 +1,6 @@
 //! What is asked of a pool by those who do not work for it.
 use crate::closer::Closer;
 use crate::naming::Naming;
-use crate::next::Wake;
 use crate::pool::Pool;
 use fj_gate::{Closing, Ticket};
 use fj_model::{Refusal, Sealed};
@@ -22,8 +21,9 @@ impl<B: Body, N: Naming> Pool<B, N> {
         for _ in rt.forever() {
             let core = &mut *guard;
             if let Some(answer) = core.collect(ticket) {
-                // Whoever awaits the same ticket is told now that it was told before.
-                self.awaiting.notify_all();
+                let wake = core.take_wake();
+                drop(guard);
+                self.wake(wake);
                 return answer;
             }
             guard = self.awaiting.wait(rt, guard);
@@ -50,8 +50,9 @@ impl<B: Body, N: Naming> Pool<B, N> {
         let mut guard = self.core.lock(rt);
         let core = &mut *guard;
         core.close_at(number);
+        let wake = core.take_wake();
         drop(guard);
-        self.wake(Wake::Everybody);
+        self.wake(wake);
     }
 
     /// Nothing more is admitted; once all that was admitted was taken in, every task that is undone is cancelled, and the workers leave:
@@ -61,16 +62,17 @@ impl<B: Body, N: Naming> Pool<B, N> {
         let mut guard = self.core.lock(rt);
         let core = &mut *guard;
         core.stop_at(number);
+        let wake = core.take_wake();
         drop(guard);
-        self.wake(Wake::Everybody);
+        self.wake(wake);
     }
 
     /// Whether all queues are empty and no worker runs anything, once what the lanes show was taken in: `ForkJoinPool.isQuiescent`.
     pub fn is_quiescent<R: Wait>(&self, rt: &R) -> bool {
         let mut guard = self.core.lock(rt);
         let core = &mut *guard;
-        let wake = core.take_in(self.alloc);
-        let quiescent = core.is_quiescent();
+        let quiescent = core.is_quiescent(self.alloc);
+        let wake = core.take_wake();
         drop(guard);
         self.wake(wake);
         quiescent

@@ -64,8 +64,8 @@ impl<B: Body, N: Naming> Pool<B, N> {
             next,
             ended,
             skipped,
-            wake,
         } = core.serve(self.alloc, hand, ask);
+        let wake = core.take_wake();
         if matches!(next, Next::Wait) {
             // Under the lock, so that what it wakes is not taken for a change, and no change after this is missed.
             self.wake(wake);

@@ -1,5 +1,7 @@
-ghost use Rattle.std.specs.Prelude.{◌≡◌, true};
+ghost use Rattle.std.specs.Prelude.{◌≡◌, ◌&&◌, true};
 ghost use Rattle.fj_model.specs.declared.step.Step.TheVariants.{Add, QuietRoot, Fault, Cancel, State};
+ghost use Rattle.fj_model.specs.Statuses.{status, is_undone};
+ghost use Rattle.fj_model.specs.Tasks.{is_kept};
 ghost use Rattle.fj_store.specs.Asking.{is_calm, Makes, Adds, QuietsRoot, Settles, Shows};
 
 use crate::body::{Body, Heard, Told};
@@ -95,6 +97,20 @@ impl<B: Body> Store<B> {
         match self.machine.step(&Step::State { t }) {
             Said::State(place, status) => Told::Hear(Heard::Is(place, status)),
             Said::Refused(refusal) => Told::Hear(Heard::Refused(refusal)),
+            _ => unreachable!(),
+        }
+    }
+
+    /// Whether a task is kept and undone: not `ForkJoinTask.isDone`. It also serves where the store is stuck.
+    pub fn is_undone(&mut self, t: Serial) -> bool
+        ensures undone { result ≡ is_kept self.old.past.events t && is_undone (status self.old.past.events t) }
+        ensures same { self.new ≡ self.old }
+    {
+        // The check wants each type inside a reply to be named where one is moved.
+        let _inside: Option<(Place, Owner, Status, Refusal, Serial, SubId, WorkerId)> = None;
+        match self.machine.step(&Step::State { t }) {
+            Said::State(_, status) => status.is_undone(),
+            Said::Refused(_) => false,
             _ => unreachable!(),
         }
     }

@@ -1,0 +1,61 @@
+//! Who is woken by what was done under the lock.
+ghost use Rattle.std.specs.Prelude.{◌≡◌};
+
+use crate::guarded::Guarded;
+use crate::naming::Naming;
+use crate::wake::Wake;
+use crate::wanted::Wanted;
+use fj_model::Serial;
+use fj_store::Body;
+
+impl<B: Body, N: Naming> Guarded<B, N> {
+    /// Who is to be woken by all that was done since the last call.
+    pub fn take_wake(&mut self) -> Wake
+        ensures { self.new ≡ self.old }
+    {
+        self.waits.take_due()
+    }
+
+    /// A worker sleeps until this task is done, or another one is queued.
+    pub fn sleep_for(&mut self, t: Serial)
+        ensures { self.new ≡ self.old }
+    {
+        self.waits.joined.add(t);
+    }
+
+    /// A task was queued.
+    pub fn task_queued(&mut self)
+        ensures { self.new ≡ self.old }
+    {
+        self.waits.task_queued();
+    }
+
+    /// Tasks may be done now, or their results taken: who sleeps for one of them is to be woken.
+    pub fn tasks_ended(&mut self)
+        ensures { self.new ≡ self.old }
+    {
+        let is_joined = match self.waits.joined {
+            Wanted::Nothing => false,
+            Wanted::One(t) => !self.core.is_undone(t),
+            Wanted::Several => true,
+        };
+        if is_joined {
+            self.waits.join_ended();
+        }
+        let is_told = match self.waits.awaited {
+            Wanted::Nothing => false,
+            Wanted::One(ticket) => !self.core.is_awaited(ticket),
+            Wanted::Several => true,
+        };
+        if is_told {
+            self.waits.await_ended();
+        }
+    }
+
+    /// The core is stuck, or the pool is shut down: all are to be woken.
+    pub fn all_ended(&mut self)
+        ensures { self.new ≡ self.old }
+    {
+        self.waits.all_ended();
+    }
+}
