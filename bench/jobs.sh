@@ -2,14 +2,14 @@
 # Times the jobs beside programs that do the same: a plain one in C of the same design, one of the JDK's pool, one of rayon. Each is timed as
 # a whole process, by turns, and all must give the same answer.
 # Usage: bench/jobs.sh [LOAD..]
-#   LOAD is leaves, blocks, tree, submit or locks (default: all of them)
+#   LOAD is leaves, blocks, primes, tree, submit or locks (default: all of them)
 # RUNS=N bench/jobs.sh ..   the least time of N runs of each program counts (default: 5)
 set -euo pipefail
 cd "$(dirname "${BASH_SOURCE[0]}")/.."
 
 runs=${RUNS:-5}
 limit=60
-crates=(fj_model fj_queues fj_tree fj_ledger fj_machine fj_gate fj_lane fj_shelf fj_store fj_core fj_pool fj_jobs fj_crew fj_invoke fj_fold)
+crates=(fj_model fj_queues fj_tree fj_ledger fj_machine fj_gate fj_lane fj_shelf fj_store fj_core fj_pool fj_jobs fj_primes fj_crew fj_invoke fj_fold)
 declare -A program_of
 
 . bench/loader.sh
@@ -119,12 +119,14 @@ count_load() {
     }'
 }
 
-# The loads, and what is due: the sum of 1 to 200,000 and to 100,000,000, the value of the tree, the number of submissions.
+# The loads, and what is due: the sum of 1 to 200,000 and to 100,000,000, the primes up to 10,000, the value of the tree, the number of
+# submissions.
 run_load() {
     local workers threads
     case $1 in
     leaves) for workers in 1 2 4; do time_load leaves 20000100000 sum 1 200000 1 "$workers"; done ;;
     blocks) for workers in 1 2 4; do time_load blocks 5000000050000000 sum 1 100000000 100000 "$workers"; done ;;
+    primes) for workers in 1 2 4; do time_load primes 1229 primes 1 10000 10 "$workers"; done ;;
     tree) for workers in 1 2 4; do time_load tree "$("$folder/fj" tree 1 < "$tree")" tree "$workers"; done ;;
     submit)
         cp bench/jobs/counted/submit.rt.in "$loader/src/submit.rt"
@@ -138,6 +140,7 @@ run_load() {
         for workers in 1 2 4; do
             count_load leaves 200000 sum 1 200000 1 "$workers"
             count_load blocks 1000 sum 1 100000000 100000 "$workers"
+            count_load primes 1000 primes 1 10000 10 "$workers"
             count_load tree 4000 tree "$workers"
         done
         for threads in 1 4; do count_load submit 200000 submit "$threads" 200000 4; done
@@ -149,7 +152,7 @@ run_load() {
     esac
 }
 
-(($#)) || set -- leaves blocks tree submit locks
+(($#)) || set -- leaves blocks primes tree submit locks
 build_proved
 build_others
 # The counts come last: for them the copies of the crates are changed.
