@@ -1,4 +1,4 @@
-use fj_crew::Refusal;
+use fj_crew::{NoResult, Refusal};
 use thiserror::Error;
 
 /// Why nothing was built.
@@ -16,4 +16,13 @@ pub enum Fault {
     /// An artifact was not had: memory was refused while it was linked, or it is too large.
     #[error("lost")]
     Lost,
+}
+
+impl From<NoResult> for Fault {
+    fn from(none: NoResult) -> Fault {
+        match none {
+            NoResult::Failed(code) => Fault::Failed(code),
+            NoResult::Missing => Fault::Lost,
+        }
+    }
 }

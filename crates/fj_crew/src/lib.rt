@@ -9,7 +9,9 @@
 mod alone;
 mod closing;
 mod crew;
+mod results;
 
 pub use alone::run_alone;
 pub use fj_model::{Limits, Mode, Refusal};
 pub use fj_pool::{Ask, Body, Heard, Kept, Open, Outcome, Turnstile};
+pub use results::{NoResult, result_in};

@@ -1,4 +1,4 @@
-use fj_crew::Refusal;
+use fj_crew::{NoResult, Refusal};
 use thiserror::Error;
 
 /// Why an event has no level.
@@ -13,4 +13,13 @@ pub enum Fault {
     /// A stage has not had the result of the next one. No pool answers so.
     #[error("lost")]
     Lost,
+}
+
+impl From<NoResult> for Fault {
+    fn from(none: NoResult) -> Fault {
+        match none {
+            NoResult::Failed(code) => Fault::Failed(code),
+            NoResult::Missing => Fault::Lost,
+        }
+    }
 }

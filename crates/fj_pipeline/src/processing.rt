@@ -5,8 +5,7 @@ use crate::fault::Fault;
 use crate::flow::Flow;
 use crate::item::Item;
 use crate::stage::Stage;
-use fj_crew::{Body, Limits, Mode, Open, Outcome, run_alone};
-use fj_model::Status;
+use fj_crew::{Limits, Mode, Open, result_in, run_alone};
 use std::alloc::Global;
 use std::sync::Wait;
 use std::thread::Threads;
@@ -41,20 +40,7 @@ pub fn process<R: Threads + Wait + Sync>(
     };
     match result_in(outcome) {
         Ok((key, level)) => level_under(item, key, level),
-        Err(fault) => Err(fault),
-    }
-}
-
-/// The result of an outcome, with its key. `Failed` where it failed, and `Lost` where it has none.
-fn result_in<B: Body>(outcome: Outcome<B>) -> Result<(B::Key, B::Out), Fault>
-    ensures { IfOk result (λ r. ∥ B.right r.0 r.1 ∥₁) }
-{
-    if let Status::Exceptional(code) = outcome.status() {
-        return Err(Fault::Failed(code));
-    }
-    match outcome.into_kept() {
-        Some(kept) => Ok(kept.into_parts()),
-        None => Err(Fault::Lost),
+        Err(none) => Err(none.into()),
     }
 }
 
