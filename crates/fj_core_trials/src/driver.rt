@@ -26,6 +26,10 @@ pub enum Call {
     Terminated,
     /// The outcome under a ticket.
     Collect(u64),
+    /// Whether the outcome under a ticket is still to come.
+    Awaited(u64),
+    /// Whether a task is undone.
+    IsUndone(u64),
     Seal,
     /// How many parts are sealed, and were not taken.
     Parts,
@@ -112,6 +116,8 @@ impl Driver {
             Call::Quiescent => said(self.core.is_quiescent()),
             Call::Terminated => said(self.core.is_terminated()),
             Call::Collect(ticket) => collected(&self.core.collect(Ticket(ticket))),
+            Call::Awaited(ticket) => said(self.core.is_awaited(Ticket(ticket))),
+            Call::IsUndone(t) => said(self.core.is_undone(Serial(t))),
             Call::Seal => match self.core.seal(alloc) {
                 Ok(()) => Tells::Done,
                 Err(refusal) => Tells::Refused(refusal),

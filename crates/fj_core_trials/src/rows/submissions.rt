@@ -5,7 +5,7 @@ use crate::tells::Tells::{self, *};
 use fj_model::{Kind, Refusal};
 
 /// The first closing number stays; parcels beyond it are not taken in.
-pub fn close() -> [(Call, Tells); 18] {
+pub fn close() -> [(Call, Tells); 26] {
     [
         (CloseAt(1), Done),
         (CloseAt(0), Done),
@@ -13,7 +13,12 @@ pub fn close() -> [(Call, Tells); 18] {
         (Intake, Empty),
         (Push(0, 70, None), Done),
         (Collect(1), Undone),
+        (Awaited(1), Yes),
+        (IsUndone(0), No),
         (Intake, Took(0)),
+        (IsUndone(0), Yes),
+        (Awaited(0), Yes),
+        (Awaited(1), No),
         (Push(1, 71, None), Done),
         (Intake, Empty),
         (Collect(1), Refused(Refusal::Unknown)),
@@ -21,7 +26,10 @@ pub fn close() -> [(Call, Tells); 18] {
         (Act(Fork(Kind::Plain, 72)), Task(1)),
         (Act(Join(1)), Run(1)),
         (Act(Ok(41)), Over(None)),
+        (IsUndone(1), No),
+        (Awaited(0), Yes),
         (Act(Ok(40)), Over(None)),
+        (Awaited(0), No),
         (Terminated, Yes),
         (Collect(0), Normal(true)),
         (Bodies, Number(1)),
