@@ -10,12 +10,21 @@ pub enum Wanted<T> {
 }
 
 impl<T: Copy + PartialEq> Wanted<T> {
-    /// Somebody sleeps for this, too.
-    pub fn add(&mut self, wanted: T) {
-        *self = match *self {
+    /// The same, and somebody sleeps for this, too.
+    pub fn and(self, wanted: T) -> Wanted<T> {
+        match self {
             Wanted::Nothing => Wanted::One(wanted),
-            Wanted::One(other) if other == wanted => Wanted::One(wanted),
-            _ => Wanted::Several,
-        };
+            Wanted::One(other) => both(other, wanted),
+            Wanted::Several => Wanted::Several,
+        }
+    }
+}
+
+/// Some sleep for this, and some for that.
+fn both<T: Copy + PartialEq>(one: T, other: T) -> Wanted<T> {
+    if one == other {
+        Wanted::One(one)
+    } else {
+        Wanted::Several
     }
 }

@@ -44,7 +44,7 @@ impl<B: Body, N: Naming> Guarded<B, N> {
         match answer {
             // Whoever awaits the same ticket is told now that it was told before.
             Some(_) => self.tasks_ended(),
-            None => self.waits.awaited.add(ticket),
+            None => self.waits.awaited = self.waits.awaited.and(ticket),
         }
         answer
     }

@@ -20,7 +20,7 @@ impl<B: Body, N: Naming> Guarded<B, N> {
     pub fn sleep_for(&mut self, t: Serial)
         ensures { self.new ≡ self.old }
     {
-        self.waits.joined.add(t);
+        self.waits.joined = self.waits.joined.and(t);
     }
 
     /// A task was queued.
