@@ -50,6 +50,7 @@ use Rattle.fj_store.proofs.due.Due.TheSendSync.{the_send as due_send}
 use Rattle.fj_core.proofs.bookings.Bookings.TheSendSync.{the_send as bookings_send}
 use Rattle.fj_core.proofs.closing.Closing.TheSendSync.{the_send as closing_send}
 use Rattle.fj_pool.proofs.closer.Closer.TheSendSync.{the_send as closer_send}
+use Rattle.fj_pool.proofs.waits.Waits.TheSendSync.{the_send as waits_send}
 
 layer : (p : Parts knot.frame) → IsSend (knot.view-Log p)
 layer p = search (sendable, crosses, event_send, option_send) depth 40
@@ -119,7 +120,10 @@ module _ (B N K O : RattleType) (g : Body.Ghosts B.Denot K.Denot O.Denot) (e : P
   guarded_inner : IsSend (GuardedInside.the_row B N K O g e n)
   guarded_inner = declared_send (GuardedInside.the_type B N K O g e n) (
     as_row_send (Core.the_field B K O g e) (core_send B K O g e b k o),
-    (search (sendable, crosses, as_row_send, entrant_send), (search (sendable, crosses, as_row_send, rest_row), (search (sendable, crosses, as_row_send, named), tt))),
+    (
+      search (sendable, crosses, as_row_send, waits_send),
+      (search (sendable, crosses, as_row_send, entrant_send), (search (sendable, crosses, as_row_send, rest_row), (search (sendable, crosses, as_row_send, named), tt))),
+    ),
   )
 
   guarded_send : IsSend (Guarded.the_row B N K O g e n)
