@@ -1,6 +1,6 @@
 -- What a session has found when it stops.
 use Rattle.std.specs.Prelude.{◌==◌, if◌then◌else◌, true, false}
-use Rattle.std.proofs.Common.{ℕ, ◌≡◌, ◌≢◌, ◌+◌, ◌<◌, ◌≤◌, List, [], ◌∷◌, ◌++◌, refl, arith, ◌∙◌, sym, ap, subst, take, drop, length, length-append, append_assoc, ◌⊎◌, inl, inr, Option, Some}
+use Rattle.std.proofs.Common.{ℕ, ◌≡◌, ◌≢◌, ◌+◌, ◌<◌, ◌≤◌, List, [], ◌∷◌, ◌++◌, refl, arith, ◌∙◌, sym, ap, take, drop, length, length-append, append_assoc, ◌⊎◌, inl, inr, Option, Some}
 use Rattle.std.proofs.lemmas.List.{append-nil, take-append-drop}
 use Rattle.std.proofs.Math.Seq.{take-append_seam}
 use Rattle.std.proofs.Math.ListN.{get_or}
@@ -11,14 +11,12 @@ use Rattle.fj_replay.specs.declared.fault.ReplayFault.TheVariants.{Line, Limits,
 use Rattle.fj_streams.specs.Beginnings.{AppendsSome}
 use Rattle.fj_replay.specs.Cuts.{cut, left, lines, rest}
 use Rattle.fj_replay.specs.declared.stage.Stage.{Stage}
-use Rattle.fj_replay.specs.declared.stage.Stage.TheVariants.{Start, Titled}
-use Rattle.fj_replay.specs.Scripts.{stage_after, stage_from, line_text, text_from, is_good, text}
-use Rattle.fj_replay.specs.Faults.{Stands, IsUnended, IsFaulty, IsHeadless, LacksHeading, IsOutOfLimits, Ends, FaultOf, IsReplayed}
+use Rattle.fj_replay.specs.Scripts.{stage_after, stage_from, line_text, text_from, is_good}
+use Rattle.fj_replay.specs.Faults.{Stands, IsUnended, IsFaulty, IsHeadless, LacksHeading, IsOutOfLimits, EndsFrom, FaultOf, IsFinished}
 use Rattle.fj_replay.specs.Sessions.{Kept, IsAt, MayEnd, EndsEarly, FaultAtEnd, FaultWithin, FaultAt}
 use Rattle.fj_streams.proofs.Bytes.{appends_keeps, appends_twice}
 use Rattle.fj_replay.proofs.Lines.{cut-append, left-append, left-uncut}
 use Rattle.fj_replay.proofs.Stages.{stage_there, some_stage, text-line, text-stops, faulty_after, headless_silent, too_long}
-use Rattle.fj_replay.proofs.Runs.{is_run}
 use Rattle.fj_replay.proofs.Steps.{tens, no_ten, text_at, and_rest}
 
 -- ---- parts of a text
@@ -33,14 +31,14 @@ some_twice a b c s t u p (k, q) =
     rw whole (first_part a c (s ++ take k t) (drop k t ++ u) (appends_twice a b c s (take k t) p q))
 
 -- nothing more was written
-wrote_all : (b ys : List ℕ) (v : Kept) (s n m : Option (List ℕ)) → IsAt b v s n → text_from v.stage (cut (rest b) ys) ≡ [] → Appends n m [] → Appends s m (text (b ++ ys))
-wrote_all b ys v s n m at none wrote =
-    let whole : text (b ++ ys) ≡ text b ++ [] = text_at b ys v.stage at.stage ∙ ap (λ t. text b ++ t) none in
-    rw whole (appends_twice s n m (text b) [] at.written wrote)
+wrote_all : (first : Stage) (b ys : List ℕ) (v : Kept) (s n m : Option (List ℕ)) → IsAt first b v s n → text_from v.stage (cut (rest b) ys) ≡ [] → Appends n m [] → Appends s m (text_from first (lines (b ++ ys)))
+wrote_all first b ys v s n m at none wrote =
+    let whole : text_from first (lines (b ++ ys)) ≡ text_from first (lines b) ++ [] = text_at first b ys v.stage at.stage ∙ ap (λ t. text_from first (lines b) ++ t) none in
+    rw whole (appends_twice s n m (text_from first (lines b)) [] at.written wrote)
 
 -- the reply to a line was not written whole
-stopped : (b more : List ℕ) (v : Kept) (x : ℕ) (s n m : Option (List ℕ)) → IsAt b v s n → x ≡ 10 → MayEnd v → AppendsSome n m (line_text v.stage v.line) → AppendsSome s m (text (b ++ x ∷ more))
-stopped b more v x s n m at ends may some =
+stopped : (first : Stage) (b more : List ℕ) (v : Kept) (x : ℕ) (s n m : Option (List ℕ)) → IsAt first b v s n → x ≡ 10 → MayEnd v → AppendsSome n m (line_text v.stage v.line) → AppendsSome s m (text_from first (lines (b ++ x ∷ more)))
+stopped first b more v x s n m at ends may some =
     let e = tens x ends in
     let one : cut (rest b) (x ∷ more) ≡ rest b ∷ cut [] more = rw e refl in
     let there = stage_there (stage_after v.stage v.line) may in
@@ -48,23 +46,23 @@ stopped b more v x s n m at ends may some =
     let said_line : line_text v.stage v.line ≡ line_text v.stage (rest b) = rw at.line refl in
     let later : List ℕ = text_from there.0 (cut [] more) in
     let tail : text_from v.stage (cut (rest b) (x ∷ more)) ≡ line_text v.stage v.line ++ later = rw (one, said_line) (text-line v.stage there.0 (rest b) (cut [] more) there_too) in
-    let whole : text (b ++ x ∷ more) ≡ text b ++ (line_text v.stage v.line ++ later) = text_at b (x ∷ more) v.stage at.stage ∙ ap (λ t. text b ++ t) tail in
-    rw whole (some_twice s n m (text b) (line_text v.stage v.line) later at.written some)
+    let whole : text_from first (lines (b ++ x ∷ more)) ≡ text_from first (lines b) ++ (line_text v.stage v.line ++ later) = text_at first b (x ∷ more) v.stage at.stage ∙ ap (λ t. text_from first (lines b) ++ t) tail in
+    rw whole (some_twice s n m (text_from first (lines b)) (line_text v.stage v.line) later at.written some)
 
 -- ---- a line that stands whole
 
-stands : (b more line : List ℕ) (after : List (List ℕ)) (k : ℕ) (v : Kept) (s n m ahead : Option (List ℕ)) → IsAt b v s n → k ≡ v.count + 1 → cut (rest b) more ≡ line ∷ after → IsFaulty v.stage line → Appends n m [] → FaultOf (Line k) (b ++ more) ahead s m
-stands b more line after k v s n m ahead at number one faulty wrote =
+stands : (first : Stage) (b more line : List ℕ) (after : List (List ℕ)) (k : ℕ) (v : Kept) (s n m ahead : Option (List ℕ)) → IsAt first b v s n → k ≡ v.count + 1 → cut (rest b) more ≡ line ∷ after → IsFaulty v.stage line → Appends n m [] → FaultOf first (Line k) (b ++ more) ahead s m
+stands first b more line after k v s n m ahead at number one faulty wrote =
     let cuts : lines (b ++ more) ≡ lines b ++ line ∷ after = cut-append [] b more ∙ ap (λ ls. lines b ++ ls) one in
     let none : text_from v.stage (cut (rest b) more) ≡ [] = rw one (text-stops v.stage line after (faulty_after v.stage line faulty)) in
-    let here : Stands k (b ++ more) (lines b) line after = record {
+    let here : Stands first k (b ++ more) (lines b) line after = record {
       stage = v.stage;
       cut = cuts;
       number = number ∙ ap (λ i. i + 1) at.count;
       good = at.stage;
       faulty = faulty;
     } in
-    (inl (lines b, line, after, here), wrote_all b more v s n m at none wrote)
+    (inl (lines b, line, after, here), wrote_all first b more v s n m at none wrote)
 
 -- ---- a line that is too long
 
@@ -77,18 +75,18 @@ long_or before (x ∷ xs) long =
       | false ↦ long_or (before ++ x ∷ []) xs (simp length-append (omega arith))
     ]
 
-unended : (b more : List ℕ) (k : ℕ) (v : Kept) (s n m ahead : Option (List ℕ)) → IsAt b v s n → k ≡ v.count + 1 → cut (rest b) more ≡ [] → MAX_LINE2 < length (left (rest b) more) → Appends n m [] → FaultOf (Line k) (b ++ more) ahead s m
-unended b more k v s n m ahead at number none long wrote =
+unended : (first : Stage) (b more : List ℕ) (k : ℕ) (v : Kept) (s n m ahead : Option (List ℕ)) → IsAt first b v s n → k ≡ v.count + 1 → cut (rest b) more ≡ [] → MAX_LINE2 < length (left (rest b) more) → Appends n m [] → FaultOf first (Line k) (b ++ more) ahead s m
+unended first b more k v s n m ahead at number none long wrote =
     let cuts : lines (b ++ more) ≡ lines b = cut-append [] b more ∙ (ap (λ ls. lines b ++ ls) none ∙ append-nil (lines b)) in
     let quiet : text_from v.stage (cut (rest b) more) ≡ [] = rw none refl in
-    let open_line : IsUnended k (b ++ more) = record {
+    let open_line : IsUnended first k (b ++ more) = record {
       number = number ∙ rw cuts (ap (λ i. i + 1) at.count);
-      good = rw cuts (some_stage (stage_from Start (lines b)) v.stage at.stage);
+      good = rw cuts (some_stage (stage_from first (lines b)) v.stage at.stage);
     } in
-    (inr (open_line, inl (rw (left-append [] b more) long)), wrote_all b more v s n m at quiet wrote)
+    (inr (open_line, inl (rw (left-append [] b more) long)), wrote_all first b more v s n m at quiet wrote)
 
-long_line : (b more : List ℕ) (x k : ℕ) (v : Kept) (s n m ahead : Option (List ℕ)) → IsAt b v s n → k ≡ v.count + 1 → x ≢ 10 → MAX_LINE2 ≤ length v.line → Appends n m [] → FaultOf (Line k) (b ++ x ∷ more) ahead s m
-long_line b more x k v s n m ahead at number goes full wrote =
+long_line : (first : Stage) (b more : List ℕ) (x k : ℕ) (v : Kept) (s n m ahead : Option (List ℕ)) → IsAt first b v s n → k ≡ v.count + 1 → x ≢ 10 → MAX_LINE2 ≤ length v.line → Appends n m [] → FaultOf first (Line k) (b ++ x ∷ more) ahead s m
+long_line first b more x k v s n m ahead at number goes full wrote =
     let e = no_ten x goes in
     let same : length v.line ≡ length (rest b) = ap length at.line in
     let long : MAX_LINE2 < length (rest b ++ x ∷ []) = simp length-append (omega arith) in
@@ -97,96 +95,86 @@ long_line b more x k v s n m ahead at number goes full wrote =
     elim (long_or (rest b ++ x ∷ []) more long) [
       | inl none ↦
           let far : MAX_LINE2 < length (left (rest b) (x ∷ more)) = rw (on_left, left-uncut (rest b ++ x ∷ []) more none, length-append) (omega arith) in
-          unended b (x ∷ more) k v s n m ahead at number (on ∙ none) far wrote
-      | inr l ↦ stands b (x ∷ more) l.0 l.1 k v s n m ahead at number (on ∙ l.2) (too_long v.stage l.0 l.3) wrote
+          unended first b (x ∷ more) k v s n m ahead at number (on ∙ none) far wrote
+      | inr l ↦ stands first b (x ∷ more) l.0 l.1 k v s n m ahead at number (on ∙ l.2) (too_long v.stage l.0 l.3) wrote
     ]
 
 -- ---- a heading out of its limits
 
-out_of_limits : (b more : List ℕ) (x : ℕ) (v : Kept) (s n m ahead : Option (List ℕ)) → IsAt b v s n → x ≡ 10 → IsHeadless v.stage → IsOutOfLimits v.line → Appends n m [] → FaultOf Limits (b ++ x ∷ more) ahead s m
-out_of_limits b more x v s n m ahead at ends headless out wrote =
+out_of_limits : (first : Stage) (b more : List ℕ) (x : ℕ) (v : Kept) (s n m ahead : Option (List ℕ)) → IsAt first b v s n → x ≡ 10 → IsHeadless v.stage → IsOutOfLimits v.line → Appends n m [] → FaultOf first Limits (b ++ x ∷ more) ahead s m
+out_of_limits first b more x v s n m ahead at ends headless out wrote =
     let e = tens x ends in
     let cuts : lines (b ++ x ∷ more) ≡ lines b ++ rest b ∷ cut [] more = cut-append [] b (x ∷ more) ∙ rw e refl in
-    let quiet : text b ≡ [] = headless_silent v.stage (lines b) at.stage headless in
+    let quiet : text_from first (lines b) ≡ [] = headless_silent first v.stage (lines b) at.stage headless in
     ((lines b, rest b, cut [] more, v.stage, cuts, at.stage, headless, rw at.line at out), appends_twice s n m [] [] (rw quiet at at.written) wrote)
 
 -- ---- all faults
 
-at_end_of_line : (f : ReplayFault) (b more : List ℕ) (v : Kept) (x : ℕ) (s n m ahead : Option (List ℕ)) → IsAt b v s n → x ≡ 10 → FaultAtEnd f (v.count + 1) v.stage v.line n m → FaultOf f (b ++ x ∷ more) ahead s m
-at_end_of_line (Line k) b more v x s n m ahead at ends p =
+at_end_of_line : (first : Stage) (f : ReplayFault) (b more : List ℕ) (v : Kept) (x : ℕ) (s n m ahead : Option (List ℕ)) → IsAt first b v s n → x ≡ 10 → FaultAtEnd f (v.count + 1) v.stage v.line n m → FaultOf first f (b ++ x ∷ more) ahead s m
+at_end_of_line first (Line k) b more v x s n m ahead at ends p =
     let e = tens x ends in
     let one : cut (rest b) (x ∷ more) ≡ rest b ∷ cut [] more = rw e refl in
-    stands b (x ∷ more) (rest b) (cut [] more) k v s n m ahead at p.0 one (rw at.line at p.1) p.2
-at_end_of_line Limits b more v x s n m ahead at ends p = out_of_limits b more x v s n m ahead at ends p.0 p.1 p.2
-at_end_of_line Memory b more v x s n m ahead at ends p = stopped b more v x s n m at ends p.0 p.1
-at_end_of_line Read b more v x s n m ahead at ends p = absurd p
-at_end_of_line Write b more v x s n m ahead at ends p = stopped b more v x s n m at ends p.0 p.1
+    stands first b (x ∷ more) (rest b) (cut [] more) k v s n m ahead at p.0 one (rw at.line at p.1) p.2
+at_end_of_line first Limits b more v x s n m ahead at ends p = out_of_limits first b more x v s n m ahead at ends p.0 p.1 p.2
+at_end_of_line first Memory b more v x s n m ahead at ends p = stopped first b more v x s n m at ends p.0 p.1
+at_end_of_line first Read b more v x s n m ahead at ends p = absurd p
+at_end_of_line first Write b more v x s n m ahead at ends p = stopped first b more v x s n m at ends p.0 p.1
 
-within_line : (f : ReplayFault) (b more : List ℕ) (v : Kept) (x : ℕ) (s n m ahead : Option (List ℕ)) → IsAt b v s n → x ≢ 10 → FaultWithin f v n m → FaultOf f (b ++ x ∷ more) ahead s m
-within_line (Line k) b more v x s n m ahead at goes p = long_line b more x k v s n m ahead at p.0 goes p.1 p.2
-within_line Limits b more v x s n m ahead at goes p = absurd p
-within_line Memory b more v x s n m ahead at goes p = absurd p
-within_line Read b more v x s n m ahead at goes p = absurd p
-within_line Write b more v x s n m ahead at goes p = absurd p
+within_line : (first : Stage) (f : ReplayFault) (b more : List ℕ) (v : Kept) (x : ℕ) (s n m ahead : Option (List ℕ)) → IsAt first b v s n → x ≢ 10 → FaultWithin f v n m → FaultOf first f (b ++ x ∷ more) ahead s m
+within_line first (Line k) b more v x s n m ahead at goes p = long_line first b more x k v s n m ahead at p.0 goes p.1 p.2
+within_line first Limits b more v x s n m ahead at goes p = absurd p
+within_line first Memory b more v x s n m ahead at goes p = absurd p
+within_line first Read b more v x s n m ahead at goes p = absurd p
+within_line first Write b more v x s n m ahead at goes p = absurd p
 
 -- a fault at a byte, whatever follows it
-pub faulted : (f : ReplayFault) (b more : List ℕ) (v : Kept) (x : ℕ) (s n m ahead : Option (List ℕ)) → IsAt b v s n → FaultAt f v x n m → FaultOf f (b ++ x ∷ more) ahead s m
-faulted f b more v x s n m ahead at (inl ends) = at_end_of_line f b more v x s n m ahead at ends.0 ends.1
-faulted f b more v x s n m ahead at (inr goes) = within_line f b more v x s n m ahead at goes.0 goes.1
+pub faulted : (first : Stage) (f : ReplayFault) (b more : List ℕ) (v : Kept) (x : ℕ) (s n m ahead : Option (List ℕ)) → IsAt first b v s n → FaultAt f v x n m → FaultOf first f (b ++ x ∷ more) ahead s m
+faulted first f b more v x s n m ahead at (inl ends) = at_end_of_line first f b more v x s n m ahead at ends.0 ends.1
+faulted first f b more v x s n m ahead at (inr goes) = within_line first f b more v x s n m ahead at goes.0 goes.1
 
 -- a fault at one byte of many
-pub fault_next : (f : ReplayFault) (b xs : List ℕ) (i : ℕ) (v : Kept) (s n m ahead : Option (List ℕ)) → i < length xs → IsAt (b ++ take i xs) v s n → FaultAt f v (get_or xs i 0) n m → FaultOf f (b ++ xs) ahead s m
-fault_next f b xs i v s n m ahead h at p = rw (and_rest b xs i h) (faulted f (b ++ take i xs) (drop (i + 1) xs) v (get_or xs i 0) s n m ahead at p)
+pub fault_next : (first : Stage) (f : ReplayFault) (b xs : List ℕ) (i : ℕ) (v : Kept) (s n m ahead : Option (List ℕ)) → i < length xs → IsAt first (b ++ take i xs) v s n → FaultAt f v (get_or xs i 0) n m → FaultOf first f (b ++ xs) ahead s m
+fault_next first f b xs i v s n m ahead h at p = rw (and_rest b xs i h) (faulted first f (b ++ take i xs) (drop (i + 1) xs) v (get_or xs i 0) s n m ahead at p)
 
 -- ---- the end of the input
 
-cut_short : (b : List ℕ) (k : ℕ) (v : Kept) (s n ahead : Option (List ℕ)) → k ≡ v.count + 1 → (v.line ≢ []) ⊎ IsHeadless v.stage → IsAt b v s n → IsAtEnd ahead → FaultOf (Line k) b ahead s n
-cut_short b k v s n ahead number why at ends =
-    let open_line : IsUnended k b = record { number = number ∙ ap (λ i. i + 1) at.count; good = some_stage (stage_from Start (lines b)) v.stage at.stage } in
-    let over : (rest b ≢ []) ⊎ LacksHeading b = elim why [
+cut_short : (first : Stage) (b : List ℕ) (k : ℕ) (v : Kept) (s n ahead : Option (List ℕ)) → k ≡ v.count + 1 → (v.line ≢ []) ⊎ IsHeadless v.stage → IsAt first b v s n → IsAtEnd ahead → FaultOf first (Line k) b ahead s n
+cut_short first b k v s n ahead number why at ends =
+    let open_line : IsUnended first k b = record { number = number ∙ ap (λ i. i + 1) at.count; good = some_stage (stage_from first (lines b)) v.stage at.stage } in
+    let over : (rest b ≢ []) ⊎ LacksHeading first b = elim why [
       | inl some ↦ inl (λ e. some (at.line ∙ e))
       | inr headless ↦ inr (v.stage, at.stage, headless)
     ] in
     (inr (open_line, inr (ends, over)), at.written)
 
 -- the input ends within a line, or before the heading
-pub ended : (f : ReplayFault) (b : List ℕ) (v : Kept) (s n ahead : Option (List ℕ)) → EndsEarly f v → IsAt b v s n → IsAtEnd ahead → FaultOf f b ahead s n
-ended (Line k) b v s n ahead p at ends = cut_short b k v s n ahead p.0 p.1 at ends
-ended Limits b v s n ahead p at ends = absurd p
-ended Memory b v s n ahead p at ends = absurd p
-ended Read b v s n ahead p at ends = absurd p
-ended Write b v s n ahead p at ends = absurd p
-
-no_start : (t : Stage) → (IsHeadless t → ⊥) → t ≡ Start → ⊥
-no_start t plays is = plays (subst (λ (u : Stage). IsHeadless u) (sym is) tt)
-
-no_title : (t : Stage) → (IsHeadless t → ⊥) → t ≡ Titled → ⊥
-no_title t plays is = plays (subst (λ (u : Stage). IsHeadless u) (sym is) tt)
+pub ended : (first : Stage) (f : ReplayFault) (b : List ℕ) (v : Kept) (s n ahead : Option (List ℕ)) → EndsEarly f v → IsAt first b v s n → IsAtEnd ahead → FaultOf first f b ahead s n
+ended first (Line k) b v s n ahead p at ends = cut_short first b k v s n ahead p.0 p.1 at ends
+ended first Limits b v s n ahead p at ends = absurd p
+ended first Memory b v s n ahead p at ends = absurd p
+ended first Read b v s n ahead p at ends = absurd p
+ended first Write b v s n ahead p at ends = absurd p
 
 -- the script is whole
-pub replayed_whole : (b : List ℕ) (v : Kept) (before ahead s n : Option (List ℕ)) → Consumes before ahead b → IsAtEnd ahead → IsAt b v s n → v.line ≡ [] → (IsHeadless v.stage → ⊥) → IsReplayed b before ahead s n
-replayed_whole b v before ahead s n read ends at none plays = record {
+pub finished : (first : Stage) (b : List ℕ) (v : Kept) (before ahead s n : Option (List ℕ)) → Consumes before ahead b → IsAtEnd ahead → IsAt first b v s n → v.line ≡ [] → (IsHeadless v.stage → ⊥) → IsFinished first b before ahead s n
+finished first b v before ahead s n read ends at none headed = record {
   read = read;
   whole = ends;
-  script = record {
-    good = some_stage (stage_from Start (lines b)) v.stage at.stage;
-    ended = sym at.line ∙ none;
-    run = is_run b v.stage at.stage (no_start v.stage plays) (no_title v.stage plays);
-  };
+  script = record { stage = v.stage; good = at.stage; headed = headed; ended = sym at.line ∙ none };
   written = at.written;
 }
 
 -- what is kept is of good bytes
-pub good_at : (b : List ℕ) (v : Kept) (start now : Option (List ℕ)) → IsAt b v start now → is_good (lines b) ≡ true
-good_at b v start now at = some_stage (stage_from Start (lines b)) v.stage at.stage
+pub good_at : (first : Stage) (b : List ℕ) (v : Kept) (start now : Option (List ℕ)) → IsAt first b v start now → is_good first (lines b) ≡ true
+good_at first b v start now at = some_stage (stage_from first (lines b)) v.stage at.stage
 
 -- a flush changes nothing of it
-pub flushed_at : (b : List ℕ) (v : Kept) (start now after : Option (List ℕ)) → IsAt b v start now → Keeps now after → IsAt b v start after
-flushed_at b v start now after at kept = record { count = at.count; line = at.line; short = at.short; stage = at.stage; written = appends_keeps start now after (text b) at.written kept }
+pub flushed_at : (first : Stage) (b : List ℕ) (v : Kept) (start now after : Option (List ℕ)) → IsAt first b v start now → Keeps now after → IsAt first b v start after
+flushed_at first b v start now after at kept = record { count = at.count; line = at.line; short = at.short; stage = at.stage; written = appends_keeps start now after (text_from first (lines b)) at.written kept }
 
 -- replies that lie in memory are refused a byte only where it is out of memory
-pub write_is_memory : (b : List ℕ) (before ahead start now : Option (List ℕ)) → Ends Write b before ahead start now → Ends Memory b before ahead start now
-write_is_memory b before ahead start now e = record { read = e.read; means = e.means }
+pub write_is_memory : (first : Stage) (b : List ℕ) (before ahead start now : Option (List ℕ)) → EndsFrom first Write b before ahead start now → EndsFrom first Memory b before ahead start now
+write_is_memory first b before ahead start now e = record { read = e.read; means = e.means }
 
-pub ends_in_memory : (fault : ReplayFault) (b whole script written : List ℕ) (ahead now : Option (List ℕ)) → whole ≡ script → written ≡ [] → Ends fault b (Some whole) ahead (Some written) now → Ends fault b (Some script) ahead (Some []) now
-ends_in_memory fault b whole script written ahead now same empty e = rw (same, empty) at e
+pub ends_in_memory : (first : Stage) (fault : ReplayFault) (b whole script written : List ℕ) (ahead now : Option (List ℕ)) → whole ≡ script → written ≡ [] → EndsFrom first fault b (Some whole) ahead (Some written) now → EndsFrom first fault b (Some script) ahead (Some []) now
+ends_in_memory first fault b whole script written ahead now same empty e = rw (same, empty) at e

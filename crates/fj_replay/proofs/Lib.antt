@@ -12,7 +12,11 @@ pub mod Runs
 pub mod Steps
 -- what a session has found when it stops
 pub mod FaultsFound
--- however a replay ends, a beginning of the replies was written
+-- a script that is whole, as a replay and as an upgrade tell it
+pub mod Whole
+-- however a replay or an upgrade ends, a beginning of what it writes was written
 pub mod Begun
+-- the replies to a script of version 1, and to the same script as version 2
+pub mod Version2
 -- what a fault tells of the calls of the reader and of the writer
 pub mod CallsTold

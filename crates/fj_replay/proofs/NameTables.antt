@@ -12,7 +12,7 @@ use Rattle.fj_model.specs.Words.{joined}
 use Rattle.fj_model.specs.Replies.{reply_words}
 use Rattle.fj_replay.specs.declared.naming.Naming.{Naming}
 use Rattle.fj_replay.specs.declared.naming.Naming.TheVariants.{Numbers}
-use Rattle.fj_replay.specs.Namings.{task_told, words_by, said_words, said_line}
+use Rattle.fj_replay.specs.Namings.{name_of, task_told, words_by, said_words, said_line}
 use Rattle.std.proofs.lemmas.Result.{on_ok_weaker}
 use Rattle.std.proofs.lemmas.List.Sums.{prefix_len-le-length}
 
@@ -57,7 +57,7 @@ numbered_line limits reply = ap (λ (ws : List (List ℕ)). joined ws ++ LINE_FE
 -- so has one that tells of no task, by whatever it would go
 untold_line : (naming : Naming) (limits : Bounds) (reply : Said) → task_told reply ≡ None → reply_line limits reply ≡ said_line naming limits reply
 unfolding reply_line
-untold_line naming limits reply none = ap (λ (o : Option (List ℕ × ℕ)). joined (words_by naming o (reply_words limits reply)) ++ LINE_FEED ∷ []) (sym none)
+untold_line naming limits reply none = ap (λ (o : Option (List ℕ × ℕ)). joined (words_by (name_of naming) o (reply_words limits reply)) ++ LINE_FEED ∷ []) (sym none)
 
 pub numbered_said : {T E : Type 0} (r : Result T E) (limits : Bounds) (reply : Said) (old new : List ℕ) → OnOk r (new ≡ old ++ reply_line limits reply) → OnOk r (new ≡ old ++ said_line Numbers limits reply)
 numbered_said r limits reply old new told = on_ok_weaker r (λ e. e ∙ ap (λ (l : List ℕ). old ++ l) (numbered_line limits reply)) told

@@ -17,7 +17,7 @@ use Rattle.fj_replay.specs.declared.naming.Naming.TheVariants.{Numbers, Names}
 use Rattle.fj_replay.specs.declared.asked.Asked.{Asked}
 use Rattle.fj_replay.specs.declared.asked.Asked.TheVariants as ask
 use Rattle.fj_replay.specs.declared.stage.Stage.{Stage}
-use Rattle.fj_replay.specs.declared.stage.Stage.TheVariants.{Start, Titled, Plays}
+use Rattle.fj_replay.specs.declared.stage.Stage.TheVariants.{Start, Titled, Plays, Old, Rewrites}
 use Rattle.fj_replay.specs.Cuts.{lines}
 use Rattle.fj_replay.specs.Plays.{Play, asked_in, play_after, accepting, sealing, is_title}
 use Rattle.fj_replay.specs.Scripts.{pool_in, opened, stage_after, stage_from, IsRun}
@@ -44,6 +44,8 @@ abbrev Runs : Stage → Type 0
 Runs Start = Unit {0}
 Runs Titled = Unit {0}
 Runs (Plays play) = IsPast play.past
+Runs Old = ⊥
+Runs (Rewrites past) = ⊥
 
 open_runs : (naming : Naming) (o : Option Pool) (n : Stage) → opened naming o ≡ Some n → Runs n
 open_runs naming None n e = absurd cc
@@ -61,6 +63,8 @@ after_runs : (s n : Stage) (l : List ℕ) → Runs s → stage_after s l ≡ Som
 after_runs Start n l run e = begin_runs (is_title l) l n e
 after_runs Titled n l run e = open_runs (Names []) (pool_in l) n e
 after_runs (Plays play) n l run e = next_runs play (asked_in play.naming l) n run e
+after_runs Old n l run e = absurd run
+after_runs (Rewrites past) n l run e = absurd run
 
 runs_there : (o : Option Stage) (t : Stage) (ls : List (List ℕ)) → ((n : Stage) → o ≡ Some n → stage_from n ls ≡ Some t → Runs t) → option_and_then (λ n. stage_from n ls) o ≡ Some t → Runs t
 runs_there None t ls each e = absurd cc
@@ -74,6 +78,8 @@ is_run_at : (b : List ℕ) (t : Stage) → stage_from Start (lines b) ≡ Some t
 is_run_at b Start e run no_start no_title = absurd (no_start refl)
 is_run_at b Titled e run no_start no_title = absurd (no_title refl)
 is_run_at b (Plays play) e run no_start no_title = (play, e, run)
+is_run_at b Old e run no_start no_title = absurd run
+is_run_at b (Rewrites past) e run no_start no_title = absurd run
 
 -- where the heading has come, there is a run
 pub is_run : (b : List ℕ) (t : Stage) → stage_from Start (lines b) ≡ Some t → (t ≡ Start → ⊥) → (t ≡ Titled → ⊥) → IsRun b

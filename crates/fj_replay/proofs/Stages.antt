@@ -7,6 +7,8 @@ use Rattle.fj_model.specs.declared.mode.Mode.{Mode}
 use Rattle.fj_model.specs.declared.step.Step.{Step}
 use Rattle.fj_model.specs.declared.line2.Line2.{Line2}
 use Rattle.fj_model.specs.Bounds.{Pool}
+use Rattle.fj_model.specs.Answers.{answer}
+use Rattle.fj_model.specs.Pasts.{Past, grown}
 use Rattle.fj_model.specs.Lines.{head_in, step_in}
 use Rattle.fj_model.specs.Lines2.{line2_in}
 use Rattle.fj_model.proofs.Reading.PartLaws.{some_is, is_text}
@@ -16,9 +18,9 @@ use Rattle.fj_replay.specs.declared.naming.Naming.{Naming}
 use Rattle.fj_replay.specs.declared.naming.Naming.TheVariants.{Numbers, Names}
 use Rattle.fj_replay.specs.declared.asked.Asked.{Asked}
 use Rattle.fj_replay.specs.declared.stage.Stage.{Stage}
-use Rattle.fj_replay.specs.declared.stage.Stage.TheVariants.{Start, Titled, Plays}
+use Rattle.fj_replay.specs.declared.stage.Stage.TheVariants.{Start, Titled, Plays, Old, Rewrites}
 use Rattle.fj_replay.specs.Plays.{Play, asked_in, play_after, is_title}
-use Rattle.fj_replay.specs.Scripts.{pool_in, opened, stage_after, line_text, stage_from, text_from}
+use Rattle.fj_replay.specs.Scripts.{pool_in, opened, rewriting, start, stage_after, line_text, stage_from, text_from}
 use Rattle.fj_replay.specs.Faults.{IsFaulty, IsHeadless}
 
 -- ---- lines behind lines
@@ -73,10 +75,15 @@ no_pool line e = rw e refl
 none_opened : (naming : Naming) (o : Option Pool) → o ≡ None → opened naming o ≡ None
 none_opened naming o e = rw e refl
 
+none_rewritten : (o : Option Pool) → o ≡ None → rewriting o ≡ None
+none_rewritten o e = rw e refl
+
 pub faulty_after : (s : Stage) (l : List ℕ) → IsFaulty s l → stage_after s l ≡ None
 faulty_after Start l e = rw (e.0, no_pool l e.1) refl
 faulty_after Titled l e = rw (no_pool l e) refl
 faulty_after (Plays play) l e = rw e refl
+faulty_after Old l e = none_rewritten (pool_in l) (no_pool l e)
+faulty_after (Rewrites past) l e = rw e refl
 
 -- ---- before the heading nothing is replied
 
@@ -104,6 +111,34 @@ plays_stay play t [] e headless = is_headless (Plays play) t (some_is (Plays pla
 plays_stay play t (l ∷ ls) e headless =
     plays_stay_at (stage_after (Plays play) l) t ls (λ n is. next_plays play (asked_in play.naming l) n is) (λ q is. plays_stay q t ls is) e headless
 
+-- so do the steps of a script that is written as version 2
+rewrites_stay_at : (o : Option Stage) (t : Stage) (ls : List (List ℕ)) → ((n : Stage) → o ≡ Some n → (past : Past) × (n ≡ Rewrites past)) → ((past : Past) → stage_from (Rewrites past) ls ≡ Some t → (q : Past) × (t ≡ Rewrites q))
+    → option_and_then (λ n. stage_from n ls) o ≡ Some t → (q : Past) × (t ≡ Rewrites q)
+rewrites_stay_at None t ls each later e = absurd cc
+rewrites_stay_at (Some n) t ls each later e =
+    let known = each n refl in
+    later known.0 (ap (λ (m : Stage). stage_from m ls) (sym known.1) ∙ e)
+
+next_rewrites : (past : Past) (o : Option Step) (n : Stage) → option_map (λ asked. Rewrites (grown past (answer past asked).1)) o ≡ Some n → (q : Past) × (n ≡ Rewrites q)
+next_rewrites past None n e = absurd cc
+next_rewrites past (Some asked) n e = (grown past (answer past asked).1, sym (some_is (Rewrites (grown past (answer past asked).1)) n e))
+
+begin_rewrites : (o : Option Pool) (n : Stage) → rewriting o ≡ Some n → (q : Past) × (n ≡ Rewrites q)
+begin_rewrites None n e = absurd cc
+begin_rewrites (Some p) n e = (start p, sym (some_is (Rewrites (start p)) n e))
+
+rewrites_stay : (past : Past) (t : Stage) (ls : List (List ℕ)) → stage_from (Rewrites past) ls ≡ Some t → (q : Past) × (t ≡ Rewrites q)
+rewrites_stay past t [] e = (past, sym (some_is (Rewrites past) t e))
+rewrites_stay past t (l ∷ ls) e = rewrites_stay_at (stage_after (Rewrites past) l) t ls (λ n is. next_rewrites past (step_in l) n is) (λ q is. rewrites_stay q t ls is) e
+
+-- a script that is written as version 2 stands before its first line or behind its heading
+pub old_leads : (t : Stage) (ls : List (List ℕ)) → stage_from Old ls ≡ Some t → (IsHeadless t → ⊥) → (q : Past) × (t ≡ Rewrites q)
+old_leads t [] e headed = absurd (headed (is_headless t Old (sym (some_is Old t e)) tt))
+old_leads t (l ∷ ls) e headed = rewrites_stay_at (stage_after Old l) t ls (λ n is. begin_rewrites (pool_in l) n is) (λ q is. rewrites_stay q t ls is) e
+
+no_headless : (t : Stage) (q : Past) → t ≡ Rewrites q → IsHeadless t → ⊥
+no_headless t q is headless = is_headless (Rewrites q) t (sym is) headless
+
 titled_silent : (t : Stage) (ls : List (List ℕ)) → stage_from Titled ls ≡ Some t → IsHeadless t → text_from Titled ls ≡ []
 titled_silent t [] e headless = refl
 titled_silent t (l ∷ ls) e headless =
@@ -117,9 +152,17 @@ start_silent true t l ls is e headless =
 start_silent false t l ls is e headless =
     absurd (plays_stay_at (stage_after Start l) t ls (λ n next. open_plays Numbers (pool_in l) n (rw is at next)) (λ q there. plays_stay q t ls there) e headless)
 
-pub headless_silent : (t : Stage) (ls : List (List ℕ)) → stage_from Start ls ≡ Some t → IsHeadless t → text_from Start ls ≡ []
-headless_silent t [] e headless = refl
-headless_silent t (l ∷ ls) e headless = start_silent (is_title l) t l ls refl e headless
+pub headless_silent : (first t : Stage) (ls : List (List ℕ)) → stage_from first ls ≡ Some t → IsHeadless t → text_from first ls ≡ []
+headless_silent first t [] e headless = refl
+headless_silent Start t (l ∷ ls) e headless = start_silent (is_title l) t l ls refl e headless
+headless_silent Titled t (l ∷ ls) e headless = titled_silent t (l ∷ ls) e headless
+headless_silent (Plays play) t (l ∷ ls) e headless = absurd (plays_stay play t (l ∷ ls) e headless)
+headless_silent Old t (l ∷ ls) e headless =
+    let there = rewrites_stay_at (stage_after Old l) t ls (λ n is. begin_rewrites (pool_in l) n is) (λ q is. rewrites_stay q t ls is) e in
+    absurd (no_headless t there.0 there.1 headless)
+headless_silent (Rewrites past) t (l ∷ ls) e headless =
+    let there = rewrites_stay past t (l ∷ ls) e in
+    absurd (no_headless t there.0 there.1 headless)
 
 -- ---- long lines
 
@@ -148,3 +191,5 @@ pub too_long : (s : Stage) (l : List ℕ) → MAX_LINE2 < length l → IsFaulty 
 too_long Start l long = (no_title l (is_title l) refl long, no_head l (head_in l) refl long)
 too_long Titled l long = no_head l (head_in l) refl long
 too_long (Plays play) l long = none_asked play.naming l long
+too_long Old l long = no_head l (head_in l) refl long
+too_long (Rewrites past) l long = no_step l (step_in l) refl long

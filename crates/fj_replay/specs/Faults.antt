@@ -1,85 +1,115 @@
--- What the end of a replay says of the bytes that were read.
+-- What the end of a replay or an upgrade says of the bytes that were read. `first` is where the script stood before its first line.
 use Rattle.std.specs.Prelude.{ℕ, ◌≡◌, ◌≢◌, ◌+◌, ◌<◌, ◌≤◌, ◌⊎◌, List, [], ◌∷◌, ◌++◌, Option, Some, None, true, false, length}
 use Rattle.std.specs.Io.KnownBytes.{Appends, Consumes, IsAtEnd}
 use Rattle.fj_model.specs.declared.read.line2.TheConstants.{MAX_LINE2}
 use Rattle.fj_model.specs.declared.mode.Mode.{Mode}
-use Rattle.fj_model.specs.Lines.{head_in}
+use Rattle.fj_model.specs.Pasts.{Past}
+use Rattle.fj_model.specs.Lines.{head_in, step_in}
 use Rattle.fj_replay.specs.declared.fault.ReplayFault.{ReplayFault}
 use Rattle.fj_replay.specs.declared.fault.ReplayFault.TheVariants.{Line, Limits, Memory, Read, Write}
 use Rattle.fj_streams.specs.Beginnings.{AppendsSome}
 use Rattle.fj_replay.specs.Cuts.{lines, rest}
 use Rattle.fj_replay.specs.declared.stage.Stage.{Stage}
-use Rattle.fj_replay.specs.declared.stage.Stage.TheVariants.{Start, Titled, Plays}
+use Rattle.fj_replay.specs.declared.stage.Stage.TheVariants.{Start, Titled, Plays, Old, Rewrites}
 use Rattle.fj_replay.specs.Plays.{asked_in, is_title}
-use Rattle.fj_replay.specs.Scripts.{pool_of, stage_from, is_good, text, IsRun}
+use Rattle.fj_replay.specs.Scripts.{pool_of, stage_from, text_from, is_good, text, up, IsRun}
 
--- the line is not canonical where it stands: a heading must stand first, or behind `fj 2`, and then steps of that version
+-- the line is not canonical where it stands: a heading must stand first, or behind `fj 2`, and then steps of that version. What is written
+-- as version 2 is of version 1
 abbrev pub IsFaulty : Stage → List ℕ → Type 0
 IsFaulty Start line = (is_title line ≡ false) × (head_in line ≡ None)
 IsFaulty Titled line = head_in line ≡ None
 IsFaulty (Plays play) line = asked_in play.naming line ≡ None
+IsFaulty Old line = head_in line ≡ None
+IsFaulty (Rewrites past) line = step_in line ≡ None
 
 -- no heading has come yet
 abbrev pub IsHeadless : Stage → Type 0
 IsHeadless Start = Unit {0}
 IsHeadless Titled = Unit {0}
 IsHeadless (Plays play) = ⊥
+IsHeadless Old = Unit {0}
+IsHeadless (Rewrites past) = ⊥
 
 -- the bytes are good so far, and have no heading
-abbrev pub LacksHeading : List ℕ → Type 0
-LacksHeading b = (stage : Stage) × (stage_from Start (lines b) ≡ Some stage) × IsHeadless stage
+abbrev pub LacksHeading : Stage → List ℕ → Type 0
+LacksHeading first b = (stage : Stage) × (stage_from first (lines b) ≡ Some stage) × IsHeadless stage
 
 -- the line with this number stands whole and is faulty, and all before it are good
-pub record Stands (n : ℕ) (b : List ℕ) (before : List (List ℕ)) (line : List ℕ) (after : List (List ℕ)) : Type 0 where
+pub record Stands (first : Stage) (n : ℕ) (b : List ℕ) (before : List (List ℕ)) (line : List ℕ) (after : List (List ℕ)) : Type 0 where
   pub stage : Stage
   pub cut : lines b ≡ before ++ line ∷ after
   pub number : n ≡ length before + 1
-  pub good : stage_from Start before ≡ Some stage
+  pub good : stage_from first before ≡ Some stage
   pub faulty : IsFaulty stage line
 
 -- the line with this number has not ended, and all before it are good
-pub record IsUnended (n : ℕ) (b : List ℕ) : Type 0 where
+pub record IsUnended (first : Stage) (n : ℕ) (b : List ℕ) : Type 0 where
   pub number : n ≡ length (lines b) + 1
-  pub good : is_good (lines b) ≡ true
+  pub good : is_good first (lines b) ≡ true
 
 -- this line is the first that is faulty or that does not end: it stands whole, or it is longer than any canonical line, or the
 -- input ends within it or before the heading
-abbrev pub IsFirstFault : ℕ → List ℕ → Option (List ℕ) → Type 0
-IsFirstFault n b ahead =
-    ((before : List (List ℕ)) × (line : List ℕ) × (after : List (List ℕ)) × Stands n b before line after)
-    ⊎ (IsUnended n b × ((MAX_LINE2 < length (rest b)) ⊎ (IsAtEnd ahead × ((rest b ≢ []) ⊎ LacksHeading b))))
+abbrev pub IsFirstFault : Stage → ℕ → List ℕ → Option (List ℕ) → Type 0
+IsFirstFault first n b ahead =
+    ((before : List (List ℕ)) × (line : List ℕ) × (after : List (List ℕ)) × Stands first n b before line after)
+    ⊎ (IsUnended first n b × ((MAX_LINE2 < length (rest b)) ⊎ (IsAtEnd ahead × ((rest b ≢ []) ⊎ LacksHeading first b))))
 
 -- the line is a heading with a limit out of its range
 abbrev pub IsOutOfLimits : List ℕ → Type 0
 IsOutOfLimits line = (head : Mode × List ℕ) × (head_in line ≡ Some head) × (pool_of head ≡ None)
 
 -- the line where the heading must stand is one with a limit out of its range
-abbrev pub OpensOutOfLimits : List (List ℕ) → Type 0
-OpensOutOfLimits ls =
+abbrev pub OpensOutOfLimits : Stage → List (List ℕ) → Type 0
+OpensOutOfLimits first ls =
     (before : List (List ℕ)) × (line : List ℕ) × (after : List (List ℕ)) × (stage : Stage)
-    × (ls ≡ before ++ line ∷ after) × (stage_from Start before ≡ Some stage) × IsHeadless stage × IsOutOfLimits line
+    × (ls ≡ before ++ line ∷ after) × (stage_from first before ≡ Some stage) × IsHeadless stage × IsOutOfLimits line
 
 -- so far all is good: the whole lines are canonical, the heading is within the limits, and the line that goes on is not too long
-pub record IsGoodSoFar (b : List ℕ) : Type 0 where
-  pub good : is_good (lines b) ≡ true
+pub record IsGoodSoFar (first : Stage) (b : List ℕ) : Type 0 where
+  pub good : is_good first (lines b) ≡ true
   pub short : length (rest b) ≤ MAX_LINE2
 
 -- what a fault says of the bytes that were read, of those ahead, and of what was written
-abbrev pub FaultOf : ReplayFault → List ℕ → Option (List ℕ) → Option (List ℕ) → Option (List ℕ) → Type 0
-FaultOf (Line n) b ahead start now = IsFirstFault n b ahead × Appends start now (text b)
-FaultOf Limits b ahead start now = OpensOutOfLimits (lines b) × Appends start now []
-FaultOf Memory b ahead start now = AppendsSome start now (text b)
-FaultOf Read b ahead start now = IsGoodSoFar b × Appends start now (text b)
-FaultOf Write b ahead start now = AppendsSome start now (text b)
+abbrev pub FaultOf : Stage → ReplayFault → List ℕ → Option (List ℕ) → Option (List ℕ) → Option (List ℕ) → Type 0
+FaultOf first (Line n) b ahead start now = IsFirstFault first n b ahead × Appends start now (text_from first (lines b))
+FaultOf first Limits b ahead start now = OpensOutOfLimits first (lines b) × Appends start now []
+FaultOf first Memory b ahead start now = AppendsSome start now (text_from first (lines b))
+FaultOf first Read b ahead start now = IsGoodSoFar first b × Appends start now (text_from first (lines b))
+FaultOf first Write b ahead start now = AppendsSome start now (text_from first (lines b))
+
+-- what was done with these bytes ended by this fault
+pub record EndsFrom (first : Stage) (fault : ReplayFault) (b : List ℕ) (before ahead start now : Option (List ℕ)) : Type 0 where
+  pub read : Consumes before ahead b
+  pub means : FaultOf first fault b ahead start now
+
+-- the lines are good and lead behind a heading, and nothing stands behind the last line feed
+pub record IsWhole (first : Stage) (b : List ℕ) : Type 0 where
+  pub stage : Stage
+  pub good : stage_from first (lines b) ≡ Some stage
+  pub headed : IsHeadless stage → ⊥
+  pub ended : rest b ≡ []
+
+-- these bytes are the whole input and whole, and their text was written
+pub record IsFinished (first : Stage) (b : List ℕ) (before ahead start now : Option (List ℕ)) : Type 0 where
+  pub read : Consumes before ahead b
+  pub whole : IsAtEnd ahead
+  pub script : IsWhole first b
+  pub written : Appends start now (text_from first (lines b))
+
+-- the same of some bytes
+abbrev pub Finishes : Stage → Option (List ℕ) → Option (List ℕ) → Option (List ℕ) → Option (List ℕ) → Type 0
+Finishes first before ahead start now = (b : List ℕ) × IsFinished first b before ahead start now
+
+-- ---- a replay
 
 -- the replay of these bytes ended by this fault
-pub record Ends (fault : ReplayFault) (b : List ℕ) (before ahead start now : Option (List ℕ)) : Type 0 where
-  pub read : Consumes before ahead b
-  pub means : FaultOf fault b ahead start now
+abbrev pub Ends : ReplayFault → List ℕ → Option (List ℕ) → Option (List ℕ) → Option (List ℕ) → Option (List ℕ) → Type 0
+Ends fault b before ahead start now = EndsFrom Start fault b before ahead start now
 
 -- a whole script: a heading within the limits and canonical steps, and nothing behind the last line feed
 pub record IsScript (b : List ℕ) : Type 0 where
-  pub good : is_good (lines b) ≡ true
+  pub good : is_good Start (lines b) ≡ true
   pub ended : rest b ≡ []
   pub run : IsRun b
 
@@ -102,3 +132,35 @@ Replays before ahead start now = (b : List ℕ) × IsReplayed b before ahead sta
 -- some bytes were read, and a beginning of the replies to them was written
 abbrev pub Begins : Option (List ℕ) → Option (List ℕ) → Option (List ℕ) → Option (List ℕ) → Type 0
 Begins before ahead start now = (b : List ℕ) × IsBegun b before ahead start now
+
+-- ---- an upgrade: a script of version 1 is written as version 2
+
+-- the upgrade of these bytes ended by this fault
+abbrev pub EndsUpgrade : ReplayFault → List ℕ → Option (List ℕ) → Option (List ℕ) → Option (List ℕ) → Option (List ℕ) → Type 0
+EndsUpgrade fault b before ahead start now = EndsFrom Old fault b before ahead start now
+
+-- a whole script of version 1: a heading within the limits and canonical steps, and nothing behind the last line feed
+pub record IsOldScript (b : List ℕ) : Type 0 where
+  pub past : Past
+  pub good : stage_from Old (lines b) ≡ Some (Rewrites past)
+  pub ended : rest b ≡ []
+
+-- these bytes are the whole input and a script of version 1, and it was written as version 2
+pub record IsUpgraded (b : List ℕ) (before ahead start now : Option (List ℕ)) : Type 0 where
+  pub read : Consumes before ahead b
+  pub whole : IsAtEnd ahead
+  pub script : IsOldScript b
+  pub written : Appends start now (up b)
+
+-- these bytes were read, and a beginning of them as version 2 was written
+pub record IsUpgradeBegun (b : List ℕ) (before ahead start now : Option (List ℕ)) : Type 0 where
+  pub read : Consumes before ahead b
+  pub written : AppendsSome start now (up b)
+
+-- some bytes are the whole input and a script of version 1, and it was written as version 2
+abbrev pub Upgrades : Option (List ℕ) → Option (List ℕ) → Option (List ℕ) → Option (List ℕ) → Type 0
+Upgrades before ahead start now = (b : List ℕ) × IsUpgraded b before ahead start now
+
+-- some bytes were read, and a beginning of them as version 2 was written
+abbrev pub BeginsUpgrade : Option (List ℕ) → Option (List ℕ) → Option (List ℕ) → Option (List ℕ) → Type 0
+BeginsUpgrade before ahead start now = (b : List ℕ) × IsUpgradeBegun b before ahead start now

@@ -3,7 +3,9 @@ pub use Rattle.fj_streams.specs.Beginnings
 pub mod Cuts
 pub mod Namings
 pub mod Plays
+pub mod TaskNames
 pub mod Scripts
 pub mod Faults
+pub mod Upgrades
 pub mod Tells
 pub mod Sessions

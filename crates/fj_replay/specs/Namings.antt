@@ -65,13 +65,14 @@ task_told (said.Early t) = Some (codes "early", t)
 task_told (said.Root t) = Some (codes "root", t)
 task_told _ = None
 
-abbrev pub words_by : Naming → Option (List ℕ × ℕ) → List (List ℕ) → List (List ℕ)
-words_by naming None words = words
-words_by naming (Some told) words = told.0 ∷ name_of naming told.1 ∷ []
+-- the words of a reply, where this calls the tasks
+abbrev pub words_by : (ℕ → List ℕ) → Option (List ℕ × ℕ) → List (List ℕ) → List (List ℕ)
+words_by called None words = words
+words_by called (Some told) words = told.0 ∷ called told.1 ∷ []
 
 -- the words of a reply: a task in it goes by its name, and all else is as in version 1
 abbrev pub said_words : Naming → Bounds → Said → List (List ℕ)
-said_words naming limits reply = words_by naming (task_told reply) (reply_words limits reply)
+said_words naming limits reply = words_by (name_of naming) (task_told reply) (reply_words limits reply)
 
 abbrev pub replied_words : Naming → Bounds → Replied → List (List ℕ)
 replied_words naming limits (Says reply) = said_words naming limits reply

@@ -1,4 +1,5 @@
--- What a script says, and what is replied to it.
+-- What a script says, and what is replied to it. Two things can be done with a script, and where it stands tells which: it is replayed,
+-- from `Start` on, or, if it is of version 1, it is written as version 2, from `Old` on.
 --
 -- A script is of version 2, in which tasks have names, where its first line is `fj 2`: its heading is the second line, and in one of
 -- version 1 the first.
@@ -11,6 +12,7 @@ use Rattle.fj_model.specs.declared.said.Said.{Said}
 use Rattle.fj_model.specs.declared.event.Event.{Event}
 use Rattle.fj_model.specs.Bounds.{Bounds, Pool}
 use Rattle.fj_model.specs.Answers.{answer}
+use Rattle.fj_model.specs.Tasks.{accepted}
 use Rattle.fj_model.specs.Pasts.{Past, fresh, grown}
 use Rattle.fj_model.specs.Runs.{Runs}
 use Rattle.fj_model.specs.Epochs.{IsPast}
@@ -18,9 +20,10 @@ use Rattle.fj_model.specs.Lines.{head_in, step_in, reply_line}
 use Rattle.fj_replay.specs.declared.naming.Naming.{Naming}
 use Rattle.fj_replay.specs.declared.naming.Naming.TheVariants.{Numbers, Names}
 use Rattle.fj_replay.specs.declared.stage.Stage.{Stage}
-use Rattle.fj_replay.specs.declared.stage.Stage.TheVariants.{Start, Titled, Plays}
+use Rattle.fj_replay.specs.declared.stage.Stage.TheVariants.{Start, Titled, Plays, Old, Rewrites}
 use Rattle.fj_replay.specs.Cuts.{lines}
 use Rattle.fj_replay.specs.Plays.{Play, asked_in, play_after, reply_text, is_title}
+use Rattle.fj_replay.specs.TaskNames.{named_line, titled_head}
 
 -- ---- headings
 
@@ -59,37 +62,51 @@ abbrev pub opened : Naming → Option Pool → Option Stage
 opened naming None = None
 opened naming (Some p) = Some (Plays (record { past = start p; naming = naming }))
 
+-- at the steps of a script that is written as version 2, where the heading has a pool
+abbrev pub rewriting : Option Pool → Option Stage
+rewriting None = None
+rewriting (Some p) = Some (Rewrites (start p))
+
 -- where a script stands after one line more, if this line may stand there
 abbrev pub stage_after : Stage → List ℕ → Option Stage
 stage_after Start line = if is_title line then Some Titled else opened Numbers (pool_in line)
 stage_after Titled line = opened (Names []) (pool_in line)
 stage_after (Plays play) line = option_map (λ asked. Plays (play_after play asked)) (asked_in play.naming line)
+stage_after Old line = rewriting (pool_in line)
+stage_after (Rewrites past) line = option_map (λ asked. Rewrites (grown past (answer past asked).1)) (step_in line)
 
--- what is replied to the line
+-- what is written at the line: the reply to it, or what it is in version 2, where the task that it may accept is called by the number of
+-- those that were accepted before
 abbrev pub line_text : Stage → List ℕ → List ℕ
 line_text Start line = []
 line_text Titled line = []
 line_text (Plays play) line = option_map_or (λ asked. reply_text play asked) (asked_in play.naming line) []
+line_text Old line = titled_head line
+line_text (Rewrites past) line = option_map_or (λ asked. named_line (accepted past.events) asked) (step_in line) []
 
 -- where it stands after these lines, if each of them may stand where it does
 abbrev pub stage_from : Stage → List (List ℕ) → Option Stage
 stage_from stage [] = Some stage
 stage_from stage (line ∷ later) = option_and_then (λ next. stage_from next later) (stage_after stage line)
 
--- what is replied to these lines, up to the first that may not stand where it does
+-- what is written at these lines, up to the first that may not stand where it does
 abbrev pub text_from : Stage → List (List ℕ) → List ℕ
 text_from stage [] = []
 text_from stage (line ∷ later) = option_map_or (λ next. line_text stage line ++ text_from next later) (stage_after stage line) []
 
--- whether each of the lines of a script may stand where it does
-abbrev pub is_good : List (List ℕ) → Bool
-is_good ls = is_some (stage_from Start ls)
+-- whether each of the lines may stand where it does
+abbrev pub is_good : Stage → List (List ℕ) → Bool
+is_good first ls = is_some (stage_from first ls)
 
 -- ---- from bytes to bytes
 
 -- what is replied to these bytes: nothing where the heading is missing, faulty or out of the limits
 abbrev pub text : List ℕ → List ℕ
 text b = text_from Start (lines b)
+
+-- a script of version 1 as version 2: nothing where the heading is missing, faulty or out of the limits
+abbrev pub up : List ℕ → List ℕ
+up b = text_from Old (lines b)
 
 -- the lines lead to a play, and what has happened in it is the history of a run, with seals or without
 abbrev pub IsRun : List ℕ → Type 0

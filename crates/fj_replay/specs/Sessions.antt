@@ -7,10 +7,9 @@ use Rattle.fj_model.specs.Lines.{head_in}
 use Rattle.fj_replay.specs.declared.fault.ReplayFault.{ReplayFault}
 use Rattle.fj_replay.specs.declared.fault.ReplayFault.TheVariants.{Line, Limits, Memory, Read, Write}
 use Rattle.fj_replay.specs.declared.stage.Stage.{Stage}
-use Rattle.fj_replay.specs.declared.stage.Stage.TheVariants.{Start}
 use Rattle.fj_streams.specs.Beginnings.{AppendsSome}
 use Rattle.fj_replay.specs.Cuts.{lines, rest}
-use Rattle.fj_replay.specs.Scripts.{pool_in, stage_after, stage_from, line_text, text}
+use Rattle.fj_replay.specs.Scripts.{pool_in, stage_after, stage_from, line_text, text_from}
 use Rattle.fj_replay.specs.Faults.{FaultOf, IsFaulty, IsHeadless, IsOutOfLimits}
 
 -- what a session keeps: the number of whole lines, the line that goes on, and where the script stands
@@ -20,26 +19,26 @@ pub record Kept : Type 0 where
   pub stage : Stage
 
 -- before anything was read
-abbrev pub nothing_kept : Kept
-nothing_kept = record { count = 0; line = []; stage = Start }
+abbrev pub nothing_kept : Stage → Kept
+nothing_kept first = record { count = 0; line = []; stage = first }
 
 -- these bytes are good so far, this is kept of them, and their text was written
-pub record IsAt (b : List ℕ) (v : Kept) (start now : Option (List ℕ)) : Type 0 where
+pub record IsAt (first : Stage) (b : List ℕ) (v : Kept) (start now : Option (List ℕ)) : Type 0 where
   pub count : v.count ≡ length (lines b)
   pub line : v.line ≡ rest b
   pub short : length v.line ≤ MAX_LINE2
-  pub stage : stage_from Start (lines b) ≡ Some v.stage
-  pub written : Appends start now (text b)
+  pub stage : stage_from first (lines b) ≡ Some v.stage
+  pub written : Appends start now (text_from first (lines b))
 
 -- after any good bytes of which the old is kept, these bytes more are good too, and of them all the new is kept
 abbrev pub GoesOnBy : List ℕ → Kept → Kept → Option (List ℕ) → Option (List ℕ) → Type 0
 GoesOnBy bytes old new written now =
-    (b : List ℕ) (start : Option (List ℕ)) → IsAt b old start written → IsAt (b ++ bytes) new start now
+    (first : Stage) (b : List ℕ) (start : Option (List ℕ)) → IsAt first b old start written → IsAt first (b ++ bytes) new start now
 
--- after any good bytes of which the old is kept, these bytes more end the replay by this fault
+-- after any good bytes of which the old is kept, these bytes more are ended by this fault
 abbrev pub EndsInside : ReplayFault → List ℕ → Kept → Option (List ℕ) → Option (List ℕ) → Type 0
 EndsInside fault bytes old written now =
-    (b : List ℕ) (start ahead : Option (List ℕ)) → IsAt b old start written → FaultOf fault (b ++ bytes) ahead start now
+    (first : Stage) (b : List ℕ) (start ahead : Option (List ℕ)) → IsAt first b old start written → FaultOf first fault (b ++ bytes) ahead start now
 
 -- ---- one byte
 

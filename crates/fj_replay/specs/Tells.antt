@@ -5,7 +5,9 @@ use Rattle.fj_replay.specs.declared.fault.ReplayFault.{ReplayFault}
 use Rattle.fj_replay.specs.declared.fault.ReplayFault.TheVariants.{Line, Limits, Memory, Read, Write}
 use Rattle.fj_replay.specs.declared.session.TheConstants.{CHUNK}
 use Rattle.fj_replay.specs.Cuts.{lines}
-use Rattle.fj_replay.specs.Faults.{Ends}
+use Rattle.fj_replay.specs.declared.stage.Stage.{Stage}
+use Rattle.fj_replay.specs.declared.stage.Stage.TheVariants.{Start, Old}
+use Rattle.fj_replay.specs.Faults.{EndsFrom}
 
 -- what a fault says of the writer: it failed at `Write` alone
 abbrev pub WriterTells : ReplayFault → Option Calls → Option Calls → Type 0
@@ -35,7 +37,15 @@ pub record Seen : Type 0 where
 abbrev pub seen : {A : Type 0} → (A → Option (List ℕ)) → (A → Option Calls) → A → A → Seen
 seen bytes calls old new = record { bytes = bytes old; bytes_after = bytes new; calls = calls old; calls_after = calls new }
 
--- some bytes were read, and the replay of them ended by this fault, which tells too which calls failed
+-- some bytes were read, and what was done with them ended by this fault, which tells too which calls failed
+abbrev pub StopsFrom : Stage → Seen → Seen → ReplayFault → Type 0
+StopsFrom first r w fault =
+    (b : List ℕ) × EndsFrom first fault b r.bytes r.bytes_after w.bytes w.bytes_after × FaultTells fault b r.calls r.calls_after w.calls w.calls_after
+
+-- the same of a replay
 abbrev pub Stops : Seen → Seen → ReplayFault → Type 0
-Stops r w fault =
-    (b : List ℕ) × Ends fault b r.bytes r.bytes_after w.bytes w.bytes_after × FaultTells fault b r.calls r.calls_after w.calls w.calls_after
+Stops r w fault = StopsFrom Start r w fault
+
+-- and of an upgrade
+abbrev pub StopsUpgrade : Seen → Seen → ReplayFault → Type 0
+StopsUpgrade r w fault = StopsFrom Old r w fault

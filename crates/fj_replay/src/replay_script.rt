@@ -1,7 +1,5 @@
 //! The replay of a script, from a reader to a writer or in memory.
-ghost use Rattle.std.specs.Prelude.{◌≡◌, ◌≢◌, ℕ, OnOk, IfOk, IfErr, List, [], Option, Some, length};
-ghost use Rattle.fj_replay.specs.declared.session.TheConstants.{CHUNK};
-ghost use Rattle.fj_replay.specs.Sessions.{nothing_kept};
+ghost use Rattle.std.specs.Prelude.{◌≡◌, ◌≢◌, ℕ, OnOk, IfOk, IfErr, List, [], Option, Some};
 ghost use Rattle.fj_streams.specs.Calls.{IsFine};
 ghost use Rattle.fj_replay.specs.Tells.{Stops, seen};
 ghost use Rattle.fj_replay.specs.Scripts.{text};
@@ -9,10 +7,10 @@ ghost use Rattle.fj_replay.specs.Faults.{IsScript, Replays, Ends};
 
 use crate::fault::ReplayFault;
 use crate::in_memory::InMemory;
-use crate::session::{CHUNK, Session};
-use fj_streams::{Sink, Source, flush_whole};
+use crate::script_loop::run;
+use crate::stage::Stage;
+use fj_streams::{Sink, Source};
 use std::alloc::Global;
-use std::io::ErrorKind;
 
 /// Reads a script, makes its steps and writes the replies.
 ///
@@ -26,49 +24,7 @@ pub fn replay<R: Source, W: Sink>(alloc: Global, r: &mut R, w: &mut W) -> Result
     ensures fine { OnOk result (IsFine (R.calls r.old) (R.calls r.new) × IsFine (W.calls w.old) (W.calls w.new)) }
     ensures err { IfErr result (Stops (seen R.remaining R.calls r.old r.new) (seen W.contents W.calls w.old w.new)) }
 {
-    let Ok(mut session) = Session::new(alloc) else {
-        return Err(ReplayFault::Memory);
-    };
-    let mut chunk = [0u8; CHUNK];
-    replay_in(alloc, &mut session, &mut chunk, r, w)
-}
-
-/// The same, in a session that has read nothing.
-fn replay_in<R: Source, W: Sink>(
-    alloc: Global,
-    session: &mut Session,
-    chunk: &mut [u8],
-    r: &mut R,
-    w: &mut W,
-) -> Result<(), ReplayFault>
-    requires nothing { session.old ≡ nothing_kept }
-    requires room { length chunk.old ≡ CHUNK }
-    ensures ok { OnOk result (Replays (R.remaining r.old) (R.remaining r.new) (W.contents w.old) (W.contents w.new)) }
-    ensures fine { OnOk result (IsFine (R.calls r.old) (R.calls r.new) × IsFine (W.calls w.old) (W.calls w.new)) }
-    ensures err { IfErr result (Stops (seen R.remaining R.calls r.old r.new) (seen W.contents W.calls w.old w.new)) }
-{
-    for _reads in 0..u64::MAX {
-        // The lines of a chunk are counted in 64 bits.
-        if session.is_full() {
-            return Err(ReplayFault::Read);
-        }
-        match r.pull(chunk) {
-            Ok(0) => return session.finish(),
-            Ok(n) => {
-                session.feed_all(alloc, &chunk[..n], w)?;
-                // Whoever waits for these replies has them before the next read waits for more lines.
-                if flush_whole(w).is_err() {
-                    return Err(ReplayFault::Write);
-                }
-            }
-            Err(e) => {
-                if e.kind() != ErrorKind::Interrupted {
-                    return Err(ReplayFault::Read);
-                }
-            }
-        }
-    }
-    Err(ReplayFault::Read)
+    run(alloc, Stage::Start, r, w)
 }
 
 /// The replies to a script that lies in memory. At a fault the replies before it are lost. It is `Line`, `Limits` or `Memory`: nothing

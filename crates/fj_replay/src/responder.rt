@@ -12,10 +12,11 @@ ghost use Rattle.fj_replay.specs.Sessions.{IsHeadFault, IsReplyFault};
 use crate::asked::Asked;
 use crate::fault::ReplayFault;
 use crate::naming::Naming;
+use crate::opening::open;
 use crate::replied::Replied;
 use crate::task_told::is_task;
 use fj_machine::Machine;
-use fj_model::{Limits, LineFault, Name, OutOfMemory, Refusal, Said, Step, read_head};
+use fj_model::{Limits, LineFault, Name, OutOfMemory, Refusal, Said, Step};
 use fj_streams::{Sink, write_whole};
 use std::alloc::Global;
 use std::marker::Model;
@@ -55,22 +56,14 @@ impl Responder {
         ensures naming { IfOk result (λ r. r.naming ≡ naming) }
         ensures err { IfErr result (λ fault. IsHeadFault fault number heading.now) }
     {
-        let Ok(head) = read_head(heading) else {
-            return Err(ReplayFault::Line(number));
-        };
-        let numbers = head.1;
-        let Ok(limits) = Limits::new(numbers[0], numbers[1], numbers[2], numbers[3]) else {
-            return Err(ReplayFault::Limits);
-        };
-        match Machine::new(alloc, head.0, limits) {
-            Ok(machine) => Ok(Responder {
-                machine,
-                naming,
-                limits,
-                line: String::new(alloc),
-            }),
-            Err(_) => Err(ReplayFault::Memory),
-        }
+        let machine = open(alloc, heading, number)?;
+        let limits = machine.limits();
+        Ok(Responder {
+            machine,
+            naming,
+            limits,
+            line: String::new(alloc),
+        })
     }
 
     /// Reads what a line asks for. A fault where it is no line of this version.

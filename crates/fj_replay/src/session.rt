@@ -39,15 +39,15 @@ impl Model for Session {
 }
 
 impl Session {
-    /// A session that has read nothing.
-    pub fn new(alloc: Global) -> Result<Session, AllocError>
-        ensures { IfOk result (λ s. s ≡ nothing_kept) }
+    /// A session that has read nothing, at this stage.
+    pub fn new(alloc: Global, first: Stage) -> Result<Session, AllocError>
+        ensures { IfOk result (λ s. s ≡ nothing_kept first) }
     {
         let line = Vec::with_capacity(alloc, MAX_LINE2)?;
         Ok(Session {
             count: 0,
             line,
-            stage: Stage::Start,
+            stage: first,
         })
     }
 
@@ -124,8 +124,8 @@ impl Session {
             return Err(ReplayFault::Line(self.count + 1));
         }
         match self.stage {
-            Stage::Start | Stage::Titled => Err(ReplayFault::Line(self.count + 1)),
-            Stage::Plays(_) => Ok(()),
+            Stage::Start | Stage::Titled | Stage::Old => Err(ReplayFault::Line(self.count + 1)),
+            Stage::Plays(_) | Stage::Rewrites(_) => Ok(()),
         }
     }
 }

@@ -10,11 +10,13 @@ use crate::fault::ReplayFault;
 use crate::names::Names;
 use crate::naming::Naming;
 use crate::responder::Responder;
-use crate::title::is_title;
+use crate::rewriter::Rewriter;
+use crate::title::{is_title, write_head};
+use fj_model::read_step;
 use fj_streams::Sink;
 use std::alloc::Global;
 
-/// Where a script stands.
+/// Where a script stands: one that is replayed begins at `Start`, one that is written as version 2 at `Old`.
 #[derive(Drop)]
 pub enum Stage {
     /// Before its first line.
@@ -23,10 +25,15 @@ pub enum Stage {
     Titled,
     /// Behind its heading.
     Plays(Responder),
+    /// Before the heading of a script of version 1 that is to be written as version 2.
+    Old,
+    /// Behind that heading.
+    Rewrites(Rewriter),
 }
 
 impl Stage {
-    /// Goes on by a line, which has this number: at `fj 2` and at a heading nothing is written, at any other line its reply.
+    /// Goes on by a line, which has this number. In a replay nothing is written at `fj 2` and at a heading, and at any other line its
+    /// reply; in an upgrade what the line is in version 2.
     pub fn advance<W: Sink>(
         &mut self,
         alloc: Global,
@@ -53,6 +60,16 @@ impl Stage {
                 Ok(asked) => responder.reply(alloc, asked, w),
                 Err(_) => Err(ReplayFault::Line(number)),
             },
+            Stage::Old => {
+                *self = rewriting(alloc, line, number)?;
+                write_head(alloc, line, w)
+            }
+            Stage::Rewrites(rewriter) => {
+                let Ok(asked) = read_step(line) else {
+                    return Err(ReplayFault::Line(number));
+                };
+                rewriter.rewrite(&asked, w)
+            }
         }
     }
 }
@@ -77,4 +94,13 @@ fn titled(alloc: Global, line: &[u8], number: u64) -> Result<Stage, ReplayFault>
     let names = Names::new(alloc);
     let responder = Responder::open(alloc, line, number, Naming::Names(names))?;
     Ok(Stage::Plays(responder))
+}
+
+/// Where a script that is written as version 2 stands after its heading, which has this number.
+fn rewriting(alloc: Global, line: &[u8], number: u64) -> Result<Stage, ReplayFault>
+    ensures after { IfOk result (λ stage. stage_after Stage.Old line.now ≡ Some stage) }
+    ensures err { IfErr result (λ fault. IsHeadFault fault number line.now) }
+{
+    let rewriter = Rewriter::open(alloc, line, number)?;
+    Ok(Stage::Rewrites(rewriter))
 }

@@ -1,9 +1,20 @@
-ghost use Rattle.std.specs.Prelude.{◌≡◌, ℕ, List, false};
+ghost use Rattle.std.specs.Prelude.{◌≡◌, ℕ, List, false, OnOk, OnErr, IfOk, IfErr};
+ghost use Rattle.std.specs.Io.KnownBytes.{Appends};
+ghost use Rattle.fj_streams.specs.Calls.{IsFine};
+ghost use Rattle.fj_streams.specs.Beginnings.{AppendsSome};
+ghost use Rattle.fj_replay.specs.Sessions.{IsReplyFault};
+ghost use Rattle.fj_replay.specs.TaskNames.{titled_head};
+ghost use Rattle.fj_replay.specs.Tells.{WriterTells};
 ghost use Rattle.fj_replay.specs.Cuts.{lines};
 ghost use Rattle.fj_replay.specs.Plays.{is_title};
 ghost use Rattle.fj_replay.specs.Scripts.{AreRun, is_titled, numbered_text, text};
 ghost use Rattle.fj_model.specs.declared.step.Step.{Step};
 ghost use Rattle.fj_model.specs.Bounds.{Pool};
+
+use crate::fault::ReplayFault;
+use fj_model::LINE_FEED;
+use fj_streams::{Sink, write_whole};
+use std::alloc::{AllocError, Global};
 
 /// Whether a first line says that its script is of version 2.
 pub fn is_title(line: &[u8]) -> bool
@@ -13,4 +24,34 @@ pub fn is_title(line: &[u8]) -> bool
     ensures runs { (p : Pool) (asked : List Step) → AreRun p asked }
 {
     line == b"fj 2".as_slice()
+}
+
+/// Writes the first two lines of a script of version 2, of which the second is this heading. `Memory` or `Write` where only a first part
+/// of them, or nothing, was written.
+pub fn write_head<W: Sink>(alloc: Global, heading: &[u8], w: &mut W) -> Result<(), ReplayFault>
+    ensures written { OnOk result (Appends (W.contents w.old) (W.contents w.new) (titled_head heading.now)) }
+    ensures err { IfErr result (λ fault. IsReplyFault fault) }
+    ensures fine { OnOk result (IsFine (W.calls w.old) (W.calls w.new)) }
+    ensures told { IfErr result (λ fault. WriterTells fault (W.calls w.old) (W.calls w.new)) }
+    ensures some { OnErr result (AppendsSome (W.contents w.old) (W.contents w.new) (titled_head heading.now)) }
+{
+    match titled(alloc, heading) {
+        Ok(head) => match write_whole(w, head.as_slice()) {
+            Ok(()) => Ok(()),
+            Err(_) => Err(ReplayFault::Write),
+        },
+        Err(_) => Err(ReplayFault::Memory),
+    }
+}
+
+/// `fj 2` and the heading, each with a line feed.
+#[tactic(auto, unfolding(crate::specs::TaskNames::titled_head))]
+fn titled(alloc: Global, heading: &[u8]) -> Result<Vec<u8>, AllocError>
+    ensures { IfOk result (λ head. head.items ≡ titled_head heading.now) }
+{
+    let mut head = Vec::new(alloc);
+    head.extend_from_slice(b"fj 2\n")?;
+    head.extend_from_slice(heading)?;
+    head.push(LINE_FEED)?;
+    Ok(head)
 }

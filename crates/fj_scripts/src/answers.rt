@@ -7,18 +7,19 @@ use fj_model::{
     Answer, Ending, Kind, Limits, Mode, Move, OutOfMemory, Owner, Place, Refusal, Said, Sealed,
     Serial, Status, Step, SubId, SubmittedKind, WorkerId, read_head, read_step,
 };
-use fj_replay::replayed;
+use fj_replay::{replayed, upgraded};
 use std::alloc::Global;
 use std::fmt::Write;
 use std::str;
 
-/// How the lines of a script are handed on: one by one to a machine, which also shows what stands there; in one list to `run_epochs`; or
-/// as text to `replayed`.
+/// How the lines of a script are handed on: one by one to a machine, which also shows what stands there; in one list to `run_epochs`; as
+/// text to `replayed`; or as text to `upgraded`, and what that writes to `replayed`.
 #[derive(Clone, Copy, Debug, PartialEq)]
 pub enum Way {
     Machine,
     RunEpochs,
     Replayed,
+    Upgraded,
 }
 
 impl Way {
@@ -27,7 +28,7 @@ impl Way {
         match self {
             Way::Machine => true,
             Way::RunEpochs => move_of(asked).is_some(),
-            Way::Replayed => read_step(asked.as_bytes()).is_ok(),
+            Way::Replayed | Way::Upgraded => read_step(asked.as_bytes()).is_ok(),
         }
     }
 
@@ -49,6 +50,7 @@ impl Way {
                 moves_in(alloc, lines)?.as_slice(),
             ),
             Way::Replayed => of_replayed(alloc, &script_of(alloc, head, lines)?),
+            Way::Upgraded => of_upgraded(alloc, &script_of(alloc, head, lines)?),
         }
     }
 }
@@ -173,4 +175,30 @@ fn of_replayed(alloc: Global, script: &str) -> Result<String> {
         Ok(replies) => Ok(str::from_utf8(replies.as_slice())?.to_string(alloc)?),
         Err(fault) => Ok(format!(in alloc; "{fault}")?),
     }
+}
+
+/// The replies to a script in which tasks have names: each of its lines is handed on as it is.
+pub fn of_named(alloc: Global, title: &str, lines: &[Line<'_>]) -> Result<String> {
+    let mut text = String::new(alloc);
+    writeln!(text, "{title}")?;
+    for line in lines {
+        writeln!(text, "{}", line.asked)?;
+    }
+    of_replayed(alloc, &text)
+}
+
+/// The replies to a script as version 2, in which task T goes by T again, and not by tT.
+fn of_upgraded(alloc: Global, script: &str) -> Result<String> {
+    let Ok(later) = upgraded(alloc, script.as_bytes()) else {
+        return of_replayed(alloc, script);
+    };
+    let replies = of_replayed(alloc, str::from_utf8(later.as_slice())?)?;
+    let mut text = String::new(alloc);
+    for reply in replies.lines() {
+        match reply.split_once(" t") {
+            Some((verb, number)) => writeln!(text, "{verb} {number}")?,
+            None => writeln!(text, "{reply}")?,
+        }
+    }
+    Ok(text)
 }

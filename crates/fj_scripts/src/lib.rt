@@ -1,4 +1,4 @@
-//! Scripts with their replies, as text files and documents have them: they are run in three ways, and the first reply that is another
+//! Scripts with their replies, as text files and documents have them: they are run in four ways, and the first reply that is another
 //! one is told with its place.
 //!
 //! ```

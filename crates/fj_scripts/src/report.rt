@@ -1,5 +1,5 @@
-use crate::answers::{Way, heading};
-use crate::script::{Form, Script, alternative, scripts};
+use crate::answers::{Way, heading, of_named};
+use crate::script::{Form, Line, Script, alternative, scripts};
 use anyhow::Result;
 use std::alloc::Global;
 use std::fmt::Write;
@@ -35,11 +35,14 @@ fn first_mismatch(alloc: Global, script: &Script<'_>) -> Result<String> {
     if script.lines.is_empty() {
         return Ok(format!(in alloc; "{}: {}: no steps", script.number, script.title)?);
     }
-    // No text has a line for a seal.
+    if script.headings == TITLE {
+        return named_mismatch(alloc, script);
+    }
+    // No text of version 1 has a line for a seal.
     let is_sealed = script.lines.iter().any(|line| line.asked == "seal");
     for k in 0..script.headings.split(" or ").count() {
-        for way in [Way::Machine, Way::RunEpochs, Way::Replayed] {
-            if is_sealed && way == Way::Replayed {
+        for way in [Way::Machine, Way::RunEpochs, Way::Replayed, Way::Upgraded] {
+            if is_sealed && (way == Way::Replayed || way == Way::Upgraded) {
                 continue;
             }
             let mismatch = mismatch(alloc, script, k, way)?;
@@ -66,11 +69,40 @@ pub fn mismatch(alloc: Global, script: &Script<'_>, k: usize, way: Way) -> Resul
         let given = answers.next().unwrap_or("no answer");
         let expected = alternative(line.replies, k);
         if given != expected {
-            return Ok(format!(in alloc;
-                "{}: {}: {} > {given}, and not {expected} ({way:?} at {head})",
-                line.number, script.title, line.asked
-            )?);
+            let ran = format!(in alloc; "{way:?} at {head}")?;
+            return wrong(alloc, script, line, given, expected, &ran);
         }
     }
     Ok(String::new(alloc))
+}
+
+/// The first line of a script in which tasks have names. Its heading is the second.
+const TITLE: &str = "fj 2";
+
+/// The place of the first answer of such a script that is another one, and what it is; empty where there is none.
+fn named_mismatch(alloc: Global, script: &Script<'_>) -> Result<String> {
+    let answers = of_named(alloc, script.headings, script.lines.as_slice())?;
+    let mut answers = answers.lines();
+    // The heading has no reply.
+    for line in script.lines.iter().skip(1) {
+        let given = answers.next().unwrap_or("no answer");
+        if given != line.replies {
+            return wrong(alloc, script, line, given, line.replies, "Replayed by name");
+        }
+    }
+    Ok(String::new(alloc))
+}
+
+fn wrong(
+    alloc: Global,
+    script: &Script<'_>,
+    line: &Line<'_>,
+    given: &str,
+    expected: &str,
+    ran: &str,
+) -> Result<String> {
+    Ok(format!(in alloc;
+        "{}: {}: {} > {given}, and not {expected} ({ran})",
+        line.number, script.title, line.asked
+    )?)
 }

@@ -1,5 +1,6 @@
-use Rattle.fj_replay.proofs.Begun.{stops_at_once}
+use Rattle.std.proofs.lemmas.Result.{on_ok_weaker}
+use Rattle.fj_replay.proofs.Whole.{replays}
 use Rattle.fj_replay.proofs.replay_script.replay.Goals as goal
 
-pub returns-in_default-clause-err : goal.returns-in_default-clause-err
-returns-in_default-clause-err g c = stops_at_once _ _ _ _
+pub returns-clause-ok : goal.returns-clause-ok
+returns-clause-ok g c = on_ok_weaker c.run.result (λ done. replays _ _ _ _ done) c.run.ensures.ok

@@ -7,7 +7,7 @@ use Rattle.fj_replay.proofs.replay_script.replayed.Goals as goal
 pub returns-in-Err-Write-clause-err : goal.returns-in-Err-Write-clause-err
 returns-in-Err-Write-clause-err c =
     let e = c.in-Err-Write.ensures.err in
-    (e.0, _, _, ends_in_memory _ _ _ _ _ _ _ c.new-rest.ensures.rest c.new-replies.ensures.items (write_is_memory _ _ _ _ _ (rw c.in-Err-Write.field-0-is at e.1)))
+    (e.0, _, _, ends_in_memory _ _ _ _ _ _ _ _ c.new-rest.ensures.rest c.new-replies.ensures.items (write_is_memory _ _ _ _ _ _ (rw c.in-Err-Write.field-0-is at e.1)))
 
 pub returns : goal.returns
 returns c =
@@ -16,6 +16,6 @@ returns c =
     record {
       script = tt;
       text = tt;
-      err = (e.0, _, _, ends_in_memory _ _ _ _ _ _ _ c.new-rest.ensures.rest c.new-replies.ensures.items e.1);
+      err = (e.0, _, _, ends_in_memory _ _ _ _ _ _ _ _ c.new-rest.ensures.rest c.new-replies.ensures.items e.1);
       in_memory = (never_read c.in-Err.fault _ _ e.0 _ _ _ _ c.new-rest.result.few c.replay.new.r.few e.1.read e.2, other);
     }

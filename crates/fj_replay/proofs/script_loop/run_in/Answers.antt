@@ -8,16 +8,16 @@ use Rattle.fj_streams.proofs.Bytes.{consumes_twice, consumes_kept, read_end}
 use Rattle.fj_replay.proofs.Begun.{all_some}
 use Rattle.fj_streams.proofs.CallsMade.{fine_failed, fine_twice, goes_failed, goes_fine, goes_forever, goes_further}
 use Rattle.fj_replay.proofs.CallsTold.{ended_told, if_ok, told_later, writer_told}
-use Rattle.fj_replay.proofs.FaultsFound.{ended, flushed_at, good_at, replayed_whole}
-use Rattle.fj_replay.proofs.replay_script.replay_in.Goals as goal
-use Rattle.fj_replay.proofs.replay_script.replay_in.Goals.{in-Ok+in_ok-feed_all-in-Ok+else-is_err, in-Err+else-ne}
+use Rattle.fj_replay.proofs.FaultsFound.{ended, finished, flushed_at, good_at}
+use Rattle.fj_replay.proofs.script_loop.run_in.Goals as goal
+use Rattle.fj_replay.proofs.script_loop.run_in.Goals.{in-Ok+in_ok-feed_all-in-Ok+else-is_err, in-Err+else-ne}
 
 pub returns-in-Ok-eq0-clause-ok : goal.returns-in-Ok-eq0-clause-ok
 returns-in-Ok-eq0-clause-ok g c =
     let so_far = c.loop-reads.invariant.0 in
     let room : 0 < length c.pull.new.buf = search rules in
     let end = read_end _ _ _ so_far.0 c.pull.new.buf c.in-Ok-eq0.field-0 so_far.1 c.in-Ok-eq0.ensures.bytes c.in-Ok-eq0.field-0-test room in
-    on_ok_weaker c.finish.result (λ done. (so_far.0, replayed_whole so_far.0 _ _ _ _ _ end.0 end.1 so_far.2 done.0 done.1)) c.finish.ensures.ok
+    on_ok_weaker c.finish.result (λ done. (so_far.0, finished _ so_far.0 _ _ _ _ _ end.0 end.1 so_far.2 done.0 done.1)) c.finish.ensures.ok
 
 pub returns-in-Ok-eq0-clause-fine : goal.returns-in-Ok-eq0-clause-fine
 returns-in-Ok-eq0-clause-fine g c =
@@ -34,7 +34,7 @@ returns-in-Ok-eq0-clause-err g c =
       so_far.0,
       record {
         read = end.0;
-        means = ended fault so_far.0 _ _ _ _ early so_far.2 end.1;
+        means = ended _ fault so_far.0 _ _ _ _ early so_far.2 end.1;
       },
       ended_told fault _ so_far.0 _ _ _ _ early (goes_fine _ _ _ goes) c.loop-reads.invariant.2,
     ))
@@ -46,7 +46,7 @@ returns-then-is_full-clause-err g c =
       so_far.0,
       record {
         read = so_far.1;
-        means = (record { good = good_at _ _ _ _ so_far.2; short = rw (← so_far.2.line) so_far.2.short }, so_far.2.written);
+        means = (record { good = good_at _ _ _ _ _ so_far.2; short = rw (← so_far.2.line) so_far.2.short }, so_far.2.written);
       },
       (inr (leb-true _ _ full), c.loop-reads.invariant.2),
     )
@@ -57,7 +57,7 @@ returns-then-ne-clause-err g c =
       so_far.0,
       record {
         read = consumes_kept _ _ _ _ so_far.1 c.in-Err.ensures.bytes;
-        means = (record { good = good_at _ _ _ _ so_far.2; short = rw (← so_far.2.line) so_far.2.short }, so_far.2.written);
+        means = (record { good = good_at _ _ _ _ _ so_far.2; short = rw (← so_far.2.line) so_far.2.short }, so_far.2.written);
       },
       (inl (goes_failed _ _ _ _ c.loop-reads.invariant.1 (c.in-Err.ensures.counts.0 (search rules))), c.loop-reads.invariant.2),
     )
@@ -72,7 +72,7 @@ returns-in_err-feed_all-in-Ok-clause-err g c =
       so_far.0 ++ take c.in-Ok.n c.pull.new.buf,
       record {
         read = consumes_twice _ _ _ _ _ so_far.1 c.in-Ok.ensures.bytes.0;
-        means = fed.err so_far.0 (g.W.Sink.contents c.args.w.now) (g.R.Source.remaining c.pull.new.self) so_far.2;
+        means = fed.err _ so_far.0 (g.W.Sink.contents c.args.w.now) (g.R.Source.remaining c.pull.new.self) so_far.2;
       },
       writer_told _ _ _ _ _ _ (goes_fine _ _ _ goes) (told_later _ _ _ _ c.loop-reads.invariant.2 fed.told),
     )
@@ -81,7 +81,7 @@ pub returns-then-is_err-clause-err : goal.returns-then-is_err-clause-err
 returns-then-is_err-clause-err g c =
     let so_far = c.loop-reads.invariant.0 in
     let fed = c.in_ok-feed_all-in-Ok.ensures in
-    let at = flushed_at _ _ _ _ _ (fed.ok so_far.0 _ so_far.2) c.flush_whole.ensures.bytes in
+    let at = flushed_at _ _ _ _ _ _ (fed.ok _ so_far.0 _ so_far.2) c.flush_whole.ensures.bytes in
     let goes = goes_further _ _ _ _ 1 c.loop-reads.invariant.1 (c.in-Ok.ensures.counts.1 (search rules)) in
     let failed : HasFailed (g.W.Sink.calls c.feed_all.new.w) (g.W.Sink.calls c.flush_whole.new.w) = search rules in (
       so_far.0 ++ take c.in-Ok.n c.pull.new.buf,
@@ -98,7 +98,7 @@ returns-clause-err g c =
       so_far.0,
       record {
         read = so_far.1;
-        means = (record { good = good_at _ _ _ _ so_far.2; short = rw (← so_far.2.line) so_far.2.short }, so_far.2.written);
+        means = (record { good = good_at _ _ _ _ _ so_far.2; short = rw (← so_far.2.line) so_far.2.short }, so_far.2.written);
       },
       (inl (goes_forever _ _ _ c.loop-reads.invariant.1 c.loop-reads-test.false), c.loop-reads.invariant.2),
     )
@@ -114,7 +114,7 @@ loop-reads-preserved g c =
             (
               so_far.0 ++ take w.in-Ok.n c.pull.new.buf,
               consumes_twice _ _ _ _ _ so_far.1 w.in-Ok.ensures.bytes.0,
-              flushed_at _ _ _ _ _ (fed.ok so_far.0 _ so_far.2) w.flush_whole.ensures.bytes,
+              flushed_at _ _ _ _ _ _ (fed.ok _ so_far.0 _ so_far.2) w.flush_whole.ensures.bytes,
             ),
             goes_further _ _ _ _ 1 c.loop-reads.invariant.1 (w.in-Ok.ensures.counts.1 (search rules)),
             fine_twice _ _ _ (fine_twice _ _ _ c.loop-reads.invariant.2 fed.fine) flushed,

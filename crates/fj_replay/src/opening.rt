@@ -1,0 +1,28 @@
+ghost use Rattle.std.specs.Prelude.{◌≡◌, Some, IfOk, IfErr};
+ghost use Rattle.fj_replay.specs.Scripts.{pool_in, start};
+ghost use Rattle.fj_replay.specs.Sessions.{IsHeadFault};
+
+use crate::fault::ReplayFault;
+use fj_machine::Machine;
+use fj_model::{Limits, read_head};
+use std::alloc::Global;
+
+/// A new machine, as the heading says, which stands at this line. `Line` where it is no heading, `Limits` where a limit is out of its
+/// range.
+pub fn open(alloc: Global, heading: &[u8], number: u64) -> Result<Machine, ReplayFault>
+    ensures pool { IfOk result (λ m. pool_in heading.now ≡ Some m.pool) }
+    ensures fresh { IfOk result (λ m. m ≡ start m.pool) }
+    ensures err { IfErr result (λ fault. IsHeadFault fault number heading.now) }
+{
+    let Ok(head) = read_head(heading) else {
+        return Err(ReplayFault::Line(number));
+    };
+    let numbers = head.1;
+    let Ok(limits) = Limits::new(numbers[0], numbers[1], numbers[2], numbers[3]) else {
+        return Err(ReplayFault::Limits);
+    };
+    match Machine::new(alloc, head.0, limits) {
+        Ok(machine) => Ok(machine),
+        Err(_) => Err(ReplayFault::Memory),
+    }
+}

@@ -1,0 +1,112 @@
+ghost use Rattle.std.specs.Prelude.{◌≡◌, Some, OnOk, OnErr, IfOk, IfErr};
+ghost use Rattle.std.specs.Io.KnownBytes.{Appends};
+ghost use Rattle.fj_model.specs.Answers.{answer};
+ghost use Rattle.fj_model.specs.Pasts.{grown};
+ghost use Rattle.fj_model.specs.Tasks.{accepted};
+ghost use Rattle.fj_streams.specs.Calls.{IsFine};
+ghost use Rattle.fj_streams.specs.Beginnings.{AppendsSome};
+ghost use Rattle.fj_replay.specs.TaskNames.{named_line};
+ghost use Rattle.fj_replay.specs.Tells.{WriterTells};
+ghost use Rattle.fj_replay.specs.Scripts.{pool_in, start};
+ghost use Rattle.fj_replay.specs.Sessions.{IsHeadFault, IsReplyFault};
+
+use crate::fault::ReplayFault;
+use crate::named_step::push_named;
+use crate::opening::open;
+use crate::task_told::is_task;
+use fj_machine::Machine;
+use fj_model::Step;
+use fj_streams::{Sink, write_whole};
+use std::alloc::Global;
+use std::marker::Model;
+
+/// Writes the steps of a script of version 1 as version 2. It makes them on a machine, since only that tells how many tasks were
+/// accepted; it is known by the machine's past.
+#[derive(Drop)]
+pub struct Rewriter {
+    machine: Machine,
+    // how many tasks were accepted
+    count: u64,
+    // the last line
+    line: String,
+}
+
+impl Model for Rewriter {
+    ghost use Rattle.std.specs.Prelude.{◌≡◌, []};
+    ghost use Rattle.fj_model.specs.Pasts.{Past};
+    ghost use Rattle.fj_model.specs.Tasks.{accepted};
+
+    ghost Value = { Past };
+
+    ghost view = { λ r. r.machine };
+
+    ghost invariant = { λ r. (r.count ≡ accepted r.machine.events) × (r.machine.sealed ≡ []) };
+}
+
+impl Rewriter {
+    /// A new machine, as the heading says, which stands at this line. `Line` where it is no heading, `Limits` where a limit is out of its
+    /// range.
+    pub fn open(alloc: Global, heading: &[u8], number: u64) -> Result<Rewriter, ReplayFault>
+        ensures pool { IfOk result (λ r. pool_in heading.now ≡ Some r.pool) }
+        ensures fresh { IfOk result (λ r. r ≡ start r.pool) }
+        ensures err { IfErr result (λ fault. IsHeadFault fault number heading.now) }
+    {
+        let machine = open(alloc, heading, number)?;
+        Ok(Rewriter {
+            machine,
+            count: 0,
+            line: String::new(alloc),
+        })
+    }
+
+    /// Writes a step's line of version 2, and makes the step. `Memory` or `Write` where only a first part of the line, or nothing, was
+    /// written.
+    pub fn rewrite<W: Sink>(&mut self, asked: &Step, w: &mut W) -> Result<(), ReplayFault>
+        ensures past { OnOk result (self.new ≡ grown self.old (answer self.old asked.now).1) }
+        ensures written { OnOk result (Appends (W.contents w.old) (W.contents w.new) (named_line (accepted self.old.events) asked.now)) }
+        ensures err { IfErr result (λ fault. IsReplyFault fault) }
+        ensures fine { OnOk result (IsFine (W.calls w.old) (W.calls w.new)) }
+        ensures told { IfErr result (λ fault. WriterTells fault (W.calls w.old) (W.calls w.new)) }
+        ensures some { OnErr result (AppendsSome (W.contents w.old) (W.contents w.new) (named_line (accepted self.old.events) asked.now)) }
+    {
+        match self.write(asked, w) {
+            Ok(()) => {
+                self.make(asked);
+                Ok(())
+            }
+            Err(fault) => Err(fault),
+        }
+    }
+
+    /// Writes a step's line of version 2, as `rewrite`.
+    fn write<W: Sink>(&mut self, asked: &Step, w: &mut W) -> Result<(), ReplayFault>
+        ensures same { self.new ≡ self.old }
+        ensures written { OnOk result (Appends (W.contents w.old) (W.contents w.new) (named_line (accepted self.old.events) asked.now)) }
+        ensures err { IfErr result (λ fault. IsReplyFault fault) }
+        ensures fine { OnOk result (IsFine (W.calls w.old) (W.calls w.new)) }
+        ensures told { IfErr result (λ fault. WriterTells fault (W.calls w.old) (W.calls w.new)) }
+        ensures some { OnErr result (AppendsSome (W.contents w.old) (W.contents w.new) (named_line (accepted self.old.events) asked.now)) }
+    {
+        self.line.clear();
+        match push_named(asked, self.count, &mut self.line) {
+            Ok(()) => match write_whole(w, self.line.as_bytes()) {
+                Ok(()) => Ok(()),
+                Err(_) => Err(ReplayFault::Write),
+            },
+            Err(_) => Err(ReplayFault::Memory),
+        }
+    }
+
+    /// Makes a step, and counts the task that it accepts.
+    fn make(&mut self, asked: &Step)
+        ensures { self.new ≡ grown self.old (answer self.old asked.now).1 }
+    {
+        // These tell that there are few tasks: no more than a history has events.
+        let _limits = self.machine.limits();
+        let _history = self.machine.history();
+        let said = self.machine.step(asked);
+        if is_task(&said) {
+            self.count += 1;
+        }
+    }
+}

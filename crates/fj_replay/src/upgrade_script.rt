@@ -1,0 +1,55 @@
+//! A script of version 1 written as version 2, from a reader to a writer or in memory.
+ghost use Rattle.std.specs.Prelude.{◌≡◌, ◌≢◌, ℕ, OnOk, IfOk, IfErr, List, [], Option, Some, true, false};
+ghost use Rattle.fj_streams.specs.Calls.{IsFine};
+ghost use Rattle.fj_replay.specs.Cuts.{lines};
+ghost use Rattle.fj_replay.specs.Tells.{StopsUpgrade, seen};
+ghost use Rattle.fj_replay.specs.Scripts.{is_titled, up};
+ghost use Rattle.fj_replay.specs.Faults.{EndsUpgrade, IsOldScript, Upgrades};
+ghost use Rattle.fj_replay.specs.Upgrades.{KeepsReplies, up_text, IsNotUpgraded};
+
+use crate::fault::ReplayFault;
+use crate::in_memory::InMemory;
+use crate::script_loop::run;
+use crate::stage::Stage;
+use fj_streams::{Sink, Source};
+use std::alloc::Global;
+
+/// Reads a script of version 1 and writes it as version 2: `fj 2`, the heading, and each step with names for its tasks.
+///
+/// Task number T is called `tT`, and a line that accepts a task names it by the number of tasks accepted before it, also where it is
+/// refused. So the steps are made, on a machine of their own.
+///
+/// What was written is `up b` of the bytes `b` that were read; at `Memory` and `Write` it is a beginning of `up b`. Faults are those of
+/// [`replay`](crate::replay), and come where it would tell them of a script of version 1: a first line `fj 2` is `Line(1)`. So a faulty
+/// heading leaves nothing written, and a later fault the lines before it. The writer is flushed before each further read.
+pub fn upgrade<R: Source, W: Sink>(alloc: Global, r: &mut R, w: &mut W) -> Result<(), ReplayFault>
+    ensures ok { OnOk result (Upgrades (R.remaining r.old) (R.remaining r.new) (W.contents w.old) (W.contents w.new)) }
+    ensures fine { OnOk result (IsFine (R.calls r.old) (R.calls r.new) × IsFine (W.calls w.old) (W.calls w.new)) }
+    ensures err { IfErr result (StopsUpgrade (seen R.remaining R.calls r.old r.new) (seen W.contents W.calls w.old w.new)) }
+    // The replies to a script of version 1 stay what they were, but that each task number T in them becomes tT.
+    ensures replies { (b : List ℕ) → is_titled (lines b) ≡ false → KeepsReplies b }
+    // `up` is `fj 2`, the heading, and the line of each step.
+    ensures lines { (b : List ℕ) → up b ≡ up_text (lines b) }
+    // What is of version 2 already is not written at all.
+    ensures titled { (b : List ℕ) → is_titled (lines b) ≡ true → IsNotUpgraded b }
+{
+    run(alloc, Stage::Old, r, w)
+}
+
+/// A script of version 1 that lies in memory, as version 2. At a fault the lines before it are lost. It is `Line`, `Limits` or `Memory`:
+/// nothing is read or written that could fail.
+pub fn upgraded(alloc: Global, script: &[u8]) -> Result<Vec<u8>, ReplayFault>
+    ensures script { IfOk result (λ _. IsOldScript script.now) }
+    ensures text { IfOk result (λ written. written.items ≡ up script.now) }
+    ensures err { IfErr result (λ fault. (b : List ℕ) × (ahead now : Option (List ℕ)) × EndsUpgrade fault b (Some script.now) ahead (Some []) now) }
+    ensures in_memory { IfErr result (λ fault. (fault ≢ ReplayFault.Read) × (fault ≢ ReplayFault.Write)) }
+{
+    let mut rest = InMemory::new(script);
+    let mut written = Vec::new(alloc);
+    match upgrade(alloc, &mut rest, &mut written) {
+        Ok(()) => Ok(written),
+        // A vector refuses a byte only where memory is refused.
+        Err(ReplayFault::Write) => Err(ReplayFault::Memory),
+        Err(fault) => Err(fault),
+    }
+}
