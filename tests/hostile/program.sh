@@ -100,7 +100,10 @@ for signal in HUP INT TERM KILL; do
     (trap - INT; exec "$fj" replay < "$folder/pipe" > "$folder/out" 2> "$folder/err") &
     program=$!
     head -n 1001 "$folder/script" >&"$pipe"
-    while [[ $(wc -l < "$folder/out") -lt 1000 ]]; do sleep 0.01; done
+    for ((i = 0; i < 1000; i++)); do
+        [[ $(wc -l < "$folder/out") -lt 1000 ]] || break
+        sleep 0.01
+    done
     kill -s "$signal" "$program"
     status=0
     wait "$program" 2> /dev/null || status=$?
