@@ -20,6 +20,8 @@ mod report_tests;
 #[cfg(test)]
 mod run_tests;
 #[cfg(test)]
+mod tally;
+#[cfg(test)]
 mod thread_tests;
 
 use anyhow::{Result, bail};

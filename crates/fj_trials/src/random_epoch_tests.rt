@@ -24,7 +24,7 @@ struct Epochs {
     // What happened in the sealed parts: how many tasks were accepted, handed out and released, and hooks handed out.
     counts: Counts,
     // The tasks gone in the sealed parts, and those of them that may still be kept.
-    gone: Vec<u64>,
+    gone: Vec<Serial>,
     kept: Vec<Serial>,
     // How many open tasks there were at all seals.
     outlived: usize,
@@ -93,7 +93,7 @@ impl Epochs {
     /// Some random steps. A machine that is shut is never sealed again, so it is not shut.
     fn act(&mut self) {
         for _ in 0..STEPS {
-            let asked = step(&mut self.rng, self.accepted);
+            let asked = step(&mut self.rng, &self.machine, self.accepted);
             if !matches!(asked, Step::Shutdown | Step::Stop) {
                 self.make(&asked);
             }
@@ -146,9 +146,7 @@ impl Epochs {
         let (epoch, open) = (self.machine.epoch(), self.machine.open().len());
         let part = self.machine.seal(alloc)?;
         self.counts.add(part.events.as_slice());
-        for t in part.gone.iter() {
-            self.gone.push(t.0)?;
-        }
+        self.gone.extend_from_slice(part.gone.as_slice())?;
         self.outlived = self.outlived.saturating_add(open);
         Ok(
             part.events.len() == events
@@ -176,7 +174,7 @@ impl Epochs {
     fn are_in_one_place(&self, alloc: Global) -> Result<bool, Fail> {
         let mut all = placed(alloc, &self.machine)?;
         all.extend_from_slice(self.gone.as_slice())?;
-        Ok(are_each_once(all, self.accepted))
+        are_each_once(alloc, &all, self.accepted)
     }
 }
 

@@ -1,0 +1,38 @@
+#!/usr/bin/env bash
+# Runs the trials that are no part of `rt ci`, on the programs that it left: the samples of the documents, the program through pipes and as an
+# attacker would use it, where there is a C compiler each allocation refused in turn, and a pool by threads, whose tests are built here.
+#
+#   tests/all.sh            the tests by threads 30 times each, and ten minutes of load
+#   tests/all.sh --short    once each, and ten seconds of load: what the gate runs
+set -euo pipefail
+cd "$(dirname "${BASH_SOURCE[0]}")/.."
+
+case ${1:-} in
+    "") runs=30 load=600 ;;
+    --short) runs=1 load=10 ;;
+    *)
+        echo "usage: tests/all.sh [--short]" >&2
+        exit 2
+        ;;
+esac
+
+# The tests by threads are built beside the others: that is most of the time of both.
+log=$(mktemp)
+tests/threads/run.sh --load "$load" "$runs" > "$log" 2>&1 &
+by_threads=$!
+trap 'kill "$by_threads" 2> /dev/null || true; rm -f "$log"' EXIT
+
+trials=(tests/documents/*.sh tests/pipes/*.sh tests/hostile/*.sh)
+if command -v cc > /dev/null; then
+    trials+=(tests/refused_memory/*.sh)
+fi
+for trial in "${trials[@]}"; do
+    echo "$trial"
+    "$trial"
+done
+
+echo tests/threads/run.sh
+status=0
+wait "$by_threads" || status=$?
+cat "$log"
+exit "$status"
