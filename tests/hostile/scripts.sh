@@ -101,11 +101,11 @@ awk 'BEGIN { for (i = 0; i < 209715; i++) print "task " i "\nrun " i "\ndone\ndo
 (ulimit -v 131072; run replay < "$folder/in" > "$folder/out"; ended "the largest history" 0 "")
 cmp "$folder/replies" "$folder/out"
 
-# Of names there is no end, so they come to the end of what memory there is: a beginning of the replies has gone out.
+# Of names there is no end, so they come to the end of what memory there is, here 24 MB of addresses: a beginning of the replies has gone out.
 awk 'BEGIN { print "fj 2\nasync 1 1 2 16"
-    for (i = 0; i < 2000000; i++) print "submit a" i " 0\npoll 0 0\nend 0 ok\nrelease a" i "\nseal" }' > "$folder/in"
-awk 'BEGIN { for (i = 0; i < 2000000; i++) print "task a" i "\nrun a" i "\ndone\ndone\nsealed " i " 5" }' > "$folder/replies"
-(ulimit -v 65536; run replay < "$folder/in" > "$folder/out"; ended "names without end" 4 "out of memory")
+    for (i = 0; i < 600000; i++) print "submit a" i " 0\npoll 0 0\nend 0 ok\nrelease a" i "\nseal" }' > "$folder/in"
+awk 'BEGIN { for (i = 0; i < 600000; i++) print "task a" i "\nrun a" i "\ndone\ndone\nsealed " i " 5" }' > "$folder/replies"
+(ulimit -v 24576; run replay < "$folder/in" > "$folder/out"; ended "names without end" 4 "out of memory")
 [[ -s $folder/out ]] || fail "names without end: no replies"
 begins "names without end" "$folder/out"
 
