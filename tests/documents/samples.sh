@@ -13,7 +13,7 @@ replays=crates/fj_trials/out/fj_trials
 expected="scripts in README.md: 1
 scripts in crates/fj/README.md: 1
 scripts in crates/fj_scripts/README.md: 1
-scripts in docs/MANUAL.md: 18
+scripts in docs/MANUAL.md: 19
 scripts in docs/SCRIPT.md: 2"
 
 begins='^ *(```script|(async|joining) [0-9])'

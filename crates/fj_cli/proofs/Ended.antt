@@ -4,10 +4,10 @@ use Rattle.fj_jobs.specs.declared.tree_fault.TreeFault.{TreeFault}
 use Rattle.fj_jobs.specs.declared.tree_fault.TreeFault.TheVariants.{Line, Memory, Read}
 use Rattle.fj_cli.specs.declared.command_line.options.RangeOptions.{RangeOptions}
 use Rattle.fj_cli.specs.declared.command_line.Subcommand.{Subcommand}
-use Rattle.fj_cli.specs.declared.command_line.Subcommand.TheVariants.{Replay, Sum, Min, Find, Tree}
+use Rattle.fj_cli.specs.declared.command_line.Subcommand.TheVariants.{Replay, Upgrade, Sum, Min, Find, Tree}
 use Rattle.fj_cli.specs.Answers.{EndsJob, EndsRange, EndsTree, status_of_fault}
-use Rattle.fj_cli.specs.Statuses.{EndsCommand, EndsReplay}
-use Rattle.fj_replay.specs.Faults.{Replays}
+use Rattle.fj_cli.specs.Statuses.{EndsCommand, EndsReplay, EndsUpgrade}
+use Rattle.fj_replay.specs.Faults.{Replays, Upgrades}
 
 -- an exit status of a command that does not end by 2
 abbrev IsOfCommand : ℕ → Type 0
@@ -36,6 +36,7 @@ module _ (status : ℕ) (before ahead start now : Option (List ℕ)) where
 
   pub status_of_command : (asked : Subcommand) → EndsCommand asked status before ahead start now → IsOfProgram status
   status_of_command Replay ends = with_two status ends.known
+  status_of_command Upgrade ends = with_two status ends.known
   status_of_command (Sum o) ends = of_range o _ ends.1
   status_of_command (Min o f) ends = of_range o _ ends.1
   status_of_command (Find o f want) ends = of_range o _ ends.1
@@ -46,3 +47,9 @@ module _ (status : ℕ) (before ahead start now : Option (List ℕ)) where
   known_of_replay asked ends is =
       let replay : EndsReplay status before ahead start now = subst (λ (a : Subcommand). EndsCommand a status before ahead start now) is ends in
       (not_two status replay.known, replay.done)
+
+  -- the same of an upgrade
+  pub known_of_upgrade : (asked : Subcommand) → EndsCommand asked status before ahead start now → asked ≡ Upgrade → (status ≢ 2) × (status ≡ 0 → Upgrades before ahead start now)
+  known_of_upgrade asked ends is =
+      let upgrade : EndsUpgrade status before ahead start now = subst (λ (a : Subcommand). EndsCommand a status before ahead start now) is ends in
+      (not_two status upgrade.known, upgrade.done)

@@ -2,5 +2,7 @@
 pub mod Answered
 -- what the end of a command says of its exit status
 pub mod Ended
+-- how a script ended, once what was written of it was flushed
+pub mod ScriptEnds
 -- the number that was read for an option is that of its text
 pub mod Numbers

@@ -6,14 +6,18 @@ use Rattle.clap.specs.declared.error.kind.ErrorKind.{ErrorKind}
 use Rattle.clap.specs.declared.error.Error.{Error}
 use Rattle.clap.specs.declared.error.kind.ErrorKind.TheVariants.{DisplayHelp, DisplayVersion, OutOfMemory}
 use Rattle.fj_cli.specs.declared.command_line.Subcommand.{Subcommand}
-use Rattle.fj_cli.specs.declared.command_line.Subcommand.TheVariants.{Replay}
+use Rattle.fj_cli.specs.declared.command_line.Subcommand.TheVariants.{Replay, Upgrade}
 use Rattle.fj_cli.specs.Given.{IsAsked}
 use Rattle.fj_cli.specs.Options.{sum_line, min_line, find_line, tree_line}
 
--- the program with its command for scripts
-abbrev pub script_line : App
-script_line =
+-- the program with its first command
+abbrev pub replay_line : App
+replay_line =
     with_subcommand (on_top (λ top. record top { has_version = true; subcommand_required = true }) (new_app (codes "fj"))) (new_app (codes "replay")).top
+
+-- and with both commands for scripts
+abbrev pub script_line : App
+script_line = with_subcommand replay_line (new_app (codes "upgrade")).top
 
 -- what a parse reads of the whole command line
 abbrev pub whole_line : App
@@ -23,6 +27,14 @@ whole_line = with_subcommand (with_subcommand (with_subcommand (with_subcommand 
 abbrev pub replay_words : List Text
 replay_words = codes "fj" ∷ codes "replay" ∷ []
 
+-- the words of an upgrade
+abbrev pub upgrade_words : List Text
+upgrade_words = codes "fj" ∷ codes "upgrade" ∷ []
+
+-- the words of the one or the other
+abbrev pub IsForScript : List Text → Type 0
+IsForScript words = (words ≡ replay_words) ⊎ (words ≡ upgrade_words)
+
 -- the command that a parse meets in these words, if it meets one, with what they give for its options
 abbrev pub command_in : List Text → Option (Text × List Row)
 command_in words = subcommand_of whole_line words
@@ -31,13 +43,21 @@ command_in words = subcommand_of whole_line words
 abbrev pub Asks : List Text → Subcommand → Type 0
 Asks words asked = IsAsked (command_in words) asked
 
--- they name the command for scripts
-abbrev pub NamesReplay : List Text → Type 0
-NamesReplay words = option_map (λ (met : Text × List Row). met.0) (command_in words) ≡ Some (codes "replay")
+-- they name this command
+abbrev pub Names : Text → List Text → Type 0
+Names command words = option_map (λ (met : Text × List Row). met.0) (command_in words) ≡ Some command
 
--- the words of a replay are read: as one, unless out of memory
-abbrev pub ReadsReplay : Result (Option Subcommand) Error → Type 0
-ReadsReplay result = MatchResult result (λ asked. asked ≡ Some Replay) (λ error. kind_of error ≡ OutOfMemory)
+-- they name neither of the commands for scripts
+abbrev pub NamesNoScript : List Text → Type 0
+NamesNoScript words = (¬ Names (codes "replay") words) × (¬ Names (codes "upgrade") words)
+
+-- what was read asks for this, unless out of memory
+abbrev pub ReadsAs : Subcommand → Result (Option Subcommand) Error → Type 0
+ReadsAs asked result = MatchResult result (λ read. read ≡ Some asked) (λ error. kind_of error ≡ OutOfMemory)
+
+-- the words of a replay are read as one, and those of an upgrade
+abbrev pub ReadsScript : List Text → Result (Option Subcommand) Error → Type 0
+ReadsScript words result = (words ≡ replay_words → ReadsAs Replay result) × (words ≡ upgrade_words → ReadsAs Upgrade result)
 
 -- the kinds of error that a parse of these arguments may give, but for out of memory
 abbrev pub faults_in : List Text → Kinds

@@ -4,7 +4,7 @@ use Rattle.std.specs.Prelude.{codes}
 use Rattle.std.specs.Str.Parse.{IsNumeral, digits_value, without_leading_plus}
 use Rattle.clap.specs.Words.{Row, Text, one_of}
 use Rattle.fj_cli.specs.declared.command_line.Subcommand.{Subcommand}
-use Rattle.fj_cli.specs.declared.command_line.Subcommand.TheVariants.{Replay, Sum, Min, Find, Tree}
+use Rattle.fj_cli.specs.declared.command_line.Subcommand.TheVariants.{Replay, Upgrade, Sum, Min, Find, Tree}
 use Rattle.fj_cli.specs.declared.command_line.options.RangeOptions.{RangeOptions}
 use Rattle.fj_cli.specs.declared.command_line.options.FunctionOptions.{FunctionOptions}
 
@@ -27,6 +27,7 @@ pub record GivesFunction (rows : List Row) (f : FunctionOptions) : Type 0 where
 -- what is to be run has what they give
 abbrev pub GivesOptions : List Row → Subcommand → Type 0
 GivesOptions rows Replay = ⊤
+GivesOptions rows Upgrade = ⊤
 GivesOptions rows (Sum o) = GivesRange rows o
 GivesOptions rows (Min o f) = GivesRange rows o × GivesFunction rows f
 GivesOptions rows (Find o f want) = GivesRange rows o × GivesFunction rows f × Gives rows (codes "want") want
@@ -35,6 +36,7 @@ GivesOptions rows (Tree workers) = Gives rows (codes "workers") workers.count
 -- the name of a command
 abbrev pub name_of : Subcommand → Text
 name_of Replay = codes "replay"
+name_of Upgrade = codes "upgrade"
 name_of (Sum o) = codes "sum"
 name_of (Min o f) = codes "min"
 name_of (Find o f want) = codes "find"

@@ -1,15 +1,17 @@
 -- What an exit status says.
-use Rattle.std.specs.Prelude.{ℕ, ◌≡◌, ◌≢◌, ◌⊎◌, List, Option}
+use Rattle.std.specs.Prelude.{ℕ, ◌≡◌, ◌≢◌, ◌⊎◌, List, Option, Result, MatchResult}
 use Rattle.clap.specs.Words.{Text}
 use Rattle.std.specs.declared.io.ErrorKind.{ErrorKind}
 use Rattle.std.specs.declared.io.ErrorKind.TheVariants.{InvalidData}
 use Rattle.fj_replay.specs.declared.fault.ReplayFault.{ReplayFault}
 use Rattle.fj_replay.specs.declared.fault.ReplayFault.TheVariants.{Line, Limits, Memory, Read, Write}
 use Rattle.fj_cli.specs.declared.command_line.Subcommand.{Subcommand}
-use Rattle.fj_cli.specs.declared.command_line.Subcommand.TheVariants.{Replay, Sum, Min, Find, Tree}
+use Rattle.fj_cli.specs.declared.command_line.Subcommand.TheVariants.{Replay, Upgrade, Sum, Min, Find, Tree}
 use Rattle.fj_cli.specs.Answers.{EndsRange, EndsTree, hit_line, hit_of, least_line, least_of, number_line, sum_of}
-use Rattle.fj_cli.specs.Commands.{Asks, AsksToShow, IsAtFault, NamesReplay, replay_words}
-use Rattle.fj_replay.specs.Faults.{Begins, Ends, Replays}
+use Rattle.fj_cli.specs.Commands.{Asks, AsksToShow, IsAtFault, NamesNoScript, replay_words, upgrade_words}
+use Rattle.fj_replay.specs.declared.stage.Stage.{Stage}
+use Rattle.fj_replay.specs.declared.stage.Stage.TheVariants.{Start, Old}
+use Rattle.fj_replay.specs.Faults.{Begins, BeginsUpgrade, EndsFrom, Replays, Upgrades}
 
 -- the exit status of a fault: 3 for the input, 4 for memory, 5 for a read or a write
 abbrev pub status_of : ReplayFault → ℕ
@@ -19,43 +21,59 @@ status_of Memory = 4
 status_of Read = 5
 status_of Write = 5
 
--- the replay ended by a fault of this status
-abbrev pub EndsBy : ℕ → Option (List ℕ) → Option (List ℕ) → Option (List ℕ) → Option (List ℕ) → Type 0
-EndsBy status before ahead start now =
-    (fault : ReplayFault) × (b : List ℕ) × (status ≡ status_of fault) × Ends fault b before ahead start now
+-- a script ended so, and this is the exit status: 5 also where what was written of it could not be flushed
+abbrev pub IsEndOf : {A : Type 0} → Result A ReplayFault → ℕ → Type 0
+IsEndOf ended status = (status ≡ 5) ⊎ MatchResult ended (λ _. status ≡ 0) (λ fault. status ≡ status_of fault)
+
+-- a script that stood here before its first line ended by a fault of this status
+abbrev pub EndsBy : Stage → ℕ → Option (List ℕ) → Option (List ℕ) → Option (List ℕ) → Option (List ℕ) → Type 0
+EndsBy first status before ahead start now =
+    (fault : ReplayFault) × (b : List ℕ) × (status ≡ status_of fault) × EndsFrom first fault b before ahead start now
 
 -- the exit status where the words could not be had: 2 where one is no text, 4 for any other error
 abbrev pub StatusOfNoWords : ErrorKind → ℕ → Type 0
 StatusOfNoWords kind status = (kind ≡ InvalidData → status ≡ 2) × (kind ≢ InvalidData → status ≡ 4)
 
--- what status 0 says of the arguments of a replay: a script was replayed
-abbrev pub EndsKnown : List Text → ℕ → Option (List ℕ) → Option (List ℕ) → Option (List ℕ) → Option (List ℕ) → Type 0
-EndsKnown words status before ahead start now = words ≡ replay_words → status ≡ 0 → Replays before ahead start now
+-- what status 0 says of the arguments of a replay: a script was replayed; and of those of an upgrade: one was written as version 2
+pub record EndsKnown (words : List Text) (status : ℕ) (before ahead start now : Option (List ℕ)) : Type 0 where
+  pub replayed : words ≡ replay_words → status ≡ 0 → Replays before ahead start now
+  pub upgraded : words ≡ upgrade_words → status ≡ 0 → Upgrades before ahead start now
+
+-- a script that stood here before its first line ended with this exit status
+pub record EndsScript (first : Stage) (status : ℕ) (Done Begun : Type 0) (before ahead start now : Option (List ℕ)) : Type 0 where
+  pub known : (status ≡ 0) ⊎ ((status ≡ 3) ⊎ ((status ≡ 4) ⊎ (status ≡ 5)))
+  pub done : status ≡ 0 → Done
+  pub fault : status ≡ 3 → EndsBy first 3 before ahead start now
+  pub memory : status ≡ 4 → EndsBy first 4 before ahead start now
+  -- whatever the status
+  pub begun : Begun
 
 -- a replay ended with this exit status
-pub record EndsReplay (status : ℕ) (before ahead start now : Option (List ℕ)) : Type 0 where
-  pub known : (status ≡ 0) ⊎ ((status ≡ 3) ⊎ ((status ≡ 4) ⊎ (status ≡ 5)))
-  pub done : status ≡ 0 → Replays before ahead start now
-  pub fault : status ≡ 3 → EndsBy 3 before ahead start now
-  pub memory : status ≡ 4 → EndsBy 4 before ahead start now
-  -- whatever the status
-  pub begun : Begins before ahead start now
+abbrev pub EndsReplay : ℕ → Option (List ℕ) → Option (List ℕ) → Option (List ℕ) → Option (List ℕ) → Type 0
+EndsReplay status before ahead start now =
+    EndsScript Start status (Replays before ahead start now) (Begins before ahead start now) before ahead start now
+
+-- an upgrade ended with this exit status
+abbrev pub EndsUpgrade : ℕ → Option (List ℕ) → Option (List ℕ) → Option (List ℕ) → Option (List ℕ) → Type 0
+EndsUpgrade status before ahead start now =
+    EndsScript Old status (Upgrades before ahead start now) (BeginsUpgrade before ahead start now) before ahead start now
 
 -- this command ended with this exit status; a job over a range reads nothing
 abbrev pub EndsCommand : Subcommand → ℕ → Option (List ℕ) → Option (List ℕ) → Option (List ℕ) → Option (List ℕ) → Type 0
 EndsCommand Replay status before ahead start now = EndsReplay status before ahead start now
+EndsCommand Upgrade status before ahead start now = EndsUpgrade status before ahead start now
 EndsCommand (Sum o) status before ahead start now = (ahead ≡ before) × EndsRange o status (number_line (sum_of o)) start now
 EndsCommand (Min o f) status before ahead start now = (ahead ≡ before) × EndsRange o status (least_line (least_of o f)) start now
 EndsCommand (Find o f want) status before ahead start now = (ahead ≡ before) × EndsRange o status (hit_line (hit_of o f want)) start now
 EndsCommand (Tree workers) status before ahead start now = EndsTree status before ahead start now
 
--- no command was run, and nothing read: at 0 the words ask for help or the version, at 2 there is a fault in them, or they do not name the
--- command for scripts; at 2 and 4 nothing was written
+-- no command was run, and nothing read: at 0 the words ask for help or the version, at 2 there is a fault in them, or they name no command
+-- for scripts; at 2 and 4 nothing was written
 pub record EndsUnrun (words : List Text) (status : ℕ) (before ahead start now : Option (List ℕ)) : Type 0 where
   pub known : (status ≡ 0) ⊎ ((status ≡ 2) ⊎ ((status ≡ 4) ⊎ (status ≡ 5)))
   pub unread : ahead ≡ before
   pub shown : status ≡ 0 → AsksToShow words
-  pub fault : status ≡ 2 → IsAtFault words ⊎ (¬ NamesReplay words)
+  pub fault : status ≡ 2 → IsAtFault words ⊎ NamesNoScript words
   pub silent : (status ≡ 2) ⊎ (status ≡ 4) → now ≡ start
 
 -- how the program ends: as the command that the words ask for, or without one

@@ -2,7 +2,7 @@
 ghost use Rattle.std.specs.Prelude.{◌≡◌, ◌≢◌, ◌↔◌, Some, IfOk, IfErr, IfSome, codes};
 ghost use Rattle.clap.specs.Walk.{texts};
 ghost use Rattle.clap.specs.Words.{HasKind, subcommand_name_of, subcommand_rows_of};
-ghost use Rattle.fj_cli.specs.Commands.{Asks, NamesReplay, ReadsReplay, faults_in, replay_words};
+ghost use Rattle.fj_cli.specs.Commands.{Asks, Names, ReadsScript, faults_in};
 ghost use Rattle.fj_cli.specs.Given.{IsAsked};
 
 mod arguments;
@@ -20,8 +20,10 @@ use std::alloc::Global;
 /// What is to be run.
 #[derive(Clone, Copy)]
 pub enum Subcommand {
-    /// A script on standard input.
+    /// The replies to a script on standard input.
     Replay,
+    /// A script of version 1 on standard input, as version 2.
+    Upgrade,
     /// The sum of a range.
     Sum(RangeOptions),
     /// The least value of a function over a range.
@@ -35,9 +37,10 @@ pub enum Subcommand {
 /// Reads the arguments, of which the first is the program's name. `None` if they ask for no command.
 pub fn read<'a>(alloc: Global, words: &'a [&'a str]) -> Result<Option<Subcommand>, Error>
     ensures asked { IfOk result (λ asked. IfSome asked (λ a. Asks (texts words.entry.now) a)) }
-    ensures replay { IfOk result (λ asked. (asked ≡ Some Subcommand.Replay) ↔ NamesReplay (texts words.entry.now)) }
+    ensures replay { IfOk result (λ asked. (asked ≡ Some Subcommand.Replay) ↔ Names (codes "replay") (texts words.entry.now)) }
+    ensures upgrade { IfOk result (λ asked. (asked ≡ Some Subcommand.Upgrade) ↔ Names (codes "upgrade") (texts words.entry.now)) }
     ensures fault { IfErr result (λ error. HasKind (faults_in (texts words.entry.now)) error) }
-    ensures known { texts words.entry.now ≡ replay_words → ReadsReplay result }
+    ensures known { ReadsScript (texts words.entry.now) result }
 {
     match command(alloc)?.try_get_matches_from(words) {
         Ok(matches) => Ok(asked(&matches)),
@@ -49,9 +52,13 @@ pub fn read<'a>(alloc: Global, words: &'a [&'a str]) -> Result<Option<Subcommand
 fn asked(matches: &ArgMatches) -> Option<Subcommand>
     ensures asked { IfSome result (λ a. IsAsked (subcommand_rows_of matches.now) a) }
     ensures replay { (result ≡ Some Subcommand.Replay) ↔ (subcommand_name_of matches.now ≡ Some (codes "replay")) }
+    ensures upgrade { (result ≡ Some Subcommand.Upgrade) ↔ (subcommand_name_of matches.now ≡ Some (codes "upgrade")) }
 {
     if matches.subcommand_matches("replay").is_some() {
         return Some(Subcommand::Replay);
+    }
+    if matches.subcommand_matches("upgrade").is_some() {
+        return Some(Subcommand::Upgrade);
     }
     asked_job(matches)
 }
@@ -59,7 +66,7 @@ fn asked(matches: &ArgMatches) -> Option<Subcommand>
 /// Which job the arguments ask for.
 fn asked_job(matches: &ArgMatches) -> Option<Subcommand>
     ensures asked { IfSome result (λ a. IsAsked (subcommand_rows_of matches.now) a) }
-    ensures job { IfSome result (λ a. a ≢ Subcommand.Replay) }
+    ensures job { IfSome result (λ a. (a ≢ Subcommand.Replay) × (a ≢ Subcommand.Upgrade)) }
 {
     if let Some(given) = matches.subcommand_matches("sum") {
         return Some(Subcommand::Sum(read_range(given)?));

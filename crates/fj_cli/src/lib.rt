@@ -1,8 +1,8 @@
 //! The command line of the program `fj`.
 //!
 //! [`fj`] runs a command over any reader and writers. Who calls it has beside it what the commands stand on: of `fj_replay` [`replay`],
-//! [`replayed`] and [`ReplayFault`]; of `fj_streams` the readers and writers of which contracts know the calls; of `fj_invoke` the jobs that
-//! divide, with [`invoke`]; of `fj_fold` trees, with [`read_tree`] and [`fold_tree`].
+//! [`upgrade`], both of a script in memory, and [`ReplayFault`]; of `fj_streams` the readers and writers of which contracts know the calls;
+//! of `fj_invoke` the jobs that divide, with [`invoke`]; of `fj_fold` trees, with [`read_tree`] and [`fold_tree`].
 #![tactic(auto)]
 
 mod answer;
@@ -10,7 +10,9 @@ mod command_line;
 mod job_commands;
 mod program;
 mod replay_command;
+mod script_end;
 mod tree_command;
+mod upgrade_command;
 
 pub use fj_fold::{Family, Nodes, Tree, TreeFold, fold_tree, read_tree};
 pub use fj_invoke::{
@@ -18,6 +20,6 @@ pub use fj_invoke::{
     invoke,
 };
 pub use fj_jobs::TreeFault;
-pub use fj_replay::{ReplayFault, replay, replayed};
+pub use fj_replay::{ReplayFault, replay, replayed, upgrade, upgraded};
 pub use fj_streams::{Sink, Source, Watched};
 pub use program::{fj, without_words};

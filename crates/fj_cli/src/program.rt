@@ -2,7 +2,7 @@ ghost use Rattle.std.specs.Prelude.{◌≡◌, ◌≢◌, ◌⊎◌};
 ghost use Rattle.clap.specs.Walk.{texts};
 ghost use Rattle.clap.specs.Words.{kind_of};
 ghost use Rattle.std.specs.IoError.{error_kind};
-ghost use Rattle.fj_cli.specs.Commands.{TellsOfFault, replay_words};
+ghost use Rattle.fj_cli.specs.Commands.{IsForScript, TellsOfFault};
 ghost use Rattle.fj_cli.specs.Statuses.{EndsCommand, EndsKnown, EndsProgram, StatusOfNoWords};
 
 use crate::answer::told;
@@ -10,6 +10,7 @@ use crate::command_line::{Subcommand, read};
 use crate::job_commands::{run_find, run_min, run_sum};
 use crate::replay_command::run_replay;
 use crate::tree_command::run_tree;
+use crate::upgrade_command::run_upgrade;
 use clap::Error;
 use clap::error::ErrorKind;
 use fj_streams::flush_whole;
@@ -33,9 +34,9 @@ pub fn fj<H: Threads + Wait + Sync, R: Read, W: Write, E: Write>(
     err: &mut E,
 ) -> u8
     ensures status { (result ≡ 0) ⊎ ((result ≡ 2) ⊎ ((result ≡ 3) ⊎ ((result ≡ 4) ⊎ (result ≡ 5)))) }
-    // The arguments of a replay run one, which is to its end at 0.
-    ensures known { texts words.entry.now ≡ replay_words → result ≢ 2 }
-    ensures replayed { EndsKnown (texts words.entry.now) result (R.remaining input.old) (R.remaining input.new) (W.contents out.old) (W.contents out.new) }
+    // The arguments of a replay and of an upgrade run one, which is to its end at 0.
+    ensures known { IsForScript (texts words.entry.now) → result ≢ 2 }
+    ensures done { EndsKnown (texts words.entry.now) result (R.remaining input.old) (R.remaining input.new) (W.contents out.old) (W.contents out.new) }
     // What the status says, whatever the arguments.
     ensures ends { EndsProgram (texts words.entry.now) result (R.remaining input.old) (R.remaining input.new) (W.contents out.old) (W.contents out.new) }
 {
@@ -59,6 +60,7 @@ fn run<H: Threads + Wait + Sync, R: Read, W: Write, E: Write>(
 {
     match asked {
         Subcommand::Replay => run_replay(alloc, input, out, err),
+        Subcommand::Upgrade => run_upgrade(alloc, input, out, err),
         Subcommand::Sum(options) => run_sum(rt, alloc, options, out, err),
         Subcommand::Min(options, function) => run_min(rt, alloc, options, function, out, err),
         Subcommand::Find(options, function, want) => {

@@ -1,4 +1,4 @@
-//! Tests of the command line, of its jobs, and of the replay of scripts.
+//! Tests of the command line, of its jobs, and of the replay and the upgrade of scripts.
 #![tactic(auto)]
 
 #[cfg(test)]
@@ -11,5 +11,7 @@ mod stream_tests;
 mod test_rows;
 #[cfg(test)]
 mod tests;
+#[cfg(test)]
+mod upgrade_tests;
 #[cfg(test)]
 mod word_tests;

@@ -137,18 +137,28 @@ fn a_reader_that_fails(rt: HostRuntime) -> Result<(), Fail> {
 }
 
 #[test]
-fn a_tree_behind_a_reader_that_fails(rt: HostRuntime) -> Result<(), Fail> {
+fn another_command_behind_a_reader_that_fails(rt: HostRuntime) -> Result<(), Fail> {
     let alloc = rt.alloc();
-    let mut input = Halting {
-        bytes: bytes(alloc, "- 5;0 2;")?,
-        at: 0,
-        rests: false,
-        fails: true,
-    };
-    let ran = command(&rt, alloc, ["fj", "tree"].as_slice(), &mut input);
-    assert!(rt; ran.out.is_empty());
-    assert_eq!(rt; ran.err.as_slice(), b"read failed\n".as_slice());
-    assert_eq!(rt; ran.status, 5);
+    let runs = [
+        ("tree", "- 5;0 2;", ""),
+        (
+            "upgrade",
+            "async 1 1 1 4;submit 0;poll",
+            "fj 2;async 1 1 1 4;submit t0 0;",
+        ),
+    ];
+    for (name, given, written) in runs {
+        let mut input = Halting {
+            bytes: bytes(alloc, given)?,
+            at: 0,
+            rests: false,
+            fails: true,
+        };
+        let ran = command(&rt, alloc, ["fj", name].as_slice(), &mut input);
+        assert_eq!(rt; ran.out, bytes(alloc, written)?, "{name}");
+        assert_eq!(rt; ran.err.as_slice(), b"read failed\n".as_slice(), "{name}");
+        assert_eq!(rt; ran.status, 5, "{name}");
+    }
     Ok(())
 }
 
@@ -223,12 +233,17 @@ fn is_unflushed<H: Threads + Wait + Sync>(
 
 #[test]
 fn a_flush_that_fails(rt: HostRuntime) -> Result<(), Fail> {
-    let runs: [(&[&str], &str, &str); 5] = [
+    let runs: [(&[&str], &str, &str); 6] = [
         (REPLAY.as_slice(), "async 1 1 1 4;submit 0;", "task 0;"),
         (
             REPLAY.as_slice(),
             "async 1 1 1 4;submit 0;no step;",
             "task 0;",
+        ),
+        (
+            ["fj", "upgrade"].as_slice(),
+            "async 1 1 1 4;",
+            "fj 2;async 1 1 1 4;",
         ),
         (
             ["fj", "sum", "--from", "1", "--to", "4"].as_slice(),

@@ -9,7 +9,7 @@ use std::test::Fail;
 use std::thread::Threads;
 
 /// Command lines, and a part of what is told of each.
-const FAULTS: [&str; 17] = [
+const FAULTS: [&str; 18] = [
     " | Usage: fj",
     "add | unrecognized subcommand 'add'",
     "sum | --from <N>",
@@ -27,13 +27,15 @@ const FAULTS: [&str; 17] = [
     "tree --grain 2 | unexpected argument '--grain'",
     "replay --fast | unexpected argument '--fast'",
     "replay file | Usage: fj replay < SCRIPT",
+    "upgrade file | Usage: fj upgrade < SCRIPT",
 ];
 
 /// Command lines, and parts of the help that each writes.
-const HELP: [&str; 7] = [
-    "--help | A fork-join pool | Usage: fj | sum     Writes the sum | Example:\n  $ printf | $ fj sum --from | Exit status:\n  0 | \n  5  a read or a write failed\n",
+const HELP: [&str; 8] = [
+    "--help | A fork-join pool | Usage: fj | upgrade  Writes the script | sum      Writes the sum | Example:\n  $ printf | $ fj sum --from | Exit status:\n  0 | \n  5  a read or a write failed\n",
     "help replay | Usage: fj replay < SCRIPT | Input of fj replay: a script on standard input | Exit status:\n  0",
     "replay --help | Runs the script | Usage: fj replay < SCRIPT | Example:\n  $ printf | Exit status:\n  0 | \n  5  a read or a write failed\n",
+    "upgrade --help | Writes the script | Usage: fj upgrade < SCRIPT | Input of fj upgrade: a script as that of fj replay | Example:\n  $ printf | Exit status:\n  0 | \n  5  a read or a write failed\n",
     "sum --help | Writes the sum | --from <N> | number, 0 to 4294967295 | --to <N> | --grain <N> | 1 to 4294967295 [default: 1] | --workers <N> | 1 to 32 [default: 1] | Example:\n  $ fj sum | Exit status:\n  0 | \n  5  a write failed\n",
     "min --help | Writes the least value | --grain <N> | --mul <N> | function, 0 to 4294967295 | --add <N> | --mod <N> | function, 1 to 4294967295 | Example:\n  $ fj min | Exit status:\n  0 | \n  5  a write failed\n",
     "find --help | Writes the first number | --want <N> | looked for, 0 to 4294967295 | --mod <N> | --workers <N> | Example:\n  $ fj find | Exit status:\n  0 | \n  5  a write failed\n",

@@ -2,7 +2,7 @@
 ghost use Rattle.std.specs.Prelude.{◌≡◌, IfOk, codes, false};
 ghost use Rattle.clap.specs.Words.{app_of, new_app, with_subcommand};
 ghost use Rattle.clap.specs.declared.builder.command.Command.TheViews.{out-Command};
-ghost use Rattle.fj_cli.specs.Commands.{script_line, whole_line};
+ghost use Rattle.fj_cli.specs.Commands.{replay_line, whole_line};
 ghost use Rattle.fj_cli.specs.Options.{find_line, min_line, sum_line, tree_line, with_range, with_function};
 
 use crate::command_line::arguments::{defaulted, required};
@@ -128,9 +128,19 @@ fn replay<'a>(alloc: Global) -> Command<'a>
         .after_help(help::REPLAY)
 }
 
-/// The program with its command for scripts.
+fn upgrade<'a>(alloc: Global) -> Command<'a>
+    ensures app { app_of result ≡ new_app (codes "upgrade") }
+    ensures local { (out-Command result).has_globals ≡ false }
+{
+    Command::new(alloc, "upgrade")
+        .about("Writes the script on standard input with names for its tasks")
+        .override_usage("fj upgrade < SCRIPT")
+        .after_help(help::UPGRADE)
+}
+
+/// The program with its first command.
 fn program<'a>(alloc: Global) -> Result<Command<'a>, AllocError>
-    ensures { IfOk result (λ c. app_of c ≡ script_line) }
+    ensures { IfOk result (λ c. app_of c ≡ replay_line) }
 {
     Command::new(alloc, "fj")
         .version("0.1.0")
@@ -152,7 +162,8 @@ fn with_one<'a>(command: Command<'a>, sub: Command<'a>) -> Result<Command<'a>, A
 pub fn command<'a>(alloc: Global) -> Result<Command<'a>, AllocError>
     ensures { IfOk result (λ command. app_of command ≡ whole_line) }
 {
-    let with_sum = with_one(program(alloc)?, sum(alloc)?)?;
+    let with_upgrade = with_one(program(alloc)?, upgrade(alloc))?;
+    let with_sum = with_one(with_upgrade, sum(alloc)?)?;
     let with_min = with_one(with_sum, min(alloc)?)?;
     let with_find = with_one(with_min, find(alloc)?)?;
     with_one(with_find, tree(alloc)?)

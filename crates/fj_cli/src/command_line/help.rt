@@ -22,6 +22,7 @@ pub const REPLAY: &str =
     "Input of fj replay: a script on standard input, a heading and then one step a line; each line ends with a line feed
   async WORKERS SUBMITTERS TASKS EVENTS      or joining, with the same four limits
   submit 0      poll 0 0      end 0 ok       among other steps, each with one reply line
+With fj 2 as its first line, before the heading, tasks go by names.
 
 Example:
   $ printf 'async 1 1 8 64\\nsubmit 0\\npoll 0 0\\nend 0 ok\\n' | fj replay
@@ -31,6 +32,24 @@ Example:
 
 Exit status:
   0  the whole script was replied to, or help or the version was written
+  2  a fault of the command line
+  3  a faulty line, told by its number, or a limit out of its range
+  4  out of memory
+  5  a read or a write failed";
+
+pub const UPGRADE: &str =
+    "Input of fj upgrade: a script as that of fj replay, whose first line is not fj 2; task number T becomes tT
+
+Example:
+  $ printf 'async 1 1 8 64\\nsubmit 0\\npoll 0 0\\nend 0 ok\\n' | fj upgrade
+  fj 2
+  async 1 1 8 64
+  submit t0 0
+  poll 0 0
+  end 0 ok
+
+Exit status:
+  0  the whole script was written, or help or the version was
   2  a fault of the command line
   3  a faulty line, told by its number, or a limit out of its range
   4  out of memory

@@ -5,13 +5,17 @@ use Rattle.clap.specs.declared.parser.matches.ArgMatches.TheViews.{out-ArgMatche
 use Rattle.std.specs.Box.{box_value}
 use Rattle.std.specs.Prelude.{IfSome}
 use Rattle.clap.proofs.OnLiterals.{clap_on_literals}
-use Rattle.fj_cli.specs.Commands.{whole_line, replay_words, command_in}
+use Rattle.fj_cli.specs.Commands.{whole_line, replay_words, upgrade_words, command_in}
 use Rattle.fj_cli.specs.Given.{IsAsked}
 use Rattle.fj_cli.proofs.command_line.read.Goals as goal
 
-is_taken : takes whole_line replay_words ≡ true
+replay_taken : takes whole_line replay_words ≡ true
 unfolding clap_on_literals
-is_taken = refl
+replay_taken = refl
+
+upgrade_taken : takes whole_line upgrade_words ≡ true
+unfolding clap_on_literals
+upgrade_taken = refl
 
 is_free : is_simple_and_free whole_line ≡ true
 unfolding clap_on_literals
@@ -20,9 +24,13 @@ is_free = refl
 abbrev name_in : Option (Text × List Row) → Option Text
 name_in = option_map (λ met. met.0)
 
-is_met : name_in (command_in replay_words) ≡ Some (codes "replay")
+replay_met : name_in (command_in replay_words) ≡ Some (codes "replay")
 unfolding clap_on_literals
-is_met = refl
+replay_met = refl
+
+upgrade_met : name_in (command_in upgrade_words) ≡ Some (codes "upgrade")
+unfolding clap_on_literals
+upgrade_met = refl
 
 -- the name of the rows is the name
 names : (m : ArgMatches) → name_in (subcommand_rows_of m) ≡ subcommand_name_of m
@@ -48,13 +56,22 @@ returns-in-Ok-clause-replay c =
     let name = named c.in-Ok.matches _ _ c.in_ok-command.ensures c.in-Ok.ensures.matches in
     (λ e. sym name ∙ c.asked.ensures.replay.0 e, λ there. c.asked.ensures.replay.1 (name ∙ there))
 
-pub returns-in-Ok-clause-known : goal.returns-in-Ok-clause-known
-returns-in-Ok-clause-known c words_are =
+pub returns-in-Ok-clause-upgrade : goal.returns-in-Ok-clause-upgrade
+returns-in-Ok-clause-upgrade c =
     let name = named c.in-Ok.matches _ _ c.in_ok-command.ensures c.in-Ok.ensures.matches in
-    c.asked.ensures.replay.1 (name ∙ (ap (λ words. name_in (command_in words)) words_are ∙ is_met))
+    (λ e. sym name ∙ c.asked.ensures.upgrade.0 e, λ there. c.asked.ensures.upgrade.1 (name ∙ there))
+
+pub returns-in-Ok-clause-known : goal.returns-in-Ok-clause-known
+returns-in-Ok-clause-known c =
+    let name = named c.in-Ok.matches _ _ c.in_ok-command.ensures c.in-Ok.ensures.matches in (
+      λ are. c.asked.ensures.replay.1 (name ∙ (ap (λ words. name_in (command_in words)) are ∙ replay_met)),
+      λ are. c.asked.ensures.upgrade.1 (name ∙ (ap (λ words. name_in (command_in words)) are ∙ upgrade_met)),
+    )
 
 pub returns-in-Err-clause-known : goal.returns-in-Err-clause-known
-returns-in-Err-clause-known c words_are = c.in-Err.ensures.passes (ap₂ takes c.in_ok-command.ensures words_are ∙ is_taken)
+returns-in-Err-clause-known c =
+    let is = c.in_ok-command.ensures in
+    (λ are. c.in-Err.ensures.passes (ap₂ takes is are ∙ replay_taken), λ are. c.in-Err.ensures.passes (ap₂ takes is are ∙ upgrade_taken))
 
 pub returns-in-Err-clause-fault : goal.returns-in-Err-clause-fault
 returns-in-Err-clause-fault c =

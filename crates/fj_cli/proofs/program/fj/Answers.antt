@@ -1,6 +1,6 @@
 use Rattle.std.proofs.Common.{◌≡◌, ◌∙◌, ⊎_elim, inl, inr, refl, sym, arith, Some, None}
 use Rattle.clap.specs.Walk.{texts}
-use Rattle.fj_cli.specs.declared.command_line.Subcommand.TheVariants.{Replay}
+use Rattle.fj_cli.specs.declared.command_line.Subcommand.TheVariants.{Replay, Upgrade}
 use Rattle.fj_cli.proofs.Answered.{else_at_fault, shown_asks}
 use Rattle.fj_cli.proofs.program.fj.Goals as goal
 
@@ -10,7 +10,10 @@ returns-in-Ok-None-clause-ends g c =
       known = inr (inl c.told.ensures);
       unread = refl;
       shown = λ zero. absurd (omega (arith, zero, c.told.ensures));
-      fault = λ two. inr (λ names. let is : None ≡ Some Replay = sym c.in-Ok-None.field-0-is ∙ c.in-Ok-None.ensures.replay.1 names in absurd cc);
+      fault = λ two. inr (
+        (λ names. let is : None ≡ Some Replay = sym c.in-Ok-None.field-0-is ∙ c.in-Ok-None.ensures.replay.1 names in absurd cc),
+        (λ names. let is : None ≡ Some Upgrade = sym c.in-Ok-None.field-0-is ∙ c.in-Ok-None.ensures.upgrade.1 names in absurd cc),
+      );
       silent = λ is. refl;
     })
 

@@ -1,14 +1,10 @@
-use Rattle.fj_replay.proofs.Begun.{begun_whole, begun_fault}
+use Rattle.std.proofs.Common.{None}
+use Rattle.fj_replay.specs.Tells.{seen}
+use Rattle.fj_cli.proofs.ScriptEnds.{replay_ended}
 use Rattle.fj_cli.proofs.replay_command.run_replay.Goals as goal
-use Rattle.fj_cli.proofs.replay_command.run_replay.Goals.{in-Err, in_default, in_default-2}
 
-pub returns-in-Ok-clause-begun : goal.returns-in-Ok-clause-begun
-returns-in-Ok-clause-begun g c = begun_whole _ _ _ _ _ c.in-Ok.ensures.ok c.flush_whole.ensures.bytes
-
-pub returns-clause-begun : goal.returns-clause-begun
-returns-clause-begun g c =
-    elim c.match-ended.branch [
-      | in-Err w ↦ begun_fault _ _ _ _ _ _ (w.in-Err.ensures.err.0, w.in-Err.ensures.err.1) c.flush_whole.ensures.bytes
-      | in_default w ↦ begun_whole _ _ _ _ _ w.in-Ok.ensures.ok c.flush_whole.ensures.bytes
-      | in_default-2 w ↦ begun_fault _ _ _ _ _ _ (w.in-Err.ensures.err.0, w.in-Err.ensures.err.1) c.flush_whole.ensures.bytes
-    ]
+-- neither the reader nor the writer keeps its calls
+pub returns : goal.returns
+returns g c =
+    replay_ended c.end_script.result (seen g.R.Read.remaining (λ _. None) _ _) (seen g.W.Write.contents (λ _. None) _ _) _ c.end_script.ensures.bytes
+    c.replay-ended.result c.replay-ended.ensures.ok c.replay-ended.ensures.err c.end_script.ensures.status

@@ -1,0 +1,39 @@
+ghost use Rattle.std.specs.Prelude.{◌≡◌};
+ghost use Rattle.std.specs.Io.KnownBytes.{Keeps};
+ghost use Rattle.fj_cli.specs.Statuses.{IsEndOf, status_of};
+
+use fj_replay::ReplayFault;
+use fj_streams::flush_whole;
+use std::io::Write;
+
+/// The exit status of a fault.
+fn status(fault: ReplayFault) -> u8
+    ensures { result ≡ status_of fault }
+{
+    match fault {
+        ReplayFault::Line(_) | ReplayFault::Limits => 3,
+        ReplayFault::Memory => 4,
+        ReplayFault::Read | ReplayFault::Write => 5,
+    }
+}
+
+/// Flushes what was written of a script, and gives the exit status. A fault's text goes to `err`; where the flush fails, that is the fault
+/// that is told.
+pub fn end_script<W: Write, E: Write>(
+    ended: Result<(), ReplayFault>,
+    out: &mut W,
+    err: &mut E,
+) -> u8
+    ensures status { IsEndOf ended result }
+    ensures bytes { Keeps (W.contents out.old) (W.contents out.new) }
+{
+    let flushed = flush_whole(out).is_ok();
+    let fault = match ended {
+        Ok(()) if flushed => return 0,
+        Err(fault) if flushed => fault,
+        _ => ReplayFault::Write,
+    };
+    // No exit status tells that standard error failed too.
+    let _ = writeln!(err, "{fault}");
+    status(fault)
+}
