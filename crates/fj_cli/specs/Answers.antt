@@ -14,6 +14,7 @@ use Rattle.fj_jobs.specs.TreeValues.{node_value}
 use Rattle.fj_streams.specs.Beginnings.{AppendsSome}
 use Rattle.fj_cli.specs.declared.command_line.options.RangeOptions.{RangeOptions}
 use Rattle.fj_cli.specs.declared.command_line.options.FunctionOptions.{FunctionOptions}
+use Rattle.fj_cli.specs.declared.job_commands.TheConstants.{MAX_BLOCKS}
 
 -- ---- values
 
@@ -63,10 +64,10 @@ pub record EndsJob (status : ℕ) (line : List ℕ) (start now : Option (List �
   pub begun : status ≡ 5 → AppendsSome start now line
   pub silent : (status ≡ 3) ⊎ (status ≡ 4) → now ≡ start
 
--- the same of a job over a range, which is done where it has at most 200,000 blocks, and else ends with 2
+-- the same of a job over a range, which is done where it has at most as many blocks as may be, and else ends with 2
 abbrev pub EndsRange : RangeOptions → ℕ → List ℕ → Option (List ℕ) → Option (List ℕ) → Type 0
 EndsRange o status line start now =
-    ((200000 < blocks_of o) × (status ≡ 2) × (now ≡ start)) ⊎ ((blocks_of o ≤ 200000) × EndsJob status line start now)
+    ((MAX_BLOCKS < blocks_of o) × (status ≡ 2) × (now ≡ start)) ⊎ ((blocks_of o ≤ MAX_BLOCKS) × EndsJob status line start now)
 
 -- ---- trees
 

@@ -3,6 +3,7 @@ use Rattle.std.specs.Prelude.{ℕ, Bool, true, false, List, [], ◌∷◌, codes
 use Rattle.clap.specs.Words.{App, Rule, Text, new_app, new_rule, with_rule}
 use Rattle.clap.specs.declared.builder.action.ArgAction.TheVariants.{Set}
 use Rattle.clap.specs.declared.builder.value_parser.ValueParser.TheVariants.{Unsigned}
+use Rattle.fj_model.specs.declared.limits.TheConstants.{MAX_WORKERS}
 
 -- an option with a number in this range
 abbrev pub required_rule : Text → ℕ → ℕ → Bool → Rule
@@ -17,7 +18,7 @@ defaulted_rule name most = record (required_rule name 1 most false) { defaults =
 abbrev pub with_range : App → App
 with_range a =
     with_rule (with_rule (with_rule (with_rule a (required_rule (codes "from") 0 4294967295 true)) (required_rule (codes "to") 0 4294967295 true))
-    (defaulted_rule (codes "grain") 4294967295)) (defaulted_rule (codes "workers") 32)
+    (defaulted_rule (codes "grain") 4294967295)) (defaulted_rule (codes "workers") MAX_WORKERS)
 
 -- the options of a function
 abbrev pub with_function : App → App
@@ -35,4 +36,4 @@ abbrev pub find_line : App
 find_line = with_rule (with_function (with_range (new_app (codes "find")))) (required_rule (codes "want") 0 4294967295 true)
 
 abbrev pub tree_line : App
-tree_line = with_rule (new_app (codes "tree")) (defaulted_rule (codes "workers") 32)
+tree_line = with_rule (new_app (codes "tree")) (defaulted_rule (codes "workers") MAX_WORKERS)

@@ -1,5 +1,6 @@
 //! The commands that do a job over a range: each starts a pool of its own, and writes the value of its job.
 ghost use Rattle.std.specs.Prelude.{◌≡◌, ◌<◌, ◌≤◌, IfNone, IfOk, IfSome};
+ghost use Rattle.fj_cli.specs.declared.job_commands.TheConstants.{MAX_BLOCKS};
 ghost use Rattle.fj_cli.specs.Answers.{EndsRange, blocks_of, count_of, hit_line, hit_of, least_line, least_of, number_line, sum_of};
 
 use crate::answer::{answered, refused, told};
@@ -12,7 +13,7 @@ use std::sync::Wait;
 use std::thread::Threads;
 
 /// More blocks than this are a fault of the command line: the events of more tasks might not fit into a history.
-const MAX_BLOCKS: u64 = 200_000;
+pub const MAX_BLOCKS: u64 = 200_000;
 
 const TOO_MANY: &str = "too many leaves\n";
 
@@ -88,8 +89,8 @@ pub fn run_find<H: Threads + Wait + Sync, W: Write, E: Write>(
 /// The blocks that are asked for. None where they are too many.
 fn blocks(options: RangeOptions) -> Option<BlockedRange>
     ensures some { IfSome result (λ range. (range.numbers.from ≡ options.from) × (range.numbers.count ≡ count_of options)) }
-    ensures few { IfSome result (λ range. blocks_of options ≤ 200000) }
-    ensures many { IfNone result (200000 < blocks_of options) }
+    ensures few { IfSome result (λ range. blocks_of options ≤ MAX_BLOCKS) }
+    ensures many { IfNone result (MAX_BLOCKS < blocks_of options) }
 {
     let range = BlockedRange::new(options.from, options.to, options.grain);
     if range.blocks() > MAX_BLOCKS {
