@@ -1,13 +1,13 @@
 -- What the end of a command says of its exit status.
-use Rattle.std.proofs.Common.{ℕ, ◌≡◌, ◌≢◌, ◌⊎◌, ◌∙◌, refl, sym, subst, inl, inr, ⊎_elim, arith, List, Option, Some, codes}
+use Rattle.std.proofs.Common.{ℕ, ◌≡◌, ◌≢◌, ◌⊎◌, refl, sym, subst, inl, inr, ⊎_elim, arith, List, Option}
 use Rattle.fj_jobs.specs.declared.tree_fault.TreeFault.{TreeFault}
 use Rattle.fj_jobs.specs.declared.tree_fault.TreeFault.TheVariants.{Line, Memory, Read}
 use Rattle.fj_cli.specs.declared.command_line.options.RangeOptions.{RangeOptions}
 use Rattle.fj_cli.specs.declared.command_line.Subcommand.{Subcommand}
 use Rattle.fj_cli.specs.declared.command_line.Subcommand.TheVariants.{Replay, Upgrade, Sum, Min, Find, Tree}
-use Rattle.fj_cli.specs.Answers.{EndsJob, EndsRange, EndsTree, status_of_fault}
-use Rattle.fj_cli.specs.Statuses.{EndsCommand, EndsReplay, EndsUpgrade}
-use Rattle.fj_replay.specs.Faults.{Replays, Upgrades}
+use Rattle.fj_cli.specs.Answers.{EndsRange, EndsTree, status_of_fault}
+use Rattle.fj_cli.specs.Statuses.{EndsCommand, EndsReplay}
+use Rattle.fj_replay.specs.Faults.{Replays}
 
 -- an exit status of a command that does not end by 2
 abbrev IsOfCommand : ℕ → Type 0
@@ -47,9 +47,3 @@ module _ (status : ℕ) (before ahead start now : Option (List ℕ)) where
   known_of_replay asked ends is =
       let replay : EndsReplay status before ahead start now = subst (λ (a : Subcommand). EndsCommand a status before ahead start now) is ends in
       (not_two status replay.known, replay.done)
-
-  -- the same of an upgrade
-  pub known_of_upgrade : (asked : Subcommand) → EndsCommand asked status before ahead start now → asked ≡ Upgrade → (status ≢ 2) × (status ≡ 0 → Upgrades before ahead start now)
-  known_of_upgrade asked ends is =
-      let upgrade : EndsUpgrade status before ahead start now = subst (λ (a : Subcommand). EndsCommand a status before ahead start now) is ends in
-      (not_two status upgrade.known, upgrade.done)

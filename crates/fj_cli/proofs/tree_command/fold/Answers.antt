@@ -1,4 +1,4 @@
-use Rattle.std.proofs.Common.{◌≡◌, rules, subst, string_bytes}
+use Rattle.std.proofs.Common.{◌≡◌, subst, string_bytes}
 use Rattle.std.specs.Prelude.{IfOk}
 use Rattle.fj_cli.specs.Answers.{EndsJob, number_line}
 use Rattle.fj_cli.proofs.tree_command.fold.Goals as goal
