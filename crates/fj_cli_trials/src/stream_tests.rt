@@ -184,30 +184,75 @@ fn is_write_failed(ran: &Ran, written: &[u8]) -> bool {
     is_told && ran.out.as_slice() == written
 }
 
-/// Whether a writer that ends after so many bytes is told, with the replies up to there.
+/// Commands, their input, and what they write.
+fn writers() -> [(&'static [&'static str], &'static str, &'static str); 4] {
+    [
+        (REPLAY.as_slice(), SCRIPT, REPLIES),
+        (["fj", "tree"].as_slice(), "- 5;0 2;0 3;1 4;", "17;"),
+        (
+            ["fj", "sum", "--from", "1", "--to", "100"].as_slice(),
+            "",
+            "5050;",
+        ),
+        (["fj", "--version"].as_slice(), "", "fj 0.1.0;"),
+    ]
+}
+
+/// Whether a writer that ends after so many bytes is told, with what was written up to there.
 fn is_full_at<H: Threads + Wait + Sync>(
     rt: &H,
     alloc: Global,
-    room: usize,
-    end: End,
+    (words, input, text): (&[&str], &str, &str),
+    to: Narrow,
 ) -> Result<bool, AllocError> {
-    let ran = poured(rt, alloc, REPLAY.as_slice(), SCRIPT, sink(alloc, room, end))?;
-    let replies = bytes(alloc, REPLIES)?;
-    Ok(match replies.as_slice().get(..room) {
+    let room = to.room;
+    let ran = poured(rt, alloc, words, input, to)?;
+    let text = bytes(alloc, text)?;
+    Ok(match text.as_slice().get(..room) {
         Some(written) => is_write_failed(&ran, written),
         None => false,
     })
 }
 
+/// The first of the bytes after which a writer that ends so is not told.
+fn first_untold<H: Threads + Wait + Sync>(
+    rt: &H,
+    alloc: Global,
+    run: (&[&str], &str, &str),
+    end: End,
+) -> Result<Option<usize>, AllocError> {
+    for room in 0..run.2.len() {
+        if !is_full_at(rt, alloc, run, sink(alloc, room, end))? {
+            return Ok(Some(room));
+        }
+    }
+    Ok(None)
+}
+
 #[test]
 fn a_writer_that_fails(rt: HostRuntime) -> Result<(), Fail> {
-    for end in [End::Fails, End::TakesNothing] {
-        for room in 0..REPLIES.len() {
-            assert!(rt;
-                is_full_at(&rt, rt.alloc(), room, end)?,
-                "{end:?} after {room}"
-            );
+    for run in writers() {
+        for end in [End::Fails, End::TakesNothing] {
+            let untold = first_untold(&rt, rt.alloc(), run, end)?;
+            assert_eq!(rt; untold, None, "{}, {end:?}", run.2);
         }
+    }
+    Ok(())
+}
+
+/// What is written byte by byte, with an interruption before each, is the whole text.
+#[test]
+fn a_writer_that_takes_one_byte_at_a_time(rt: HostRuntime) -> Result<(), Fail> {
+    for (words, input, text) in writers() {
+        let ran = poured(
+            &rt,
+            rt.alloc(),
+            words,
+            input,
+            sink(rt.alloc(), 1000, End::Fails),
+        )?;
+        assert_eq!(rt; ran.out, bytes(rt.alloc(), text)?);
+        assert_eq!(rt; ran.status, 0);
     }
     Ok(())
 }

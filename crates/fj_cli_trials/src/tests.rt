@@ -4,10 +4,14 @@ use std::sync::Wait;
 use std::test::Fail;
 use std::thread::Threads;
 
+/// Two children arrive at a trigger, which fires at the second one.
 pub const SCRIPT: &str =
-    "async 2 2 8 64;submit 1;submit 0;submit 1;poll 0 1;poll 1 1;end 0 ok;poll 0 0;end 0 ok;poll 0 3;";
+    "async 1 1 4 64;submit 0;poll 0 0;trigger 0 1;fork 0 1 0 relay;fork 0 1 0 relay;end 0 ok;poll 0 0;end 0 try;hook 0;\
+     poll 0 0;end 0 try;hook 0;hook 0;state 1;state 2;";
 
-pub const REPLIES: &str = "task 0;task 1;task 2;run 0;run 2;done;run 1;done;none;";
+pub const REPLIES: &str =
+    "task 0;run 0;task 1;task 2;task 3;done;run 2;hook 2;counted 1;run 3;hook 3;hook 1;root 1;state gone normal;\
+     state gone undone;";
 
 /// Inputs that end by a fault, and a heading alone.
 const ROWS: [&str; 12] = [
