@@ -15,6 +15,6 @@ fj_base_trials tree_tests::a_task_is_found_behind_thousands_that_were_released t
 fj_trials run_tests::the_largest_limits_hold machine 100
 fj_gate tests::a_look_is_remembered gate 20
 fj_lane tests::a_hundred_parcels_in_order lane 20
-fj_core_trials core_tests::tree core 100
-fj_core_trials core_tests::joins core 100
+fj_core_trials core_tests::trees cores 400
+fj_core_trials core_tests::asks cores 500
 END

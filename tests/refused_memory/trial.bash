@@ -29,7 +29,7 @@ refuse_making() {
         if refuse "$number" "$@"; then
             break
         fi
-        grep -Eq '^error: (OutOfMemory|AllocFailed \{ \.\. \})$' "$folder/out" || fail "allocation $number: another end"
+        grep -Eq '^error: (OutOfMemory|AllocError|AllocFailed \{ \.\. \})$' "$folder/out" || fail "allocation $number: another end"
     done
     ((number > 1)) || fail "no allocation was seen"
     for ((later = number; later <= last; later++)); do

@@ -1,10 +1,11 @@
 //! A core that is driven by hand, call by call.
+use crate::calls::{Asks, Call};
 use crate::tells::{Tells, collected, told};
 use crate::work::Work;
 use fj_core::{Archive, Core, Intake, Remains};
 use fj_gate::Ticket;
 use fj_lane::{Feed, Parcel, lane};
-use fj_model::{Kind, Limits, Mode, Refusal, Serial, SubId};
+use fj_model::{Limits, Mode, Refusal, Serial, SubId};
 use fj_shelf::Hand;
 use fj_store::Ask;
 use std::alloc::{AllocError, Global};
@@ -13,59 +14,6 @@ use std::test::Fail;
 
 /// How many parcels may be pushed into the lane.
 const ROOM: u32 = 8;
-
-/// One call.
-#[derive(Clone, Copy)]
-pub enum Call {
-    /// A body of this number is pushed into the lane under a ticket; with a count it becomes a root.
-    Push(u64, u32, Option<u16>),
-    Intake,
-    CloseAt(u64),
-    StopAt(u64),
-    Quiescent,
-    Terminated,
-    /// The outcome under a ticket.
-    Collect(u64),
-    /// Whether the outcome under a ticket is still to come.
-    Awaited(u64),
-    /// Whether a task is undone.
-    IsUndone(u64),
-    Seal,
-    /// How many parts are sealed, and were not taken.
-    Parts,
-    /// The parts are taken; how many they are.
-    TakeParts,
-    /// How many bodies there are.
-    Bodies,
-    /// The calls from here on are made by this worker.
-    By(usize),
-    Poll,
-    Act(Asks),
-}
-
-/// What a running body or a hook asks.
-#[derive(Clone, Copy)]
-pub enum Asks {
-    /// It forks a body of this number.
-    Fork(Kind, u32),
-    /// A trigger with this count, of a body of this number.
-    Trigger(u32, u32),
-    Join(u64),
-    Help,
-    Take(u64),
-    Add(u64, u32),
-    QuietRoot(u64),
-    Cancel(u64),
-    Fault(u64, u32),
-    State(u64),
-    Ok(u64),
-    Quiet,
-    Try,
-    Pass,
-    Complete,
-    Fail(u32),
-    HookDone(u64),
-}
 
 /// A core with one submitter, the feed of its lane, the hands, and who makes the next call.
 #[derive(Drop)]
@@ -77,15 +25,14 @@ pub struct Driver {
     by: usize,
 }
 
-/// A core of so many workers in joining mode, in which nothing has happened.
+/// A core of so many workers, tasks and events in joining mode, in which nothing has happened.
 pub fn drive(
     alloc: Global,
     owners: &Rc<u8>,
-    workers: u32,
-    tasks: u32,
-    events: u32,
+    [workers, tasks, events]: [u32; 3],
 ) -> Result<Driver, Fail> {
     let limits = Limits::new(workers, 1, tasks, events)?;
+    let owners = owners.clone()?;
     let (feed, drain) = lane::<Work>(alloc, ROOM)?;
     let mut drains = Vec::new(alloc);
     drains.push(drain)?;
@@ -94,7 +41,7 @@ pub fn drive(
         core,
         feed,
         hands,
-        owners: owners.clone()?,
+        owners,
         by: 0,
     })
 }
@@ -129,7 +76,7 @@ impl Driver {
                 Tells::Number(Rc::strong_count(&self.owners).saturating_sub(2))
             }
             Call::By(worker) => {
-                self.by = worker;
+                self.by = worker as usize;
                 Tells::Done
             }
             Call::Poll => self.poll(),
@@ -225,8 +172,8 @@ fn said(is: bool) -> Tells {
 /// What is asked, with its body.
 fn ask(owners: &Rc<u8>, asks: Asks) -> Result<Ask<Work>, AllocError> {
     Ok(match asks {
-        Asks::Fork(kind, number) => Ask::Fork(Work::new(owners, number, None)?, kind),
-        Asks::Trigger(count, number) => Ask::Trigger(Work::new(owners, number, None)?, count),
+        Asks::Fork(number, kind) => Ask::Fork(Work::new(owners, number, None)?, kind),
+        Asks::Trigger(number, count) => Ask::Trigger(Work::new(owners, number, None)?, count),
         Asks::Join(t) => Ask::Join(Serial(t)),
         Asks::Help => Ask::Help,
         Asks::Take(t) => Ask::Take(Serial(t)),

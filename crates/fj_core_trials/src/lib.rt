@@ -4,6 +4,8 @@
 #[cfg(test)]
 mod booking_tests;
 #[cfg(test)]
+mod calls;
+#[cfg(test)]
 mod core_tests;
 #[cfg(test)]
 mod driver;

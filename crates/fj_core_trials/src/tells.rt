@@ -1,10 +1,11 @@
-//! What calls tell, as rows have it.
+//! What calls tell.
 use crate::work::Work;
 use fj_model::{Place, Refusal, Status};
 use fj_store::{Heard, Outcome, Told};
+use std::fmt;
 
-/// What a call tells.
-#[derive(Clone, Copy, Debug, PartialEq)]
+/// What a call tells. It is displayed as rows have it.
+#[derive(Drop)]
 pub enum Tells {
     Done,
     Yes,
@@ -44,6 +45,54 @@ pub enum Tells {
     /// The hand does not fit, or is not as the call wants it.
     Misfit,
     Other,
+}
+
+impl fmt::Display for Tells {
+    fn fmt<W: fmt::Write>(&self, f: &mut fmt::Formatter<W>) -> fmt::Result {
+        match self {
+            Tells::Done => f.write_str("done"),
+            Tells::Yes => f.write_str("yes"),
+            Tells::No => f.write_str("no"),
+            Tells::Number(n) => write!(f, "{n}"),
+            Tells::Task(t) => write!(f, "task {t}"),
+            Tells::Handed(body, refusal) => write!(f, "handed {body} {refusal:?}"),
+            Tells::Run(t) => write!(f, "run {t}"),
+            Tells::Skip(t, body) => write!(f, "skip {t} with {body}"),
+            Tells::Idle => f.write_str("idle"),
+            Tells::Hook(c, caller) => write!(f, "hook {c} after {caller}"),
+            Tells::Over(body) => write_end(f, "over", *body),
+            Tells::Stuck(body) => write_end(f, "stuck", *body),
+            Tells::Got(body, out) => write!(f, "got {out} of {body}"),
+            Tells::Bare => f.write_str("bare"),
+            Tells::Failed(code) => write!(f, "failed {code}"),
+            Tells::Cancelled => f.write_str("cancelled"),
+            Tells::Refused(refusal) => write!(f, "refused {refusal:?}"),
+            Tells::Count(n) => write!(f, "count {n}"),
+            Tells::Went => f.write_str("went"),
+            Tells::Is(place, status) => write!(f, "is {place:?} {status}"),
+            Tells::Took(t) => write!(f, "took {t}"),
+            Tells::Empty => f.write_str("empty"),
+            Tells::Full(refusal) => write!(f, "full {refusal:?}"),
+            Tells::Undone => f.write_str("undone"),
+            Tells::Normal(true) => f.write_str("normal with a result"),
+            Tells::Normal(false) => f.write_str("normal"),
+            Tells::Exceptional(code) => write!(f, "exceptional {code}"),
+            Tells::Misfit => f.write_str("misfit"),
+            Tells::Other => f.write_str("other"),
+        }
+    }
+}
+
+/// A word, and the number of the body that goes out.
+fn write_end<W: fmt::Write>(
+    f: &mut fmt::Formatter<W>,
+    word: &str,
+    body: Option<u32>,
+) -> fmt::Result {
+    match body {
+        Some(body) => write!(f, "{word} with {body}"),
+        None => f.write_str(word),
+    }
 }
 
 /// What is told of a call of a worker.

@@ -1,127 +1,104 @@
 //! Each way to get stuck, and what each call tells then.
-use crate::driver::Asks::*;
-use crate::driver::Call::{self, *};
-use crate::tells::Tells::{self, *};
-use fj_model::{Kind, Place, Refusal, Status, WorkerId};
 
-/// Four events are full with the end of the first task: no parcel is taken in any more.
-pub fn stuck_at_an_intake() -> [(Call, Tells); 13] {
-    [
-        (Push(0, 70, None), Done),
-        (Push(1, 71, None), Done),
-        (Intake, Took(0)),
-        (Poll, Run(0)),
-        (Act(Ok(40)), Over(None)),
-        (Intake, Full(Refusal::LogFull)),
-        (Collect(0), Refused(Refusal::LogFull)),
-        (Poll, Stuck(None)),
-        (Seal, Refused(Refusal::LogFull)),
-        (Intake, Full(Refusal::LogFull)),
-        (CloseAt(1), Done),
-        (Terminated, No),
-        (Bodies, Number(1)),
-    ]
-}
+pub fn scenarios() -> &'static str {
+    "Four events are full with the end of the first task: no parcel is taken in any more
+1 8 4
+push 0 70 > done
+push 1 71 > done
+intake > took 0
+poll > run 0
+ok 40 > over
+intake > full LogFull
+collect 0 > refused LogFull
+poll > stuck
+seal > refused LogFull
+intake > full LogFull
+close_at 1 > done
+is_terminated > no
+bodies > 1
 
-/// Three events are full in the middle of a body: what it asks is refused, and its end finds no room.
-pub fn stuck_at_an_end() -> [(Call, Tells); 34] {
-    [
-        (Push(0, 70, None), Done),
-        (Push(1, 73, None), Done),
-        (Intake, Took(0)),
-        (Poll, Run(0)),
-        (Act(Fork(Kind::Plain, 71)), Task(1)),
-        (Intake, Full(Refusal::LogFull)),
-        (Act(Fork(Kind::Plain, 72)), Handed(72, Refusal::LogFull)),
-        (Act(Trigger(0, 72)), Handed(72, Refusal::LogFull)),
-        (Act(Join(1)), Refused(Refusal::LogFull)),
-        (Act(Help), Refused(Refusal::LogFull)),
-        (Act(Cancel(1)), Refused(Refusal::LogFull)),
-        (Act(Fault(1, 5)), Refused(Refusal::LogFull)),
-        (Act(State(0)), Is(Place::Held(WorkerId(0)), Status::Undone)),
-        (Act(Ok(40)), Stuck(None)),
-        (Act(Fork(Kind::Plain, 72)), Stuck(Some(72))),
-        (Act(Trigger(0, 72)), Stuck(Some(72))),
-        (Act(Join(1)), Stuck(None)),
-        (Act(Help), Stuck(None)),
-        (Act(Take(1)), Stuck(None)),
-        (Act(Add(1, 1)), Stuck(None)),
-        (Act(QuietRoot(1)), Stuck(None)),
-        (Act(Cancel(1)), Stuck(None)),
-        (Act(Fault(1, 5)), Stuck(None)),
-        (Act(State(0)), Stuck(None)),
-        (Act(Ok(40)), Stuck(None)),
-        (Act(Quiet), Stuck(None)),
-        (Act(Try), Stuck(None)),
-        (Act(Pass), Stuck(None)),
-        (Act(Complete), Stuck(None)),
-        (Act(Fail(5)), Stuck(None)),
-        (Act(HookDone(1)), Stuck(None)),
-        (Intake, Full(Refusal::LogFull)),
-        (Collect(0), Refused(Refusal::LogFull)),
-        (Bodies, Number(3)),
-    ]
-}
+Three events are full in the middle of a body: what it asks is refused, and its end finds no room
+1 8 3
+push 0 70 > done
+push 1 73 > done
+intake > took 0
+poll > run 0
+fork 71 > task 1
+intake > full LogFull
+fork 72 > handed 72 LogFull
+trigger 72 0 > handed 72 LogFull
+join 1 > refused LogFull
+help > refused LogFull
+cancel 1 > refused LogFull
+fault 1 5 > refused LogFull
+state 0 > is Held(WorkerId(0)) undone
+ok 40 > stuck
+fork 72 > stuck with 72
+trigger 72 0 > stuck with 72
+join 1 > stuck
+help > stuck
+take 1 > stuck
+add 1 1 > stuck
+quiet_root 1 > stuck
+cancel 1 > stuck
+fault 1 5 > stuck
+state 0 > stuck
+ok 40 > stuck
+quiet > stuck
+try > stuck
+pass > stuck
+complete > stuck
+fail 5 > stuck
+hook_done 1 > stuck
+intake > full LogFull
+collect 0 > refused LogFull
+bodies > 3
 
-/// Two events are full in the middle of a completer's body.
-pub fn stuck_at_a_complete() -> [(Call, Tells); 7] {
-    [
-        (Push(0, 70, Some(0)), Done),
-        (Intake, Took(0)),
-        (Poll, Run(0)),
-        (Act(Add(0, 1)), Refused(Refusal::LogFull)),
-        (Act(QuietRoot(0)), Refused(Refusal::LogFull)),
-        (Act(Complete), Stuck(None)),
-        (Act(Help), Stuck(None)),
-    ]
-}
+Two events are full in the middle of a completer's body
+1 8 2
+push 0 70 root 0 > done
+intake > took 0
+poll > run 0
+add 0 1 > refused LogFull
+quiet_root 0 > refused LogFull
+complete > stuck
+help > stuck
 
-/// Five events are full at the end of a hook, which wants two.
-pub fn stuck_at_a_hook() -> [(Call, Tells); 10] {
-    [
-        (Push(0, 70, Some(0)), Done),
-        (Intake, Took(0)),
-        (Poll, Run(0)),
-        (Act(Try), Hook(0, 0)),
-        (Act(HookDone(10)), Stuck(None)),
-        (Act(HookDone(10)), Stuck(None)),
-        (Act(Take(0)), Stuck(None)),
-        (Act(Fork(Kind::Plain, 71)), Stuck(Some(71))),
-        (Act(Help), Stuck(None)),
-        (Bodies, Number(1)),
-    ]
-}
+Five events are full at the end of a hook, which wants two
+1 8 5
+push 0 70 root 0 > done
+intake > took 0
+poll > run 0
+try > hook 0 after 0
+hook_done 10 > stuck
+hook_done 10 > stuck
+take 0 > stuck
+fork 71 > stuck with 71
+help > stuck
+bodies > 1
 
-/// One event is full at a poll.
-pub fn stuck_at_a_poll() -> [(Call, Tells); 4] {
-    [
-        (Push(0, 70, None), Done),
-        (Intake, Took(0)),
-        (Poll, Stuck(None)),
-        (Poll, Stuck(None)),
-    ]
-}
+One event is full at a poll
+1 8 1
+push 0 70 > done
+intake > took 0
+poll > stuck
+poll > stuck
 
-/// One event is full at the shutdown.
-pub fn stuck_at_a_close() -> [(Call, Tells); 6] {
-    [
-        (Push(0, 70, None), Done),
-        (Intake, Took(0)),
-        (CloseAt(1), Done),
-        (Poll, Stuck(None)),
-        (Terminated, No),
-        (Bodies, Number(1)),
-    ]
-}
+One event is full at the shutdown
+1 8 1
+push 0 70 > done
+intake > took 0
+close_at 1 > done
+poll > stuck
+is_terminated > no
+bodies > 1
 
-/// One event is full at the stop, which comes with the parcel that is taken in.
-pub fn stuck_at_a_stop() -> [(Call, Tells); 6] {
-    [
-        (Push(0, 70, None), Done),
-        (StopAt(1), Done),
-        (Intake, Took(0)),
-        (Poll, Stuck(None)),
-        (Terminated, No),
-        (Bodies, Number(1)),
-    ]
+One event is full at the stop, which comes with the parcel that is taken in
+1 8 1
+push 0 70 > done
+stop_at 1 > done
+intake > took 0
+poll > stuck
+is_terminated > no
+bodies > 1"
 }

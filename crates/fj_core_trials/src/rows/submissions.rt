@@ -1,192 +1,168 @@
 //! Intakes, outcomes, the closing number, and seals.
-use crate::driver::Asks::*;
-use crate::driver::Call::{self, *};
-use crate::tells::Tells::{self, *};
-use fj_model::{Kind, Refusal};
 
-/// The first closing number stays; parcels beyond it are not taken in.
-pub fn close() -> [(Call, Tells); 26] {
-    [
-        (CloseAt(1), Done),
-        (CloseAt(0), Done),
-        (Terminated, No),
-        (Intake, Empty),
-        (Push(0, 70, None), Done),
-        (Collect(1), Undone),
-        (Awaited(1), Yes),
-        (IsUndone(0), No),
-        (Intake, Took(0)),
-        (IsUndone(0), Yes),
-        (Awaited(0), Yes),
-        (Awaited(1), No),
-        (Push(1, 71, None), Done),
-        (Intake, Empty),
-        (Collect(1), Refused(Refusal::Unknown)),
-        (Poll, Run(0)),
-        (Act(Fork(Kind::Plain, 72)), Task(1)),
-        (Act(Join(1)), Run(1)),
-        (Act(Ok(41)), Over(None)),
-        (IsUndone(1), No),
-        (Awaited(0), Yes),
-        (Act(Ok(40)), Over(None)),
-        (Awaited(0), No),
-        (Terminated, Yes),
-        (Collect(0), Normal(true)),
-        (Bodies, Number(1)),
-    ]
-}
+pub fn scenarios() -> &'static str {
+    "The first closing number stays; parcels beyond it are not taken in
+1 8 64
+close_at 1 > done
+close_at 0 > done
+is_terminated > no
+intake > empty
+push 0 70 > done
+collect 1 > undone
+is_awaited 1 > yes
+is_undone 0 > no
+intake > took 0
+is_undone 0 > yes
+is_awaited 0 > yes
+is_awaited 1 > no
+push 1 71 > done
+intake > empty
+collect 1 > refused Unknown
+poll > run 0
+fork 72 > task 1
+join 1 > run 1
+ok 41 > over
+is_undone 1 > no
+is_awaited 0 > yes
+ok 40 > over
+is_awaited 0 > no
+is_terminated > yes
+collect 0 > normal with a result
+bodies > 1
 
-/// Closed before anything was taken in.
-pub fn close_at_once() -> [(Call, Tells); 6] {
-    [
-        (Push(0, 70, None), Done),
-        (CloseAt(0), Done),
-        (Terminated, Yes),
-        (Intake, Empty),
-        (Poll, Idle),
-        (Seal, Refused(Refusal::Closed)),
-    ]
-}
+Closed before anything was taken in
+1 8 64
+push 0 70 > done
+close_at 0 > done
+is_terminated > yes
+intake > empty
+poll > idle
+seal > refused Closed
 
-/// A stop with a body open, one held, one queued, and one in the lane.
-pub fn stop() -> [(Call, Tells); 26] {
-    [
-        (Push(0, 70, Some(1)), Done),
-        (Push(1, 71, None), Done),
-        (Push(2, 72, None), Done),
-        (Push(3, 73, None), Done),
-        (Intake, Took(0)),
-        (Intake, Took(1)),
-        (Intake, Took(2)),
-        (Poll, Run(0)),
-        (Act(Try), Over(None)),
-        (Poll, Run(1)),
-        (Bodies, Number(4)),
-        (StopAt(3), Done),
-        (Bodies, Number(3)),
-        (Intake, Empty),
-        (Terminated, No),
-        (Act(Ok(41)), Over(None)),
-        (Bodies, Number(2)),
-        (Terminated, No),
-        (Poll, Skip(2, 72)),
-        (Bodies, Number(1)),
-        (Poll, Idle),
-        (Terminated, Yes),
-        (Collect(0), Cancelled),
-        (Collect(1), Cancelled),
-        (Collect(2), Cancelled),
-        (Collect(3), Refused(Refusal::Unknown)),
-    ]
-}
+A stop with a body open, one held, one queued, and one in the lane
+1 8 64
+push 0 70 root 1 > done
+push 1 71 > done
+push 2 72 > done
+push 3 73 > done
+intake > took 0
+intake > took 1
+intake > took 2
+poll > run 0
+try > over
+poll > run 1
+bodies > 4
+stop_at 3 > done
+bodies > 3
+intake > empty
+is_terminated > no
+ok 41 > over
+bodies > 2
+is_terminated > no
+poll > skip 2 with 72
+bodies > 1
+poll > idle
+is_terminated > yes
+collect 0 > cancelled
+collect 1 > cancelled
+collect 2 > cancelled
+collect 3 > refused Unknown
 
-/// A stop after a shutdown, in the middle of a hook.
-pub fn stop_after_close() -> [(Call, Tells); 11] {
-    [
-        (Push(0, 70, Some(0)), Done),
-        (Intake, Took(0)),
-        (CloseAt(1), Done),
-        (Poll, Run(0)),
-        (Act(Try), Hook(0, 0)),
-        (StopAt(7), Done),
-        (Bodies, Number(1)),
-        (Act(HookDone(10)), Over(None)),
-        (Bodies, Number(0)),
-        (Terminated, Yes),
-        (Collect(0), Cancelled),
-    ]
-}
+A stop after a shutdown, in the middle of a hook
+1 8 64
+push 0 70 root 0 > done
+intake > took 0
+close_at 1 > done
+poll > run 0
+try > hook 0 after 0
+stop_at 7 > done
+bodies > 1
+hook_done 10 > over
+bodies > 0
+is_terminated > yes
+collect 0 > cancelled
 
-/// Two parcels under one ticket, and room for one task: the first one's outcome is that of the ticket.
-pub fn one_ticket() -> [(Call, Tells); 14] {
-    [
-        (Push(5, 70, None), Done),
-        (Push(5, 71, None), Done),
-        (Intake, Took(0)),
-        (Intake, Full(Refusal::TooManyTasks)),
-        (Collect(5), Undone),
-        (Poll, Run(0)),
-        (Act(Ok(40)), Over(None)),
-        (Collect(5), Normal(true)),
-        (Intake, Took(1)),
-        (Collect(5), Refused(Refusal::Unknown)),
-        (Poll, Run(1)),
-        (Act(Ok(41)), Over(None)),
-        (Collect(5), Refused(Refusal::Unknown)),
-        (Bodies, Number(0)),
-    ]
-}
+Two parcels under one ticket, and room for one task: the first one's outcome is that of the ticket
+1 1 64
+push 5 70 > done
+push 5 71 > done
+intake > took 0
+intake > full TooManyTasks
+collect 5 > undone
+poll > run 0
+ok 40 > over
+collect 5 > normal with a result
+intake > took 1
+collect 5 > refused Unknown
+poll > run 1
+ok 41 > over
+collect 5 > refused Unknown
+bodies > 0
 
-/// A body takes the result of a submission: then its outcome is told no more.
-pub fn taken_once() -> [(Call, Tells); 12] {
-    [
-        (Push(0, 70, None), Done),
-        (Push(1, 71, None), Done),
-        (Intake, Took(0)),
-        (Intake, Took(1)),
-        (Poll, Run(0)),
-        (Act(Help), Run(1)),
-        (Act(Ok(41)), Over(None)),
-        (Act(Take(1)), Got(71, 41)),
-        (Collect(1), Refused(Refusal::Unknown)),
-        (Act(Ok(40)), Over(None)),
-        (Collect(0), Normal(true)),
-        (Bodies, Number(0)),
-    ]
-}
+A body takes the result of a submission: then its outcome is told no more
+1 8 64
+push 0 70 > done
+push 1 71 > done
+intake > took 0
+intake > took 1
+poll > run 0
+help > run 1
+ok 41 > over
+take 1 > got 41 of 71
+collect 1 > refused Unknown
+ok 40 > over
+collect 0 > normal with a result
+bodies > 0
 
-/// Each part is handed out once: two seals and the first take, one seal and the second. A part is left in the end.
-pub fn parts() -> [(Call, Tells); 28] {
-    [
-        (TakeParts, Number(0)),
-        (Push(0, 70, None), Done),
-        (Push(1, 71, None), Done),
-        (Push(2, 72, None), Done),
-        (Push(3, 73, None), Done),
-        (Intake, Took(0)),
-        (Poll, Run(0)),
-        (Act(Ok(40)), Over(None)),
-        (Seal, Done),
-        (Intake, Took(1)),
-        (Poll, Run(1)),
-        (Act(Ok(41)), Over(None)),
-        (Seal, Done),
-        (Parts, Number(2)),
-        (TakeParts, Number(2)),
-        (TakeParts, Number(0)),
-        (Parts, Number(0)),
-        (Intake, Took(2)),
-        (Poll, Run(2)),
-        (Act(Ok(42)), Over(None)),
-        (Seal, Done),
-        (TakeParts, Number(1)),
-        (Collect(0), Normal(true)),
-        (Intake, Took(3)),
-        (Poll, Run(3)),
-        (Act(Ok(43)), Over(None)),
-        (Seal, Done),
-        (Parts, Number(1)),
-    ]
-}
+Each part is handed out once: two seals and the first take, one seal and the second. A part is left in the end
+1 8 64
+take_parts > 0
+push 0 70 > done
+push 1 71 > done
+push 2 72 > done
+push 3 73 > done
+intake > took 0
+poll > run 0
+ok 40 > over
+seal > done
+intake > took 1
+poll > run 1
+ok 41 > over
+seal > done
+parts > 2
+take_parts > 2
+take_parts > 0
+parts > 0
+intake > took 2
+poll > run 2
+ok 42 > over
+seal > done
+take_parts > 1
+collect 0 > normal with a result
+intake > took 3
+poll > run 3
+ok 43 > over
+seal > done
+parts > 1
+left > 5
 
-/// A seal makes room for five events again. The release of 1 finds none: it is stuck from then on.
-pub fn seals() -> [(Call, Tells); 16] {
-    [
-        (Push(0, 70, None), Done),
-        (Push(1, 71, None), Done),
-        (Intake, Took(0)),
-        (Poll, Run(0)),
-        (Seal, Refused(Refusal::NotIdle)),
-        (Act(Ok(40)), Over(None)),
-        (Parts, Number(0)),
-        (Seal, Done),
-        (Parts, Number(1)),
-        (Intake, Took(1)),
-        (Poll, Run(1)),
-        (Act(Ok(41)), Over(None)),
-        (Collect(0), Normal(true)),
-        (Collect(1), Normal(true)),
-        (Collect(1), Refused(Refusal::LogFull)),
-        (Poll, Stuck(None)),
-    ]
+A seal makes room for five events again. The release of 1 finds none: it is stuck from then on
+1 8 5
+push 0 70 > done
+push 1 71 > done
+intake > took 0
+poll > run 0
+seal > refused NotIdle
+ok 40 > over
+parts > 0
+seal > done
+parts > 1
+intake > took 1
+poll > run 1
+ok 41 > over
+collect 0 > normal with a result
+collect 1 > normal with a result
+collect 1 > refused LogFull
+poll > stuck
+left > 4"
 }
