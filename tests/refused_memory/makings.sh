@@ -1,6 +1,6 @@
 #!/usr/bin/env bash
-# Refuses each allocation of some tests in turn. Those of what the test makes must be answered by it as out of memory; none comes after
-# the making, so with any later one refused the test must pass.
+# Refuses each allocation of some tests in turn. Those of what the test makes must be answered by it as out of memory; no other comes
+# beside them or later, so with any later one refused the test must pass. The two of cores make one for each of their scenarios.
 # Needs a C compiler, and the built tests, as `rt ci` leaves them, or `rt test` in a crate's folder.
 set -euo pipefail
 . "$(dirname "${BASH_SOURCE[0]}")/trial.bash"
@@ -15,6 +15,6 @@ fj_base_trials tree_tests::a_task_is_found_behind_thousands_that_were_released t
 fj_trials run_tests::the_largest_limits_hold machine 100
 fj_gate tests::a_look_is_remembered gate 20
 fj_lane tests::a_hundred_parcels_in_order lane 20
-fj_core_trials core_tests::trees cores 400
-fj_core_trials core_tests::asks cores 500
+fj_core_trials core_tests::trees cores 130
+fj_core_trials core_tests::asks cores 160
 END

@@ -20,7 +20,7 @@ fail() {
     exit 1
 }
 
-# refuse_making MOST LAST PROGRAM [ARGUMENT..]: refuses each allocation of a test in turn. There are at most MOST, all of one making,
+# refuse_making MOST LAST PROGRAM [ARGUMENT..]: refuses each allocation of a test in turn. There are at most MOST, all of what it makes,
 # which must answer that memory is out. With any later one refused, up to that of number LAST, the test must pass.
 refuse_making() {
     local most=$1 last=$2 number later
