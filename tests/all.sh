@@ -3,13 +3,13 @@
 # attacker would use it, where there is a C compiler each allocation refused in turn, and a pool by threads, whose tests are built here.
 #
 #   tests/all.sh            the tests by threads 30 times each, and ten minutes of load
-#   tests/all.sh --short    these tests once each, as they are run where they are built, and ten seconds of load: what the gate runs
+#   tests/all.sh --short    these tests once each, as they are run where they are built, and half a minute of load: what the gate runs
 set -euo pipefail
 cd "$(dirname "${BASH_SOURCE[0]}")/.."
 
 case ${1:-} in
     "") runs=30 load=600 ;;
-    --short) runs=0 load=10 ;;
+    --short) runs=0 load=30 ;;
     *)
         echo "usage: tests/all.sh [--short]" >&2
         exit 2
