@@ -93,11 +93,12 @@ wait "$program" || status=$?
 ended "signals in the middle of a write" 0 ""
 cmp "$folder/replies" "$folder/out"
 
-# A signal that ends it ends it, in a read of a pipe that stays open as in a write to a full one, and leaves a beginning of the replies.
+# A signal that ends it ends it, in a read of a pipe that stays open as in a write to a full one, and leaves a beginning of the replies. This
+# script may have been begun with the signal ignored, as by `nohup`.
 for signal in HUP INT TERM KILL; do
     number=$(kill -l "$signal")
     exec {pipe}<> "$folder/pipe"
-    (trap - INT; exec "$fj" replay < "$folder/pipe" > "$folder/out" 2> "$folder/err") &
+    env --default-signal=HUP,INT,TERM "$fj" replay < "$folder/pipe" > "$folder/out" 2> "$folder/err" &
     program=$!
     head -n 1001 "$folder/script" >&"$pipe"
     for ((i = 0; i < 1000; i++)); do
@@ -111,7 +112,7 @@ for signal in HUP INT TERM KILL; do
     ended "$signal in a read" $((128 + number)) ""
     begins "$signal in a read" "$folder/out"
 
-    (trap - INT; exec "$fj" replay < "$folder/script" > "$folder/pipe" 2> "$folder/err") &
+    env --default-signal=HUP,INT,TERM "$fj" replay < "$folder/script" > "$folder/pipe" 2> "$folder/err" &
     program=$!
     exec {reader}< "$folder/pipe"
     sleep 0.1
