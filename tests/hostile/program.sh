@@ -98,6 +98,8 @@ cmp "$folder/replies" "$folder/out"
 for signal in HUP INT TERM KILL; do
     number=$(kill -l "$signal")
     exec {pipe}<> "$folder/pipe"
+    # What an earlier run left there is no reply of this one.
+    : > "$folder/out"
     env --default-signal=HUP,INT,TERM "$fj" replay < "$folder/pipe" > "$folder/out" 2> "$folder/err" &
     program=$!
     head -n 1001 "$folder/script" >&"$pipe"
@@ -115,9 +117,11 @@ for signal in HUP INT TERM KILL; do
     env --default-signal=HUP,INT,TERM "$fj" replay < "$folder/script" > "$folder/pipe" 2> "$folder/err" &
     program=$!
     exec {reader}< "$folder/pipe"
+    # Once there is a byte it runs; a little later the pipe is full.
+    dd bs=1 count=1 status=none <&"$reader" > "$folder/out"
     sleep 0.1
     kill -s "$signal" "$program"
-    cat <&"$reader" > "$folder/out"
+    cat <&"$reader" >> "$folder/out"
     exec {reader}<&-
     status=0
     wait "$program" 2> /dev/null || status=$?
