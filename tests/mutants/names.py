@@ -25,10 +25,11 @@ def main():
     named, unknown, crate = {it: set() for it in crates}, [], ""
 
     def printed(name):
-        word = name[1]
-        if word in kept[crate] | mutants[crate]:
-            named[crate].add(word)
-            return f"*`{word}`*" if word in mutants[crate] else f"`{word}`"
+        # in the rows of fj_machine `L/` stands for fj_ledger
+        word, of = name[2], "fj_ledger" if name[1] else crate
+        if word in kept[of] | mutants[of]:
+            named[crate].add(name[1] + word)
+            return f"*`{name[1]}{word}`*" if word in mutants[of] else f"`{name[1]}{word}`"
         return name[0]
 
     for at, line in enumerate(lines):
@@ -36,9 +37,9 @@ def main():
             # the headline is that of fj_machine
             crate = {"The headline": "fj_machine"}.get(line[3:], line[3:] if line[3:] in crates else "")
         if crate:
-            lines[at] = re.sub(r"\*?`(\w+)`\*?", printed, line)
+            lines[at] = re.sub(r"\*?`((?:L/)?)(\w+)`\*?", printed, line)
             cells = lines[at].split(" | ")
-            names = re.findall(r"`([a-z0-9]+_[a-z0-9]+_\w+)`", cells[3]) if len(cells) == 5 else []
+            names = re.findall(r"`((?:L/)?[a-z0-9]+_[a-z0-9]+_\w+)`", cells[3]) if len(cells) == 5 else []
             unknown += [f"{crate}/{it}: no edit has this name" for it in names if it not in named[crate]]
     with open(PAGE, "w", encoding="utf-8") as it:
         it.write("\n".join(lines))
