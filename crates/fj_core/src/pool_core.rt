@@ -5,6 +5,7 @@ ghost use Rattle.fj_model.specs.Statuses.{status, is_undone};
 ghost use Rattle.fj_model.specs.Tasks.{is_kept};
 ghost use Rattle.fj_store.specs.Choosing.{Polls};
 ghost use Rattle.fj_store.specs.Fitting.{Fits};
+ghost use Rattle.fj_core.specs.Booked.{booked_under};
 ghost use Rattle.fj_core.specs.Cores.{ChangesStore, CollectsTicket, IsNew, first_hands, is_awaited};
 
 mod act;
@@ -124,6 +125,20 @@ impl<B: Body> Core<B> {
                 }
             }
         }
+    }
+
+    /// The task that was taken in first under a ticket. None if none was.
+    pub fn booked(&self, ticket: Ticket) -> Option<Serial>
+        ensures { result ≡ booked_under self.now.bookings ticket }
+    {
+        self.bookings.find(ticket)
+    }
+
+    /// Whether the core is stuck: something that has to be made found no room in the history.
+    pub fn is_stuck(&self) -> bool
+        ensures { result ≡ self.now.store.stuck }
+    {
+        self.store.is_stuck()
     }
 
     /// Whether the outcome under a ticket is still to come: the core is not stuck, and the task that was taken in first under it is undone;

@@ -13,6 +13,9 @@ pub enum Call {
     Terminated,
     /// The outcome under a ticket.
     Collect(u64),
+    /// The task that was taken in under a ticket.
+    Booked(u64),
+    Stuck,
     /// Whether the outcome under a ticket is still to come.
     Awaited(u64),
     /// Whether a task is undone.
@@ -109,6 +112,7 @@ fn alone(verb: &str) -> Option<Call> {
         "intake" => Call::Intake,
         "is_quiescent" => Call::Quiescent,
         "is_terminated" => Call::Terminated,
+        "is_stuck" => Call::Stuck,
         "seal" => Call::Seal,
         "parts" => Call::Parts,
         "take_parts" => Call::TakeParts,
@@ -135,6 +139,7 @@ fn with_number(verb: &str, number: u64) -> Option<Call> {
         "close_at" => Call::CloseAt(number),
         "stop_at" => Call::StopAt(number),
         "collect" => Call::Collect(number),
+        "booked" => Call::Booked(number),
         "is_awaited" => Call::Awaited(number),
         "is_undone" => Call::IsUndone(number),
         "by" => Call::By(number),

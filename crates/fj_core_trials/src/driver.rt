@@ -63,6 +63,11 @@ impl Driver {
             Call::Quiescent => said(self.core.is_quiescent()),
             Call::Terminated => said(self.core.is_terminated()),
             Call::Collect(ticket) => collected(&self.core.collect(Ticket(ticket))),
+            Call::Booked(ticket) => match self.core.booked(Ticket(ticket)) {
+                Some(t) => Tells::Task(t.0),
+                None => Tells::Empty,
+            },
+            Call::Stuck => said(self.core.is_stuck()),
             Call::Awaited(ticket) => said(self.core.is_awaited(Ticket(ticket))),
             Call::IsUndone(t) => said(self.core.is_undone(Serial(t))),
             Call::Seal => match self.core.seal(alloc) {

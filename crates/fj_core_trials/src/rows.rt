@@ -5,8 +5,9 @@
 //! that nobody has taken, in order; without it none is left. No body is left in the end.
 //!
 //! - `push TICKET BODY`, `push TICKET BODY root COUNT`: a body of this number goes into the lane; with a count it becomes a root
-//! - `intake`, `close_at N`, `stop_at N`, `is_quiescent`, `is_terminated`
-//! - `collect TICKET`, `is_awaited TICKET`: the outcome under a ticket, and whether it is still to come; `is_undone T`
+//! - `intake`, `close_at N`, `stop_at N`, `is_quiescent`, `is_terminated`, `is_stuck`
+//! - `collect TICKET`, `is_awaited TICKET`, `booked TICKET`: the outcome under a ticket, whether it is still to come, and its task;
+//!   `is_undone T`
 //! - `seal`, `parts`, `take_parts`: how many parts are sealed and were not taken, and how many are taken now
 //! - `bodies`: how many there are; `by W`: the calls from here on are made by this worker
 //! - `poll`, and what a running body or a hook asks:

@@ -15,6 +15,7 @@ const LONGEST_SLEEP: u64 = 1_000;
 pub struct Idle {
     rounds: u32,
     sleep: u64,
+    resting: bool,
 }
 
 impl Idle {
@@ -23,11 +24,20 @@ impl Idle {
         Idle {
             rounds: 0,
             sleep: FIRST_SLEEP,
+            resting: false,
         }
     }
 
-    /// How long to sleep before the next look. None where a yield is enough.
+    /// It looks again: whether it has rested since it looked last.
+    pub fn looks_again(&mut self) -> bool {
+        let rested = self.resting;
+        self.resting = false;
+        rested
+    }
+
+    /// It rests. How long to sleep before the next look; none where a yield is enough.
     pub fn next_sleep(&mut self) -> Option<Duration> {
+        self.resting = true;
         if self.rounds < YIELDS {
             self.rounds += 1;
             return None;

@@ -12,6 +12,7 @@
 #![tactic(auto)]
 
 mod closer;
+mod effect;
 mod guarded;
 mod idle;
 mod naming;

@@ -1,5 +1,5 @@
 use fj_model::{Refusal, Serial};
-use fj_store::{Ask, Body, Heard};
+use fj_store::{Body, Heard};
 
 /// What a worker does once it has let the lock go.
 #[derive(Drop)]
@@ -18,30 +18,27 @@ pub enum Next<B: Body> {
     Leave(Result<(), Refusal>),
 }
 
-/// What was done in one holding of the lock.
+/// Bodies that are needed no more. They are dropped once the lock is free.
 #[derive(Drop)]
-pub struct Served<B: Body> {
-    pub next: Next<B>,
-    /// A body that has ended and is needed no more. It is dropped outside the lock.
+pub struct Unneeded<B: Body> {
+    /// One that has ended.
     pub ended: Option<B>,
-    /// A body that was skipped. It is dropped outside the lock.
+    /// One that was skipped.
     pub skipped: Option<B>,
 }
 
-/// What it may change for those who wait that something is asked.
-pub enum Effect {
-    Nothing,
-    /// A task is queued.
-    Queues,
-    /// A task is done, or its result is taken, which cannot be told as an outcome any more.
-    Ends,
-}
+impl<B: Body> Unneeded<B> {
+    /// There is none.
+    pub fn none() -> Unneeded<B> {
+        Unneeded {
+            ended: None,
+            skipped: None,
+        }
+    }
 
-/// What it may change that this is asked.
-pub fn effect_of<B: Body>(ask: &Ask<B>) -> Effect {
-    match ask {
-        Ask::Fork(_, _) => Effect::Queues,
-        Ask::Trigger(_, _) | Ask::Help | Ask::Add(_, _) | Ask::State(_) => Effect::Nothing,
-        _ => Effect::Ends,
+    /// Drops them.
+    pub fn clear(&mut self) {
+        self.ended = None;
+        self.skipped = None;
     }
 }

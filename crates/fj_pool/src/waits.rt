@@ -11,6 +11,8 @@ pub struct Waits {
     pub joined: Wanted<Serial>,
     /// The tickets under which outcomes are awaited.
     pub awaited: Wanted<Ticket>,
+    /// How many workers found nothing to do, and have not looked again since.
+    pub resting: u32,
     due: Wake,
 }
 
@@ -20,6 +22,7 @@ impl Waits {
         Waits {
             joined: Wanted::Nothing,
             awaited: Wanted::Nothing,
+            resting: 0,
             due: Wake::nobody(),
         }
     }
@@ -33,8 +36,12 @@ impl Waits {
 
     /// A task was queued: one idle worker may take it, or one that waits in a join.
     pub fn task_queued(&mut self) {
-        self.due.idle = self.due.idle.and_one();
-        self.due.joining = self.due.joining.and_one();
+        if self.resting > 0 {
+            self.due.idle = self.due.idle.and_one();
+        }
+        if !self.joined.is_nothing() {
+            self.due.joining = self.due.joining.and_one();
+        }
     }
 
     /// Several tasks were queued.

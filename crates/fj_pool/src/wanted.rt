@@ -10,6 +10,11 @@ pub enum Wanted<T> {
 }
 
 impl<T: Copy + PartialEq> Wanted<T> {
+    /// Whether nobody sleeps.
+    pub fn is_nothing(&self) -> bool {
+        matches!(self, Wanted::Nothing)
+    }
+
     /// The same, and somebody sleeps for this, too.
     pub fn and(self, wanted: T) -> Wanted<T> {
         match self {

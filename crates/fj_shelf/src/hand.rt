@@ -1,6 +1,6 @@
 ghost use Rattle.std.specs.Prelude.{◌≡◌, ◌<◌, ◌++◌, ◌∷◌, length, IfOk, [], None, Some, IsSome, is_some, ◌↔◌, IsTrue, option_map};
 ghost use Rattle.fj_shelf.specs.Aside.{numbers};
-ghost use Rattle.fj_shelf.specs.Hands.{new_hand, hook_number, with_body, with_hook, with_next_word, without_hook};
+ghost use Rattle.fj_shelf.specs.Hands.{new_hand, hook_number, newest_body, with_body, with_hook, with_next_word, without_hook};
 
 use fj_model::{Serial, WorkerId};
 use std::alloc::{AllocError, Global};
@@ -110,6 +110,16 @@ impl<B: Drop> Hand<B> {
     pub fn joined(&self) -> Option<Serial> {
         match self.stack.last() {
             Some(begun) => begun.joined,
+            None => None,
+        }
+    }
+
+    /// The task of the running body, where there is one.
+    pub fn running(&self) -> Option<Serial>
+        ensures { result ≡ hook_number (newest_body self.now.stack) }
+    {
+        match self.stack.last() {
+            Some(begun) => Some(begun.serial),
             None => None,
         }
     }

@@ -8,7 +8,10 @@ push 1 71 > done
 intake > took 0
 poll > run 0
 ok 40 > over
+is_stuck > no
 intake > full LogFull
+is_stuck > yes
+booked 0 > task 0
 collect 0 > refused LogFull
 poll > stuck
 seal > refused LogFull

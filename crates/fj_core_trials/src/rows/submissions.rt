@@ -11,7 +11,10 @@ push 0 70 > done
 collect 1 > undone
 is_awaited 1 > yes
 is_undone 0 > no
+booked 0 > empty
 intake > took 0
+booked 0 > task 0
+booked 1 > empty
 is_undone 0 > yes
 is_awaited 0 > yes
 is_awaited 1 > no

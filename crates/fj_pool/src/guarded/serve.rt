@@ -3,9 +3,10 @@ ghost use Rattle.std.specs.Prelude.{◌≡◌, [], None, IfSome};
 ghost use Rattle.fj_store.specs.Fitting.{Fits};
 ghost use Rattle.fj_pool.specs.Turning.{MayAsk, NextRight};
 
+use crate::effect::{Effect, effect_of};
 use crate::guarded::Guarded;
 use crate::naming::Naming;
-use crate::next::{Effect, Next, Served, effect_of};
+use crate::next::{Next, Unneeded};
 use fj_model::{Refusal, Serial};
 use fj_shelf::Hand;
 use fj_store::{Ask, Body, Heard, Told};
@@ -14,115 +15,126 @@ use std::alloc::Global;
 impl<B: Body, N: Naming> Guarded<B, N> {
     /// What the hook or the running body asks is done; without an ask the worker goes on with what it left. A hand that does not fit is
     /// told `NoSuch`, and nothing is done. Precondition: what is asked may be asked by this hand.
-    pub fn serve(&mut self, alloc: Global, hand: &mut Hand<B>, ask: Option<Ask<B>>) -> Served<B>
+    pub fn serve(
+        &mut self,
+        alloc: Global,
+        hand: &mut Hand<B>,
+        ask: Option<Ask<B>>,
+        unneeded: &mut Unneeded<B>,
+    ) -> Next<B>
         requires { IfSome ask (λ a. MayAsk B.right B.key_of hand.old a) }
-        ensures { NextRight B.right result.next }
+        ensures { NextRight B.right result }
     {
         if !self.core.fits(hand) {
-            return served(Next::Leave(Err(Refusal::NoSuch)));
+            return Next::Leave(Err(Refusal::NoSuch));
         }
         match ask {
-            Some(ask) => self.serve_ask(alloc, hand, ask),
-            None => self.resume(alloc, hand),
+            Some(ask) => self.serve_ask(alloc, hand, ask, unneeded),
+            None => self.resume(alloc, hand, unneeded),
         }
     }
 
     /// What the hook or the running body asks. Where it ends, the worker goes on at once.
-    fn serve_ask(&mut self, alloc: Global, hand: &mut Hand<B>, ask: Ask<B>) -> Served<B>
+    fn serve_ask(
+        &mut self,
+        alloc: Global,
+        hand: &mut Hand<B>,
+        ask: Ask<B>,
+        unneeded: &mut Unneeded<B>,
+    ) -> Next<B>
         requires fits { Fits self.old.store.past hand.old }
         requires asks { MayAsk B.right B.key_of hand.old ask }
-        ensures { NextRight B.right result.next }
+        ensures { NextRight B.right result }
     {
         let helps = matches!(ask, Ask::Help);
-        let effect = effect_of(&ask);
+        let effect = effect_of(hand, &ask);
         note(hand, &ask);
         let told = self.core.act(hand, ask);
         self.tell_waiting(effect);
         match told {
-            Told::Hear(heard) => served(Next::Turn(heard)),
-            Told::Run(t) => served(Next::Begin(t)),
-            Told::Skip(_, body) => skipped(body),
-            Told::None => served(self.after_none(hand, helps)),
-            Told::Hook(_, caller) => served(Next::Turn(Heard::Hook(caller))),
+            Told::Hear(heard) => Next::Turn(heard),
+            Told::Run(t) => Next::Begin(t),
+            Told::Skip(_, body) => skip(body, unneeded),
+            Told::None => self.after_none(hand, helps),
+            Told::Hook(_, caller) => Next::Turn(Heard::Hook(caller)),
             Told::Over(body) => {
-                let then = self.resume(alloc, hand);
-                Served {
-                    ended: body,
-                    next: then.next,
-                    skipped: then.skipped,
-                }
+                unneeded.ended = body;
+                self.resume(alloc, hand, unneeded)
             }
-            Told::Stuck(body) => self.leave_stuck(body),
+            Told::Stuck(body) => self.leave_stuck(body, unneeded),
         }
     }
 
     /// No body runs: the one that waits goes on, or the worker looks for work.
-    fn resume(&mut self, alloc: Global, hand: &mut Hand<B>) -> Served<B>
+    fn resume(&mut self, alloc: Global, hand: &mut Hand<B>, unneeded: &mut Unneeded<B>) -> Next<B>
         requires { Fits self.old.store.past hand.old }
-        ensures { NextRight B.right result.next }
+        ensures { NextRight B.right result }
     {
         if hand.is_empty() {
-            return self.look_for_work(alloc, hand);
+            return self.look_for_work(alloc, hand, unneeded);
         }
         match hand.joined() {
-            Some(t) => self.join(hand, t),
+            Some(t) => self.join(hand, t, unneeded),
             // It helped. So hears a body, too, that an earlier call left, since the core was stuck: that is told to its next ask.
-            None => served(Next::Turn(Heard::Helped(true))),
+            None => Next::Turn(Heard::Helped(true)),
         }
     }
 
     /// The running body, or the hook, joins a task once more.
-    fn join(&mut self, hand: &mut Hand<B>, t: Serial) -> Served<B>
+    fn join(&mut self, hand: &mut Hand<B>, t: Serial, unneeded: &mut Unneeded<B>) -> Next<B>
         requires fits { Fits self.old.store.past hand.old }
         requires asks { MayAsk B.right B.key_of hand.old (Ask.Join t) }
-        ensures { NextRight B.right result.next }
+        ensures { NextRight B.right result }
     {
         match self.core.act(hand, Ask::Join(t)) {
             Told::Hear(heard) => {
-                self.tasks_ended();
-                served(Next::Turn(heard))
+                self.task_ended(t);
+                Next::Turn(heard)
             }
-            Told::Run(u) => served(Next::Begin(u)),
-            Told::Skip(_, body) => skipped(body),
+            Told::Run(u) => Next::Begin(u),
+            Told::Skip(_, body) => skip(body, unneeded),
             Told::None => {
                 self.sleep_for(t);
-                served(Next::Wait)
+                Next::Wait
             }
             // Endings alone are answered so.
-            Told::Hook(_, _) => served(Next::Again),
-            Told::Over(body) => Served {
-                next: Next::Again,
-                ended: body,
-                skipped: None,
-            },
-            Told::Stuck(body) => self.leave_stuck(body),
+            Told::Hook(_, _) => Next::Again,
+            Told::Over(body) => {
+                unneeded.ended = body;
+                Next::Again
+            }
+            Told::Stuck(body) => self.leave_stuck(body, unneeded),
         }
     }
 
     /// An idle worker: it seals where that is due, takes in what the lanes show, and polls.
-    fn look_for_work(&mut self, alloc: Global, hand: &mut Hand<B>) -> Served<B>
+    fn look_for_work(
+        &mut self,
+        alloc: Global,
+        hand: &mut Hand<B>,
+        unneeded: &mut Unneeded<B>,
+    ) -> Next<B>
         requires fits { Fits self.old.store.past hand.old }
         requires idle { (hand.old.stack ≡ []) × (hand.old.hook ≡ None) }
-        ensures { NextRight B.right result.next }
+        ensures { NextRight B.right result }
     {
         let _taken = self.take_in(alloc);
         // An intake leaves each hand as it is; the contract of a poll wants to know.
         if !self.core.fits(hand) {
-            return served(Next::Leave(Err(Refusal::NoSuch)));
+            return Next::Leave(Err(Refusal::NoSuch));
         }
         match self.core.poll(hand) {
-            Told::Run(t) => served(Next::Begin(t)),
-            Told::Skip(_, body) => skipped(body),
-            Told::None => served(self.after_no_task()),
-            Told::Stuck(body) => self.leave_stuck(body),
+            Told::Run(t) => Next::Begin(t),
+            Told::Skip(_, body) => skip(body, unneeded),
+            Told::None => self.after_no_task(),
+            Told::Stuck(body) => self.leave_stuck(body, unneeded),
             // A poll is not answered so.
-            Told::Hear(_) => served(Next::Again),
-            Told::Hook(_, _) => served(Next::Again),
-            Told::Over(body) => Served {
-                next: Next::Again,
-                ended: body,
-                skipped: None,
-            },
+            Told::Hear(_) => Next::Again,
+            Told::Hook(_, _) => Next::Again,
+            Told::Over(body) => {
+                unneeded.ended = body;
+                Next::Again
+            }
         }
     }
 
@@ -133,6 +145,7 @@ impl<B: Body, N: Naming> Guarded<B, N> {
         if self.core.is_terminated() {
             Next::Leave(Ok(()))
         } else {
+            self.rest();
             Next::Rest
         }
     }
@@ -158,43 +171,27 @@ impl<B: Body, N: Naming> Guarded<B, N> {
         match effect {
             Effect::Nothing => {}
             Effect::Queues => self.task_queued(),
-            Effect::Ends => self.tasks_ended(),
+            Effect::Ends(t) => self.task_ended(t),
+            Effect::EndsSeveral => self.tasks_ended(),
         }
     }
 
     /// The core is stuck: all leave.
-    fn leave_stuck(&mut self, body: Option<B>) -> Served<B>
-        ensures { NextRight B.right result.next }
+    fn leave_stuck(&mut self, body: Option<B>, unneeded: &mut Unneeded<B>) -> Next<B>
+        ensures { NextRight B.right result }
     {
         self.all_ended();
-        Served {
-            next: Next::Leave(Err(Refusal::LogFull)),
-            ended: body,
-            skipped: None,
-        }
-    }
-}
-
-/// No body goes.
-fn served<B: Body>(next: Next<B>) -> Served<B>
-    ensures { result.next ≡ next }
-{
-    Served {
-        next,
-        ended: None,
-        skipped: None,
+        unneeded.ended = body;
+        Next::Leave(Err(Refusal::LogFull))
     }
 }
 
 /// A task was skipped, and its body goes. The worker looks on.
-fn skipped<B: Body>(body: B) -> Served<B>
-    ensures { NextRight B.right result.next }
+fn skip<B: Body>(body: B, unneeded: &mut Unneeded<B>) -> Next<B>
+    ensures { NextRight B.right result }
 {
-    Served {
-        next: Next::Again,
-        ended: None,
-        skipped: Some(body),
-    }
+    unneeded.skipped = Some(body);
+    Next::Again
 }
 
 /// Notes what the running body joins, if it asks that. A hook neither joins nor helps.

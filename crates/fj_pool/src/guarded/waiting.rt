@@ -30,6 +30,48 @@ impl<B: Body, N: Naming> Guarded<B, N> {
         self.waits.task_queued();
     }
 
+    /// A worker that found nothing to do rests until it looks again.
+    pub fn rest(&mut self)
+        ensures { self.new ≡ self.old }
+    {
+        self.waits.resting = self.waits.resting.saturating_add(1);
+    }
+
+    /// A worker that rested is back.
+    pub fn come_back(&mut self)
+        ensures { self.new ≡ self.old }
+    {
+        self.waits.resting = self.waits.resting.saturating_sub(1);
+    }
+
+    /// This task may be done now, or its result taken: who sleeps for it is to be woken. All are where its release made the core stuck.
+    pub fn task_ended(&mut self, t: Serial)
+        ensures { self.new ≡ self.old }
+    {
+        if self.core.is_stuck() {
+            self.waits.all_ended();
+            return;
+        }
+        let is_joined = match self.waits.joined {
+            Wanted::Nothing => false,
+            Wanted::One(joined) => joined == t && !self.core.is_undone(t),
+            Wanted::Several => true,
+        };
+        if is_joined {
+            self.waits.join_ended();
+        }
+        let is_told = match self.waits.awaited {
+            Wanted::Nothing => false,
+            Wanted::One(ticket) => {
+                self.core.booked(ticket) == Some(t) && !self.core.is_awaited(ticket)
+            }
+            Wanted::Several => true,
+        };
+        if is_told {
+            self.waits.await_ended();
+        }
+    }
+
     /// Tasks may be done now, or their results taken: who sleeps for one of them is to be woken.
     pub fn tasks_ended(&mut self)
         ensures { self.new ≡ self.old }

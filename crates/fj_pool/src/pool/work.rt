@@ -4,7 +4,7 @@ ghost use Rattle.fj_pool.specs.Turning.{MayAsk, NextRight};
 
 use crate::idle::Idle;
 use crate::naming::Naming;
-use crate::next::{Next, Served};
+use crate::next::{Next, Unneeded};
 use crate::pool::Pool;
 use crate::turns::take_turn;
 use crate::turnstile::Turnstile;
@@ -32,8 +32,9 @@ impl<B: Body, N: Naming> Pool<B, N> {
     ) -> Result<(), Refusal> {
         let mut ask: Option<Ask<B>> = None;
         let mut idle = Idle::new();
+        let mut unneeded = Unneeded::none();
         for _ in rt.forever() {
-            match self.serve(rt, hand, ask.take(), &mut idle) {
+            match self.serve(rt, hand, ask.take(), &mut idle, &mut unneeded) {
                 Next::Turn(heard) => ask = take_turn(hand, heard),
                 Next::Begin(t) => {
                     idle = Idle::new();
@@ -54,38 +55,42 @@ impl<B: Body, N: Naming> Pool<B, N> {
         hand: &mut Hand<B>,
         ask: Option<Ask<B>>,
         idle: &mut Idle,
+        unneeded: &mut Unneeded<B>,
     ) -> Next<B>
         requires { IfSome ask (λ a. MayAsk B.right B.key_of hand.old a) }
         ensures { NextRight B.right result }
     {
         let mut guard = self.core.lock(rt);
         let core = &mut *guard;
-        let Served {
-            next,
-            ended,
-            skipped,
-        } = core.serve(self.alloc, hand, ask);
-        let wake = core.take_wake();
-        if matches!(next, Next::Wait) {
-            // Under the lock, so that what it wakes is not taken for a change, and no change after this is missed.
-            self.wake(wake);
-            let seen = self.joining.notifications();
-            drop(guard);
-            drop(ended);
-            drop(skipped);
-            self.joining
-                .sleep(rt, seen, Duration::from_secs(LONGEST_WAIT));
-            return next;
+        if idle.looks_again() {
+            core.come_back();
         }
-        let seen = self.idle.notifications();
-        drop(guard);
-        self.wake(wake);
-        drop(ended);
-        drop(skipped);
-        if matches!(next, Next::Rest) {
-            match idle.next_sleep() {
-                Some(sleep) => self.idle.sleep(rt, seen, sleep),
-                None => thread::yield_now(),
+        let next = core.serve(self.alloc, hand, ask, unneeded);
+        let wake = core.take_wake();
+        match next {
+            Next::Wait => {
+                // Under the lock, so that what it wakes is not taken for a change, and no change after this is missed.
+                self.wake(wake);
+                let seen = self.joining.notifications();
+                drop(guard);
+                unneeded.clear();
+                self.joining
+                    .sleep(rt, seen, Duration::from_secs(LONGEST_WAIT));
+            }
+            Next::Rest => {
+                let seen = self.idle.notifications();
+                drop(guard);
+                self.wake(wake);
+                unneeded.clear();
+                match idle.next_sleep() {
+                    Some(sleep) => self.idle.sleep(rt, seen, sleep),
+                    None => thread::yield_now(),
+                }
+            }
+            _ => {
+                drop(guard);
+                self.wake(wake);
+                unneeded.clear();
             }
         }
         next

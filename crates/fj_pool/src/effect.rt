@@ -1,0 +1,37 @@
+use fj_model::Serial;
+use fj_shelf::Hand;
+use fj_store::{Ask, Body};
+
+/// What it may change for those who wait that something is asked.
+pub enum Effect {
+    Nothing,
+    /// A task is queued.
+    Queues,
+    /// This task is done, or its result is taken, which cannot be told as an outcome any more.
+    Ends(Serial),
+    /// Several tasks may be done.
+    EndsSeveral,
+}
+
+/// What it may change that the hook, or the running body, of a hand asks this.
+pub fn effect_of<B: Body>(hand: &Hand<B>, ask: &Ask<B>) -> Effect {
+    match ask {
+        Ask::Fork(_, _) => Effect::Queues,
+        Ask::Trigger(_, _) | Ask::Help | Ask::Add(_, _) | Ask::State(_) => Effect::Nothing,
+        // These end the body alone: the status of its task stays.
+        Ask::Quiet | Ask::Try | Ask::Complete => Effect::Nothing,
+        Ask::Join(t) | Ask::Take(t) | Ask::Cancel(t) => Effect::Ends(*t),
+        Ask::Ok(_) => ends(hand.running()),
+        Ask::HookDone(_) => ends(hand.hooked()),
+        // These go on to parents or to the root.
+        Ask::Pass | Ask::Fail(_) | Ask::QuietRoot(_) | Ask::Fault(_, _) => Effect::EndsSeveral,
+    }
+}
+
+/// This task is done, where there is one.
+fn ends(task: Option<Serial>) -> Effect {
+    match task {
+        Some(t) => Effect::Ends(t),
+        None => Effect::Nothing,
+    }
+}
