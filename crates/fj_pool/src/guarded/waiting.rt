@@ -52,23 +52,18 @@ impl<B: Body, N: Naming> Guarded<B, N> {
             self.waits.all_ended();
             return;
         }
-        let is_joined = match self.waits.joined {
+        let may_be_joined = match self.waits.joined {
             Wanted::Nothing => false,
-            Wanted::One(joined) => joined == t && !self.core.is_undone(t),
+            Wanted::One(joined) => joined == t,
             Wanted::Several => true,
         };
-        if is_joined {
-            self.waits.join_ended();
-        }
-        let is_told = match self.waits.awaited {
+        let may_be_awaited = match self.waits.awaited {
             Wanted::Nothing => false,
-            Wanted::One(ticket) => {
-                self.core.booked(ticket) == Some(t) && !self.core.is_awaited(ticket)
-            }
+            Wanted::One(ticket) => self.core.booked(ticket) == Some(t),
             Wanted::Several => true,
         };
-        if is_told {
-            self.waits.await_ended();
+        if may_be_joined || may_be_awaited {
+            self.tasks_ended();
         }
     }
 
