@@ -36,6 +36,13 @@ impl<B: Body> Unneeded<B> {
         }
     }
 
+    /// A body has ended, where there is one. One that ended before it in the same holding of the lock stays.
+    pub fn add_ended(&mut self, body: Option<B>) {
+        if body.is_some() {
+            self.ended = body;
+        }
+    }
+
     /// Drops them.
     pub fn clear(&mut self) {
         self.ended = None;

@@ -58,7 +58,7 @@ impl<B: Body, N: Naming> Guarded<B, N> {
             Told::None => self.after_none(hand, helps),
             Told::Hook(_, caller) => Next::Turn(Heard::Hook(caller)),
             Told::Over(body) => {
-                unneeded.ended = body;
+                unneeded.add_ended(body);
                 self.resume(alloc, hand, unneeded)
             }
             Told::Stuck(body) => self.leave_stuck(body, unneeded),
@@ -100,7 +100,7 @@ impl<B: Body, N: Naming> Guarded<B, N> {
             // Endings alone are answered so.
             Told::Hook(_, _) => Next::Again,
             Told::Over(body) => {
-                unneeded.ended = body;
+                unneeded.add_ended(body);
                 Next::Again
             }
             Told::Stuck(body) => self.leave_stuck(body, unneeded),
@@ -132,7 +132,7 @@ impl<B: Body, N: Naming> Guarded<B, N> {
             Told::Hear(_) => Next::Again,
             Told::Hook(_, _) => Next::Again,
             Told::Over(body) => {
-                unneeded.ended = body;
+                unneeded.add_ended(body);
                 Next::Again
             }
         }
@@ -181,7 +181,7 @@ impl<B: Body, N: Naming> Guarded<B, N> {
         ensures { NextRight B.right result }
     {
         self.all_ended();
-        unneeded.ended = body;
+        unneeded.add_ended(body);
         Next::Leave(Err(Refusal::LogFull))
     }
 }
