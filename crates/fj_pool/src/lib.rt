@@ -12,6 +12,7 @@
 #![tactic(auto)]
 
 mod closer;
+mod contention;
 mod effect;
 mod guarded;
 mod idle;

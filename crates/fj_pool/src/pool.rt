@@ -2,6 +2,7 @@ ghost use Rattle.std.specs.Prelude.{◌≡◌, All, IfOk, length, vec_len};
 ghost use Rattle.fj_pool.specs.Lanes.{lanes_of};
 ghost use Rattle.fj_pool.specs.Seats.{IsNamed};
 
+mod lock;
 mod outside;
 mod work;
 
@@ -33,6 +34,8 @@ pub struct Pool<B: Body, N: Naming> {
     pub(crate) idle: Condvar,
     /// Whoever awaits an outcome.
     pub(crate) awaiting: Condvar,
+    /// Workers that leave the lock to others for a while. Nobody notifies them.
+    pub(crate) giving_way: Condvar,
 }
 
 /// A pool that was opened, with what its users need: a hand for each worker, what each submitter hands in with, and what shuts it down.
@@ -101,6 +104,7 @@ fn put_together<B: Body, N: Naming>(
         joining: Condvar::new(),
         idle: Condvar::new(),
         awaiting: Condvar::new(),
+        giving_way: Condvar::new(),
     };
     Ok((pool, submitters))
 }

@@ -66,6 +66,7 @@ impl<B: Body, N: Naming> Pool<B, N> {
             joining: _,
             idle: _,
             awaiting: _,
+            giving_way: _,
         } = self;
         let Guarded {
             mut core,

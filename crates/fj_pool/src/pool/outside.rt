@@ -17,7 +17,7 @@ impl<B: Body, N: Naming> Pool<B, N> {
     /// `Unknown` where the outcome was told before, or where all that was admitted was taken in, and nothing under this ticket. `LogFull`
     /// where the core is stuck.
     pub fn await_done<R: Wait>(&self, rt: &R, ticket: Ticket) -> Result<Outcome<B>, Refusal> {
-        let mut guard = self.core.lock(rt);
+        let mut guard = self.lock(rt);
         for _ in rt.forever() {
             let core = &mut *guard;
             if let Some(answer) = core.collect(ticket) {

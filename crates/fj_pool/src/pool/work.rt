@@ -2,6 +2,7 @@
 ghost use Rattle.std.specs.Prelude.{IfSome};
 ghost use Rattle.fj_pool.specs.Turning.{MayAsk, NextRight};
 
+use crate::contention::Contention;
 use crate::idle::Idle;
 use crate::naming::Naming;
 use crate::next::{Next, Unneeded};
@@ -32,9 +33,17 @@ impl<B: Body, N: Naming> Pool<B, N> {
     ) -> Result<(), Refusal> {
         let mut ask: Option<Ask<B>> = None;
         let mut idle = Idle::new();
+        let mut contention = Contention::new();
         let mut unneeded = Unneeded::none();
         for _ in rt.forever() {
-            match self.serve(rt, hand, ask.take(), &mut idle, &mut unneeded) {
+            match self.serve(
+                rt,
+                hand,
+                ask.take(),
+                &mut idle,
+                &mut contention,
+                &mut unneeded,
+            ) {
                 Next::Turn(heard) => ask = take_turn(hand, heard),
                 Next::Begin(t) => {
                     idle = Idle::new();
@@ -55,12 +64,13 @@ impl<B: Body, N: Naming> Pool<B, N> {
         hand: &mut Hand<B>,
         ask: Option<Ask<B>>,
         idle: &mut Idle,
+        contention: &mut Contention,
         unneeded: &mut Unneeded<B>,
     ) -> Next<B>
         requires { IfSome ask (λ a. MayAsk B.right B.key_of hand.old a) }
         ensures { NextRight B.right result }
     {
-        let mut guard = self.core.lock(rt);
+        let mut guard = self.lock_for_work(rt, contention);
         let core = &mut *guard;
         if idle.looks_again() {
             core.come_back();
