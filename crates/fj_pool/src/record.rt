@@ -41,8 +41,8 @@ pub struct Record<B: Body> {
 }
 
 impl<B: Body, N: Naming> Pool<B, N> {
-    /// Takes the pool apart, when its workers have left: `ForkJoinPool.close` has no counterpart of what it gives. It waits for nobody and
-    /// takes no memory; bodies that the core still holds are dropped.
+    /// Takes the pool apart, when its workers have left. It waits for nobody and takes no memory; bodies that the core still holds are
+    /// dropped. Java has no counterpart.
     ///
     /// Precondition: all submitters come, by their numbers.
     pub fn wind_up(self, submitters: Vec<Submitter<B, N>>, closer: Closer<N>) -> Record<B>

@@ -13,6 +13,8 @@ pub struct Waits {
     pub awaited: Wanted<Ticket>,
     /// How many workers found nothing to do, and have not looked again since.
     pub resting: u32,
+    /// Whether it was told at which submission the pool is shut down or stopped.
+    pub closing: bool,
     due: Wake,
 }
 
@@ -23,6 +25,7 @@ impl Waits {
             joined: Wanted::Nothing,
             awaited: Wanted::Nothing,
             resting: 0,
+            closing: false,
             due: Wake::nobody(),
         }
     }

@@ -59,12 +59,14 @@ impl<B: Body, N: Naming> Guarded<B, N> {
     /// The closing number, at which the Shutdown is made.
     pub fn close_at(&mut self, number: u64) {
         self.core.close_at(number);
+        self.waits.closing = true;
         self.all_ended();
     }
 
     /// The closing number, at which the Stop is made.
     pub fn stop_at(&mut self, number: u64) {
         self.core.stop_at(number);
+        self.waits.closing = true;
         self.all_ended();
     }
 

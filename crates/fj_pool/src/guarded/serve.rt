@@ -5,6 +5,7 @@ ghost use Rattle.fj_pool.specs.Turning.{MayAsk, NextRight};
 
 use crate::effect::{Effect, effect_of};
 use crate::guarded::Guarded;
+use crate::guarded::outside::TakenIn;
 use crate::naming::Naming;
 use crate::next::{Next, Unneeded};
 use fj_model::{Refusal, Serial};
@@ -55,7 +56,7 @@ impl<B: Body, N: Naming> Guarded<B, N> {
             Told::Hear(heard) => Next::Turn(heard),
             Told::Run(t) => Next::Begin(t),
             Told::Skip(_, body) => skip(body, unneeded),
-            Told::None => self.after_none(hand, helps),
+            Told::None => self.after_none(alloc, hand, helps),
             Told::Hook(_, caller) => Next::Turn(Heard::Hook(caller)),
             Told::Over(body) => {
                 unneeded.add_ended(body);
@@ -74,14 +75,20 @@ impl<B: Body, N: Naming> Guarded<B, N> {
             return self.look_for_work(alloc, hand, unneeded);
         }
         match hand.joined() {
-            Some(t) => self.join(hand, t, unneeded),
+            Some(t) => self.join(alloc, hand, t, unneeded),
             // It helped. So hears a body, too, that an earlier call left, since the core was stuck: that is told to its next ask.
             None => Next::Turn(Heard::Helped(true)),
         }
     }
 
     /// The running body, or the hook, joins a task once more.
-    fn join(&mut self, hand: &mut Hand<B>, t: Serial, unneeded: &mut Unneeded<B>) -> Next<B>
+    fn join(
+        &mut self,
+        alloc: Global,
+        hand: &mut Hand<B>,
+        t: Serial,
+        unneeded: &mut Unneeded<B>,
+    ) -> Next<B>
         requires fits { Fits self.old.store.past hand.old }
         requires asks { MayAsk B.right B.key_of hand.old (Ask.Join t) }
         ensures { NextRight B.right result }
@@ -93,10 +100,7 @@ impl<B: Body, N: Naming> Guarded<B, N> {
             }
             Told::Run(u) => Next::Begin(u),
             Told::Skip(_, body) => skip(body, unneeded),
-            Told::None => {
-                self.sleep_for(t);
-                Next::Wait
-            }
+            Told::None => self.wait_for(alloc, t),
             // Endings alone are answered so.
             Told::Hook(_, _) => Next::Again,
             Told::Over(body) => {
@@ -151,16 +155,34 @@ impl<B: Body, N: Naming> Guarded<B, N> {
     }
 
     /// What a body does that asked for another task and was given none: it waits for what it joined, or hears that there was none.
-    fn after_none(&mut self, hand: &Hand<B>, helps: bool) -> Next<B>
-        ensures next { NextRight B.right result }
-        ensures same { self.new ≡ self.old }
+    fn after_none(&mut self, alloc: Global, hand: &Hand<B>, helps: bool) -> Next<B>
+        ensures { NextRight B.right result }
     {
         if helps {
             return Next::Turn(Heard::Helped(false));
         }
-        if let Some(t) = hand.joined() {
-            self.sleep_for(t);
+        match hand.joined() {
+            Some(t) => self.wait_for(alloc, t),
+            None => Next::Wait,
         }
+    }
+
+    /// The worker waits for a task. Before the shutdown or the stop of the pool it takes in what the lanes show, as an idle one does: that
+    /// comes with the last submission, and all workers may wait for tasks that only a stop ends.
+    fn wait_for(&mut self, alloc: Global, t: Serial) -> Next<B>
+        ensures { NextRight B.right result }
+    {
+        if self.waits.closing && !self.core.is_shut() {
+            match self.take_in(alloc) {
+                TakenIn::Nothing => {}
+                TakenIn::One => {
+                    self.task_queued();
+                    return Next::Again;
+                }
+                TakenIn::Several => return Next::Again,
+            }
+        }
+        self.sleep_for(t);
         Next::Wait
     }
 

@@ -67,10 +67,15 @@ impl<B: Body, N: Naming> Guarded<B, N> {
         }
     }
 
-    /// Tasks may be done now, or their results taken: who sleeps for one of them is to be woken.
+    /// Tasks may be done now, or their results taken: who sleeps for one of them is to be woken. All are where a release made the core
+    /// stuck.
     pub fn tasks_ended(&mut self)
         ensures { self.new ≡ self.old }
     {
+        if self.core.is_stuck() {
+            self.waits.all_ended();
+            return;
+        }
         let is_joined = match self.waits.joined {
             Wanted::Nothing => false,
             Wanted::One(t) => !self.core.is_undone(t),

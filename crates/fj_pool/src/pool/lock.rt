@@ -64,6 +64,6 @@ impl<B: Body, N: Naming> Pool<B, N> {
             }
             backoff.snooze();
         }
-        None
+        self.core.try_lock()
     }
 }

@@ -14,8 +14,8 @@ impl<B: Body, N: Naming> Pool<B, N> {
     /// A task keeps its place among the live tasks until its outcome was told. So where more is submitted than there are places, the
     /// outcomes are to be asked for in the order of the submissions, or by as many threads.
     ///
-    /// `Unknown` where the outcome was told before, or where all that was admitted was taken in, and nothing under this ticket. `LogFull`
-    /// where the core is stuck.
+    /// `Unknown` where the outcome was told before, where a body has had the result by a join or a take, or where all that was admitted was
+    /// taken in, and nothing under this ticket. `LogFull` where the core is stuck.
     pub fn await_done<R: Wait>(&self, rt: &R, ticket: Ticket) -> Result<Outcome<B>, Refusal> {
         let mut guard = self.lock(rt);
         for _ in rt.forever() {
@@ -68,6 +68,9 @@ impl<B: Body, N: Naming> Pool<B, N> {
     }
 
     /// Whether all queues are empty and no worker runs anything, once what the lanes show was taken in: `ForkJoinPool.isQuiescent`.
+    ///
+    /// Submissions for which there is no place stay in their lanes, and do not count. Before it takes anything in it seals the history, where
+    /// that is due, which takes memory; a refusal of that is ignored.
     pub fn is_quiescent<R: Wait>(&self, rt: &R) -> bool {
         let mut guard = self.core.lock(rt);
         let core = &mut *guard;

@@ -23,8 +23,8 @@ impl<B: Body, N: Naming> Pool<B, N> {
     /// Works with a hand until the pool has terminated: takes tasks, runs their bodies outside the lock, and does what they ask. A body
     /// that joins or helps stands on the explicit stack of the hand while another one runs. It follows what a `ForkJoinWorkerThread` runs.
     ///
-    /// `NoSuch` where the hand does not fit the pool: it is of another one, or of a worker that is not there. `LogFull` where the core is
-    /// stuck. Both are tested each time that it gets the lock.
+    /// `NoSuch` where the hand does not fit the pool: there is no such worker, or it holds other bodies than the pool has for that. `LogFull`
+    /// where the core is stuck. Both are tested each time that it gets the lock.
     pub fn work<R: Wait, T: Turnstile>(
         &self,
         rt: &R,
