@@ -23,7 +23,7 @@ module _ {B K O : Type 0} where
   abbrev pub released_of : StoreState B K O → List ℕ → StoreState B K O
   released_of s ts = record s { past = grown s.past (map Rel ts); taken = without s.taken ts }
 
-  -- some taken tasks were released, each as it could be, and no other can be now; or the history was full
+  -- some tasks were released, each as it could be, and no taken one can be now; or the history was full
   pub record Releases (old : StoreState B K O) (new : StoreState B K O) : Type 0 where
     pub tasks : List ℕ
     pub could : CanAllGo old.past.events tasks
