@@ -53,8 +53,8 @@ impl<B: Body> Model for Core<B> {
 }
 
 impl<B: Body> Core<B> {
-    /// A core in which nothing has happened, and the empty hand of each worker. All the memory that is needed later is taken here; it is
-    /// refused only where out of memory.
+    /// A core in which nothing has happened, and the empty hand of each worker. All the memory that is needed later is taken here,
+    /// but that of seals; it is refused only where out of memory.
     ///
     /// Preconditions: one drain for each submitter, each of a lane of this capacity, from which nothing was taken.
     pub fn new(
@@ -107,8 +107,8 @@ impl<B: Body> Core<B> {
     /// The outcome of the task that was taken in first under a ticket, once it is done: it is told once, and the task is then released as
     /// soon as it can be.
     ///
-    /// `LogFull` where the core is stuck. `Unknown` where the outcome was told before, or where so many submissions were taken in as
-    /// there will be, none of them under this ticket. None while nothing was taken in under it, and while its task is undone.
+    /// `LogFull` where the core is stuck. `Unknown` where the outcome was told before, where a join or a take has had the result, or
+    /// where so many submissions were taken in as there will be, none of them under this ticket. None while nothing was taken in under it, and while its task is undone.
     pub fn collect(&mut self, ticket: Ticket) -> Option<Result<Outcome<B>, Refusal>>
         ensures { CollectsTicket self.old ticket result self.new }
     {

@@ -57,13 +57,6 @@ impl<T: Drop> Aside<T> {
         }
     }
 
-    /// Whether there is no entry.
-    pub fn is_empty(&self) -> bool
-        ensures { result ≡ (length self.now.items == 0) }
-    {
-        self.items.is_empty()
-    }
-
     /// Whether there is an entry under a number.
     pub fn has(&self, number: Serial) -> bool
         ensures { result ≡ is_some (entry_in self.now.items number) }

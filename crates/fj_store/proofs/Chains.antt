@@ -1,6 +1,8 @@
 -- One task after another is released.
-use Rattle.std.proofs.Common.{ℕ, ◌≡◌, ◌<◌, ◌||◌, not, Bool, true, false, cond, List, [], ◌∷◌, ◌++◌, length, map, refl, ap, arith, append_assoc}
+use Rattle.std.proofs.Common.{ℕ, ◌≡◌, ◌<◌, ◌||◌, not, Bool, true, false, cond, List, [], ◌∷◌, ◌++◌, length, map, refl, ap, sym, ◌∙◌, subst, arith, append_assoc, ⊎_elim}
+use Rattle.std.specs.Prelude.{◌==◌}
 use Rattle.std.specs.List.{filter}
+use Rattle.std.proofs.lemmas.Bool.{eqb-true, or_cases, true≢false}
 use Rattle.std.proofs.lemmas.List.{append-nil, map-append}
 use Rattle.fj_model.specs.declared.event.Event.{Event}
 use Rattle.fj_model.specs.declared.event.Event.TheVariants.{Rel}
@@ -9,7 +11,8 @@ use Rattle.fj_model.proofs.Lists.Members.{is_in_append, times_in_some, length_wi
 use Rattle.fj_model.proofs.Events.Growth.{without_none}
 use Rattle.fj_store.specs.Stores.{StoreState}
 use Rattle.fj_model.specs.Releasable.{can_go, CanAllGo}
-use Rattle.fj_store.specs.Releases.{released_of}
+use Rattle.fj_store.specs.Releases.{AreAmong, released_of}
+use Rattle.fj_store.proofs.Releases.{in_rest}
 
 pub without_twice : (xs ts us : List ℕ) → without (without xs ts) us ≡ without xs (ts ++ us)
 without_twice [] ts us = refl
@@ -20,6 +23,18 @@ without_twice (x ∷ xs) ts us = rw (is_in_append x ts us) (go (is_in x ts) (is_
     go true b at rest = rest
     go false true at rest = rw at rest
     go false false at rest = rw at (ap (λ ys. x ∷ ys) rest)
+
+pub none_in : (us : List ℕ) → AreAmong [] us
+none_in us t there = absurd (true≢false (sym there))
+
+pub one_in : (t : ℕ) (us : List ℕ) → is_in t us ≡ true → AreAmong (t ∷ []) us
+one_in t us is u there =
+    ⊎_elim (λ here. subst (λ v. is_in v us ≡ true) (eqb-true t u here) is) (λ later. absurd (true≢false (sym later))) (or_cases (t == u) false there)
+
+-- some, and then some of those that are left
+pub both_in : (ts more us : List ℕ) → AreAmong ts us → AreAmong more (without us ts) → AreAmong (ts ++ more) us
+both_in ts more us are rest u there =
+    ⊎_elim (are u) (λ later. in_rest u us ts (rest u later)) (or_cases (is_in u ts) (is_in u more) (sym (is_in_append u ts more) ∙ there))
 
 pub none_released : {B K O : Type 0} (s : StoreState B K O) → s ≡ released_of s []
 none_released s = rw (append-nil s.past.events, without_none s.taken) refl

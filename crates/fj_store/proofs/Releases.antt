@@ -37,6 +37,10 @@ in_without u t ts there =
     let parts = and_parts (is_in u ts) (not (is_in u (t ∷ []))) (sym (is_in_filter (λ v. not (is_in v (t ∷ []))) u ts) ∙ there) in
     (parts.0, λ same. let here : is_in u (t ∷ []) ≡ true = rw (same, eq-eqb t t refl) refl in true≢false (sym parts.1 ∙ ap not here))
 
+-- what is left was there before
+pub in_rest : (u : ℕ) (ts us : List ℕ) → is_in u (without ts us) ≡ true → is_in u ts ≡ true
+in_rest u ts us there = (and_parts (is_in u ts) (not (is_in u us)) (sym (is_in_filter (λ v. not (is_in v us)) u ts) ∙ there)).0
+
 without_once : (t u : ℕ) (ts : List ℕ) → times_in u ts ≤ 1 → times_in u (without ts (t ∷ [])) ≤ 1
 without_once t u ts once = rw (times_in_filter (λ v. not (is_in v (t ∷ []))) u ts) (go (not (is_in u (t ∷ []))))
   where

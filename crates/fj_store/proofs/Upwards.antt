@@ -17,9 +17,9 @@ use Rattle.fj_store.specs.declared.tries.Tried.{Tried}
 use Rattle.fj_store.specs.declared.tries.Tried.TheVariants as tried
 use Rattle.fj_store.specs.Stores.{StoreState}
 use Rattle.fj_model.specs.Releasable.{can_go, CanAllGo}
-use Rattle.fj_store.specs.Releases.{released_of, Releases, Rests, Tries}
+use Rattle.fj_store.specs.Releases.{AreAmong, released_of, Releases, Rests, Tries}
 use Rattle.fj_store.specs.DueTasks.{OnlyGoes, ReleasesHere}
-use Rattle.fj_store.proofs.Chains.{none_released, one_more, released_twice, without_twice, fewer}
+use Rattle.fj_store.proofs.Chains.{none_in, one_in, both_in, none_released, one_more, released_twice, without_twice, fewer}
 use Rattle.fj_model.proofs.Events.Releasable.{can_parts, only_parent_goes}
 use Rattle.fj_store.proofs.DueTasks.{cannot}
 use Rattle.fj_store.proofs.Releases.{in_without}
@@ -47,7 +47,7 @@ steps_left None ts = 0
 module _ {B K O : Type 0} where
   -- none can be released
   pub rests_so : (s : StoreState B K O) → ((u : ℕ) → is_in u s.taken ≡ true → can_go s.past.events u ≡ false) → Releases s s
-  rests_so s none = record { tasks = []; could = tt; were = none_released s; rests = inl (refl, none) }
+  rests_so s none = record { tasks = []; were_taken = none_in s.taken; could = tt; were = none_released s; rests = inl (refl, none) }
 
   -- the only one that could be was not taken
   pub untaken_rests : (s : StoreState B K O) (t : ℕ) → OnlyGoes s.past.events s.taken t → is_in t s.taken ≡ false → Releases s s
@@ -69,6 +69,7 @@ module _ {B K O : Type 0} where
           let finds = rw at at tries in
           subst (Releases old) (sym finds.2) (record {
             tasks = [];
+            were_taken = none_in old.taken;
             could = tt;
             were = ap (λ (s : StoreState B K O). record s { stuck = true }) (none_released old);
             rests = inr (refl, (t, there, finds.0), finds.1);
@@ -91,6 +92,7 @@ module _ {B K O : Type 0} where
       single u q same = cc
   released_here old new t None run only there could were up = record {
     tasks = t ∷ [];
+    were_taken = one_in t old.taken there;
     could = (could, tt);
     were = rw were refl;
     rests = inl (ap (λ s. s.stuck) were, rw were (λ u in_it. cannot (old.past.events ++ Rel t ∷ []) u (λ can. differs u (up ∙ parent_only old t u run only could in_it can))));
@@ -103,25 +105,31 @@ module _ {B K O : Type 0} where
 
   -- some were released, and none of the taken can be now but this one; or none can be at all
   abbrev pub ClimbsTo : StoreState B K O → Option ℕ → StoreState B K O → Type 0
-  ClimbsTo old (Some t) new = (ts : List ℕ) × CanAllGo old.past.events ts × (new ≡ released_of old ts) × OnlyGoes new.past.events new.taken t
+  ClimbsTo old (Some t) new = (ts : List ℕ) × AreAmong ts old.taken × CanAllGo old.past.events ts × (new ≡ released_of old ts) × OnlyGoes new.past.events new.taken t
   ClimbsTo old None new = Releases old new
 
   pub climbs_from : (s : StoreState B K O) (t : ℕ) → OnlyGoes s.past.events s.taken t → ClimbsTo s (Some t) s
-  climbs_from s t only = ([], tt, none_released s, only)
+  climbs_from s t only = ([], none_in s.taken, tt, none_released s, only)
 
   released_more : (s : StoreState B K O) (ts us : List ℕ) → released_of (released_of s ts) us ≡ released_of s (ts ++ us)
   released_more s ts us = rw (map-append Rel ts us, ← append_assoc s.past.events (map Rel ts) (map Rel us), without_twice s.taken ts us) refl
 
   pub climbs_on : (old mid new : StoreState B K O) (t : ℕ) (next : Option ℕ) → ClimbsTo old (Some t) mid → ReleasesHere mid next new → ClimbsTo old next new
-  climbs_on old mid new t (Some p) was here =
-      (was.0 ++ here.0 ∷ [], one_more old.past.events was.0 here.0 was.1 (rw was.2 at here.2), here.3 ∙ ap (λ s. released_of s (here.0 ∷ [])) was.2 ∙ released_twice old was.0 here.0, here.4)
+  climbs_on old mid new t (Some p) was here = (
+    was.0 ++ here.0 ∷ [],
+    both_in was.0 (here.0 ∷ []) old.taken was.1 (one_in here.0 (without old.taken was.0) (rw was.3 at here.1)),
+    one_more old.past.events was.0 here.0 was.2 (rw was.3 at here.2),
+    here.3 ∙ ap (λ s. released_of s (here.0 ∷ [])) was.3 ∙ released_twice old was.0 here.0,
+    here.4,
+  )
   climbs_on old mid new t None was here = record {
     tasks = was.0 ++ here.tasks;
-    could = could_append old.past.events was.0 here.tasks was.1 (rw was.2 at here.could);
+    were_taken = both_in was.0 here.tasks old.taken was.1 (subst (λ (s : StoreState B K O). AreAmong here.tasks s.taken) was.3 here.were_taken);
+    could = could_append old.past.events was.0 here.tasks was.2 (rw was.3 at here.could);
     were =
-        here.were ∙ ap {A = StoreState B K O} (λ s. record (released_of s here.tasks) { stuck = new.stuck }) was.2
+        here.were ∙ ap {A = StoreState B K O} (λ s. record (released_of s here.tasks) { stuck = new.stuck }) was.3
         ∙ ap {A = StoreState B K O} (λ s. record s { stuck = new.stuck }) (released_more old was.0 here.tasks);
-    rests = subst (λ b. Rests b new) (ap (λ s. s.stuck) was.2) here.rests;
+    rests = subst (λ b. Rests b new) (ap (λ s. s.stuck) was.3) here.rests;
   }
 
   pub climbs_fewer : (mid new : StoreState B K O) (t : ℕ) (next : Option ℕ) → ReleasesHere mid next new → steps_left next new.taken < steps_left (Some t) mid.taken

@@ -12,6 +12,10 @@ use Rattle.fj_store.specs.declared.tries.Tried.TheVariants as tried
 use Rattle.fj_model.specs.Releasable.{can_go, CanAllGo}
 use Rattle.fj_store.specs.Stores.{StoreState}
 
+-- each of these is one of those
+abbrev pub AreAmong : List ℕ → List ℕ → Type 0
+AreAmong ts us = (t : ℕ) → is_in t ts ≡ true → is_in t us ≡ true
+
 module _ {B K O : Type 0} where
   -- no task that was taken can be released any more; or one could be, and the store is stuck, since the history is full
   abbrev pub Rests : Bool → StoreState B K O → Type 0
@@ -23,9 +27,10 @@ module _ {B K O : Type 0} where
   abbrev pub released_of : StoreState B K O → List ℕ → StoreState B K O
   released_of s ts = record s { past = grown s.past (map Rel ts); taken = without s.taken ts }
 
-  -- some tasks were released, each as it could be, and no taken one can be now; or the history was full
+  -- some of the taken tasks were released, each as it could be, and no taken one can be now; or the history was full
   pub record Releases (old : StoreState B K O) (new : StoreState B K O) : Type 0 where
     pub tasks : List ℕ
+    pub were_taken : AreAmong tasks old.taken
     pub could : CanAllGo old.past.events tasks
     pub were : new ≡ record (released_of old tasks) { stuck = new.stuck }
     pub rests : Rests old.stuck new

@@ -8,7 +8,8 @@ use fj_model::Status;
 /// How a submitted task ended.
 #[derive(Drop)]
 pub enum Outcome<B: Body> {
-    /// Without a fault, and with a result if one was kept. A root that is made normal by Pass or QuietRoot has none.
+    /// Without a fault, and with a result if one was kept. A root that is made normal by Pass or QuietRoot has none,
+    /// unless its completion action is in a hand then, and gives one before the outcome is told.
     Normal(Option<Kept<B>>),
     /// With this code.
     Exceptional(u32),

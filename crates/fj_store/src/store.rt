@@ -61,7 +61,7 @@ impl<B: Body> Model for Store<B> {
 }
 
 impl<B: Body> Store<B> {
-    /// Nothing has happened. All the memory that is needed later is taken here.
+    /// Nothing has happened. All the memory that is needed later is taken here, but that of seals.
     pub fn new(alloc: Global, mode: Mode, limits: Limits) -> Result<Store<B>, OutOfMemory>
         ensures past { IfOk result (λ s. s.past ≡ fresh mode limits) }
         ensures bodies { IfOk result (λ s. entries s.bodies ≡ no_entries) }
