@@ -1,5 +1,5 @@
 -- The parts of a pool, before it is opened.
-use Rattle.std.specs.Prelude.{ℕ, ◌≡◌, ◌<◌, ◌⊎◌, ⊤, List, Some, length, map, slice_get}
+use Rattle.std.specs.Prelude.{ℕ, ◌≡◌, ◌<◌, ◌≤◌, ◌⊎◌, List, Some, length, map, slice_get}
 use Rattle.fj_model.specs.declared.mode.Mode.{Mode}
 use Rattle.fj_model.specs.declared.refusal.Refusal.{Refusal}
 use Rattle.fj_model.specs.declared.refusal.Refusal.TheVariants.{BadLimits, OutOfMemory}
@@ -40,8 +40,8 @@ pub record AreSeated {B : Type 0} (capacity : ℕ) (entrants : List EntrantState
   pub seats_are : seats ≡ seats_for capacity 0 entrants lanes
   pub drains_are : drains ≡ map (λ lane. new_drain lane capacity) lanes
 
--- why a pool is refused: the capacity of a lane is none, or memory is refused
+-- why a pool is refused: the capacity of a lane is none, or it is one and memory is refused
 abbrev pub RefusesPool : ℕ → Refusal → Type 0
 RefusesPool capacity BadLimits = (capacity ≡ 0) ⊎ (MAX_CAPACITY < capacity)
-RefusesPool capacity OutOfMemory = ⊤
+RefusesPool capacity OutOfMemory = (1 ≤ capacity) × (capacity ≤ MAX_CAPACITY)
 RefusesPool capacity _ = ⊥

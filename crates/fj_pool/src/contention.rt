@@ -1,3 +1,4 @@
+use crate::sleeps::Sleeps;
 use std::time::Duration;
 
 /// How often in a row a worker may find the lock held before it gives way.
@@ -6,7 +7,7 @@ const MOST_IN_A_ROW: u32 = 8;
 /// A lock that stays held as long as a worker looks counts as so many more that came free meanwhile.
 const WEIGHT_OF_A_WAIT: u32 = 4;
 
-/// The first sleep, in microseconds. Each one is twice as long as the one before it.
+/// The first sleep, in microseconds.
 const FIRST_SLEEP: u64 = 64;
 
 /// The longest sleep, in microseconds.
@@ -19,7 +20,7 @@ const LONGEST_SLEEP: u64 = 256;
 #[derive(Drop)]
 pub struct Contention {
     in_a_row: u32,
-    sleep: u64,
+    sleeps: Sleeps,
 }
 
 impl Contention {
@@ -27,14 +28,14 @@ impl Contention {
     pub fn new() -> Contention {
         Contention {
             in_a_row: 0,
-            sleep: FIRST_SLEEP,
+            sleeps: Sleeps::new(FIRST_SLEEP, LONGEST_SLEEP),
         }
     }
 
     /// The lock was free.
     pub fn end(&mut self) {
         self.in_a_row = 0;
-        self.sleep = FIRST_SLEEP;
+        self.sleeps = Sleeps::new(FIRST_SLEEP, LONGEST_SLEEP);
     }
 
     /// The lock was held. Whether the worker is to give way.
@@ -50,8 +51,6 @@ impl Contention {
 
     /// For how long the worker gives way.
     pub fn next_sleep(&mut self) -> Duration {
-        let sleep = self.sleep;
-        self.sleep = sleep.saturating_mul(2).min(LONGEST_SLEEP);
-        Duration::from_micros(sleep)
+        self.sleeps.next_sleep()
     }
 }

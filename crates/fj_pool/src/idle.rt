@@ -1,9 +1,10 @@
+use crate::sleeps::Sleeps;
 use std::time::Duration;
 
 /// How often a worker looks for work before it sleeps in between.
 const YIELDS: u32 = 16;
 
-/// The first sleep, in microseconds. Each one is twice as long as the one before it.
+/// The first sleep, in microseconds.
 const FIRST_SLEEP: u64 = 16;
 
 /// The longest sleep, in microseconds.
@@ -14,7 +15,7 @@ const LONGEST_SLEEP: u64 = 1_000;
 #[derive(Drop)]
 pub struct Idle {
     rounds: u32,
-    sleep: u64,
+    sleeps: Sleeps,
     resting: bool,
 }
 
@@ -23,7 +24,7 @@ impl Idle {
     pub fn new() -> Idle {
         Idle {
             rounds: 0,
-            sleep: FIRST_SLEEP,
+            sleeps: Sleeps::new(FIRST_SLEEP, LONGEST_SLEEP),
             resting: false,
         }
     }
@@ -42,8 +43,6 @@ impl Idle {
             self.rounds += 1;
             return None;
         }
-        let sleep = self.sleep;
-        self.sleep = sleep.saturating_mul(2).min(LONGEST_SLEEP);
-        Some(Duration::from_micros(sleep))
+        Some(self.sleeps.next_sleep())
     }
 }

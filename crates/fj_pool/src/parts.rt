@@ -35,7 +35,8 @@ impl<B: Body> Model for Parts<B> {
 }
 
 impl<B: Body> Parts<B> {
-    /// The parts of a new pool. All memory is taken here, but that of its lock and of the list of its submitters.
+    /// The parts of a new pool. All memory is taken here, but that of its lock, of the list of its submitters and of what
+    /// the winding up needs, which `Pool::open` takes, and that of seals.
     ///
     /// `BadLimits` where the capacity of a lane, the number of bodies that each submitter may hand in over its life, is not from 1 to
     /// 65,536. `OutOfMemory` where memory is refused. `start` is the scan word of worker 0; that of each further one is one more.

@@ -1,5 +1,8 @@
 //! What is asked of a pool from outside, and what its lanes show.
 ghost use Rattle.std.specs.Prelude.{◌≡◌};
+ghost use Rattle.fj_model.specs.Answers.{is_quiet};
+ghost use Rattle.fj_core.specs.Closes.{ShutsAt, closed_at, is_finished, stopped_at};
+ghost use Rattle.fj_core.specs.Cores.{CollectsTicket};
 ghost use Rattle.fj_pool.specs.Lanes.{KeepsLanes};
 
 use crate::guarded::Guarded;
@@ -27,7 +30,8 @@ impl<B: Body, N: Naming> Guarded<B, N> {
         }
         let taken = take_each(&mut self.core);
         match taken {
-            TakenIn::Nothing => {}
+            // An intake that found no room for an event may have made the core stuck.
+            TakenIn::Nothing => self.tell_if_stuck(),
             // With the last submission a stop may have been made.
             TakenIn::One => self.tasks_ended(),
             TakenIn::Several => {
@@ -39,7 +43,9 @@ impl<B: Body, N: Naming> Guarded<B, N> {
     }
 
     /// The outcome under a ticket, as `Core::collect` tells it. Where it tells none, somebody sleeps for it from now on.
-    pub fn collect(&mut self, ticket: Ticket) -> Option<Result<Outcome<B>, Refusal>> {
+    pub fn collect(&mut self, ticket: Ticket) -> Option<Result<Outcome<B>, Refusal>>
+        ensures { CollectsTicket self.old ticket result self.new }
+    {
         let answer = self.core.collect(ticket);
         match answer {
             // Whoever awaits the same ticket is told now that it was told before.
@@ -57,21 +63,27 @@ impl<B: Body, N: Naming> Guarded<B, N> {
     }
 
     /// The closing number, at which the Shutdown is made.
-    pub fn close_at(&mut self, number: u64) {
+    pub fn close_at(&mut self, number: u64)
+        ensures { ShutsAt self.old (closed_at self.old.closing number) self.new }
+    {
         self.core.close_at(number);
         self.waits.closing = true;
         self.all_ended();
     }
 
     /// The closing number, at which the Stop is made.
-    pub fn stop_at(&mut self, number: u64) {
+    pub fn stop_at(&mut self, number: u64)
+        ensures { ShutsAt self.old (stopped_at self.old.closing number) self.new }
+    {
         self.core.stop_at(number);
         self.waits.closing = true;
         self.all_ended();
     }
 
     /// Whether all queues, stacks and hands are empty, once what the lanes show was taken in.
-    pub fn is_quiescent(&mut self, alloc: Global) -> bool {
+    pub fn is_quiescent(&mut self, alloc: Global) -> bool
+        ensures { result ≡ is_quiet self.new.store.past.pool.limits self.new.store.past.events }
+    {
         if let TakenIn::One = self.take_in(alloc) {
             self.task_queued();
         }
@@ -79,7 +91,10 @@ impl<B: Body, N: Naming> Guarded<B, N> {
     }
 
     /// Whether the pool has terminated.
-    pub fn is_terminated(&mut self) -> bool {
+    pub fn is_terminated(&mut self) -> bool
+        ensures terminated { result ≡ is_finished self.old }
+        ensures same { self.new ≡ self.old }
+    {
         self.core.is_terminated()
     }
 }

@@ -191,7 +191,8 @@ impl<B: Body, N: Naming> Guarded<B, N> {
         ensures { self.new ≡ self.old }
     {
         match effect {
-            Effect::Nothing => {}
+            // A release that followed may have made the core stuck.
+            Effect::Nothing => self.tell_if_stuck(),
             Effect::Queues => self.task_queued(),
             Effect::Ends(t) => self.task_ended(t),
             Effect::EndsSeveral => self.tasks_ended(),

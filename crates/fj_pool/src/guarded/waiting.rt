@@ -94,6 +94,15 @@ impl<B: Body, N: Naming> Guarded<B, N> {
         }
     }
 
+    /// Where the core is stuck all are to be woken.
+    pub fn tell_if_stuck(&mut self)
+        ensures { self.new ≡ self.old }
+    {
+        if self.core.is_stuck() {
+            self.waits.all_ended();
+        }
+    }
+
     /// The core is stuck, or the pool is shut down: all are to be woken.
     pub fn all_ended(&mut self)
         ensures { self.new ≡ self.old }

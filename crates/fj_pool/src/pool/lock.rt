@@ -7,7 +7,7 @@ use crossbeam_utils::Backoff;
 use fj_store::Body;
 use std::sync::{MutexGuard, Wait};
 
-/// How often the lock is looked for: after as many pauses and yields a `Backoff` is completed.
+/// After as many pauses and yields a `Backoff` is completed. The lock is looked for before each of them, and once more behind the last.
 const LOOKS: u32 = 11;
 
 impl<B: Body, N: Naming> Pool<B, N> {
