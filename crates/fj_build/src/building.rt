@@ -1,5 +1,5 @@
-ghost use Rattle.std.specs.Prelude.{IfOk, IfSome, length, slice_get};
-ghost use Rattle.fj_build.specs.Artifacts.{IsMadeOf};
+ghost use Rattle.std.specs.Prelude.{IfOk, IfSome, slice_get};
+ghost use Rattle.fj_build.specs.Artifacts.{IsBuilt, IsRight};
 
 use crate::artifact::Artifact;
 use crate::fault::Fault;
@@ -10,9 +10,10 @@ use std::alloc::Global;
 use std::sync::Wait;
 use std::thread::Threads;
 
-/// The most tasks and events of a pool for one build.
+/// The most tasks of a pool for one build that are live at a time.
 const TASKS: u32 = 4_096;
 
+/// The most events of a build.
 const EVENTS: u32 = 65_536;
 
 /// Builds target 0 of a plan with all that it needs, by so many workers in threads.
@@ -21,14 +22,15 @@ const EVENTS: u32 = 65_536;
 /// itself runs out of room.
 ///
 /// `Failed` where a target fails, whichever it is. `Refused` where the number of workers is not from 1 to 32, where memory or a thread was
-/// refused, or the history is full. `NoTarget` where there is no target.
+/// refused, or the history is full. `NoTarget` where the plan is empty. `Lost` where an artifact is too large, or memory was refused to its
+/// list of parts.
 pub fn build<R: Threads + Wait + Sync>(
     rt: &R,
     alloc: Global,
     workers: u32,
     plan: &[Target],
 ) -> Result<Artifact, Fault>
-    ensures { IfOk result (λ a. IfSome (slice_get plan.now 0) (λ t. ∥ IsMadeOf t.source (length t.inputs.now) a ∥₁)) }
+    ensures { IfOk result (λ a. IfSome (slice_get plan.now 0) (λ t. ∥ IsBuilt t a ∥₁)) }
 {
     let Some(target) = plan.first() else {
         return Err(Fault::NoTarget);
@@ -54,8 +56,8 @@ fn artifact_under<'p>(
     key: Target<'p>,
     artifact: Option<Artifact>,
 ) -> Result<Artifact, Fault>
-    requires { ∥ IfSome artifact (λ a. IsMadeOf key.source (length key.inputs.now) a) ∥₁ }
-    ensures { IfOk result (λ a. ∥ IsMadeOf target.now.source (length target.now.inputs.now) a ∥₁) }
+    requires { ∥ IsRight key artifact ∥₁ }
+    ensures { IfOk result (λ a. ∥ IsBuilt target.now a ∥₁) }
 {
     match artifact {
         Some(artifact) if key == *target => Ok(artifact),

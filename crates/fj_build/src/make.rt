@@ -1,18 +1,18 @@
-ghost use Rattle.std.specs.Prelude.{◌≡◌, ◌+◌, ◌-◌, IfSome, Option, ℕ, Some, length, vec_len};
+ghost use Rattle.std.specs.Prelude.{◌≡◌, ◌+◌, ◌-◌, Option, ℕ, Some, length, vec_len};
 ghost use Rattle.fj_store.specs.Turns.{AskRight, HeardRight, Nearer};
-ghost use Rattle.fj_build.specs.Artifacts.{IsMadeOf};
+ghost use Rattle.fj_build.specs.Artifacts.{IsRight};
 ghost use Rattle.fj_build.specs.Courses.{turns_left};
 
 use crate::artifact::{Artifact, link};
 use crate::target::{Source, Target};
-use fj_crew::{Ask, Body, Heard};
-use fj_model::{Kind, Serial};
+use fj_crew::{Ask, Body, Heard, Kind, Serial};
 use std::alloc::Global;
 use std::mem;
 
-/// The code of a target for which there is no room, the number of `OutOfMemory`, and of one that is not in the plan.
+/// The code of a target for which there is no room: the number of `OutOfMemory`.
 const NO_ROOM: u32 = 12;
 
+/// The code of a target that needs one which is not in the plan.
 const NO_TARGET: u32 = 404;
 
 /// How far a target has come.
@@ -56,7 +56,7 @@ impl<'p> Make<'p> {
 
     /// Raises the pending count of this task, its own, by the number of its inputs.
     fn wait(&self, me: u64) -> Ask<Make<'p>>
-        ensures right { AskRight (λ k o. IfSome o (λ a. IsMadeOf k.source (length k.inputs.now) a)) self.now.target result }
+        ensures right { AskRight IsRight self.now.target result }
     {
         match u32::try_from(self.target.inputs.len()) {
             Ok(inputs) => Ask::Add(Serial(me), inputs),
@@ -66,7 +66,7 @@ impl<'p> Make<'p> {
 
     /// Forks the next input for this task, its own; compiles where none is left.
     fn fork(&self, me: u64) -> Ask<Make<'p>>
-        ensures right { AskRight (λ k o. IfSome o (λ a. IsMadeOf k.source (length k.inputs.now) a)) self.now.target result }
+        ensures right { AskRight IsRight self.now.target result }
         ensures nearer { Nearer (vec_len self.now.forked) (length self.now.target.inputs.now) result }
     {
         let Some(input) = self.target.inputs.get(self.forked.len()) else {
@@ -88,7 +88,7 @@ impl<'p> Make<'p> {
 
     /// Compiles its own sources, and ends.
     fn compile(&self) -> Ask<Make<'p>>
-        ensures right { AskRight (λ k o. IfSome o (λ a. IsMadeOf k.source (length k.inputs.now) a)) self.now.target result }
+        ensures right { AskRight IsRight self.now.target result }
         ensures nearer { Nearer 0 0 result }
     {
         match self.target.source {
@@ -100,7 +100,7 @@ impl<'p> Make<'p> {
     /// Takes the artifact of the next input; links where none is left.
     fn take(&mut self) -> Ask<Make<'p>>
         ensures target { self.new.target ≡ self.old.target }
-        ensures right { AskRight (λ k o. IfSome o (λ a. IsMadeOf k.source (length k.inputs.now) a)) self.old.target result }
+        ensures right { AskRight IsRight self.old.target result }
         ensures course { self.new.course ≡ self.old.course }
         ensures nearer { Nearer (length self.old.target.inputs.now - vec_len self.new.parts) (length self.old.target.inputs.now + 1 - vec_len self.old.parts) result }
     {
@@ -116,7 +116,7 @@ impl<'p> Make<'p> {
     fn linked(&mut self) -> Option<Artifact>
         ensures target { self.new.target ≡ self.old.target }
         ensures course { self.new.course ≡ self.old.course }
-        ensures made { IfSome result (λ a. IsMadeOf self.old.target.source (length self.old.target.inputs.now) a) }
+        ensures made { IsRight self.old.target result }
     {
         let none = Vec::new(*self.parts.allocator());
         let parts = mem::replace(&mut self.parts, none);
@@ -136,7 +136,7 @@ impl<'p> Body for Make<'p> {
 
     ghost rooted_as = { λ b. Some 0 };
 
-    ghost right = { λ k o. IfSome o (λ a. IsMadeOf k.source (length k.inputs.now) a) };
+    ghost right = { IsRight };
 
     ghost turns = { λ b. turns_left (length b.target.inputs.now) b.course (vec_len b.forked) (vec_len b.parts) };
 
@@ -153,10 +153,10 @@ impl<'p> Body for Make<'p> {
     }
 
     fn turn(&mut self, heard: Heard<Make<'p>>) -> Ask<Make<'p>>
-        requires { HeardRight (λ k o. IfSome o (λ a. IsMadeOf k.source (length k.inputs.now) a)) heard }
+        requires { HeardRight IsRight heard }
         ensures key { self.new.target ≡ self.old.target }
         ensures rooted { ◌≡◌ {A = Option ℕ} (Some 0) (Some 0) }
-        ensures right { AskRight (λ k o. IfSome o (λ a. IsMadeOf k.source (length k.inputs.now) a)) self.old.target result }
+        ensures right { AskRight IsRight self.old.target result }
         ensures nearer { Nearer (turns_left (length self.new.target.inputs.now) self.new.course (vec_len self.new.forked) (vec_len self.new.parts)) (turns_left (length self.old.target.inputs.now) self.old.course (vec_len self.old.forked) (vec_len self.old.parts)) result }
     {
         match (self.course, &heard) {

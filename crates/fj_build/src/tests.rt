@@ -1,4 +1,5 @@
 use super::*;
+use fj_crew::Refusal;
 use std::test::Fail;
 
 /// An app of two libraries, both of which need a third one.
@@ -25,6 +26,18 @@ const PLAN: [Target<'static>; 5] = [
     },
 ];
 
+/// A target that needs one which the plan does not have.
+const MISSING: [Target<'static>; 1] = [Target {
+    source: Source::Compiles(1),
+    inputs: &[1],
+}];
+
+/// A target that needs itself.
+const OF_ITSELF: [Target<'static>; 1] = [Target {
+    source: Source::Compiles(1),
+    inputs: &[0],
+}];
+
 /// The size of all, by one worker and by four, with what is needed twice built for both.
 #[test]
 fn a_build_has_the_sizes_of_its_targets(rt: HostRuntime) -> Result<(), Fail> {
@@ -46,6 +59,28 @@ fn a_target_that_fails_fails_the_build(rt: HostRuntime) -> Result<(), Fail> {
             let built = build(&rt, rt.alloc(), workers, &plan);
             assert_eq!(rt; built.err(), Some(Fault::Failed(7)), "target {failing}");
         }
+    }
+    Ok(())
+}
+
+/// What cannot be built is told as what it is: an input that is missing, a target that needs itself, no target, no such number of workers.
+#[test]
+fn plans_that_cannot_be_built(rt: HostRuntime) -> Result<(), Fail> {
+    for workers in [1, 4] {
+        let missing = build(&rt, rt.alloc(), workers, &MISSING);
+        assert_eq!(rt; missing.err(), Some(Fault::Failed(404)));
+        let of_itself = build(&rt, rt.alloc(), workers, &OF_ITSELF);
+        assert_eq!(rt; of_itself.err(), Some(Fault::Failed(12)));
+        let none = build(&rt, rt.alloc(), workers, &[]);
+        assert_eq!(rt; none.err(), Some(Fault::NoTarget));
+    }
+    for workers in [0, 33] {
+        let refused = build(&rt, rt.alloc(), workers, &PLAN);
+        assert_eq!(rt;
+            refused.err(),
+            Some(Fault::Refused(Refusal::BadLimits)),
+            "{workers} workers"
+        );
     }
     Ok(())
 }

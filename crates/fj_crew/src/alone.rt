@@ -5,7 +5,7 @@ ghost use Rattle.fj_crew.specs.Runs.{RefusesRun, told_of};
 use crate::closing::Closing;
 use crate::crew::{Crew, Ran, run_all};
 use fj_model::{Limits, Mode, Refusal};
-use fj_pool::{Body, Closer, Hand, Naming, Outcome, Parts, Pool, Submitter, Turnstile};
+use fj_pool::{Body, Naming, Opened, Outcome, Parts, Pool, Turnstile};
 use std::alloc::Global;
 use std::marker::Brand;
 use std::sync::{Mutex, Wait};
@@ -13,9 +13,6 @@ use std::thread::Threads;
 
 /// How many bodies the lane of each submitter takes: one is submitted.
 const LANE_CAPACITY: u32 = 1;
-
-/// A pool that was opened.
-type Opened<B, N> = (Pool<B, N>, Vec<Hand<B>>, Vec<Submitter<B, N>>, Closer<N>);
 
 /// Runs a body to its outcome, in a pool of its own: a thread for each worker, and none that outlives the call. A result in the outcome is
 /// right for the key beside it. It follows `ForkJoinPool.invoke`.

@@ -8,16 +8,22 @@ use std::thread::Threads;
 /// What the threads of a pool share.
 #[derive(Drop)]
 pub struct Crew<'p, 'c, 'r, 't, B: Body, N: Naming, T, R> {
+    /// The pool.
     pub pool: &'p Pool<B, N>,
+    /// What shuts it down: by whoever submitted, or a worker that cannot go on.
     pub closing: &'c Mutex<Closing<N>>,
+    /// What waits.
     pub rt: &'r R,
+    /// What is asked before the first turn of each body.
     pub turnstile: &'t T,
 }
 
 /// What came of a run, and the submitters, which the winding up needs.
 #[derive(Drop)]
 pub struct Ran<B: Body, N: Naming> {
+    /// The outcome, or why there is none.
     pub answer: Result<Outcome<B>, Refusal>,
+    /// The submitters of the pool.
     pub submitters: Vec<Submitter<B, N>>,
 }
 

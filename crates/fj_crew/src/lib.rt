@@ -12,6 +12,6 @@ mod crew;
 mod results;
 
 pub use alone::run_alone;
-pub use fj_model::{Limits, Mode, Refusal};
+pub use fj_model::{Kind, Limits, Mode, Refusal, Serial, WorkerId};
 pub use fj_pool::{Ask, Body, Heard, Kept, Open, Outcome, Turnstile};
 pub use results::{NoResult, result_in};

@@ -16,7 +16,8 @@ use std::thread::Threads;
 /// `start` is the scan word of worker 0; that of each further one is one more. The turnstile is asked before the first turn of each body:
 /// `Open` holds nobody.
 ///
-/// `LogFull` where the history is full. `OutOfMemory` where memory is refused, or a thread cannot be started.
+/// `LogFull` where the history is full. `OutOfMemory` where memory is refused, a thread cannot be started, or the job has no result for any
+/// other reason.
 pub fn invoke<J: Divide + Send, T: Turnstile + Sync, R: Threads + Wait + Sync>(
     rt: &R,
     alloc: Global,

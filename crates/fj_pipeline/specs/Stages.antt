@@ -1,5 +1,6 @@
 -- What the stages make of a number.
-use Rattle.std.specs.Prelude.{ℕ, ◌*◌, ◌/◌, ◌%◌, ◌-◌, ◌==◌, ◌&&◌, nat_lt, Option, None, Some, if◌then◌else◌}
+use Rattle.std.specs.Prelude.{ℕ, ◌*◌, ◌/◌, ◌%◌, ◌-◌, ◌==◌, ◌&&◌, nat_lt, ◌≡◌, IfSome, Option, None, Some, if◌then◌else◌}
+use Rattle.fj_pipeline.specs.declared.item.Item.{Item}
 use Rattle.fj_pipeline.specs.declared.stage.Stage.{Stage}
 use Rattle.fj_pipeline.specs.declared.stage.Stage.TheVariants.{Decode, Scale, Convert, Grade}
 
@@ -21,3 +22,7 @@ result_from Grade v = run Grade v
 result_from Convert v = and_then (run Convert v) (run Grade)
 result_from Scale v = and_then (run Scale v) (λ w. and_then (run Convert w) (run Grade))
 result_from Decode v = and_then (run Decode v) (λ w. and_then (run Scale w) (λ x. and_then (run Convert x) (run Grade)))
+
+-- what a stage gives, if it gives anything, is what the stages from it on make of its number
+abbrev pub IsRight : Item → Option ℕ → Type 0
+IsRight item given = IfSome given (λ level. result_from item.stage item.value ≡ Some level)

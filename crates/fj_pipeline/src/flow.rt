@@ -1,11 +1,10 @@
-ghost use Rattle.std.specs.Prelude.{◌≡◌, ℕ, IfSome, Option, Some};
+ghost use Rattle.std.specs.Prelude.{◌≡◌, ℕ, Option, Some};
 ghost use Rattle.fj_store.specs.Turns.{AskRight, HeardRight, Nearer};
 ghost use Rattle.fj_pipeline.specs.Courses.{turns_left};
-ghost use Rattle.fj_pipeline.specs.Stages.{result_from};
+ghost use Rattle.fj_pipeline.specs.Stages.{IsRight};
 
 use crate::item::Item;
-use fj_crew::{Ask, Body, Heard};
-use fj_model::{Kind, Serial};
+use fj_crew::{Ask, Body, Heard, Kind, Serial};
 
 /// The code of an event for whose next stage there is no room: the number of `OutOfMemory`.
 const NO_ROOM: u32 = 12;
@@ -44,7 +43,7 @@ impl Flow {
     /// Its first turn, as this task: it does its part, and forks the next stage, or is the last.
     fn begin(&mut self, me: Serial) -> Ask<Flow>
         ensures item { self.new.item ≡ self.old.item }
-        ensures right { AskRight (λ k o. IfSome o (λ v. result_from k.stage k.value ≡ Some v)) self.old.item result }
+        ensures right { AskRight IsRight self.old.item result }
         ensures nearer { Nearer (turns_left self.new.course) 3 result }
     {
         if self.item.stage.run(self.item.value).is_none() {
@@ -67,7 +66,7 @@ impl Flow {
     /// Its completion action: the result of the last stage is its own, that of another one that of the next.
     fn complete(&mut self, next: Option<Serial>) -> Ask<Flow>
         ensures item { self.new.item ≡ self.old.item }
-        ensures right { AskRight (λ k o. IfSome o (λ v. result_from k.stage k.value ≡ Some v)) self.old.item result }
+        ensures right { AskRight IsRight self.old.item result }
         ensures nearer { Nearer (turns_left self.new.course) 1 result }
     {
         self.course = Course::Taking;
@@ -82,8 +81,8 @@ impl Flow {
 
     /// The result of a stage came. It is that of this one, if that is the next.
     fn got(&self, item: Item, level: Option<u32>) -> Ask<Flow>
-        requires { ∥ IfSome level (λ v. result_from item.stage item.value ≡ Some v) ∥₁ }
-        ensures right { AskRight (λ k o. IfSome o (λ v. result_from k.stage k.value ≡ Some v)) self.now.item result }
+        requires { ∥ IsRight item level ∥₁ }
+        ensures right { AskRight IsRight self.now.item result }
         ensures nearer { Nearer 0 0 result }
     {
         match self.item.passed_on() {
@@ -103,7 +102,7 @@ impl Body for Flow {
     // The first stage is submitted, and waits for the second.
     ghost rooted_as = { λ b. Some 1 };
 
-    ghost right = { λ k o. IfSome o (λ v. result_from k.stage k.value ≡ Some v) };
+    ghost right = { IsRight };
 
     ghost turns = { λ b. turns_left b.course };
 
@@ -120,10 +119,10 @@ impl Body for Flow {
     }
 
     fn turn(&mut self, heard: Heard<Flow>) -> Ask<Flow>
-        requires { HeardRight (λ k o. IfSome o (λ v. result_from k.stage k.value ≡ Some v)) heard }
+        requires { HeardRight IsRight heard }
         ensures key { self.new.item ≡ self.old.item }
         ensures rooted { ◌≡◌ {A = Option ℕ} (Some 1) (Some 1) }
-        ensures right { AskRight (λ k o. IfSome o (λ v. result_from k.stage k.value ≡ Some v)) self.old.item result }
+        ensures right { AskRight IsRight self.old.item result }
         ensures nearer { Nearer (turns_left self.new.course) (turns_left self.old.course) result }
     {
         match (self.course, heard) {

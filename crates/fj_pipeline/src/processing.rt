@@ -1,5 +1,5 @@
-ghost use Rattle.std.specs.Prelude.{◌≡◌, IfOk, IfSome, Some};
-ghost use Rattle.fj_pipeline.specs.Stages.{result_from};
+ghost use Rattle.std.specs.Prelude.{◌≡◌, IfOk, Some};
+ghost use Rattle.fj_pipeline.specs.Stages.{IsRight, result_from};
 
 use crate::fault::Fault;
 use crate::flow::Flow;
@@ -10,14 +10,16 @@ use std::alloc::Global;
 use std::sync::Wait;
 use std::thread::Threads;
 
-/// The most tasks and events of a pool for one event.
+/// The tasks of a pool for one event: one for each stage.
 const TASKS: u32 = 4;
 
+/// The most events of their history.
 const EVENTS: u32 = 64;
 
 /// The level of the alarm that an event gives, by so many workers in threads.
 ///
-/// `Failed` where a stage rejects it. `Refused` where the number of workers is not from 1 to 32, or memory or a thread was refused.
+/// `Failed` with 1 to 4 where the stage of that number rejects it. `Refused` where the number of workers is not from 1 to 32, or memory or a
+/// thread was refused. The other faults no pool answers.
 pub fn process<R: Threads + Wait + Sync>(
     rt: &R,
     alloc: Global,
@@ -46,7 +48,7 @@ pub fn process<R: Threads + Wait + Sync>(
 
 /// The level of a result, if that stands under this number. Precondition: it is right for its key.
 fn level_under(item: Item, key: Item, level: Option<u32>) -> Result<u32, Fault>
-    requires { ∥ IfSome level (λ v. result_from key.stage key.value ≡ Some v) ∥₁ }
+    requires { ∥ IsRight key level ∥₁ }
     ensures { IfOk result (λ v. ∥ result_from item.stage item.value ≡ Some v ∥₁) }
 {
     match level {

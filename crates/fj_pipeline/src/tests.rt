@@ -1,4 +1,5 @@
 use super::*;
+use fj_crew::Refusal;
 use std::test::Fail;
 
 /// An event with this count.
@@ -48,6 +49,19 @@ fn each_stage_rejects_an_event(rt: HostRuntime) -> Result<(), Fail> {
                 "word {word}"
             );
         }
+    }
+    Ok(())
+}
+
+/// A pool has 1 to 32 workers.
+#[test]
+fn no_pool_has_so_many_workers(rt: HostRuntime) -> Result<(), Fail> {
+    for workers in [0, 33] {
+        assert_eq!(rt;
+            process(&rt, rt.alloc(), workers, event(1_200)),
+            Err(Fault::Refused(Refusal::BadLimits)),
+            "{workers} workers"
+        );
     }
     Ok(())
 }
