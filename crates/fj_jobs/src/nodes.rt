@@ -41,6 +41,7 @@ impl Nodes {
     {
         self.nodes.as_slice()
     }
+
     /// The node with this number. Precondition: there is one.
     pub fn node(&self, number: usize) -> Node
         requires { number < length self.now }

@@ -136,7 +136,7 @@ fn function_of(mul: u32, add: u32, modulus: u32) -> Option<LinearMod> {
     Some(LinearMod::new(mul, add, modulus))
 }
 
-// The numbers of the jobs below, and the same computed by a loop over them.
+/// The numbers of the jobs below, and the same computed by a loop over them.
 #[derive(Clone, Copy)]
 struct Drawn {
     from: u32,
@@ -152,7 +152,7 @@ fn below(rng: &mut Pcg32, n: u32) -> u32 {
     rng.next_word().checked_rem(n).unwrap_or(0)
 }
 
-// Short ranges anywhere, small moduli, so that several numbers have one value, and large ones.
+/// Short ranges anywhere, small moduli, so that several numbers have one value, and large ones.
 fn draw(rng: &mut Pcg32) -> Drawn {
     let from = match below(rng, 3) {
         0 => below(rng, 50),

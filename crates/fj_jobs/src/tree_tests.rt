@@ -128,6 +128,37 @@ fn four_thousand_lines(rt: HostRuntime) -> Result<(), Fail> {
     Ok(())
 }
 
+/// The same lines, a byte at a time.
+#[derive(Drop)]
+struct Bytes {
+    lines: u32,
+    given: u32,
+}
+
+impl Read for Bytes {
+    fn read(&mut self, buf: &mut [u8]) -> io::Result<usize> {
+        if self.given / 4 >= self.lines || buf.is_empty() {
+            return Ok(0);
+        }
+        let line: &[u8] = if self.given < 4 { b"- 5\n" } else { b"0 1\n" };
+        buf[0] = line[(self.given % 4) as usize];
+        self.given = self.given.saturating_add(1);
+        Ok(1)
+    }
+}
+
+/// It takes 16,000 reads, and is a tree all the same.
+#[test]
+fn a_tree_that_comes_byte_by_byte(rt: HostRuntime) -> Result<(), Fail> {
+    let mut bytes = Bytes {
+        lines: 4000,
+        given: 0,
+    };
+    let tree = read_tree(rt.alloc(), &mut bytes)?;
+    assert_eq!(rt; tree.as_slice().len(), 4000);
+    Ok(())
+}
+
 /// A line of ten million bytes is at fault as soon as it is too long for any node's.
 #[test]
 fn a_long_line(rt: HostRuntime) -> Result<(), Fail> {
