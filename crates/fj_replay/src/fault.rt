@@ -1,6 +1,6 @@
 use thiserror::Error;
 
-/// Why a replay ended before its input did.
+/// Why a replay or an upgrade did not come to the end of a good script. What it replied, an upgrade wrote.
 #[derive(Clone, Copy, Debug, PartialEq, Error)]
 pub enum ReplayFault {
     /// This line, counted from 1, is no heading or step where one must stand, or the input ends before its line feed. All lines before

@@ -44,7 +44,7 @@ impl Model for Responder {
 
 impl Responder {
     /// A new machine, as the heading says, which stands at this line. `Line` where it is no heading, `Limits` where a limit is out of its
-    /// range.
+    /// range, `Memory` where memory is refused.
     pub fn open(
         alloc: Global,
         heading: &[u8],

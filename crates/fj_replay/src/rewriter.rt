@@ -45,7 +45,7 @@ impl Model for Rewriter {
 
 impl Rewriter {
     /// A new machine, as the heading says, which stands at this line. `Line` where it is no heading, `Limits` where a limit is out of its
-    /// range.
+    /// range, `Memory` where memory is refused.
     pub fn open(alloc: Global, heading: &[u8], number: u64) -> Result<Rewriter, ReplayFault>
         ensures pool { IfOk result (λ r. pool_in heading.now ≡ Some r.pool) }
         ensures fresh { IfOk result (λ r. r ≡ start r.pool) }
