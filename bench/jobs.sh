@@ -2,7 +2,7 @@
 # Times the jobs beside programs that do the same: a plain one in C of the same design, one of the JDK's pool, one of rayon. Each is timed as
 # a whole process, by turns, and all must give the same answer.
 # Usage: bench/jobs.sh [LOAD..]
-#   LOAD is leaves, blocks, primes, tree, submit or locks (default: all of them)
+#   LOAD is leaves, blocks, primes, tree, submit or locks (default: all of them), or, where valgrind is there, profile
 # RUNS=N bench/jobs.sh ..   the least time of N runs of each program counts (default: 5)
 set -euo pipefail
 cd "$(dirname "${BASH_SOURCE[0]}")/.."
@@ -119,6 +119,21 @@ count_load() {
     }'
 }
 
+# profile WORD..: the functions of ours in which most instructions of a run are counted, each with its part in a hundred.
+profile() {
+    valgrind --tool=callgrind --callgrind-out-file="$folder/instructions" "${program_of[submitting]}" "$@" < "$tree" > "$loader.log" 2>&1
+    echo "profile $*"
+    callgrind_annotate --threshold=90 "$folder/instructions" | grep -E '^ *[0-9,]+ \(' | sed -E 's/ \[[^]]*\]$//'
+}
+
+# build_submitting: ours with submissions, of which nothing is proved.
+build_submitting() {
+    [[ ! ${program_of[submitting]:-} ]] || return 0
+    cp bench/jobs/counted/submit.rt.in "$loader/src/submit.rt"
+    build_unproved submitting
+    program_of[submitting]=$folder/submitting
+}
+
 # The loads, and what is due: the sum of 1 to 200,000 and to 100,000,000, the primes up to 10,000, the value of the tree, the number of
 # submissions.
 run_load() {
@@ -129,9 +144,8 @@ run_load() {
     primes) for workers in 1 2 4; do time_load primes 1229 primes 1 10000 10 "$workers"; done ;;
     tree) for workers in 1 2 4; do time_load tree "$("$folder/fj" tree 1 < "$tree")" tree "$workers"; done ;;
     submit)
-        cp bench/jobs/counted/submit.rt.in "$loader/src/submit.rt"
-        build_unproved submitting
-        program_of[fj]=$folder/submitting
+        build_submitting
+        program_of[fj]=${program_of[submitting]}
         for threads in 1 4; do time_load submit 200000 submit "$threads" 200000 4; done
         program_of[fj]=$folder/fj
         ;;
@@ -145,6 +159,12 @@ run_load() {
         done
         for threads in 1 4; do count_load submit 200000 submit "$threads" 200000 4; done
         ;;
+    profile)
+        build_submitting
+        profile sum 1 20000 1 1
+        profile tree 1
+        profile submit 1 200000 4
+        ;;
     *)
         echo "no such load: $1" >&2
         exit 1
@@ -153,8 +173,15 @@ run_load() {
 }
 
 (($#)) || set -- leaves blocks primes tree submit locks
-build_proved
-build_others
+proved= compared=
+for load; do
+    case $load in
+    leaves | blocks | primes | tree) proved=yes compared=yes ;;
+    submit) compared=yes ;;
+    esac
+done
+[[ -z $proved ]] || build_proved
+[[ -z $compared ]] || build_others
 # The counts come last: for them the copies of the crates are changed.
 for load; do [[ $load == locks ]] || run_load "$load"; done
 for load; do [[ $load != locks ]] || run_load "$load"; done
