@@ -1,4 +1,5 @@
 ghost use Rattle.std.specs.Prelude.{◌≡◌, ◌<◌, ◌≤◌, IfErr, IfOk, length};
+ghost use Rattle.fj_model.specs.declared.limits.TheConstants.{MAX_WORKERS};
 ghost use Rattle.fj_jobs.specs.TreeValues.{node_value};
 ghost use Rattle.fj_crew.specs.Runs.{RefusesRun};
 
@@ -27,7 +28,7 @@ pub fn fold_tree<R: Threads + Wait + Sync, T: Turnstile + Sync>(
     turnstile: &T,
 ) -> Result<u64, Refusal>
     requires some { 0 < workers }
-    requires few { workers ≤ 32 }
+    requires few { workers ≤ MAX_WORKERS }
     ensures ok { IfOk result (λ value. value ≡ node_value nodes.now 0) }
     ensures err { IfErr result RefusesRun }
 {
@@ -50,7 +51,7 @@ fn fold_in<F: Tree + Send, R: Threads + Wait + Sync, T: Turnstile + Sync>(
     requires same { family.now ≡ F.nodes }
     requires there { 0 < length F.nodes }
     requires some { 0 < workers }
-    requires few { workers ≤ 32 }
+    requires few { workers ≤ MAX_WORKERS }
     ensures ok { IfOk result (λ value. value ≡ node_value F.nodes 0) }
     ensures err { IfErr result RefusesRun }
 {

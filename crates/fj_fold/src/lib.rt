@@ -20,7 +20,7 @@ mod tree_fold;
 
 pub use family::Family;
 pub use fj_crew::{Open, Turnstile};
-pub use fj_jobs::{Nodes, read_tree};
+pub use fj_jobs::{Node, Nodes, TreeFault, read_tree};
 pub use fj_model::Refusal;
 pub use fj_store::{Ask, Body, Heard};
 pub use folding::fold_tree;
