@@ -22,7 +22,7 @@ tests/threads/run.sh --load "$load" "$runs" > "$log" 2>&1 &
 by_threads=$!
 trap 'kill "$by_threads" 2> /dev/null || true; rm -f "$log"' EXIT
 
-trials=(tests/documents/*.sh tests/pipes/*.sh tests/hostile/*.sh)
+trials=(tests/documents/*.sh tests/documents/*.py tests/pipes/*.sh tests/hostile/*.sh)
 if ((runs)); then
     trials+=(tests/workers/*.sh)
 fi

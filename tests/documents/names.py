@@ -1,0 +1,150 @@
+#!/usr/bin/env python3
+"""Looks up what the documents name: each file and heading to which a link leads, each `Type::method` and file in their text, and in the
+tables of docs/PROOFS.md each function, clause, definition and test. Tells what is not there; the exit status is 1 if there is any.
+"""
+import os
+import re
+import sys
+
+TOP = os.path.dirname(os.path.dirname(os.path.dirname(os.path.realpath(__file__))))
+# What is made by a build, and is no part of the repository.
+MADE = {"out", "target", ".git"}
+# What docs/PROOFS.md names of the standard library.
+STANDARD = {"Display", "From", "Hash", "Iterator", "spawn"}
+
+
+def files(folder, *endings):
+    """The files below a folder with one of these endings."""
+    for place, below, names in os.walk(os.path.join(TOP, folder)):
+        below[:] = sorted(it for it in below if it not in MADE)
+        yield from (os.path.join(place, it) for it in sorted(names) if it.endswith(endings))
+
+
+def text_of(path):
+    with open(path, encoding="utf-8") as it:
+        return it.read()
+
+
+def anchors(text):
+    """The names of the headings of a document, as links have them."""
+    prose = re.sub(r"^```.*?^```", "", text, flags=re.M | re.S)
+    for title in re.findall(r"^#+ (.*)$", prose, flags=re.M):
+        plain = re.sub(r"\[([^]]*)\]\([^)]*\)", r"\1", title).lower().replace("`", "")
+        yield re.sub(r"[^\w\- ]", "", plain).replace(" ", "-")
+
+
+def broken_links(path, text):
+    """The links of a document that lead nowhere."""
+    for link in re.findall(r"\]\(([^)\s]+)\)", text):
+        if "://" in link:
+            continue
+        file, _, heading = link.partition("#")
+        target = os.path.normpath(os.path.join(os.path.dirname(path), file)) if file else path
+        if not os.path.exists(target):
+            yield f"{link}: no such file"
+        elif heading and heading not in anchors(text_of(target)):
+            yield f"{link}: no such heading"
+
+
+class Names:
+    """What the sources of a crate declare."""
+
+    def __init__(self, crate):
+        code = "\n".join(text_of(it) for it in files(f"crates/{crate}/src", ".rt"))
+        self.files = {os.path.relpath(it, f"{TOP}/crates/{crate}/src") for it in files(f"crates/{crate}/src", ".rt")}
+        self.functions = set(re.findall(r"\bfn (\w+)", code))
+        self.types = set(re.findall(r"\b(?:struct|enum|trait|type) (\w+)", code)) | set(re.findall(r"^impl.* for (\w+)", code, flags=re.M))
+        self.constants = set(re.findall(r"\bconst (\w+)", code))
+        # Clauses, invariants of types, and what a trait or a ghost declaration names.
+        self.clauses = set(re.findall(r"\b(?:ensures|requires|ghost|law) (\w+)", code))
+        self.fields = set(re.findall(r"^\s*(?:pub(?:\(crate\))? )?(\w+):", code, flags=re.M))
+        self.variants = set(re.findall(r"^\s+([A-Z]\w*)(?:\(|\s*\{|,|$)", code, flags=re.M))
+        self.definitions = {}
+        for it in [*files(f"crates/{crate}/specs", ".antt"), *files(f"crates/{crate}/proofs", ".antt")]:
+            words = set(re.findall(r"^\s*(?:abbrev |unfoldable |unfolding |record |pub |mod )+([^\s:(]+)", text_of(it), flags=re.M))
+            words |= set(re.findall(r"^([^\s:(]+) :", text_of(it), flags=re.M))
+            self.definitions.setdefault(os.path.basename(it)[: -len(".antt")], set()).update(words)
+
+    def has(self, word):
+        """Whether a word of a cell is declared here."""
+        head, _, method = word.rpartition("::")
+        if head:
+            return head in self.types and method in self.functions | self.variants | self.constants | self.clauses
+        known = self.functions | self.types | self.constants | self.clauses | self.fields | self.variants
+        return word in known or any(word in it for it in self.definitions.values())
+
+
+def code_words(cell):
+    return [it for it in re.findall(r"`([^`]+)`", cell) if re.fullmatch(r"[\w:/.]+", it)]
+
+
+def unknown_in_row(cells, crate, names):
+    """The words of the contract and of the definitions of a row that nothing declares."""
+    for word in code_words(cells[1]):
+        of, plain = ("fj_ledger", word[2:]) if word.startswith("L/") else (crate, word)
+        if plain.endswith(".rt"):
+            if plain not in names[of].files and not any(plain in names[it].files for it in names):
+                yield f"{word}: no such file"
+        elif plain in names or plain in STANDARD or plain.endswith("/"):
+            continue
+        elif not any(names[it].has(plain) for it in ([of] + sorted(names))):
+            yield f"{word}: not declared"
+    for words, file in re.findall(r"((?:`[^`]+`(?:, )?)+) \(([^()`]+?)(?:,? of `?\w+`?)?\)", cells[2]):
+        folder, _, file = file.rpartition("/")
+        file = os.path.basename(file)
+        crates = {"M": ["fj_model"], "L": ["fj_ledger"]}.get(folder[:1], sorted(names))
+        for word in re.findall(r"`([^`]+)`", words):
+            if not any(word in names[it].definitions.get(file, ()) for it in crates):
+                yield f"{word}: not in {file}"
+
+
+def unknown_tests(cells, names, trials):
+    """The files and the tests of a row of what is only tested that are not there. `trials` are the texts of those below `tests/`."""
+    for word in code_words(cells[1]):
+        if word.endswith(".rt") and not any(word in it.files for it in names.values()):
+            yield f"{word}: no such file"
+    for word in code_words(cells[2]):
+        if "/" in word:
+            is_there = os.path.exists(f"{TOP}/{word}")
+        else:
+            # A word without `_` is part of a run, as `args`.
+            is_there = "_" not in word or any(word in it.functions for it in names.values())
+        if not is_there and not any(it == word or f"fn {word}(" in text for it, text in trials.items()):
+            yield f"{word}: no such test"
+
+
+def unknown_in_text(text, names):
+    """The methods and the files that a document names and that are not there."""
+    prose = re.sub(r"^```.*?^```", "", text, flags=re.M | re.S)
+    for word in code_words(prose):
+        head, _, method = word.rpartition("::")
+        declaring = [it for it in names.values() if head in it.types] if "::" in word else []
+        if declaring and not any(it.has(word) for it in declaring):
+            yield f"{word}: not declared"
+
+
+def main():
+    crates = sorted(os.listdir(f"{TOP}/crates"))
+    names = {it: Names(it) for it in crates}
+    told = []
+    for path in files("", ".md"):
+        text = text_of(path)
+        page = os.path.relpath(path, TOP)
+        told += [f"{page}: {it}" for it in [*broken_links(path, text), *unknown_in_text(text, names)]]
+    trials = {os.path.basename(it): text_of(it) for it in files("tests", ".rt.in", ".sh")}
+    crate, is_tested = "", False
+    for number, line in enumerate(text_of(f"{TOP}/docs/PROOFS.md").split("\n"), 1):
+        if line.startswith("## "):
+            crate = {"The headline": "fj_machine"}.get(line[3:], line[3:] if line[3:] in crates else "")
+            is_tested = line == "## What is only tested"
+        cells = line.strip("| ").split(" | ")
+        if is_tested and line.startswith("| ") and len(cells) == 3:
+            told += [f"docs/PROOFS.md:{number}: {it}" for it in unknown_tests(cells, names, trials)]
+        if crate and line.startswith("| ") and len(cells) >= 4 and not line.startswith("| Promise"):
+            told += [f"docs/PROOFS.md:{number}: {it}" for it in unknown_in_row(cells, crate, names)]
+    print("\n".join(told) or "each name in the documents is there")
+    sys.exit(1 if told else 0)
+
+
+if __name__ == "__main__":
+    main()
