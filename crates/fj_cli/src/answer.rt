@@ -1,5 +1,5 @@
 //! What a command tells: its answer on standard output, or why it has none on standard error.
-ghost use Rattle.std.specs.Prelude.{◌≡◌, ℕ, List, IfOk, OnOk, OnErr, string_bytes};
+ghost use Rattle.std.specs.Prelude.{◌≡◌, ℕ, List, IfErr, IfOk, OnOk, OnErr, string_bytes};
 ghost use Rattle.std.specs.Io.KnownBytes.{Appends};
 ghost use Rattle.fj_streams.specs.Beginnings.{AppendsSome};
 ghost use Rattle.fj_cli.specs.Answers.{EndsJob, status_of_refusal};
@@ -42,13 +42,15 @@ fn written<W: Write>(out: &mut W, line: &str) -> io::Result<()>
     }
 }
 
-/// Writes the line of an answer: 0 where it was written and flushed, 4 where memory was refused to the line, 5 where a write failed.
+/// Writes the line of an answer: 0 where it was written and flushed, 4 where memory was refused to the line, 5 where a write or the flush
+/// failed.
 pub fn answered<W: Write, E: Write>(
     line: Result<String, AllocError>,
     out: &mut W,
     err: &mut E,
 ) -> u8
-    ensures { (text : List ℕ) → IfOk line (λ s. string_bytes s ≡ text) → EndsJob result text (W.contents out.old) (W.contents out.new) }
+    ensures job { (text : List ℕ) → IfOk line (λ s. string_bytes s ≡ text) → EndsJob result text (W.contents out.old) (W.contents out.new) }
+    ensures memory { IfErr line (λ e. result ≡ 4) }
 {
     let Ok(line) = line else {
         return told(err, "out of memory\n", 4);

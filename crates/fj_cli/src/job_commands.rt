@@ -1,10 +1,12 @@
 //! The commands that do a job over a range: each starts a pool of its own, and writes the value of its job.
 ghost use Rattle.std.specs.Prelude.{◌≡◌, ◌<◌, ◌≤◌, IfNone, IfOk, IfSome};
+ghost use Rattle.fj_model.specs.declared.limits.TheConstants.{MAX_EVENTS, MAX_TASKS};
+ghost use Rattle.fj_model.specs.Bounds.{bounds};
 ghost use Rattle.fj_cli.specs.declared.job_commands.TheConstants.{MAX_BLOCKS};
 ghost use Rattle.fj_cli.specs.Answers.{EndsRange, blocks_of, count_of, hit_line, hit_of, least_line, least_of, number_line, sum_of};
 
 use crate::answer::{answered, refused, told};
-use crate::command_line::{FunctionOptions, RangeOptions};
+use crate::command_line::{FunctionOptions, RangeOptions, Workers};
 use fj_invoke::{BlockedRange, Divide, FirstHit, LinearMod, Open, RangeMin, RangeSum, invoke};
 use fj_model::{Limits, MAX_EVENTS, MAX_TASKS, Mode, Refusal};
 use std::alloc::Global;
@@ -88,7 +90,7 @@ pub fn run_find<H: Threads + Wait + Sync, W: Write, E: Write>(
 
 /// The blocks that are asked for. None where they are too many.
 fn blocks(options: RangeOptions) -> Option<BlockedRange>
-    ensures some { IfSome result (λ range. (range.numbers.from ≡ options.from) × (range.numbers.count ≡ count_of options)) }
+    ensures some { IfSome result (λ range. (range.numbers.from ≡ options.from) × (range.numbers.count ≡ count_of options) × (range.grain ≡ options.grain)) }
     ensures few { IfSome result (λ range. blocks_of options ≤ MAX_BLOCKS) }
     ensures many { IfNone result (MAX_BLOCKS < blocks_of options) }
 {
@@ -117,8 +119,16 @@ where
     J::Out: Send,
     ensures { IfOk result (λ out. out ≡ J.value (J.key_of job)) }
 {
-    let Ok(limits) = Limits::new(options.workers.count, 1, MAX_TASKS, MAX_EVENTS) else {
+    let limits = limits_of(options.workers);
+    invoke(rt, alloc, Mode::Joining, limits, 0, job, &Open)
+}
+
+/// The limits of a pool with as many workers as are asked for, and as much room as may be.
+fn limits_of(workers: Workers) -> Limits
+    ensures { result ≡ bounds workers.count 1 MAX_TASKS MAX_EVENTS }
+{
+    let Ok(limits) = Limits::new(workers.count, 1, MAX_TASKS, MAX_EVENTS) else {
         unreachable!()
     };
-    invoke(rt, alloc, Mode::Joining, limits, 0, job, &Open)
+    limits
 }

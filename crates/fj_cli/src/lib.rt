@@ -2,7 +2,7 @@
 //!
 //! [`fj`] runs a command over any reader and writers. Who calls it has beside it what the commands stand on: of `fj_replay` [`replay`],
 //! [`upgrade`], both of a script in memory, and [`ReplayFault`]; of `fj_streams` the readers and writers of which contracts know the calls;
-//! of `fj_invoke` the jobs that divide, with [`invoke`]; of `fj_fold` trees, with [`read_tree`] and [`fold_tree`].
+//! of `fj_invoke` the jobs that divide, with [`compute`] and [`invoke`]; of `fj_fold` trees, with [`read_tree`] and [`fold_tree`].
 #![tactic(auto)]
 
 mod answer;
@@ -14,12 +14,11 @@ mod script_end;
 mod tree_command;
 mod upgrade_command;
 
-pub use fj_fold::{Family, Nodes, Tree, TreeFold, fold_tree, read_tree};
+pub use fj_fold::{Family, Node, Nodes, Tree, TreeFault, TreeFold, fold_tree, read_tree};
 pub use fj_invoke::{
-    BlockedRange, Divide, FirstHit, LinearMod, Open, RangeMin, RangeSum, Recursive, Turnstile,
-    invoke,
+    BlockedRange, Divide, FirstHit, Interval, Limits, LinearMod, Mode, Open, RangeMin, RangeSum,
+    Recursive, Refusal, Serial, Turnstile, WorkerId, compute, invoke,
 };
-pub use fj_jobs::TreeFault;
 pub use fj_replay::{ReplayFault, replay, replayed, upgrade, upgraded};
 pub use fj_streams::{Sink, Source, Watched};
 pub use program::{fj, without_words};

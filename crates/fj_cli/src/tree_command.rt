@@ -6,8 +6,7 @@ ghost use Rattle.fj_cli.specs.Answers.{EndsJob, EndsTree, number_line, status_of
 
 use crate::answer::{answered, refused};
 use crate::command_line::Workers;
-use fj_fold::{Nodes, Open, fold_tree, read_tree};
-use fj_jobs::TreeFault;
+use fj_fold::{Nodes, Open, TreeFault, fold_tree, read_tree};
 use std::alloc::Global;
 use std::io::{Read, Write};
 use std::sync::Wait;

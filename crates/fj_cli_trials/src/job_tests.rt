@@ -3,7 +3,7 @@ use crate::test_rows::first_other_command;
 use std::test::Fail;
 
 /// Command lines without their workers, the input, and what is written; at a fault what is on standard error, and the status.
-const ROWS: [&str; 25] = [
+const ROWS: [&str; 27] = [
     "sum --from 5 --to 4 |  | 0;",
     "sum --from 7 --to 7 |  | 7;",
     "sum --from 0 --to 200000 |  |  | too many leaves; | 2",
@@ -17,6 +17,8 @@ const ROWS: [&str; 25] = [
     "find --from 0 --to 9 --mul 7 --add 3 --mod 10 --want 9 |  | 8;",
     "find --from 0 --to 9 --mul 7 --add 3 --mod 10 --want 10 |  | none;",
     "find --from 0 --to 29 --grain 4 --mul 7 --add 3 --mod 10 --want 9 |  | 8;",
+    "min --from 1 --to 9 --mul 0 --add 3 --mod 1 |  | 0 1;",
+    "find --from 0 --to 4294967295 --grain 100000 --mul 1 --add 0 --mod 5 --want 0 |  | 0;",
     "find --from 0 --to 4294967295 --mul 1 --add 0 --mod 5 --want 0 |  |  | too many leaves; | 2",
     "tree | - 5;0 2;0 3;1 4; | 17;",
     "tree | - 1000000006;0 1; | 0;",
@@ -31,6 +33,12 @@ const ROWS: [&str; 25] = [
     "tree | - 5;0 2;0 3 |  | fault: line 3; | 3",
 ];
 
+/// A hundred thousand leaves, and as many as may be.
+const LONG_ROWS: [&str; 2] = [
+    "sum --from 1 --to 100000 --grain 1 |  | 5000050000;",
+    "sum --from 0 --to 199999 |  | 19999900000;",
+];
+
 #[test]
 fn each_job_has_its_value_with_1_and_with_32_workers(rt: HostRuntime) -> Result<(), Fail> {
     for workers in ["--workers 1", "--workers 32"] {
@@ -41,19 +49,22 @@ fn each_job_has_its_value_with_1_and_with_32_workers(rt: HostRuntime) -> Result<
 }
 
 #[test]
-fn a_hundred_thousand_leaves_with_1_and_with_32_workers(rt: HostRuntime) -> Result<(), Fail> {
-    let rows = ["sum --from 1 --to 100000 --grain 1 |  | 5000050000;"];
-    for workers in ["--workers 1", "--workers 32"] {
-        let other = first_other_command(&rt, rt.alloc(), rows.as_slice(), workers)?;
-        assert_eq!(rt; other.as_str(), "", "{workers}");
-    }
+fn as_many_leaves_as_may_be_with_1_worker(rt: HostRuntime) -> Result<(), Fail> {
+    let other = first_other_command(&rt, rt.alloc(), LONG_ROWS.as_slice(), "--workers 1")?;
+    assert_eq!(rt; other.as_str(), "");
     Ok(())
 }
 
 #[test]
-fn as_many_leaves_as_may_be(rt: HostRuntime) -> Result<(), Fail> {
-    let rows = ["sum --from 0 --to 199999 |  | 19999900000;"];
-    let other = first_other_command(&rt, rt.alloc(), rows.as_slice(), "--workers 4")?;
+fn as_many_leaves_as_may_be_with_4_workers(rt: HostRuntime) -> Result<(), Fail> {
+    let other = first_other_command(&rt, rt.alloc(), LONG_ROWS.as_slice(), "--workers 4")?;
+    assert_eq!(rt; other.as_str(), "");
+    Ok(())
+}
+
+#[test]
+fn as_many_leaves_as_may_be_with_32_workers(rt: HostRuntime) -> Result<(), Fail> {
+    let other = first_other_command(&rt, rt.alloc(), LONG_ROWS.as_slice(), "--workers 32")?;
     assert_eq!(rt; other.as_str(), "");
     Ok(())
 }

@@ -368,6 +368,42 @@ fn watched_streams(rt: HostRuntime) -> Result<(), Fail> {
     Ok(())
 }
 
+/// A `Watched` writer hands a flush on.
+#[test]
+fn a_watched_flush_that_fails(rt: HostRuntime) -> Result<(), Fail> {
+    let alloc = rt.alloc();
+    let script = bytes(alloc, SCRIPT)?;
+    let mut out = sink(alloc, 1000, End::DoesNotFlush);
+    let ended = replay(
+        alloc,
+        &mut Watched::new(script.as_slice()),
+        &mut Watched::new(&mut out),
+    );
+    assert_eq!(rt; ended, Err(ReplayFault::Write));
+    assert_eq!(rt; out.taken, bytes(alloc, REPLIES)?);
+    Ok(())
+}
+
+/// Where even the text on a fault of the arguments cannot be written the status is 5.
+#[test]
+fn a_text_on_arguments_that_cannot_be_written(rt: HostRuntime) -> Result<(), Fail> {
+    let alloc = rt.alloc();
+    let mut out = Vec::new(alloc);
+    let mut err = sink(alloc, 0, End::Fails);
+    let words = ["fj", "add"];
+    let status = fj(
+        &rt,
+        alloc,
+        words.as_slice(),
+        &mut b"".as_slice(),
+        &mut out,
+        &mut err,
+    );
+    assert_eq!(rt; status, 5);
+    assert_eq!(rt; out.len(), 0);
+    Ok(())
+}
+
 #[test]
 fn many_lines(rt: HostRuntime) -> Result<(), Fail> {
     let alloc = rt.alloc();

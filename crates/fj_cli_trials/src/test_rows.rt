@@ -37,8 +37,8 @@ pub fn bytes(alloc: Global, text: &str) -> Result<Vec<u8>, AllocError> {
     Ok(all)
 }
 
-// What a script gives: the replies, the text on standard error and the exit status.
-//
+/// What a script gives: the replies, the text on standard error and the exit status.
+///
 /// As text, a row has ` | ` between its parts: its name, a script, the replies to it; and at a fault what is on standard error and the
 /// status. `;` stands for a line feed.
 #[derive(Clone, Copy)]

@@ -18,6 +18,7 @@ Exit status:
   4  out of memory
   5  a read or a write failed";
 
+/// Of `fj replay`.
 pub const REPLAY: &str =
     "Input of fj replay: a script on standard input, a heading and then one step a line; each line ends with a line feed
   async WORKERS SUBMITTERS TASKS EVENTS      or joining, with the same four limits
@@ -37,6 +38,7 @@ Exit status:
   4  out of memory
   5  a read or a write failed";
 
+/// Of `fj upgrade`.
 pub const UPGRADE: &str =
     "Input of fj upgrade: a script as that of fj replay, whose first line is not fj 2; task number T becomes tT
 
@@ -55,6 +57,7 @@ Exit status:
   4  out of memory
   5  a read or a write failed";
 
+/// Of `fj sum`.
 pub const SUM: &str = "It reads no input. At most 200000 blocks.
 
 Example:
@@ -68,6 +71,7 @@ Exit status:
   4  out of memory
   5  a write failed";
 
+/// Of `fj min`.
 pub const MIN: &str =
     "It reads no input. The function has the value (mul * x + add) mod m at x. At most 200000 blocks.
 
@@ -82,6 +86,7 @@ Exit status:
   4  out of memory
   5  a write failed";
 
+/// Of `fj find`.
 pub const FIND: &str =
     "It reads no input. The function has the value (mul * x + add) mod m at x. At most 200000 blocks.
 
@@ -96,6 +101,7 @@ Exit status:
   4  out of memory
   5  a write failed";
 
+/// Of `fj tree`.
 pub const TREE: &str =
     "Input of fj tree: a tree on standard input, a line for each node, 1 to 4000 of them; each line ends with a line feed
   - VALUE         the first node, number 0
