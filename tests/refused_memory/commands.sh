@@ -1,6 +1,6 @@
 #!/usr/bin/env bash
 # Refuses each allocation of the commands that do a job in turn. Each run must give the value with status 0, or end with status 4 and
-# `out of memory` and write nothing. Needs a C compiler, and the built program: cd crates/fj && rt run -- replay < stdin
+# `out of memory` and write nothing. Then refuses the start of each thread in turn, with the second of these ends every time. Needs a C compiler, and the built program: cd crates/fj && rt run -- replay < stdin
 set -euo pipefail
 . "$(dirname "${BASH_SOURCE[0]}")/trial.bash"
 fj=$crates/fj/out/fj
@@ -33,3 +33,28 @@ try 5050 '' sum --from 1 --to 100 --workers 2
 try '0 1' '' min --from 0 --to 9 --mul 7 --add 3 --mod 10 --workers 2
 try 8 '' find --from 0 --to 9 --mul 7 --add 3 --mod 10 --want 9 --workers 2
 try 17 '- 5\n0 2\n0 3\n1 4\n' tree --workers 2
+
+# refuse_starts VALUE INPUT WORKERS ARGUMENT..: one command, which starts a thread for each worker and no other.
+refuse_starts() {
+    local value=$1 input=$2 workers=$3 number status
+    shift 3
+    for ((number = 1; number <= workers + 1; number++)); do
+        status=0
+        printf %b "$input" |
+            timeout 60 env REFUSE_THREAD=$number LD_PRELOAD="$folder/refuse.so" "$fj" "$@" --workers "$workers" \
+                > "$folder/out" 2> "$folder/err" || status=$?
+        if ((number <= workers)); then
+            ((status == 4)) || fail "$*: thread $number: status $status"
+            [[ $(cat "$folder/err") == "out of memory" && ! -s $folder/out ]] || fail "$*: thread $number: another text"
+        else
+            ((status == 0)) || fail "$*: $workers threads: status $status"
+            [[ $(cat "$folder/out") == "$value" ]] || fail "$*: $workers threads: another value"
+        fi
+    done
+    echo "$*: $workers threads, the start of each refused in turn"
+}
+
+refuse_starts 5050 '' 1 sum --from 1 --to 100
+refuse_starts 5050 '' 4 sum --from 1 --to 100
+refuse_starts 5050 '' 32 sum --from 1 --to 100
+refuse_starts 17 '- 5\n0 2\n0 3\n1 4\n' 4 tree

@@ -1,19 +1,13 @@
 -- What each call of a core leaves of its lanes.
-use Rattle.std.proofs.Common.{ℕ, ◌≡◌, Bool, true, false, List, Option, Some, None, Result, Ok, Err, inl, inr, refl, ap, sym, ◌∙◌}
-use Rattle.std.specs.Prelude.{⊤, slice_get, slice_set}
+use Rattle.std.proofs.Common.{ℕ, ◌≡◌, List, Option, Some, inl, inr, refl, ap, sym, ◌∙◌}
+use Rattle.std.specs.Prelude.{slice_get, slice_set}
 use Rattle.std.proofs.Math.Seq.{map-set_same}
 use Rattle.std.proofs.lemmas.Option.{get_or_from_slice_get}
-use Rattle.fj_model.specs.declared.refusal.Refusal.{Refusal}
 use Rattle.fj_lane.specs.Ends.{DrainState, LaneId}
-use Rattle.fj_store.specs.declared.outcomes.Outcome.{Outcome}
-use Rattle.fj_core.specs.declared.closing.Closing.{Closing}
 use Rattle.fj_core.specs.declared.taken_in.Intake.{Intake}
 use Rattle.fj_core.specs.declared.taken_in.Intake.TheVariants as intake
-use Rattle.fj_core.specs.Booked.{booked_under}
-use Rattle.fj_core.specs.Closes.{ShutsAt}
-use Rattle.fj_core.specs.Cores.{CoreState, ChangesStore, CollectsTicket, CollectsUnless}
+use Rattle.fj_core.specs.Cores.{CoreState, ChangesStore}
 use Rattle.fj_core.specs.Intakes.{Intakes}
-use Rattle.fj_core.specs.Sealing.{SealsCore}
 use Rattle.fj_pool.specs.Lanes.{KeepsLanes, lanes_of}
 
 -- a drain after a take is of the same lane
@@ -26,21 +20,6 @@ module _ {B K O : Type 0} where
 
   pub changes_keep : (old new : CoreState B K O) → ChangesStore old new → KeepsLanes old new
   changes_keep old new is = ap lanes_in is
-
-  pub seals_keep : (old new : CoreState B K O) (answer : Result ⊤ Refusal) → SealsCore old answer new → KeepsLanes old new
-  seals_keep old new (Ok done) keeps = ap lanes_in keeps.others
-  seals_keep old new (Err r) refuses = ap lanes_in refuses.1
-
-  pub shuts_keep : (old new : CoreState B K O) (closing : Closing) → ShutsAt old closing new → KeepsLanes old new
-  shuts_keep old new closing shuts = ap lanes_in shuts.sets
-
-  pub collects_keep : (old new : CoreState B K O) (ticket : ℕ) (answer : Option (Result (Outcome B K O) Refusal)) → CollectsTicket old ticket answer new → KeepsLanes old new
-  collects_keep old new ticket answer collects = go old.store.stuck (booked_under old.bookings ticket) collects
-    where
-      go : (stuck : Bool) (t : Option ℕ) → CollectsUnless stuck t old answer new → KeepsLanes old new
-      go true t is = ap lanes_in is.1
-      go false (Some t) is = changes_keep old new is.1
-      go false None is = ap lanes_in is.1
 
   pub intakes_keep : (rooted_as : B → Option ℕ) (old new : CoreState B K O) (s : ℕ) (answer : Intake) → Intakes rooted_as old s answer new → KeepsLanes old new
   intakes_keep rooted_as old new s (intake.Full r) is = changes_keep old new is.1

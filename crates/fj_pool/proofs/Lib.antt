@@ -10,3 +10,5 @@ mod Records
 mod Emptied
 -- a hand that holds something asks
 mod Asking
+-- what a look at the lanes leaves
+mod Looking

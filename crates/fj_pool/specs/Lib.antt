@@ -10,3 +10,5 @@ pub mod Parts
 pub mod Turning
 -- what is left of a pool
 pub mod Winding
+-- what the lanes show is taken in
+pub mod Looking

@@ -1,6 +1,6 @@
 ghost use Rattle.std.specs.Prelude.{IfSome};
 ghost use Rattle.fj_store.specs.Turns.{HeardRight};
-ghost use Rattle.fj_pool.specs.Turning.{MayAsk};
+ghost use Rattle.fj_pool.specs.Turning.{MayAsk, TakesTurn};
 
 use fj_shelf::Hand;
 use fj_store::{Ask, Body, Heard};
@@ -8,7 +8,8 @@ use fj_store::{Ask, Body, Heard};
 /// The hook of a hand, or else its running body, takes a turn. None of an empty hand.
 pub fn take_turn<B: Body>(hand: &mut Hand<B>, heard: Heard<B>) -> Option<Ask<B>>
     requires { HeardRight B.right heard }
-    ensures { IfSome result (λ ask. MayAsk B.right B.key_of hand.new ask) }
+    ensures takes { TakesTurn hand.old result hand.new }
+    ensures asks { IfSome result (λ ask. MayAsk B.right B.key_of hand.new ask) }
 {
     if hand.hooked().is_some() {
         let (c, mut body) = hand.take_hook();

@@ -1,15 +1,16 @@
 //! What is asked of a pool from outside, and what its lanes show.
 ghost use Rattle.std.specs.Prelude.{◌≡◌};
-ghost use Rattle.fj_model.specs.Answers.{is_quiet};
 ghost use Rattle.fj_core.specs.Closes.{ShutsAt, closed_at, is_finished, stopped_at};
 ghost use Rattle.fj_core.specs.Cores.{CollectsTicket};
+ghost use Rattle.fj_core.specs.Sealing.{may_be_sealed};
 ghost use Rattle.fj_pool.specs.Lanes.{KeepsLanes};
+ghost use Rattle.fj_pool.specs.Looking.{IsQuietBehind, LooksAtLanes, SealsWhere, TakesEach, with_answer};
 
 use crate::guarded::Guarded;
 use crate::naming::Naming;
 use fj_core::{Core, Intake};
 use fj_gate::Ticket;
-use fj_model::{MAX_SUBMITTERS, Refusal, Sealed, SubId};
+use fj_model::{Refusal, Sealed, SubId};
 use fj_store::{Body, Outcome};
 use std::alloc::Global;
 
@@ -24,10 +25,10 @@ pub enum TakenIn {
 impl<B: Body, N: Naming> Guarded<B, N> {
     /// Takes in what the lanes show, each submitter once by rising number, and tells how many tasks are queued by that. Before that the
     /// history is sealed, where that is due; a refusal is ignored.
-    pub fn take_in(&mut self, alloc: Global) -> TakenIn {
-        if self.core.is_seal_due() {
-            let _sealed = self.core.seal(alloc);
-        }
+    pub fn take_in(&mut self, alloc: Global) -> TakenIn
+        ensures { LooksAtLanes B.rooted_as self.old result self.new }
+    {
+        self.seal_where_due(alloc);
         let taken = take_each(&mut self.core);
         match taken {
             // An intake that found no room for an event may have made the core stuck.
@@ -40,6 +41,15 @@ impl<B: Body, N: Naming> Guarded<B, N> {
             }
         }
         taken
+    }
+
+    /// Seals the history where it is time for it. A refusal is ignored: it is tried again at the next look.
+    fn seal_where_due(&mut self, alloc: Global)
+        ensures { SealsWhere (may_be_sealed self.old.store.past) self.old self.new }
+    {
+        if self.core.is_seal_due() {
+            let _sealed = self.core.seal(alloc);
+        }
     }
 
     /// The outcome under a ticket, as `Core::collect` tells it. Where it tells none, somebody sleeps for it from now on.
@@ -82,7 +92,7 @@ impl<B: Body, N: Naming> Guarded<B, N> {
 
     /// Whether all queues, stacks and hands are empty, once what the lanes show was taken in.
     pub fn is_quiescent(&mut self, alloc: Global) -> bool
-        ensures { result ≡ is_quiet self.new.store.past.pool.limits self.new.store.past.events }
+        ensures { IsQuietBehind B.rooted_as self.old result self.new }
     {
         if let TakenIn::One = self.take_in(alloc) {
             self.task_queued();
@@ -101,19 +111,24 @@ impl<B: Body, N: Naming> Guarded<B, N> {
 
 /// One intake for each submitter.
 fn take_each<B: Body>(core: &mut Core<B>) -> TakenIn
-    ensures { KeepsLanes core.old core.new }
+    ensures takes { TakesEach B.rooted_as core.old result core.new }
+    ensures lanes { KeepsLanes core.old core.new }
 {
     let mut taken = TakenIn::Nothing;
-    for s in 0..MAX_SUBMITTERS {
-        if s >= core.limits().submitters() {
-            break;
-        }
-        if let Intake::Took(_) = core.intake(SubId(s)) {
-            taken = match taken {
-                TakenIn::Nothing => TakenIn::One,
-                _ => TakenIn::Several,
-            };
-        }
+    for s in 0..core.limits().submitters() {
+        let answer = core.intake(SubId(s));
+        taken = count(taken, &answer);
     }
     taken
+}
+
+/// The same, with what an intake answered.
+fn count(taken: TakenIn, answer: &Intake) -> TakenIn
+    ensures { result ≡ with_answer taken answer.now }
+{
+    match (answer, taken) {
+        (Intake::Took(_), TakenIn::Nothing) => TakenIn::One,
+        (Intake::Took(_), _) => TakenIn::Several,
+        _ => taken,
+    }
 }

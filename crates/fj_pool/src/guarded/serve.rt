@@ -1,7 +1,8 @@
 //! What a worker does in one holding of the lock: what needs no turn of a body is done at once.
-ghost use Rattle.std.specs.Prelude.{◌≡◌, [], None, IfSome};
+ghost use Rattle.std.specs.Prelude.{◌≡◌, [], None, IfSome, Err, true, false};
+ghost use Rattle.fj_shelf.specs.Hands.{HandState};
 ghost use Rattle.fj_store.specs.Fitting.{Fits};
-ghost use Rattle.fj_pool.specs.Turning.{MayAsk, NextRight};
+ghost use Rattle.fj_pool.specs.Turning.{LeavesWell, MayAsk, NextRight, Serves};
 
 use crate::effect::{Effect, effect_of};
 use crate::guarded::Guarded;
@@ -24,7 +25,9 @@ impl<B: Body, N: Naming> Guarded<B, N> {
         unneeded: &mut Unneeded<B>,
     ) -> Next<B>
         requires { IfSome ask (λ a. MayAsk B.right B.key_of hand.old a) }
-        ensures { NextRight B.right result }
+        ensures serves { IfSome ask (λ a. Fits self.old.store.past hand.old → Serves B.key_of self.old.store hand.old a result) }
+        ensures right { NextRight B.right result }
+        ensures leaves { LeavesWell self.new hand.new result }
     {
         if !self.core.fits(hand) {
             return Next::Leave(Err(Refusal::NoSuch));
@@ -45,7 +48,9 @@ impl<B: Body, N: Naming> Guarded<B, N> {
     ) -> Next<B>
         requires fits { Fits self.old.store.past hand.old }
         requires asks { MayAsk B.right B.key_of hand.old ask }
-        ensures { NextRight B.right result }
+        ensures serves { Serves B.key_of self.old.store hand.old ask result }
+        ensures right { NextRight B.right result }
+        ensures leaves { LeavesWell self.new hand.new result }
     {
         let helps = matches!(ask, Ask::Help);
         let effect = effect_of(hand, &ask);
@@ -69,7 +74,8 @@ impl<B: Body, N: Naming> Guarded<B, N> {
     /// No body runs: the one that waits goes on, or the worker looks for work.
     fn resume(&mut self, alloc: Global, hand: &mut Hand<B>, unneeded: &mut Unneeded<B>) -> Next<B>
         requires { Fits self.old.store.past hand.old }
-        ensures { NextRight B.right result }
+        ensures right { NextRight B.right result }
+        ensures leaves { LeavesWell self.new hand.new result }
     {
         if hand.is_empty() {
             return self.look_for_work(alloc, hand, unneeded);
@@ -91,7 +97,8 @@ impl<B: Body, N: Naming> Guarded<B, N> {
     ) -> Next<B>
         requires fits { Fits self.old.store.past hand.old }
         requires asks { MayAsk B.right B.key_of hand.old (Ask.Join t) }
-        ensures { NextRight B.right result }
+        ensures right { NextRight B.right result }
+        ensures leaves { LeavesWell self.new hand.new result }
     {
         match self.core.act(hand, Ask::Join(t)) {
             Told::Hear(heard) => {
@@ -120,7 +127,8 @@ impl<B: Body, N: Naming> Guarded<B, N> {
     ) -> Next<B>
         requires fits { Fits self.old.store.past hand.old }
         requires idle { (hand.old.stack ≡ []) × (hand.old.hook ≡ None) }
-        ensures { NextRight B.right result }
+        ensures right { NextRight B.right result }
+        ensures leaves { LeavesWell self.new hand.new result }
     {
         let _taken = self.take_in(alloc);
         // An intake leaves each hand as it is; the contract of a poll wants to know.
@@ -144,7 +152,8 @@ impl<B: Body, N: Naming> Guarded<B, N> {
 
     /// No task is queued: the worker leaves where the pool has terminated.
     fn after_no_task(&mut self) -> Next<B>
-        ensures { NextRight B.right result }
+        ensures right { NextRight B.right result }
+        ensures leaves { (hand : HandState B) → LeavesWell self.new hand result }
     {
         if self.core.is_terminated() {
             Next::Leave(Ok(()))
@@ -156,7 +165,9 @@ impl<B: Body, N: Naming> Guarded<B, N> {
 
     /// What a body does that asked for another task and was given none: it waits for what it joined, or hears that there was none.
     fn after_none(&mut self, alloc: Global, hand: &Hand<B>, helps: bool) -> Next<B>
-        ensures { NextRight B.right result }
+        ensures helped { helps ≡ true → result ≡ Next.Turn (Heard.Helped false) }
+        ensures right { NextRight B.right result }
+        ensures leaves { LeavesWell self.new hand.now result }
     {
         if helps {
             return Next::Turn(Heard::Helped(false));
@@ -170,7 +181,8 @@ impl<B: Body, N: Naming> Guarded<B, N> {
     /// The worker waits for a task. Before the shutdown or the stop of the pool it takes in what the lanes show, as an idle one does: that
     /// comes with the last submission, and all workers may wait for tasks that only a stop ends.
     fn wait_for(&mut self, alloc: Global, t: Serial) -> Next<B>
-        ensures { NextRight B.right result }
+        ensures right { NextRight B.right result }
+        ensures leaves { (hand : HandState B) → LeavesWell self.new hand result }
     {
         if self.waits.closing && !self.core.is_shut() {
             match self.take_in(alloc) {
@@ -199,9 +211,11 @@ impl<B: Body, N: Naming> Guarded<B, N> {
         }
     }
 
-    /// The core is stuck: all leave.
+    /// The core is stuck: all leave. Precondition: it is.
     fn leave_stuck(&mut self, body: Option<B>, unneeded: &mut Unneeded<B>) -> Next<B>
-        ensures { NextRight B.right result }
+        requires { self.old.store.stuck ≡ true }
+        ensures leaves { result ≡ Next.Leave (Err Refusal.LogFull) }
+        ensures same { self.new ≡ self.old }
     {
         self.all_ended();
         unneeded.add_ended(body);
@@ -211,7 +225,7 @@ impl<B: Body, N: Naming> Guarded<B, N> {
 
 /// A task was skipped, and its body goes. The worker looks on.
 fn skip<B: Body>(body: B, unneeded: &mut Unneeded<B>) -> Next<B>
-    ensures { NextRight B.right result }
+    ensures { result ≡ Next.Again }
 {
     unneeded.skipped = Some(body);
     Next::Again

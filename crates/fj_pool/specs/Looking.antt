@@ -1,0 +1,51 @@
+-- What the lanes show is taken in.
+use Rattle.std.specs.Prelude.{ℕ, ◌≡◌, ⊤, zero, suc, Bool, true, false, Option, Result}
+use Rattle.fj_model.specs.declared.refusal.Refusal.{Refusal}
+use Rattle.fj_model.specs.Answers.{is_quiet}
+use Rattle.fj_core.specs.declared.taken_in.Intake.{Intake}
+use Rattle.fj_core.specs.declared.taken_in.Intake.TheVariants.{Took}
+use Rattle.fj_core.specs.Cores.{CoreState}
+use Rattle.fj_core.specs.Intakes.{Intakes}
+use Rattle.fj_core.specs.Sealing.{SealsCore, may_be_sealed}
+use Rattle.fj_pool.specs.declared.guarded.outside.TakenIn.{TakenIn}
+use Rattle.fj_pool.specs.declared.guarded.outside.TakenIn.TheVariants.{Nothing, One, Several}
+
+-- with one body more
+abbrev pub one_more : TakenIn → TakenIn
+one_more Nothing = One
+one_more One = Several
+one_more Several = Several
+
+-- with what an intake answered
+abbrev pub with_answer : TakenIn → Intake → TakenIn
+with_answer taken (Took serial) = one_more taken
+with_answer taken _ = taken
+
+module _ {B K O : Type 0} where
+  -- one intake for each of the first submitters, so many of them, by rising number
+  abbrev pub TakesFrom : (B → Option ℕ) → ℕ → CoreState B K O → TakenIn → CoreState B K O → Type 0
+  TakesFrom rooted_as zero old taken new = (taken ≡ Nothing) × (new ≡ old)
+  TakesFrom rooted_as (suc s) old taken new =
+      (mid : CoreState B K O) × (before : TakenIn) × (answer : Intake)
+      × TakesFrom rooted_as s old before mid × Intakes rooted_as mid s answer new × (taken ≡ with_answer before answer)
+
+  -- one for each submitter
+  abbrev pub TakesEach : (B → Option ℕ) → CoreState B K O → TakenIn → CoreState B K O → Type 0
+  TakesEach rooted_as old taken new = TakesFrom rooted_as old.store.past.pool.limits.submitters old taken new
+
+  -- a seal is tried where it is time for it
+  abbrev pub SealsWhere : Bool → CoreState B K O → CoreState B K O → Type 0
+  SealsWhere true old new = (answer : Result ⊤ Refusal) × SealsCore old answer new
+  SealsWhere false old new = new ≡ old
+
+  -- a seal, where it is time for it, and then one intake for each submitter
+  pub record LooksAtLanes (rooted_as : B → Option ℕ) (old : CoreState B K O) (taken : TakenIn) (new : CoreState B K O) : Type 0 where
+    pub mid : CoreState B K O
+    pub seals : SealsWhere (may_be_sealed old.store.past) old mid
+    pub takes : TakesEach rooted_as mid taken new
+
+  -- the lanes were looked at, and then this is whether all is quiet
+  pub record IsQuietBehind (rooted_as : B → Option ℕ) (old : CoreState B K O) (quiet : Bool) (new : CoreState B K O) : Type 0 where
+    pub taken : TakenIn
+    pub looks : LooksAtLanes rooted_as old taken new
+    pub is : quiet ≡ is_quiet new.store.past.pool.limits new.store.past.events
