@@ -82,10 +82,6 @@ fewer_behind nodes p c (Some d) child e =
     let within = first.child.0 in
     omega arith
 
-pub numbers_few : (count : ℕ) (o : Option ℕ) → numbers_from count o ≤ count
-numbers_few count None = omega arith
-numbers_few count (Some c) = omega arith
-
 -- ---- how many they are
 
 few_filtered : (test : ℕ → Bool) (a n : ℕ) → length (filter test (range_with_len a n)) ≤ n

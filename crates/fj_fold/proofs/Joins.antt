@@ -12,7 +12,7 @@ use Rattle.fj_jobs.proofs.Residues.{same_or_not, not-eqb}
 use Rattle.fj_jobs.proofs.TreeValues.{children_step, children_end, good_at}
 use Rattle.fj_fold.proofs.Children.{few_children}
 use Rattle.fj_fold.specs.declared.member.Member.{Member}
-use Rattle.fj_fold.specs.Families.{IsJoined, IsFamily, IsMember, alone, before_sibling, member_at, nodes_of, with_child, with_joined}
+use Rattle.fj_fold.specs.Families.{IsJoined, alone, before_sibling, member_at, nodes_of, with_child, with_joined}
 
 -- ---- each alone
 
@@ -154,15 +154,4 @@ few_joined nodes members i q tree lt at =
     let few = few_children nodes (i + 1) q in
     omega arith
 
-pub family_all : (nodes : List Node) (members : List Member) → IsTree nodes → IsJoined nodes 0 members → IsFamily members
-family_all nodes members tree at = record { tree = rw at.all tree; joined = rw at.all at }
-
 -- ---- each member
-
-pub member_is : (members : List Member) (i : ℕ) → IsFamily members → i < length (nodes_of members) → IsMember (nodes_of members) i (member_at members i)
-member_is members i family lt = record {
-  node = sym (node_of (nodes_of members) members i refl);
-  children = family.joined.children i lt;
-  first = family.joined.first i lt;
-  next = λ p named. family.joined.next i p (omega arith) lt named;
-}

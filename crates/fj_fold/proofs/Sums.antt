@@ -1,23 +1,15 @@
 -- The value of a node is summed, child by child.
 use Rattle.std.specs.Prelude.{Option, Some, None, IfSome}
-use Rattle.std.proofs.Common.{ℕ, zero, suc, ◌≡◌, ◌+◌, ◌*◌, ◌%◌, ◌<◌, ◌≤◌, ◌∙◌, List, length, map, sym, ap, arith}
+use Rattle.std.proofs.Common.{ℕ, ◌≡◌, ◌+◌, ◌*◌, ◌%◌, ◌<◌, ◌≤◌, ◌∙◌, List, length, map, sym, ap, arith}
 use Rattle.std.proofs.Math.Nat.{mod-add-mod, mod-lt, add_assoc, mul-le-mul_right}
 use Rattle.fj_jobs.specs.declared.node.Node.{Node}
 use Rattle.fj_jobs.specs.Trees.{IsTree}
-use Rattle.fj_jobs.specs.TreeValues.{node_at, children_from, node_value, value_within, weighted}
+use Rattle.fj_jobs.specs.TreeValues.{node_at, children_from, node_value, weighted}
 use Rattle.fj_jobs.proofs.TreeValues.{good_at, value_combined}
 use Rattle.fj_fold.specs.declared.tally.Tally.{Tally}
 use Rattle.fj_fold.specs.Families.{IsChild, child_from}
 use Rattle.fj_fold.specs.Tallies.{IsTally, from_child, numbers_from}
 use Rattle.fj_fold.proofs.Children.{parent_below, children_at, first_from, from_first, fewer_behind}
-
-small_within : (nodes : List Node) (generations i : ℕ) → value_within nodes generations i < 1000000007
-small_within nodes zero i = omega arith
-small_within nodes (suc generations) i = omega arith
-
--- values are small
-pub value_small : (nodes : List Node) (i : ℕ) → node_value nodes i < 1000000007
-value_small nodes i = small_within nodes (length nodes) i
 
 weighted_child : (nodes : List Node) (i p w : ℕ) (o : Option ℕ) → i ≤ length nodes → o ≡ child_from nodes i p → ((c : ℕ) → i ≤ c → IsChild nodes p c → w ≤ c) → IfSome o (λ c. IsChild nodes p c × (w ≤ c))
 weighted_child nodes i p w None le e up = tt
@@ -53,13 +45,6 @@ tally_more nodes t c v w s next tally is value behind more sum =
       small = rw sum (mod-lt (t.sum + t.weight * v) (omega arith));
       value = rw (from_first nodes (c + 1) t.node next (omega arith) e, sum, more, value) (one_more _ _ _ _ _ here);
     }
-
--- no child is left
-pub tally_end : (nodes : List Node) (t : Tally) → IsTally nodes t → t.child ≡ None → t.sum ≡ node_value nodes t.node
-tally_end nodes t tally is =
-    let all : (t.sum + 0) % 1000000007 ≡ node_value nodes t.node = rw is at tally.value in
-    let small = tally.small in
-    omega arith
 
 -- a weight is small, and so is what a value comes to with it
 pub weight_small : (nodes : List Node) (t : Tally) (c : ℕ) → IsTree nodes → IsTally nodes t → t.child ≡ Some c → t.weight < 4000

@@ -7,33 +7,9 @@ use Rattle.fj_fold.specs.declared.course.Stage.{Stage}
 use Rattle.fj_fold.specs.declared.course.Course.{Course}
 use Rattle.fj_fold.specs.Families.{IsChild, child_from}
 use Rattle.fj_fold.specs.Tallies.{IsTally, numbers_from}
-use Rattle.fj_fold.specs.declared.course.Stage.TheVariants.{Taking}
-use Rattle.fj_fold.specs.Courses.{IsCourse, turns_in, turns_left}
+use Rattle.fj_fold.specs.Courses.{IsCourse}
 use Rattle.fj_fold.proofs.Children.{first_child, fewer_behind}
-use Rattle.std.proofs.Common.{ℕ, ◌≡◌, ◌+◌, ◌<◌, ◌≤◌, List, length, ap, arith}
-use Rattle.fj_store.specs.declared.body.Ask.{Ask}
-use Rattle.fj_store.specs.declared.body.Ask.TheVariants.{Fork, Trigger, Join, Help, Take, Add, QuietRoot, Cancel, Fault, State, Ok as AskOk, Quiet, Try, Pass, Complete, Fail, HookDone}
-use Rattle.fj_store.specs.Turns.{Nearer}
-
--- from farther away it comes nearer too
-pub nearer_from : {B K O : Type 0} (new old farther : ℕ) (asked : Ask B K O) → old ≤ farther → Nearer new old asked → Nearer new farther asked
-nearer_from new old farther (Fork body kind) le near = omega arith
-nearer_from new old farther (Trigger body count) le near = omega arith
-nearer_from new old farther (Join t) le near = omega arith
-nearer_from new old farther Help le near = omega arith
-nearer_from new old farther (Take t) le near = omega arith
-nearer_from new old farther (Add c n) le near = omega arith
-nearer_from new old farther (QuietRoot t) le near = omega arith
-nearer_from new old farther (Cancel t) le near = omega arith
-nearer_from new old farther (Fault t code) le near = omega arith
-nearer_from new old farther (State t) le near = omega arith
-nearer_from new old farther (AskOk out) le near = tt
-nearer_from new old farther Quiet le near = tt
-nearer_from new old farther Try le near = tt
-nearer_from new old farther Pass le near = tt
-nearer_from new old farther Complete le near = tt
-nearer_from new old farther (Fail code) le near = tt
-nearer_from new old farther (HookDone out) le near = tt
+use Rattle.std.proofs.Common.{ℕ, ◌≡◌, ◌+◌, ◌<◌, List, length, arith}
 
 -- ---- courses
 
@@ -63,6 +39,3 @@ forks_fewer ns nodes old c next same course is behind =
     let all = rw same at behind in
     let fewer = fewer_behind nodes old.tally.node c next child (all old.tally.node child.1) in
     rw is (omega arith)
-
-pub taking_left : (count : ℕ) (course : Course) → course.stage ≡ Taking → turns_left count course ≡ numbers_from count course.tally.child
-taking_left count course is = ap (λ stage. turns_in count stage course.next course.tally.child) is

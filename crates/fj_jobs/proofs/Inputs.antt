@@ -28,14 +28,6 @@ pub consumes_none : (a : Option (List ℕ)) → Consumes a a []
 consumes_none None = tt
 consumes_none (Some x) = refl
 
--- what was read to the end is the whole input
-pub read_whole : (a c : Option (List ℕ)) (s input : List ℕ) → Consumes a c s → IsAtEnd c → a ≡ Some input → input ≡ s
-read_whole None c s input p ended is = absurd cc
-read_whole (Some x) None s input p ended is = absurd p
-read_whole (Some x) (Some y) s input p ended is =
-    let same : x ≡ input = cc in
-    sym same ∙ p ∙ rw (ended, append-nil) refl
-
 -- what was read is a beginning of the input
 pub read_part : (a c : Option (List ℕ)) (s input : List ℕ) → Consumes a c s → a ≡ Some input → (rest : List ℕ) × (input ≡ s ++ rest)
 read_part None c s input p is = absurd cc

@@ -11,7 +11,7 @@ use Rattle.fj_jobs.specs.declared.tree_fault.TreeFault.{TreeFault}
 use Rattle.fj_jobs.specs.declared.tree_fault.TreeFault.TheVariants.{Line, Memory, Read}
 use Rattle.fj_jobs.specs.Separators.{Without}
 use Rattle.fj_jobs.specs.Trees.{HasParentAt, IsNodeAt, AreNodes, IsNoNode, BeginsWithNoNode, FaultOf, node_line, tree_text}
-use Rattle.fj_jobs.specs.TreeReaders.{Kept, IsAt, Goes, FaultAt, nothing_kept}
+use Rattle.fj_jobs.specs.TreeReaders.{Kept, IsAt, Goes, FaultAt}
 use Rattle.fj_jobs.proofs.Splits.{split_same, split_behind, uncut, cut_at}
 use Rattle.fj_jobs.proofs.NodeLines.{number_without, parent_without}
 
@@ -138,12 +138,3 @@ cut_short n b v number missing at = record {
 
 pub ends_within : (fault : TreeFault) (b : List ℕ) (v : Kept) → fault ≡ Line (length v.nodes + 1) → v.line ≢ [] → IsAt b v → FaultOf fault b
 ends_within fault b v is more at = rw is (cut_short (length v.nodes + 1) b v refl (λ e. absurd (more e)) at)
-
-pub ends_before : (fault : TreeFault) (b : List ℕ) (v : Kept) → fault ≡ Line (length v.nodes + 1) → v.nodes ≡ [] → IsAt b v → FaultOf fault b
-ends_before fault b v is none at = rw is (cut_short (length v.nodes + 1) b v refl (λ e. none) at)
-
-pub whole_text : (b : List ℕ) (v : Kept) → v.line ≡ [] → IsAt b v → b ≡ tree_text v.nodes
-whole_text b v ended at = at.bytes ∙ rw (ended, append-nil) refl
-
-pub at_start : IsAt [] nothing_kept
-at_start = record { bytes = refl; good = tt; unended = λ i lt. absurd (omega (arith, lt)) }

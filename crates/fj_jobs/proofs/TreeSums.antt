@@ -1,15 +1,15 @@
 -- The sums over the children of each node, the last node first.
-use Rattle.std.specs.Prelude.{Some, None, slice_set, replicate}
+use Rattle.std.specs.Prelude.{Some, None, slice_set}
 use Rattle.std.proofs.Common.{ℕ, ◌≡◌, ◌≢◌, ◌+◌, ◌*◌, ◌%◌, ◌<◌, ◌≤◌, ◌∙◌, inl, inr, List, [], ◌∷◌, length, map, slice_index, refl, sym, ap, arith}
 use Rattle.std.proofs.Math.Nat.{add-mul}
 use Rattle.std.proofs.lemmas.Bool.{eq-eqb}
-use Rattle.std.proofs.lemmas.List.{get_or-set_same, get_or-set_other, get_or-replicate, length-set, length-replicate}
+use Rattle.std.proofs.lemmas.List.{get_or-set_same, get_or-set_other, length-set}
 use Rattle.fj_jobs.specs.declared.node.Node.{Node}
 use Rattle.fj_jobs.specs.Trees.{AreNodes}
 use Rattle.fj_jobs.specs.TreeValues.{AreValues, node_at, children_from, children, weighted, node_value}
 use Rattle.fj_jobs.specs.TreeSums.{IsSummed, total}
 use Rattle.fj_jobs.proofs.Residues.{same_or_not, not-eqb}
-use Rattle.fj_jobs.proofs.TreeValues.{children_step, children_end, children_later, good_at, value_combined}
+use Rattle.fj_jobs.proofs.TreeValues.{children_step, children_later, good_at, value_combined}
 
 -- weights one larger add the plain sum
 weighted_more : (k : ℕ) (vs : List ℕ) → weighted (k + 1) vs ≡ weighted k vs + total vs
@@ -18,14 +18,6 @@ weighted_more k (v ∷ vs) =
     let later = weighted_more (k + 1) vs in
     let product : (k + 1) * v ≡ k * v + 1 * v = add-mul k 1 v in
     omega arith
-
-pub summed_start : (nodes : List Node) (vs ps ws : List ℕ) → vs ≡ replicate (length nodes) 0 → ps ≡ replicate (length nodes) 0 → ws ≡ replicate (length nodes) 0 → IsSummed nodes (length nodes) vs ps ws
-summed_start nodes vs ps ws v p w = record {
-  all = rw (v, p, w) (length-replicate (length nodes) 0, length-replicate (length nodes) 0, length-replicate (length nodes) 0);
-  values = λ k le lt. absurd (omega arith);
-  plain = λ q lt. rw (p, children_end nodes (length nodes) q (omega arith)) (get_or-replicate (length nodes) q 0 0 lt);
-  weights = λ q lt. rw (w, children_end nodes (length nodes) q (omega arith)) (get_or-replicate (length nodes) q 0 0 lt);
-}
 
 -- the value of the node before those that were summed
 pub summed_value : (nodes : List Node) (i : ℕ) (vs ps ws : List ℕ) → AreNodes 0 nodes → i < length nodes → IsSummed nodes (i + 1) vs ps ws → ((node_at nodes i).value + slice_index ws i) % 1000000007 ≡ node_value nodes i

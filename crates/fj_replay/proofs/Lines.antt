@@ -1,5 +1,5 @@
 -- Bytes that are read in two parts, and their lines.
-use Rattle.std.specs.Prelude.{◌==◌, if◌then◌else◌, Bool, true, false, ◌&&◌}
+use Rattle.std.specs.Prelude.{◌==◌, if◌then◌else◌, Bool, true, false}
 use Rattle.std.proofs.Common.{ℕ, ◌≡◌, List, [], ◌∷◌, ◌++◌, refl, ◌∙◌, sym, ap, append_assoc, ◌⊎◌, inl, inr}
 use Rattle.std.proofs.lemmas.List.{append-nil}
 use Rattle.fj_replay.specs.Cuts.{cut, left}
@@ -7,14 +7,6 @@ use Rattle.fj_replay.specs.Cuts.{cut, left}
 pub yes_or_no : (t : Bool) → (t ≡ true) ⊎ (t ≡ false)
 yes_or_no true = inl refl
 yes_or_no false = inr refl
-
-pub and_left : (a b : Bool) → (a && b) ≡ true → a ≡ true
-and_left true b e = refl
-and_left false b e = e
-
-pub and_right : (a b : Bool) → (a && b) ≡ true → b ≡ true
-and_right true b e = e
-and_right false b e = cc
 
 pub cut-append : (before xs ys : List ℕ) → cut before (xs ++ ys) ≡ cut before xs ++ cut (left before xs) ys
 cut-append before [] ys = refl
@@ -42,7 +34,3 @@ left-uncut before (x ∷ xs) e =
           let none : cut (before ++ x ∷ []) xs ≡ [] = rw f at e in
           rw f (left-uncut (before ++ x ∷ []) xs none ∙ append_assoc before (x ∷ []) xs)
     ]
-
--- bytes without a line, of which nothing is left, are none
-pub none-cut : (b : List ℕ) → cut [] b ≡ [] → left [] b ≡ [] → b ≡ []
-none-cut b e f = sym (left-uncut [] b e) ∙ f

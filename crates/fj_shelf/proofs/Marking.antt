@@ -1,26 +1,13 @@
 -- The marks of the numbers in a list.
-use Rattle.std.proofs.Common.{ℕ, ◌≡◌, ◌==◌, ◌&&◌, ◌||◌, not, Bool, true, false, List, [], ◌∷◌, ◌++◌, Option, Some, None, refl, sym, ap, ◌∙◌}
+use Rattle.std.proofs.Common.{ℕ, ◌≡◌, ◌==◌, ◌&&◌, ◌||◌, not, Bool, true, false, List, [], ◌∷◌, None, refl, sym, ap, ◌∙◌}
 use Rattle.std.specs.Prelude.{if◌then◌else◌, is_some}
-use Rattle.std.proofs.lemmas.Bool.{true≢false}
-use Rattle.std.proofs.Math.Bool.{and-false, and-true, or-false, or-true}
+use Rattle.std.proofs.Math.Bool.{and-false, and-true}
 use Rattle.fj_model.specs.Lists.{is_in, without}
-use Rattle.fj_model.proofs.Lists.Members.{is_in_append, is_in_filter}
-use Rattle.fj_shelf.specs.Shelves.{Entries, with_entry, without_entry}
+use Rattle.fj_model.proofs.Lists.Members.{is_in_filter}
+use Rattle.fj_shelf.specs.Shelves.{Entries, without_entry}
 use Rattle.fj_shelf.specs.Marked.{AreMarked}
 
 module _ {T : Type 0} where
-  pub no_mark : (x : Option T) → is_some x ≡ false → x ≡ None
-  no_mark None e = refl
-  no_mark (Some y) e = absurd (true≢false e)
-
-  -- with one more at the end
-  pub marked_more : (marks : Entries T) (ns : List ℕ) (t : ℕ) (x : T) → AreMarked marks ns → AreMarked (with_entry marks t x) (ns ++ t ∷ [])
-  marked_more marks ns t x are u = go (t == u) refl
-    where
-      go : (b : Bool) → (t == u) ≡ b → is_some (if b then Some x else marks u) ≡ is_in u (ns ++ t ∷ [])
-      go true at = sym (is_in_append u ns (t ∷ []) ∙ ap (λ (v : Bool). is_in u ns || (v || false)) at ∙ or-true (is_in u ns))
-      go false at = are u ∙ sym (is_in_append u ns (t ∷ []) ∙ ap (λ (v : Bool). is_in u ns || (v || false)) at ∙ or-false (is_in u ns))
-
   -- without one
   pub marked_less : (marks : Entries T) (ns : List ℕ) (t : ℕ) → AreMarked marks ns → AreMarked (without_entry marks t) (without ns (t ∷ []))
   marked_less marks ns t are u = go (t == u) refl

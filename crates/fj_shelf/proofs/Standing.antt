@@ -1,8 +1,8 @@
 -- What stands under each number of a shelf, from how it is kept.
-use Rattle.std.proofs.Common.{ℕ, suc, ◌≡◌, ◌≢◌, ◌+◌, ◌≤◌, ◌<◌, ◌%◌, Bool, true, false, cond, List, [], ◌∷◌, ◌++◌, length, take, Option, Some, None, get_or, set, refl, ⊎_elim, ap, sym, ◌∙◌, subst, arith, length-set}
+use Rattle.std.proofs.Common.{ℕ, suc, ◌≡◌, ◌≢◌, ◌+◌, ◌≤◌, ◌<◌, ◌%◌, Bool, true, false, cond, List, [], ◌∷◌, ◌++◌, length, Option, Some, None, get_or, set, refl, ⊎_elim, ap, sym, ◌∙◌, subst, arith, length-set}
 use Rattle.std.specs.Prelude.{◌==◌, ◌||◌, if◌then◌else◌, MatchOption, is_some, replicate, slice_get, option_map, IfNone}
 use Rattle.std.proofs.lemmas.Bool.{eq-eqb, eqb-true, ne_eqb, or_parts, true≢false, cases_eq, or_cases}
-use Rattle.std.proofs.lemmas.List.{map-append, take_more, get_or-set_same, get_or-set_other, get_or-replicate, length-replicate}
+use Rattle.std.proofs.lemmas.List.{map-append, get_or-set_same, get_or-set_other, get_or-replicate, length-replicate}
 use Rattle.std.proofs.lemmas.Nat.{mod_below}
 use Rattle.std.proofs.lemmas.Option.{slice_get-get_or, get_or_from_slice_get}
 use Rattle.fj_model.specs.Lists.{is_in, times_in, or_else}
@@ -10,7 +10,7 @@ use Rattle.fj_model.proofs.Lists.Members.{is_in_append, times_in_append, times_i
 use Rattle.fj_model.proofs.Places.KeptPlaces.{few_within}
 use Rattle.fj_shelf.specs.Aside.{Listed, numbers, Without, entry_in}
 use Rattle.fj_shelf.specs.Slots.{in_slot, guessed, entry_of, IsShelf}
-use Rattle.fj_shelf.specs.Shelves.{Entries, Shelved, no_entries, with_entry, without_entry, without_entries, AreFewer}
+use Rattle.fj_shelf.specs.Shelves.{Shelved, no_entries, with_entry, without_entry, AreFewer}
 
 -- functions that agree everywhere are the same
 pub same_everywhere : {A B : Type 0} (f g : A → B) → ((x : A) → f x ≡ g x) → f ≡ g
@@ -402,23 +402,3 @@ came_out {T} P slots again n i result b same test held gives =
     some_out None x is = absurd cc
 
 -- ---- a sweep
-
-pub swept_none : {T : Type 0} (all : Entries T) → all ≡ without_entries all []
-swept_none all = refl
-
-pub swept_one : {T : Type 0} (first : Entries T) (ns : List ℕ) (i n : ℕ) (old new : Entries T) → i < length ns → n ≡ get_or ns i n → old ≡ without_entries first (take i ns) → new ≡ without_entry old n
-    → new ≡ without_entries first (take (i + 1) ns)
-swept_one {T} first ns i n old new within read was made =
-    made ∙ ap (λ (all : Entries T). without_entry all n) was ∙ same_everywhere (without_entry (without_entries first (take i ns)) n) (without_entries first (take (i + 1) ns)) both
-  where
-    more : take (i + 1) ns ≡ take i ns ++ n ∷ []
-    more = take_more ns i n within ∙ ap (λ m. take i ns ++ m ∷ []) (sym read)
-
-    both : (m : ℕ) → (if n == m then None else (if is_in m (take i ns) then None else first m)) ≡ (if is_in m (take (i + 1) ns) then None else first m)
-    both m = rw (more, is_in_append m (take i ns) (n ∷ [])) (go (is_in m (take i ns)) (n == m))
-      where
-        go : (a b : Bool) → (if b then None else (if a then None else first m)) ≡ (if a || (b || false) then None else first m)
-        go true true = refl
-        go true false = refl
-        go false true = refl
-        go false false = refl

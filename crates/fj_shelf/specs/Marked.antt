@@ -1,5 +1,5 @@
 -- Task numbers in a list, each marked under itself.
-use Rattle.std.specs.Prelude.{ℕ, ◌≡◌, Bool, List}
+use Rattle.std.specs.Prelude.{ℕ, ◌≡◌, List}
 use Rattle.fj_model.specs.Lists.{is_in}
 use Rattle.fj_shelf.specs.Shelves.{Entries, is_there}
 

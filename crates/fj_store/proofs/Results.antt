@@ -13,8 +13,7 @@ use Rattle.fj_model.proofs.Places.KeptPlaces.{few_kept}
 use Rattle.fj_model.proofs.Steps.AnswersAllowed.{history_allowed}
 use Rattle.fj_shelf.specs.Shelves.{Entries, with_entry, without_entry, AreFewer}
 use Rattle.fj_shelf.proofs.Standing.{same_everywhere}
-use Rattle.fj_store.specs.Stores.{StoreState, AreKept, IsStored}
-use Rattle.fj_store.specs.Results.{Keeps, KeepsUnless}
+use Rattle.fj_store.specs.Stores.{AreKept, IsStored}
 use Rattle.fj_store.proofs.Bodies.{fewer_kept}
 
 -- ---- lists of kept tasks
@@ -115,18 +114,3 @@ result_free {B} {R} past bodies results ts t x is has = (is.results_kept t (ap i
 pub marked_room : {B R : Type 0} (past : Past) (bodies : Entries B) (results : Entries R) (ts : List ℕ) (t : ℕ) → IsStored past bodies results ts → is_kept past.events t ≡ true → is_in t ts ≡ false → length ts < past.pool.limits.tasks
 marked_room past bodies results ts t is kept free =
     omega (arith, few_are_kept past (ts ++ t ∷ []) is.run (one_more_kept past.events ts t is.taken_kept kept free), length-append ts (t ∷ []))
-
--- nothing is taken out where nothing stands
-pub without_nothing : {R : Type 0} (results : Entries R) (t : ℕ) → results t ≡ None → without_entry results t ≡ results
-without_nothing {R} results t none = same_everywhere (without_entry results t) results (λ u. go u (t == u) refl)
-  where
-    go : (u : ℕ) (b : Bool) → (t == u) ≡ b → (if b then None else results u) ≡ results u
-    go u true same = sym (ap results (sym (eqb-true t u same)) ∙ none)
-    go u false same = refl
-
-pub keeps_past : {B K O : Type 0} (old : StoreState B K O) (t : ℕ) (kept : K × O) (new : StoreState B K O) → Keeps old t kept new → new.past ≡ old.past
-keeps_past old t kept new is = go (is_in t old.taken) is
-  where
-    go : (b : Bool) → KeepsUnless b old t kept new → new.past ≡ old.past
-    go true same = ap (λ s. s.past) same
-    go false more = ap (λ s. s.past) more.1

@@ -1,11 +1,7 @@
 -- Tasks whose result or outcome was taken are released as soon as they can be.
-use Rattle.std.specs.Prelude.{ℕ, ◌≡◌, ◌≤◌, ◌⊎◌, Bool, true, false, ◌&&◌, not, map, length, List, [], ◌∷◌, ◌++◌}
-use Rattle.fj_model.specs.declared.event.Event.{Event}
+use Rattle.std.specs.Prelude.{ℕ, ◌≡◌, ◌≤◌, ◌⊎◌, Bool, true, false, map, length, List, [], ◌∷◌}
 use Rattle.fj_model.specs.declared.event.Event.TheVariants.{Rel}
 use Rattle.fj_model.specs.Lists.{is_in, without}
-use Rattle.fj_model.specs.Tasks.{is_kept}
-use Rattle.fj_model.specs.Places.{place, is_gone}
-use Rattle.fj_model.specs.Allowed.{has_kept_child}
 use Rattle.fj_model.specs.Pasts.{grown, limit}
 use Rattle.fj_store.specs.declared.tries.Tried.{Tried}
 use Rattle.fj_store.specs.declared.tries.Tried.TheVariants as tried

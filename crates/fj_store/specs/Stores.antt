@@ -1,5 +1,5 @@
 -- The machine with the bodies that no worker holds, and the results.
-use Rattle.std.specs.Prelude.{ℕ, ◌≡◌, ◌≤◌, Bool, true, false, ◌&&◌, map, length, drop, None, List}
+use Rattle.std.specs.Prelude.{ℕ, ◌≡◌, ◌≤◌, Bool, true, false, ◌&&◌, length, drop, None, List}
 use Rattle.fj_model.specs.declared.event.Event.{Event}
 use Rattle.fj_model.specs.declared.place.Place.{Place}
 use Rattle.fj_model.specs.declared.place.Place.TheVariants.{Queued, Held, Open, Gone}

@@ -2,10 +2,6 @@
 use Rattle.std.proofs.Common.{ℕ, ◌+◌, ◌-◌, ◌^◌, ◌≤◌, ⊎_elim, inl, inr, refl, arith, Option, Some, None}
 use Rattle.fj_streams.specs.Calls.{Calls, Fails, GoesOn, HasFailed, IsFine}
 
-pub goes_nowhere : (a : Option Calls) → GoesOn a a 0
-goes_nowhere None = tt
-goes_nowhere (Some x) = (refl, omega arith)
-
 pub goes_further : (a b c : Option Calls) (n m : ℕ) → GoesOn a b n → GoesOn b c m → GoesOn a c (n + m)
 goes_further None b c n m p q = tt
 goes_further (Some x) None c n m p q = absurd p

@@ -16,7 +16,7 @@ use Rattle.fj_model.specs.declared.status.Status.{Status}
 use Rattle.fj_model.specs.Bounds.{Bounds, Pool}
 use Rattle.fj_model.specs.Lists.{is_in, times_in}
 use Rattle.fj_model.specs.Tasks.{tasks, is_kept, parent}
-use Rattle.fj_model.specs.Hooks.{Hook, hooks, hooks_after, hand, receiver, completer_in}
+use Rattle.fj_model.specs.Hooks.{Hook, hooks, hand, receiver, completer_in}
 use Rattle.fj_model.specs.Completers.{fires_or_passes}
 use Rattle.fj_model.specs.Allowed.{Allowed, AllowedFrom, is_fired_by_complete, fires_by_complete}
 use Rattle.fj_model.proofs.Events.Growth.{hooks_more, or_false}

@@ -1,5 +1,5 @@
 -- The end of the body of a running task, whatever the ending.
-use Rattle.std.proofs.Common.{ℕ, ◌≡◌, ◌+◌, ◌-◌, ◌≤◌, ◌<◌, Bool, true, false, List, [], ◌∷◌, ◌++◌, length, Option, Some, None, refl, ap, sym, ◌∙◌, subst, arith, not, ◌⊎◌, inl, inr}
+use Rattle.std.proofs.Common.{ℕ, ◌≡◌, ◌+◌, ◌-◌, ◌≤◌, ◌<◌, Bool, true, false, List, [], ◌∷◌, ◌++◌, length, Option, Some, None, refl, ap, sym, ◌∙◌, subst, arith, not}
 use Rattle.std.specs.Prelude.{if◌then◌else◌, nat_lt}
 use Rattle.std.proofs.lemmas.Bool.{eq-eqb, not-false}
 use Rattle.fj_model.specs.Pasts.{limit}
@@ -49,25 +49,6 @@ end_tests : (pool : Pool) (h : List Event) (w t : ℕ) (ending : Ending)
 end_tests pool h w t ending none is =
     let tests = all_fail (no_such_worker pool w ∷ hook_in_hand h w ∷ nothing_running h w ∷ []) none in
     rw (tests.0, tests.1.0, tests.1.1.0, is) refl
-
--- whether an ending suits the task
-pub misfit_ok : (h : List Event) (t : ℕ) (ending : Ending) (b fits : Bool) → is_completer h t ≡ b → ending ≡ kind_of.Ok → fits ≡ not b → is_misfit h ending (Some t) ≡ not fits
-misfit_ok h t ending b fits is same suits = rw (same, is, suits) (go b)
-  where
-    go : (b : Bool) → b ≡ not (not b)
-    go true = refl
-    go false = refl
-
-pub misfit_fail : (h : List Event) (t : ℕ) (ending : Ending) (code : ℕ) (fits : Bool) → ending ≡ kind_of.Fail code → fits ≡ true → is_misfit h ending (Some t) ≡ not fits
-misfit_fail h t ending code fits same suits = rw (same, suits) refl
-
--- any other one is for completers
-pub misfit_other : (h : List Event) (t : ℕ) (ending : Ending) (b fits : Bool) → is_completer h t ≡ b
-    → (ending ≡ kind_of.Quiet) ⊎ ((ending ≡ kind_of.Try) ⊎ ((ending ≡ kind_of.Pass) ⊎ (ending ≡ kind_of.Complete))) → fits ≡ b → is_misfit h ending (Some t) ≡ not fits
-misfit_other h t ending b fits is (inl same) suits = rw (same, is, suits) refl
-misfit_other h t ending b fits is (inr (inl same)) suits = rw (same, is, suits) refl
-misfit_other h t ending b fits is (inr (inr (inl same))) suits = rw (same, is, suits) refl
-misfit_other h t ending b fits is (inr (inr (inr same))) suits = rw (same, is, suits) refl
 
 -- the ending suits the task, or not
 pub end_refused : (pool : Pool) (h : List Event) (w t : ℕ) (ending : Ending) (fits : Bool)

@@ -1,12 +1,12 @@
 -- What the record that was found of a task says of it.
 use Rattle.std.proofs.Common.{ℕ, ◌≡◌, Bool, true, false, List, [], Some, refl, sym, ap, ◌∙◌, Option, None, Bor}
-use Rattle.std.specs.Prelude.{◌↔◌, IsTrue, IsSome, MatchOption, option_copied}
+use Rattle.std.specs.Prelude.{◌↔◌, IsTrue, MatchOption, option_copied}
 use Rattle.std.proofs.lemmas.Bool.{true≢false}
 use Rattle.fj_model.specs.declared.event.Event.{Event}
 use Rattle.fj_model.specs.declared.place.Place.TheVariants.{Held}
 use Rattle.fj_model.specs.Bounds.{Pool}
 use Rattle.fj_model.specs.Lists.{is_in}
-use Rattle.fj_model.specs.Tasks.{is_kept, is_completer, is_completer_kind, kind, parent, parent_in}
+use Rattle.fj_model.specs.Tasks.{is_kept, is_completer, is_completer_kind, kind}
 use Rattle.fj_model.specs.Completers.{pending, is_spent}
 use Rattle.fj_model.specs.Places.{place}
 use Rattle.fj_model.specs.Stacks.{stack}
@@ -21,11 +21,6 @@ use Rattle.fj_tree.specs.Arrivals as record_is
 use Rattle.fj_ledger.proofs.Recorded.ArrivalsTold.{spent_told}
 
 -- ---- whether there is a record
-
--- a kept task has one
-pub kept_found : (h : List Event) (t : ℕ) (found : Option (Bor Record)) → MatchOption (option_copied found) (is_kept h t ≡ false) (TellsOf h t) → is_kept h t ≡ true → IsSome found
-kept_found h t None told kept = absurd (true≢false (sym kept ∙ told))
-kept_found h t (Some r) told kept = refl
 
 -- and a task without one is not kept
 pub unkept : (h : List Event) (t : ℕ) (found : Option (Bor Record)) → MatchOption (option_copied found) (is_kept h t ≡ false) (TellsOf h t) → found ≡ None → is_kept h t ≡ false
@@ -43,10 +38,6 @@ found_kept h t r found = ap (is_kept h) (sym found.number) ∙ found.tells.kept
 pub found_completer : (h : List Event) (t : ℕ) (r : Record) → TellsOf h t r → is_completer h t ≡ is_completer_kind (Some r.kind)
 unfolding is_completer
 found_completer h t r found = ap (λ u. is_completer_kind (kind h u)) (sym found.number) ∙ ap is_completer_kind found.tells.kind
-
-pub found_parent : (h : List Event) (t : ℕ) (r : Record) → TellsOf h t r → parent h t ≡ parent_in (Some r.kind)
-unfolding parent
-found_parent h t r found = ap (λ u. parent_in (kind h u)) (sym found.number) ∙ ap parent_in found.tells.kind
 
 pub found_status : (h : List Event) (t : ℕ) (r : Record) → TellsOf h t r → status h t ≡ r.status
 found_status h t r found = ap (status h) (sym found.number) ∙ found.tells.status

@@ -1,19 +1,14 @@
 -- Which tasks the lists of open and of gone tasks have, and how many.
-use Rattle.std.proofs.Common.{ℕ, ◌≡◌, ◌+◌, ◌≤◌, Bool, true, false, cond, not, ◌&&◌, List, [], ◌++◌, length, Option, Some, None, refl, ◌∙◌, arith, length-append}
-use Rattle.std.specs.List.{flat_map}
+use Rattle.std.proofs.Common.{ℕ, ◌≡◌, ◌≤◌, Bool, true, false, cond, not, ◌&&◌, List, [], Option, Some, None, refl, ◌∙◌, arith}
 use Rattle.fj_model.specs.declared.event.Event.{Event}
 use Rattle.fj_model.specs.declared.owner.Owner.{Owner}
-use Rattle.fj_model.specs.Bounds.{Pool, owners, workers}
+use Rattle.fj_model.specs.Bounds.{Pool}
 use Rattle.fj_model.specs.Lists.{is_in, times_in}
-use Rattle.fj_model.specs.Tasks.{tasks, accepted, is_completer}
-use Rattle.fj_model.specs.Queues.{queue}
-use Rattle.fj_model.specs.Stacks.{stack}
+use Rattle.fj_model.specs.Tasks.{tasks, is_completer}
 use Rattle.fj_model.specs.Completers.{is_spent}
-use Rattle.fj_model.specs.Places.{queued_in, held_by, opened, place, place_of, is_open, open_tasks, gone}
+use Rattle.fj_model.specs.Places.{queued_in, held_by, opened, place, place_of, is_open, open_tasks}
 use Rattle.fj_model.specs.Allowed.{AllowedFrom}
-use Rattle.fj_model.specs.Headline.{all_places}
 use Rattle.fj_model.proofs.Lists.Members.{times_in_filter, is_in_filter, Once}
-use Rattle.fj_model.proofs.Lists.Counting.{few_placed}
 use Rattle.fj_model.proofs.Places.OnePlace.{opened_once, opened_out}
 
 -- what an open task is
@@ -61,20 +56,3 @@ open_once pool h so t = rw times_in_filter (go (is_open (place h t)))
     go : (b : Bool) → cond b (times_in t (opened h)) 0 ≤ 1
     go true = opened_once pool h so t
     go false = omega arith
-
--- together they have no more members than were accepted
-pub lists_short : (pool : Pool) (h : List Event) → AllowedFrom pool [] h → length (open_tasks h) + length (gone h) ≤ accepted h
-unfolding all_places
-lists_short pool h so =
-    let l = pool.limits in
-    let qs = flat_map (queue h) (owners l) in
-    let ss = flat_map (stack h) (workers l) in
-    omega (
-      arith,
-      few_placed pool h so,
-      length-append (qs ++ ss ++ open_tasks h) (gone h),
-      length-append (qs ++ ss) (open_tasks h),
-    )
-
-pub gone_short : (pool : Pool) (h : List Event) → AllowedFrom pool [] h → length (gone h) ≤ accepted h
-gone_short pool h so = omega (arith, lists_short pool h so)

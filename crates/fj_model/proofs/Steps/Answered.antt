@@ -101,22 +101,6 @@ Taken w says.None events = events ≡ []
 Taken w (says.Refused r) events = events ≡ []
 Taken w _ events = ⊥
 
-taken_choice : (h : List Event) (w : ℕ) (t : Option ℕ) → Taken w (taking_says h t) (taking h w t)
-taken_choice h w None = refl
-taken_choice h w (Some t) = go (is_undone (status h t))
-  where
-    go : (b : Bool) → Taken w (if b then says.Run t else says.Skip t) ((if b then Out t w else Skip t w) ∷ [])
-    go true = refl
-    go false = refl
-
-pub poll_taken : (past : Past) (w r : ℕ) → Taken w (answer past (Poll w r)).0 (answer past (Poll w r)).1
-unfolding reply_of events_of
-poll_taken past w r = go (answered past (Poll w r))
-  where
-    go : Answered past (Poll w r) (answer past (Poll w r)).0 (answer past (Poll w r)).1 → Taken w (answer past (Poll w r)).0 (answer past (Poll w r)).1
-    go (Refuses refusal said none) = rw said none
-    go (Makes stands said made) = rw (said, made) (taken_choice past.events w (choice past.pool past.events w r))
-
 -- ---- a release
 
 -- the answer to a release
@@ -143,27 +127,6 @@ refusal_same r s same = cc
 
 pub refused_not_done : (r : Refusal) → says.Refused r ≡ says.Done → ⊥
 refused_not_done r same = cc
-
-pub poll_ran : (past : Past) (w r t : ℕ) (reply : Said) → reply ≡ (answer past (Poll w r)).0 → reply ≡ says.Run t → (answer past (Poll w r)).1 ≡ Out t w ∷ []
-poll_ran past w r t reply is said = rw (sym is ∙ said) at (poll_taken past w r)
-
-pub poll_skipped : (past : Past) (w r t : ℕ) (reply : Said) → reply ≡ (answer past (Poll w r)).0 → reply ≡ says.Skip t → (answer past (Poll w r)).1 ≡ Skip t w ∷ []
-poll_skipped past w r t reply is said = rw (sym is ∙ said) at (poll_taken past w r)
-
-pub poll_idle : (past : Past) (w r : ℕ) (reply : Said) → reply ≡ (answer past (Poll w r)).0 → reply ≡ says.None → (answer past (Poll w r)).1 ≡ []
-poll_idle past w r reply is said = rw (sym is ∙ said) at (poll_taken past w r)
-
-taken_said : (w : ℕ) (reply : Said) (events : List Event) → Taken w reply events → (reply ≡ says.None → ⊥) → ((t : ℕ) → reply ≡ says.Run t → ⊥) → ((t : ℕ) → reply ≡ says.Skip t → ⊥) → ((r : Refusal) → reply ≡ says.Refused r → ⊥) → ⊥
-taken_said w (says.Run t) events took no_none no_run no_skip no_refusal = no_run t refl
-taken_said w (says.Skip t) events took no_none no_run no_skip no_refusal = no_skip t refl
-taken_said w says.None events took no_none no_run no_skip no_refusal = no_none refl
-taken_said w (says.Refused r) events took no_none no_run no_skip no_refusal = no_refusal r refl
-taken_said w _ events took no_none no_run no_skip no_refusal = took
-
-pub poll_replies : (past : Past) (w r : ℕ) (reply : Said) → reply ≡ (answer past (Poll w r)).0
-    → (reply ≡ says.None → ⊥) → ((t : ℕ) → reply ≡ says.Run t → ⊥) → ((t : ℕ) → reply ≡ says.Skip t → ⊥) → ((r' : Refusal) → reply ≡ says.Refused r' → ⊥) → ⊥
-poll_replies past w r reply is no_none no_run no_skip no_refusal =
-    taken_said w reply (answer past (Poll w r)).1 (rw is (poll_taken past w r)) no_none no_run no_skip no_refusal
 
 -- a poll by an idle worker is refused only by a full history
 pub poll_full : (past : Past) (w r : ℕ) (refusal : Refusal) → w < past.pool.limits.workers → hand past.events w ≡ None → stack past.events w ≡ [] → (answer past (Poll w r)).0 ≡ says.Refused refusal → refusal ≡ LogFull

@@ -12,8 +12,7 @@ use Rattle.fj_tree.specs.declared.arrive.Arrived.TheVariants.{Counted, Fire, Spe
 use Rattle.fj_tree.specs.declared.pass.PassHow.{PassHow}
 use Rattle.fj_tree.specs.declared.pass.PassHow.TheVariants.{Root}
 use Rattle.fj_tree.specs.Handles.{Handle, numbers_of}
-use Rattle.std.proofs.lemmas.Option.{same_Some}
-use Rattle.fj_tree.specs.Passes.{PassEnd, arrival_of, does_fire, end_by, with_ended_body, is_passed, passed, not_passed, stop_at, EndsBefore, EndsAs}
+use Rattle.fj_tree.specs.Passes.{arrival_of, does_fire, end_by, with_ended_body, is_passed, passed, not_passed, stop_at, EndsBefore, EndsAs}
 use Rattle.fj_tree.specs.Paths.{above, and_on, path_up, path}
 use Rattle.fj_tree.specs.Records.{Records}
 use Rattle.fj_tree.proofs.Ascents.Paths.{IsBelowRoot, below_at_start, below_above, root_at_end}
@@ -154,14 +153,3 @@ pub record HasPassed (t : Records) (h at : Handle) (count : ℕ) : Type 0 where
   pub done : List ℕ
   pub climbs : IsClimbing t h at done
   pub counted : length done ≡ count
-
--- a climb has one end, so a look tells what the update answers
-pub one_end : (t : Records) (h : Handle) (a b : PassEnd) → a.passed ≡ length (passed t h) → b.passed ≡ length (passed t h) → EndsAs t h a → EndsAs t h b → a ≡ b
-one_end t h a b passed_a passed_b ends_a ends_b = go (not_passed t h) ends_a ends_b
-  where
-    build : a.at ≡ b.at → a.how ≡ b.how → a ≡ b
-    build at how = ap (λ (n : ℕ). record { passed = n; at = a.at; how = a.how }) (passed_a ∙ sym passed_b) ∙ ap (λ (x : Handle). record { passed = b.passed; at = x; how = a.how }) at ∙ ap (λ (x : PassHow). record { passed = b.passed; at = b.at; how = x }) how
-
-    go : (way : List Handle) → EndsBefore t h way a → EndsBefore t h way b → a ≡ b
-    go [] ends_a ends_b = build (ends_a.1 ∙ sym ends_b.1) (ends_a.0 ∙ sym ends_b.0)
-    go (at ∷ way) ends_a ends_b = build (ends_a.1 ∙ sym ends_b.1) (same_Some a.how b.how (sym ends_a.0 ∙ ends_b.0))

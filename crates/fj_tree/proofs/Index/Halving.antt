@@ -3,7 +3,7 @@ use Rattle.std.proofs.Common.{arith, ℕ, ◌≡◌, ◌+◌, ◌-◌, ◌*◌, 
 use Rattle.std.proofs.Math.Nat.{mul-le-mul_right, mul_assoc, mul_comm, pow-suc}
 use Rattle.std.proofs.Math.Pow.{pow_mono}
 use Rattle.std.proofs.lemmas.Bool.{cases_lt}
-use Rattle.fj_tree.specs.Kept.{Pairs, number_at, IsRising, IsAbsent}
+use Rattle.fj_tree.specs.Kept.{Pairs, number_at, IsRising}
 
 -- the number is nowhere below `low`, nor from `high` on; and each of the probes made has halved the places between
 pub record Halved (l : Pairs) (n low high was count : ℕ) : Type 0 where
@@ -15,19 +15,6 @@ pub record Halved (l : Pairs) (n low high was count : ℕ) : Type 0 where
   pub counted : count ≡ was + made
   pub narrowed : (high - low) * 2 ^ made ≤ length l
   pub few : (k : ℕ) → length l < 2 ^ k → made ≤ k
-
--- at the start all places are left
-pub halved_none : (l : Pairs) (n was : ℕ) → Halved l n 0 (length l) was was
-halved_none l n was = record {
-  ordered = omega arith;
-  in_range = omega arith;
-  smaller = λ i below. absurd (omega arith);
-  larger = λ i past within. absurd (omega arith);
-  made = 0;
-  counted = omega arith;
-  narrowed = omega arith;
-  few = λ k within. omega arith;
-}
 
 -- half as many places at most, and one probe more
 narrower : (width half made bound : ℕ) → 2 * half ≤ width → width * 2 ^ made ≤ bound → half * 2 ^ (made + 1) ≤ bound
@@ -85,10 +72,3 @@ module _ (l : Pairs) (rising : IsRising l) (n low high was count middle : ℕ) (
     narrowed = narrower (high - low) (middle - low) half.made (length l) halved half.narrowed;
     few = few_more;
   }
-
--- no place is left
-pub halved_all : (l : Pairs) (n low high was count : ℕ) → Halved l n low high was count → high ≤ low → IsAbsent l n
-halved_all l n low high was count half none = λ i within same. elim (cases_lt i low) [
-  | inl before ↦ omega (arith, half.smaller i before)
-  | inr past ↦ omega (arith, half.larger i (omega (arith, half.ordered)) within)
-]

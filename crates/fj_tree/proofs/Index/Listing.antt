@@ -1,5 +1,5 @@
 -- What a search finds among rising numbers, and what one number more leaves.
-use Rattle.std.proofs.Common.{arith, ℕ, ◌≡◌, ◌+◌, ◌++◌, ◌∷◌, [], length, get_or, sym, ◌∙◌, ap, refl, inl, inr}
+use Rattle.std.proofs.Common.{arith, ℕ, ◌≡◌, ◌+◌, ◌++◌, ◌∷◌, [], length, sym, ◌∙◌, ap, refl, inl, inr}
 use Rattle.std.proofs.lemmas.Bool.{cases_eq, cases_lt}
 use Rattle.std.proofs.lemmas.List.{get_or_append_left, get_or_push, length_push}
 use Rattle.fj_tree.specs.Kept.{Pairs, number_at, key_at, IsRising, IsAbove, IsAbsent, IsAt, IsListed}
@@ -7,10 +7,6 @@ use Rattle.fj_tree.specs.Kept.{Pairs, number_at, key_at, IsRising, IsAbove, IsAb
 -- no pair of an absent number is listed
 pub none_listed : (l : Pairs) (n key : ℕ) → IsAbsent l n → IsListed l n key → ⊥
 none_listed l n key absent listed = absent listed.place listed.in_range (ap (λ (pair : ℕ × ℕ). pair.0) listed.is)
-
--- the pair at a place is listed
-pub listed_at : (l : Pairs) (i n : ℕ) → IsAt l n i → IsListed l n (get_or l i (0, 0)).1
-listed_at l i n at = record { place = i; in_range = at.in_range; is = ap (λ (m : ℕ). (m, (get_or l i (0, 0)).1)) at.number }
 
 module _ (l : Pairs) (n key : ℕ) where
   -- the new pair is listed

@@ -9,7 +9,7 @@ use Rattle.fj_model.specs.declared.kind.Kind.{Kind}
 use Rattle.fj_model.specs.Tasks.{parent_in}
 use Rattle.fj_tree.specs.declared.record.Record.{Record}
 use Rattle.fj_tree.specs.Handles.{Handle}
-use Rattle.fj_tree.specs.Paths.{above, and_on, path_up, path, last_from, root_of}
+use Rattle.fj_tree.specs.Paths.{above, and_on, path_up, path}
 use Rattle.fj_tree.specs.Records.{Records, IsSound, IsGood, record_at, record_of, entry_of, handle_of, if_numbered}
 use Rattle.fj_tree.proofs.Index.Finds.{absent_from, found_listed, found_numbered, slab_of}
 
@@ -121,8 +121,3 @@ way_kept old new (suc most) h sound keeps = ap (λ (way : List Handle). h ∷ wa
 pub path_kept : (old new : Records) (h : Handle) → IsSound old → KeepsNames old new → path new h ≡ path old h
 unfolding path
 path_kept old new h sound keeps = way_kept old new (suc h.serial) h sound keeps
-
--- the root is the same
-pub root_kept : (old new : Records) (h : Handle) → IsSound old → KeepsNames old new → root_of new h ≡ root_of old h
-unfolding root_of
-root_kept old new h sound keeps = ap (last_from h) (path_kept old new h sound keeps)

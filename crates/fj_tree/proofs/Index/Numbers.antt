@@ -10,7 +10,7 @@ use Rattle.std.proofs.lemmas.Option.{same_Some}
 use Rattle.fj_tree.specs.declared.record.Record.{Record}
 use Rattle.fj_tree.specs.Handles.{Handle}
 use Rattle.fj_tree.specs.Records.{Records, IsSound, IsGood, record_at, entry_of, handle_of, changed, count}
-use Rattle.fj_tree.proofs.Index.Finds.{absent_from, named_record, found_listed, found_numbered, slab_of}
+use Rattle.fj_tree.proofs.Index.Finds.{absent_from, found_listed, found_numbered, slab_of}
 use Rattle.fj_tree.proofs.Records.Writes.{count_written}
 use Rattle.fj_tree.proofs.Records.Children.{changed_here, changed_other}
 
@@ -68,10 +68,6 @@ found_there tree n key sound there = at_key (record_at tree key) refl there
     at_key : (o : Option Record) → record_at tree key ≡ o → IsSomeAnd o (λ r. r.serial ≡ n) → handle_of tree n ≡ Some (record { key = key; serial = n })
     at_key None none same = absurd same
     at_key (Some r) some same = at_entry r (entry_of tree n) some same refl
-
--- the record of a good handle
-pub at_good : (tree : Records) (h : Handle) → IsGood tree h → IsAt tree h.serial
-at_good tree h good = let named = named_record tree h good in record { key = h.key; found = named.0; at = named.1; number = named.2 }
 
 -- one record was written, and the others are as they were
 pub record IsWritten (old new : Records) (key : ℕ) (r s : Record) : Type 0 where

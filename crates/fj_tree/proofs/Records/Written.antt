@@ -1,9 +1,7 @@
 -- Some of the records are changed in one way, each of them once.
 use Rattle.std.specs.Prelude.{option_map, if◌then◌else◌, ◌||◌}
-use Rattle.std.proofs.Common.{arith, length, nat_eq, Bool, true, false, eq-eqb, Option, Some, None, ℕ, ◌≡◌, ◌≢◌, ◌<◌, List, [], ◌∷◌, ◌++◌, ap, sym, ◌∙◌, refl, inl, inr}
-use Rattle.std.proofs.lemmas.Bool.{cases_eq, cases_lt, eqb-true}
-use Rattle.std.proofs.Math.ListN.{set}
-use Rattle.std.proofs.lemmas.List.{get_or-set_same, get_or_past, length-set}
+use Rattle.std.proofs.Common.{arith, nat_eq, Bool, true, false, eq-eqb, Option, Some, None, ℕ, ◌≡◌, ◌≢◌, ◌<◌, List, [], ◌∷◌, ◌++◌, ap, sym, ◌∙◌, refl, inl, inr}
+use Rattle.std.proofs.lemmas.Bool.{cases_eq, eqb-true}
 use Rattle.fj_model.specs.Lists.{is_in}
 use Rattle.fj_model.proofs.Lists.Members.{is_in_append}
 use Rattle.fj_tree.specs.declared.record.Record.{Record}
@@ -35,23 +33,6 @@ written_at_start change t = record { records = λ key. go (record_at t key); kep
 -- a change that keeps number and kind
 pub record KeepsName (change : Record → Record) : Type 0 where
   pub name : (r : Record) → name_of (change r) ≡ name_of r
-
--- where one record is changed so, numbers and kinds stay
-pub changed_keeps : (change : Record → Record) (t : Records) (key : ℕ) → KeepsName change → KeepsNames t (changed t key change)
-changed_keeps change t key keeps = record { names = each }
-  where
-    here : (o : Option Record) → record_at t key ≡ o → option_map name_of (record_at (changed t key change) key) ≡ option_map name_of (record_at t key)
-    here (Some r) is = ap (option_map name_of) (changed_here t key r change is) ∙ ap Some (keeps.name r) ∙ sym (ap (option_map name_of) is)
-    here None is = elim (cases_lt key (length t.slots)) [
-      | inl within ↦ ap (option_map name_of) (get_or-set_same t.slots key (option_map change (record_at t key)) None within ∙ ap (option_map change) is) ∙ sym (ap (option_map name_of) is)
-      | inr past ↦ ap (option_map name_of) (get_or_past (set t.slots key (option_map change (record_at t key))) key None (omega (arith, past, length-set t.slots key (option_map change (record_at t key)))) ∙ sym is)
-    ]
-
-    each : (k : ℕ) → option_map name_of (record_at (changed t key change) k) ≡ option_map name_of (record_at t k)
-    each k = elim (cases_eq k key) [
-      | inl same ↦ ap (λ (i : ℕ). option_map name_of (record_at (changed t key change) i)) same ∙ here (record_at t key) refl ∙ sym (ap (λ (i : ℕ). option_map name_of (record_at t i)) same)
-      | inr differs ↦ ap (option_map name_of) (changed_other t key k change differs)
-    ]
 
 -- numbers and kinds stay
 pub written_keeps : (change : Record → Record) (t now : Records) (done : List ℕ) → KeepsName change → IsWritten change t now done → KeepsNames t now
