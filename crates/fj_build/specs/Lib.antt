@@ -2,3 +2,5 @@
 pub mod Artifacts
 -- How far a target has come.
 pub mod Courses
+-- Why nothing was built.
+pub mod Faults

@@ -1,4 +1,4 @@
-ghost use Rattle.std.specs.Prelude.{◌≡◌, ◌+◌, IfSome, sum};
+ghost use Rattle.std.specs.Prelude.{◌≡◌, ◌+◌, ◌^◌, ◌≤◌, IfNone, IfSome, sum};
 
 /// What was built.
 #[derive(Drop)]
@@ -13,6 +13,7 @@ pub struct Artifact {
 pub fn link(own: u32, parts: Vec<u64>) -> Option<Artifact>
     ensures parts { IfSome result (λ a. a.parts.items ≡ parts.items) }
     ensures size { IfSome result (λ a. a.size ≡ own + sum parts.items) }
+    ensures too_large { IfNone result (2 ^ 64 ≤ own + sum parts.items) }
 {
     let size = size_of(own, parts.as_slice())?;
     Some(Artifact { size, parts })
@@ -20,7 +21,8 @@ pub fn link(own: u32, parts: Vec<u64>) -> Option<Artifact>
 
 /// The bytes of both together. None where they are too many.
 fn size_of(own: u32, parts: &[u64]) -> Option<u64>
-    ensures { IfSome result (λ size. size ≡ own + sum parts.now) }
+    ensures size { IfSome result (λ size. size ≡ own + sum parts.now) }
+    ensures too_large { IfNone result (2 ^ 64 ≤ own + sum parts.now) }
 {
     let mut size = u64::from(own);
     for part in parts {

@@ -1,5 +1,6 @@
-ghost use Rattle.std.specs.Prelude.{IfOk, IfSome, slice_get};
+ghost use Rattle.std.specs.Prelude.{◌≡◌, IfErr, IfOk, IfSome, length, slice_get};
 ghost use Rattle.fj_build.specs.Artifacts.{IsBuilt, IsRight};
+ghost use Rattle.fj_build.specs.Faults.{IsTold};
 
 use crate::artifact::Artifact;
 use crate::fault::Fault;
@@ -30,7 +31,8 @@ pub fn build<R: Threads + Wait + Sync>(
     workers: u32,
     plan: &[Target],
 ) -> Result<Artifact, Fault>
-    ensures { IfOk result (λ a. IfSome (slice_get plan.now 0) (λ t. ∥ IsBuilt t a ∥₁)) }
+    ensures built { IfOk result (λ a. IfSome (slice_get plan.now 0) (λ t. ∥ IsBuilt t a ∥₁)) }
+    ensures err { IfErr result (λ fault. IsTold (length plan.now) workers fault) }
 {
     let Some(target) = plan.first() else {
         return Err(Fault::NoTarget);
@@ -57,7 +59,8 @@ fn artifact_under<'p>(
     artifact: Option<Artifact>,
 ) -> Result<Artifact, Fault>
     requires { ∥ IsRight key artifact ∥₁ }
-    ensures { IfOk result (λ a. ∥ IsBuilt target.now a ∥₁) }
+    ensures built { IfOk result (λ a. ∥ IsBuilt target.now a ∥₁) }
+    ensures err { IfErr result (λ fault. fault ≡ Fault.Lost) }
 {
     match artifact {
         Some(artifact) if key == *target => Ok(artifact),

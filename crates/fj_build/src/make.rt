@@ -43,7 +43,8 @@ pub struct Make<'p> {
 impl<'p> Make<'p> {
     /// The body of a target of a plan. It takes no memory.
     pub fn new(alloc: Global, plan: &'p [Target<'p>], target: Target<'p>) -> Make<'p>
-        ensures { result.target ≡ target.entry }
+        ensures target { result.target ≡ target.entry }
+        ensures plan { result.plan.now ≡ plan.now }
     {
         Make {
             plan,

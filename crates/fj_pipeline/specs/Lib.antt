@@ -2,3 +2,5 @@
 pub mod Stages
 -- How far a stage has come.
 pub mod Courses
+-- Why an event has no level.
+pub mod Faults

@@ -11,6 +11,25 @@ run Scale count = if nat_lt 0 count && nat_lt count 4096 then Some (count * 5000
 run Convert millivolts = if nat_lt millivolts 500 then None else Some (millivolts - 500)
 run Grade tenths = if nat_lt 1250 tenths then None else Some (tenths / 400)
 
+-- the stage after a stage, if there is one
+abbrev pub after : Stage → Option Stage
+after Decode = Some Scale
+after Scale = Some Convert
+after Convert = Some Grade
+after Grade = None
+
+-- the number of a stage, by which an event fails that it rejects
+abbrev pub number_of : Stage → ℕ
+number_of Decode = 1
+number_of Scale = 2
+number_of Convert = 3
+number_of Grade = 4
+
+-- what the stage after this one is given, where there is one and a number for it
+abbrev pub item_of : Option Stage → Option ℕ → Option Item
+item_of (Some stage) (Some value) = Some (record { stage = stage; value = value })
+item_of _ _ = None
+
 -- what a stage makes of what one before it has made
 abbrev pub and_then : Option ℕ → (ℕ → Option ℕ) → Option ℕ
 and_then None next = None

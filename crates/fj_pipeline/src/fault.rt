@@ -16,6 +16,11 @@ pub enum Fault {
 }
 
 impl From<NoResult> for Fault {
+    ghost use Rattle.std.specs.Prelude.{◌≡◌};
+    ghost use Rattle.fj_pipeline.specs.Faults.{fault_of};
+
+    ghost from_gives = { λ none given. given ≡ fault_of none };
+
     fn from(none: NoResult) -> Fault {
         match none {
             NoResult::Failed(code) => Fault::Failed(code),

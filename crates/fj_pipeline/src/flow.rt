@@ -1,7 +1,7 @@
-ghost use Rattle.std.specs.Prelude.{◌≡◌, ℕ, Option, Some};
+ghost use Rattle.std.specs.Prelude.{◌≡◌, ℕ, Option, None, Some};
 ghost use Rattle.fj_store.specs.Turns.{AskRight, HeardRight, Nearer};
 ghost use Rattle.fj_pipeline.specs.Courses.{turns_left};
-ghost use Rattle.fj_pipeline.specs.Stages.{IsRight};
+ghost use Rattle.fj_pipeline.specs.Stages.{IsRight, number_of, run};
 
 use crate::item::Item;
 use fj_crew::{Ask, Body, Heard, Kind, Serial};
@@ -43,6 +43,7 @@ impl Flow {
     /// Its first turn, as this task: it does its part, and forks the next stage, or is the last.
     fn begin(&mut self, me: Serial) -> Ask<Flow>
         ensures item { self.new.item ≡ self.old.item }
+        ensures rejected { run self.old.item.stage self.old.item.value ≡ None → result ≡ Ask.Fail (number_of self.old.item.stage) }
         ensures right { AskRight IsRight self.old.item result }
         ensures nearer { Nearer (turns_left self.new.course) 3 result }
     {

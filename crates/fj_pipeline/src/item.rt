@@ -1,5 +1,5 @@
 ghost use Rattle.std.specs.Prelude.{◌≡◌, IfSome};
-ghost use Rattle.fj_pipeline.specs.Stages.{result_from};
+ghost use Rattle.fj_pipeline.specs.Stages.{after, item_of, result_from, run};
 
 use crate::stage::Stage;
 
@@ -15,7 +15,8 @@ pub struct Item {
 impl Item {
     /// What the next stage is given. None where the number is rejected, and after the last stage.
     pub fn passed_on(self) -> Option<Item>
-        ensures { IfSome result (λ n. result_from self.stage self.value ≡ result_from n.stage n.value) }
+        ensures next { result ≡ item_of (after self.stage) (run self.stage self.value) }
+        ensures rest { IfSome result (λ n. result_from self.stage self.value ≡ result_from n.stage n.value) }
     {
         match (self.stage.next(), self.stage.run(self.value)) {
             (Some(stage), Some(value)) => Some(Item { stage, value }),

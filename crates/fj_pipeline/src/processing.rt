@@ -1,4 +1,5 @@
-ghost use Rattle.std.specs.Prelude.{◌≡◌, IfOk, Some};
+ghost use Rattle.std.specs.Prelude.{◌≡◌, IfErr, IfOk, Some};
+ghost use Rattle.fj_pipeline.specs.Faults.{IsTold};
 ghost use Rattle.fj_pipeline.specs.Stages.{IsRight, result_from};
 
 use crate::fault::Fault;
@@ -26,7 +27,8 @@ pub fn process<R: Threads + Wait + Sync>(
     workers: u32,
     word: u32,
 ) -> Result<u32, Fault>
-    ensures { IfOk result (λ level. ∥ result_from Stage.Decode word ≡ Some level ∥₁) }
+    ensures level { IfOk result (λ level. ∥ result_from Stage.Decode word ≡ Some level ∥₁) }
+    ensures err { IfErr result (λ fault. IsTold workers fault) }
 {
     let item = Item {
         stage: Stage::Decode,
@@ -49,7 +51,8 @@ pub fn process<R: Threads + Wait + Sync>(
 /// The level of a result, if that stands under this number. Precondition: it is right for its key.
 fn level_under(item: Item, key: Item, level: Option<u32>) -> Result<u32, Fault>
     requires { ∥ IsRight key level ∥₁ }
-    ensures { IfOk result (λ v. ∥ result_from item.stage item.value ≡ Some v ∥₁) }
+    ensures level { IfOk result (λ v. ∥ result_from item.stage item.value ≡ Some v ∥₁) }
+    ensures err { IfErr result (λ fault. fault ≡ Fault.Lost) }
 {
     match level {
         Some(level) if key == item => Ok(level),

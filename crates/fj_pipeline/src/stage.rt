@@ -1,5 +1,5 @@
 ghost use Rattle.std.specs.Prelude.{◌≡◌, MatchOption, ℕ};
-ghost use Rattle.fj_pipeline.specs.Stages.{and_then, result_from, run};
+ghost use Rattle.fj_pipeline.specs.Stages.{after, and_then, number_of, result_from, run};
 
 /// A stage: it makes a number of the one that it is given, or rejects that.
 #[derive(Clone, Copy, Debug, PartialEq, Eq)]
@@ -30,7 +30,8 @@ impl Stage {
 
     /// The stage after it, if there is one.
     pub fn next(self) -> Option<Stage>
-        ensures { MatchOption result ((v : ℕ) → result_from self v ≡ run self v) (λ n. (v : ℕ) → result_from self v ≡ and_then (run self v) (result_from n)) }
+        ensures stage { result ≡ after self }
+        ensures rest { MatchOption result ((v : ℕ) → result_from self v ≡ run self v) (λ n. (v : ℕ) → result_from self v ≡ and_then (run self v) (result_from n)) }
     {
         match self {
             Stage::Decode => Some(Stage::Scale),
@@ -41,7 +42,9 @@ impl Stage {
     }
 
     /// Its number, 1 to 4: the code with which an event fails that it rejects.
-    pub fn code(self) -> u32 {
+    pub fn code(self) -> u32
+        ensures { result ≡ number_of self }
+    {
         match self {
             Stage::Decode => 1,
             Stage::Scale => 2,
