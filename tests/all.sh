@@ -1,6 +1,7 @@
 #!/usr/bin/env bash
-# Runs the trials that are no part of `rt ci`, on the programs that it left: the samples of the documents, the program through pipes and as an
-# attacker would use it, where there is a C compiler each allocation refused in turn, and a pool by threads, whose tests are built here.
+# Runs the trials that are no part of `rt ci`, on the programs that it left: the samples of the documents, the laws that nothing names, the
+# program through pipes and as an attacker would use it, where there is a C compiler each allocation refused in turn, and a pool by threads,
+# whose tests are built here.
 #
 #   tests/all.sh            the tests by threads 30 times each, ten minutes of load, and whether jobs that use no workers are told
 #   tests/all.sh --short    these tests once each, as they are run where they are built, and half a minute of load: what the gate runs
@@ -22,7 +23,7 @@ tests/threads/run.sh --load "$load" "$runs" > "$log" 2>&1 &
 by_threads=$!
 trap 'kill "$by_threads" 2> /dev/null || true; rm -f "$log"' EXIT
 
-trials=(tests/documents/*.sh tests/documents/*.py tests/pipes/*.sh tests/hostile/*.sh)
+trials=(tests/documents/*.sh tests/documents/*.py tests/proofs/*.py tests/pipes/*.sh tests/hostile/*.sh)
 if ((runs)); then
     trials+=(tests/workers/*.sh)
 fi
