@@ -1,7 +1,9 @@
 #!/usr/bin/env python3
-"""Looks up what the documents name: each file and heading to which a link leads, each `Type::method` and file in their text, and in the
-tables of docs/PROOFS.md each function, clause, definition and test. Tells what is not there; the exit status is 1 if there is any.
+"""Looks up what the documents name: each file and heading to which a link leads, each `Type::method` and path in their text, in the tables of
+docs/PROOFS.md each function, clause, definition and test, and under "What is proved" of a crate's page each function and clause. What a library
+exports has a doc comment, and is named on the page of its crate. Tells what is not there; the exit status is 1 if there is any.
 """
+import glob
 import os
 import re
 import sys
@@ -113,14 +115,52 @@ def unknown_tests(cells, names, trials):
             yield f"{word}: no such test"
 
 
-def unknown_in_text(text, names):
-    """The methods and the files that a document names and that are not there."""
+def unknown_in_text(path, text, names):
+    """The methods and the paths that a document names and that are not there. A word with a capital in a path stands for any name, and what is
+    made by a build, or lies outside, is left out."""
     prose = re.sub(r"^```.*?^```", "", text, flags=re.M | re.S)
     for word in code_words(prose):
         head, _, method = word.rpartition("::")
         declaring = [it for it in names.values() if head in it.types] if "::" in word else []
         if declaring and not any(it.has(word) for it in declaring):
             yield f"{word}: not declared"
+    inside = ["", "src/", "specs/", "proofs/"]
+    places = [TOP, os.path.dirname(path), *(f"{TOP}/crates/{crate}/{it}" for crate in names for it in inside)]
+    for word in re.findall(r"`((?:\w+/)+[\w.*]*)`", prose):
+        parts = word.split("/")
+        is_left_out = parts[0] in {"M", "L", *MADE} or any(it.isupper() for it in parts)
+        if not is_left_out and not any(glob.glob(f"{it}/{word}") or os.path.exists(f"{it}/{word}.antt") for it in places):
+            yield f"{word}: no such path"
+
+
+def unknown_on_page(text, of, names):
+    """The functions and the clauses that the page of a crate lists as proved and that are not there."""
+    proved = text.partition("## What is proved")[2].partition("\n## ")[0]
+    for block in re.findall(r"^```text\n(.*?)^```", proved, flags=re.M | re.S):
+        for line in block.split("\n"):
+            heads = re.findall(r"(?:^fn |, )(?:\w+::)?(\w+)(?=\(|<\w+:)", line) if line.startswith("fn ") else []
+            yield from (f"{it}: no such function" for it in heads if it not in of.functions)
+            for word in re.findall(r"(?:^ +|  )(\w+): ", line):
+                if not of.has(word) and not any(it.has(word) for it in names.values()):
+                    yield f"{word}: no such clause"
+
+
+def unnamed_exports(crate, page):
+    """What a library exports without a doc comment, or without a word on its page."""
+    uses = re.findall(r"^pub use (\w+)::([^;]+);", text_of(f"{TOP}/crates/{crate}/src/lib.rt"), flags=re.M)
+    exported = {it for module, items in uses if not module.startswith("fj_") for it in re.findall(r"\w+", items)}
+    for path in files(f"crates/{crate}/src", ".rt"):
+        of, lines = "", text_of(path).split("\n")
+        for at, line in enumerate(lines):
+            of = (re.match(r"impl(?:<.*?>)? (?:.* for )?(\w+)", line) or [0, of])[1]
+            item = re.match(r"( *)pub (?:fn|const|struct|enum|trait|type) (\w+)", line)
+            if not item or (of if item[1] else item[2]) not in exported:
+                continue
+            above = next(it for it in reversed(lines[:at]) if not it.strip().startswith("#["))
+            if not above.strip().startswith("///"):
+                yield f"{item[2]}: exported without a doc comment"
+            if not re.search(rf"\b{item[2]}\b", page):
+                yield f"{item[2]}: exported, and not named here"
 
 
 def main():
@@ -130,7 +170,13 @@ def main():
     for path in files("", ".md"):
         text = text_of(path)
         page = os.path.relpath(path, TOP)
-        told += [f"{page}: {it}" for it in [*broken_links(path, text), *unknown_in_text(text, names)]]
+        told += [f"{page}: {it}" for it in [*broken_links(path, text), *unknown_in_text(path, text, names)]]
+    for crate in crates:
+        page = text_of(f"{TOP}/crates/{crate}/README.md")
+        unknown = [*unknown_on_page(page, names[crate], names)]
+        if os.path.exists(f"{TOP}/crates/{crate}/src/lib.rt"):
+            unknown += unnamed_exports(crate, page)
+        told += [f"crates/{crate}/README.md: {it}" for it in unknown]
     trials = {os.path.basename(it): text_of(it) for it in files("tests", ".rt.in", ".sh")}
     crate, is_tested = "", False
     for number, line in enumerate(text_of(f"{TOP}/docs/PROOFS.md").split("\n"), 1):
