@@ -11,19 +11,19 @@ pub trait Divide: Drop {
     /// The type of the value.
     type Out: Drop;
 
-    // The key of a job.
+    /// The key of a job.
     ghost key_of: { Self → Self.Key };
 
-    // The value of the jobs with this key.
+    /// The value of the jobs with this key.
     ghost value: { Self.Key → Self.Out };
 
-    // The value of a job that does not split.
+    /// The value of a job that does not split.
     ghost leaf_of: { Self → Self.Out };
 
-    // The value of a job from the values of its halves, the left one first.
+    /// The value of a job from the values of its halves, the left one first.
     ghost combined: { Self.Out → Self.Out → Self.Out };
 
-    // How large a job is: each half is smaller.
+    /// How large a job is: each half is smaller.
     ghost size: { Self → ℕ };
 
     /// What the value of the job depends on.
@@ -44,6 +44,7 @@ pub trait Divide: Drop {
     fn combine(left: Self::Out, right: Self::Out) -> Self::Out
         ensures { result ≡ combined left right };
 
+    /// Jobs with equal keys have equal values.
     ghost same_value: { (a b : Self.Key) → Self.Key.eq a b ≡ true → value a ≡ value b };
 }
 

@@ -42,7 +42,7 @@ impl<B> Model for Hand<B> {
 }
 
 impl<B: Drop> Hand<B> {
-    /// The empty hand of a worker, whose first scan begins at this word.
+    /// The empty hand of a worker, whose first scan begins at this word. An error where memory is refused, and no other.
     pub fn new(alloc: Global, worker: WorkerId, word: u32) -> Result<Hand<B>, AllocError>
         ensures { IfOk result (λ h. h ≡ new_hand worker word) }
     {
@@ -71,7 +71,7 @@ impl<B: Drop> Hand<B> {
         word
     }
 
-    /// Puts a body on top, which runs from now on. Precondition: there are fewer than a pool may keep tasks.
+    /// Puts a body on top, which runs from now on. Precondition: it has fewer than 4,096 bodies, the most tasks that a pool keeps.
     pub fn push(&mut self, t: Serial, body: B)
         requires { length self.old.stack < 4096 }
         ensures { self.new ≡ with_body self.old t body }

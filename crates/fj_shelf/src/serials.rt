@@ -28,7 +28,7 @@ impl Model for Serials {
 }
 
 impl Serials {
-    /// None. Precondition: there is room for one number at least.
+    /// None. An error where memory is refused, and no other. Precondition: there is room for one number at least.
     pub fn new(alloc: Global, room: usize) -> Result<Serials, AllocError>
         requires { 0 < room }
         ensures { IfOk result (λ s. s ≡ record { items = []; room = room }) }

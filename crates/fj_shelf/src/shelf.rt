@@ -30,7 +30,7 @@ impl<T> Model for Shelf<T> {
 }
 
 impl<T: Drop> Shelf<T> {
-    /// An empty shelf. Precondition: there is room for one entry at least.
+    /// An empty shelf. An error where memory is refused, and no other. Precondition: there is room for one entry at least.
     pub fn new(alloc: Global, room: usize) -> Result<Shelf<T>, AllocError>
         requires { 0 < room }
         ensures entries { IfOk result (λ s. entries s ≡ no_entries) }

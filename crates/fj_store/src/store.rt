@@ -23,6 +23,9 @@ use std::alloc::Global;
 use std::marker::Model;
 
 /// A machine, the bodies that no worker holds, the results that were not taken, and the tasks that wait for their release.
+///
+/// A call that a body asks for answers the refusal of its step as the machine gives it, and then nothing has changed. Once the store is stuck
+/// it answers `Stuck`, with the body that came, and nothing changes.
 #[derive(Drop)]
 pub struct Store<B: Body> {
     machine: Machine,
@@ -61,7 +64,7 @@ impl<B: Body> Model for Store<B> {
 }
 
 impl<B: Body> Store<B> {
-    /// Nothing has happened. All the memory that is needed later is taken here, but that of seals.
+    /// Nothing has happened. All the memory that is needed later is taken here, but that of seals. `OutOfMemory` where memory is refused.
     pub fn new(alloc: Global, mode: Mode, limits: Limits) -> Result<Store<B>, OutOfMemory>
         ensures past { IfOk result (λ s. s.past ≡ fresh mode limits) }
         ensures bodies { IfOk result (λ s. entries s.bodies ≡ no_entries) }
