@@ -1,5 +1,5 @@
 #!/usr/bin/env python3
-"""Looks up what the documents name: each file and heading to which a link leads, each `Type::method` and path in their text, in the tables of
+"""Looks up what the documents name: each file and heading to which a link leads, each name, `Type::method` and path in their text, in the tables of
 docs/PROOFS.md each function, clause, definition and test, and under "What is proved" of a crate's page each function and clause. What a library
 exports has a doc comment, and is named on the page of its crate. Tells what is not there; the exit status is 1 if there is any.
 """
@@ -13,6 +13,8 @@ TOP = os.path.dirname(os.path.dirname(os.path.dirname(os.path.realpath(__file__)
 MADE = {"out", "target", ".git"}
 # What docs/PROOFS.md names of the standard library.
 STANDARD = {"Display", "From", "Hash", "Iterator", "spawn"}
+# What the text of a document names that is of no file here: of Java, of the toolchain, or no name.
+ELSEWHERE = {"ManagedBlocker", "Throwable", "chunks_from", "in_italics"}
 
 
 def files(folder, *endings):
@@ -23,7 +25,7 @@ def files(folder, *endings):
 
 
 def text_of(path):
-    with open(path, encoding="utf-8") as it:
+    with open(path, encoding="utf-8", errors="replace") as it:
         return it.read()
 
 
@@ -115,6 +117,23 @@ def unknown_tests(cells, names, trials):
             yield f"{word}: no such test"
 
 
+def words_of_files():
+    """Every word in a file that is no document, and in the name of one."""
+    words = set()
+    for path in files("", ""):
+        words.update(re.findall(r"\w+", os.path.relpath(path, TOP)))
+        if not path.endswith(".md"):
+            words.update(re.findall(r"\w+", text_of(path)))
+    return words
+
+
+def unheard_in_text(text, words):
+    """The names in the text of a document, in capitals or with `_`, that are in no other file."""
+    prose = re.sub(r"^```.*?^```", "", text, flags=re.M | re.S)
+    for word in sorted(set(re.findall(r"`([a-z]\w*_\w+|[A-Z]\w+)`", prose)) - words - ELSEWHERE):
+        yield f"{word}: in no file"
+
+
 def unknown_in_text(path, text, names):
     """The methods and the paths that a document names and that are not there. A word with a capital in a path stands for any name, and what is
     made by a build, or lies outside, is left out."""
@@ -166,11 +185,11 @@ def unnamed_exports(crate, page):
 def main():
     crates = sorted(os.listdir(f"{TOP}/crates"))
     names = {it: Names(it) for it in crates}
-    told = []
+    told, words = [], words_of_files()
     for path in files("", ".md"):
         text = text_of(path)
         page = os.path.relpath(path, TOP)
-        told += [f"{page}: {it}" for it in [*broken_links(path, text), *unknown_in_text(path, text, names)]]
+        told += [f"{page}: {it}" for it in [*broken_links(path, text), *unknown_in_text(path, text, names), *unheard_in_text(text, words)]]
     for crate in crates:
         page = text_of(f"{TOP}/crates/{crate}/README.md")
         unknown = [*unknown_on_page(page, names[crate], names)]
