@@ -75,6 +75,11 @@ module _ {B K O : Type 0} where
   readies_stay old new s intake.Empty is = same_stays old new is.2
   readies_stay old new s (intake.Took t) is = absurd is
 
+  -- mode and limits after a task was accepted, and what is due was made
+  pub taken_pool : (due stopping : Bool) (old ready mid new : StoreState B K O) (es : List Event) → ready ≡ old → mid.past ≡ grown ready.past es → Dues due stopping mid new → new.past.pool ≡ old.past.pool
+  taken_pool due stopping old ready mid new es same grew made =
+      (due_pushes_none due stopping mid new made).pool ∙ ap (λ (p : Past). p.pool) grew ∙ ap (λ (s : StoreState B K O). s.past.pool) same
+
   -- the core after the drain gave nothing
   pub missed_core : (store : StoreState B K O) (lanes : List (DrainState B)) (bookings : List Booking) (closing : Closing) (s : ℕ) (d e : DrainState B) → slice_get lanes s ≡ Some d → e.drained ≡ d.drained → e.capacity ≡ d.capacity
       → IsCore store lanes bookings closing → IsCore store (slice_set lanes s e) bookings closing

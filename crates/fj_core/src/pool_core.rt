@@ -6,7 +6,7 @@ ghost use Rattle.fj_model.specs.Tasks.{is_kept};
 ghost use Rattle.fj_store.specs.Choosing.{Polls};
 ghost use Rattle.fj_store.specs.Fitting.{Fits};
 ghost use Rattle.fj_core.specs.Booked.{booked_under};
-ghost use Rattle.fj_core.specs.Cores.{ChangesStore, CollectsTicket, IsNew, first_hands, is_awaited};
+ghost use Rattle.fj_core.specs.Cores.{ChangesStore, CollectsTicket, IsNew, StaysInside, first_hands, is_awaited};
 
 mod act;
 mod close;
@@ -100,6 +100,7 @@ impl<B: Body> Core<B> {
         requires idle { (hand.old.stack ≡ []) × (hand.old.hook ≡ None) }
         ensures polls { Polls self.old.store hand.old result self.new.store hand.new }
         ensures others { ChangesStore self.old self.new }
+        ensures stays { StaysInside self.old.store self.new.store }
         ensures fits { Fits self.new.store.past hand.new }
     {
         self.store.poll(hand)
@@ -111,7 +112,8 @@ impl<B: Body> Core<B> {
     /// `LogFull` where the core is stuck. `Unknown` where the outcome was told before, where a join or a take has had the result, or
     /// where so many submissions were taken in as there will be, none of them under this ticket. None while nothing was taken in under it, and while its task is undone.
     pub fn collect(&mut self, ticket: Ticket) -> Option<Result<Outcome<B>, Refusal>>
-        ensures { CollectsTicket self.old ticket result self.new }
+        ensures collects { CollectsTicket self.old ticket result self.new }
+        ensures stays { StaysInside self.old.store self.new.store }
     {
         if self.store.is_stuck() {
             return Some(Err(Refusal::LogFull));

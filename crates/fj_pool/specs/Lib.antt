@@ -6,9 +6,11 @@ pub mod Seats
 pub mod Lanes
 -- the parts of a pool, before it is opened
 pub mod Parts
--- what is asked and heard under the lock
+-- what a body asks and hears, and why a worker leaves
 pub mod Turning
 -- what is left of a pool
 pub mod Winding
 -- what the lanes show is taken in
 pub mod Looking
+-- what a worker does in one holding of the lock
+pub mod Working

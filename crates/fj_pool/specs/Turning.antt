@@ -1,22 +1,36 @@
--- What is asked and heard under the lock.
-use Rattle.std.specs.Prelude.{◌≡◌, ⊤, true, false, IfSome, IsSome, Option, Result, Ok, Err}
+-- What a body asks and hears, and why a worker leaves.
+use Rattle.std.specs.Prelude.{ℕ, ◌≡◌, ◌⊎◌, ⊤, true, [], IfSome, IsSome, Option, Some, None, Result, Ok, Err}
 use Rattle.fj_model.specs.declared.refusal.Refusal.{Refusal}
 use Rattle.fj_model.specs.declared.refusal.Refusal.TheVariants.{LogFull, NoSuch}
-use Rattle.fj_shelf.specs.Aside.{numbers}
-use Rattle.fj_shelf.specs.Hands.{HandState, asker, hook_number}
+use Rattle.fj_shelf.specs.Hands.{HandState, asker, with_body, with_hook}
 use Rattle.fj_store.specs.declared.body.Ask.{Ask}
-use Rattle.fj_store.specs.declared.body.Ask.TheVariants as asks
-use Rattle.fj_store.specs.declared.body.Heard.TheVariants as hears
-use Rattle.fj_store.specs.declared.body.Told.{Told}
-use Rattle.fj_store.specs.declared.body.Told.TheVariants as told
 use Rattle.fj_store.specs.Fitting.{Fits}
-use Rattle.fj_store.specs.Stores.{StoreState}
 use Rattle.fj_store.specs.Turns.{AskRight, HeardRight}
-use Rattle.fj_core.specs.Acting.{Acts}
 use Rattle.fj_core.specs.Closes.{is_finished}
 use Rattle.fj_core.specs.Cores.{CoreState}
 use Rattle.fj_pool.specs.declared.next.Next.{Next}
-use Rattle.fj_pool.specs.declared.next.Next.TheVariants.{Again, Begin, Leave, Turn}
+use Rattle.fj_pool.specs.declared.next.Next.TheVariants.{Leave, Turn}
+
+module _ {B K : Type 0} where
+  -- the hook's body took the turn: it stays where it was, with its key, and nothing else in the hand has changed
+  pub record TurnsHook (key_of : B → K) (old new : HandState B) : Type 0 where
+    pub task : ℕ
+    pub before : B
+    pub after : B
+    pub had : old.hook ≡ Some (task, before)
+    pub has : new ≡ with_hook old task after
+    pub key : key_of after ≡ key_of before
+
+  -- the running body took it, in a hand without a hook
+  pub record TurnsBody (key_of : B → K) (old new : HandState B) : Type 0 where
+    pub rest : HandState B
+    pub task : ℕ
+    pub before : B
+    pub after : B
+    pub bare : old.hook ≡ None
+    pub had : old ≡ with_body rest task before
+    pub has : new ≡ with_body rest task after
+    pub key : key_of after ≡ key_of before
 
 module _ {B K O : Type 0} where
   -- the hook or the running body of the hand may ask this: a result that it gives is right for its key
@@ -28,35 +42,10 @@ module _ {B K O : Type 0} where
   NextRight right (Turn heard) = HeardRight right heard
   NextRight right _ = ⊤
 
-  -- a turn was taken where the hand has somebody who asks, and the hand holds what it held
-  pub record TakesTurn (old : HandState B) (asked : Option (Ask B K O)) (new : HandState B) : Type 0 where
-    pub asks : IsSome (asker old) → IsSome asked
-    pub worker : new.worker ≡ old.worker
-    pub bodies : numbers new.stack ≡ numbers old.stack
-    pub hook : hook_number new.hook ≡ hook_number old.hook
-
-  -- what comes next where no task was queued: a body that helped hears so, and one that joined waits
-  abbrev pub NextOfNone : Ask B K O → Next B K O → Type 0
-  NextOfNone asks.Help next = next ≡ Turn (hears.Helped false)
-  NextOfNone ask next = ⊤
-
-  -- what comes next is what was told; where the body has ended, the worker goes on with another one or looks for one
-  abbrev pub NextOf : Ask B K O → Told B K O → Next B K O → Type 0
-  NextOf ask (told.Hear heard) next = next ≡ Turn heard
-  NextOf ask (told.Run t) next = next ≡ Begin t
-  NextOf ask (told.Skip t body) next = next ≡ Again
-  NextOf ask told.None next = NextOfNone ask next
-  NextOf ask (told.Hook c caller) next = next ≡ Turn (hears.Hook caller)
-  NextOf ask (told.Over body) next = ⊤
-  NextOf ask (told.Stuck body) next = next ≡ Leave (Err LogFull)
-
-  -- what was asked is done, by one action, and what comes next is what that told
-  pub record Serves (key_of : B → K) (old : StoreState B K O) (hand : HandState B) (ask : Ask B K O) (next : Next B K O) : Type 0 where
-    pub told : Told B K O
-    pub store : StoreState B K O
-    pub held : HandState B
-    pub acts : Acts key_of old hand ask told store held
-    pub goes_on : NextOf ask told next
+  -- a turn was taken by the hook's body or else by the running one; or the hand is empty, and nothing has changed
+  abbrev pub TakesTurn : (B → K) → HandState B → Option (Ask B K O) → HandState B → Type 0
+  TakesTurn key_of old (Some ask) new = TurnsHook key_of old new ⊎ TurnsBody key_of old new
+  TakesTurn key_of old None new = (old.stack ≡ []) × (old.hook ≡ None) × (new ≡ old)
 
   -- why a worker leaves: all has terminated, the core is stuck, or the hand does not fit it
   abbrev pub MayLeave : CoreState B K O → HandState B → Result ⊤ Refusal → Type 0

@@ -39,13 +39,15 @@ impl<B: Body, N: Naming> Model for Guarded<B, N> {
         × (g.entrants.items ≡ [])
         × (length N.lanes ≤ vec_capacity g.entrants)
         × (g.rests.items ≡ [])
-        × (length N.lanes ≤ vec_capacity g.rests) };
+        × (length N.lanes ≤ vec_capacity g.rests)
+        × (g.core.store.past.pool ≡ N.pool) };
 }
 
 impl<B: Body, N: Naming> Guarded<B, N> {
-    /// A core, with room for so many lanes. Precondition: these are its lanes, and so many.
+    /// A core, with room for so many lanes. Preconditions: the name is that of the core, and its lanes are so many.
     pub fn new(alloc: Global, core: Core<B>, lanes: usize) -> Result<Guarded<B, N>, AllocError>
         requires lanes { lanes_of core.lanes ≡ N.lanes }
+        requires pool { core.store.past.pool ≡ N.pool }
         requires count { lanes ≡ length N.lanes }
         ensures { IfOk result (λ g. g ≡ core) }
     {

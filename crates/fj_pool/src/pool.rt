@@ -48,6 +48,7 @@ impl<B: Body, N: Naming> Pool<B, N> {
     pub fn open(alloc: Global, parts: Parts<B>) -> Result<Opened<B, N>, OutOfMemory>
         requires gate { N.gate ≡ parts.closer.gate }
         requires lanes { N.lanes ≡ lanes_of parts.core.lanes }
+        requires pool { N.pool ≡ parts.core.store.past.pool }
         ensures hands { IfOk result (λ r. r.1.items ≡ parts.hands) }
         ensures submitters { IfOk result (λ r. r.2.items ≡ parts.seats) }
         ensures closer { IfOk result (λ r. r.3 ≡ parts.closer) }
@@ -83,13 +84,14 @@ fn notify(sleepers: &Condvar, woken: Woken) {
     }
 }
 
-/// A pool with this core, and its submitters by name. Preconditions: the name is that of these lanes and ends.
+/// A pool with this core, and its submitters by name. Preconditions: the name is that of this core and these ends.
 fn put_together<B: Body, N: Naming>(
     alloc: Global,
     core: Core<B>,
     seats: Vec<Seat<B>>,
 ) -> Result<(Pool<B, N>, Vec<Submitter<B, N>>), AllocError>
     requires lanes { lanes_of core.lanes ≡ N.lanes }
+    requires pool { core.store.past.pool ≡ N.pool }
     requires count { vec_len seats ≡ length N.lanes }
     requires named { All (λ s. IsNamed N.gate N.lanes s) seats.items }
     ensures { IfOk result (λ r. r.1.items ≡ seats.items) }

@@ -48,6 +48,8 @@ impl<B: Body, N: Naming> Pool<B, N> {
     pub fn wind_up(self, submitters: Vec<Submitter<B, N>>, closer: Closer<N>) -> Record<B>
         requires { AreAll (length N.lanes) submitters.items }
         ensures run { IsPast result.machine }
+        // The machine has the mode and the limits of the pool.
+        ensures pool { result.machine.pool ≡ N.pool }
         // The parts that were handed out, and then those of the record, are the history up to the last seal.
         ensures history { AreParts (result.archive.handed ++ result.archive.kept) result.machine }
         // What was taken in from a submitter, and then what its lane still holds, is what it pushed.

@@ -8,7 +8,7 @@ use fj_store::{Ask, Body, Heard};
 /// The hook of a hand, or else its running body, takes a turn. None of an empty hand.
 pub fn take_turn<B: Body>(hand: &mut Hand<B>, heard: Heard<B>) -> Option<Ask<B>>
     requires { HeardRight B.right heard }
-    ensures takes { TakesTurn hand.old result hand.new }
+    ensures takes { TakesTurn B.key_of hand.old result hand.new }
     ensures asks { IfSome result (λ ask. MayAsk B.right B.key_of hand.new ask) }
 {
     if hand.hooked().is_some() {

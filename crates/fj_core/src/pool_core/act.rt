@@ -4,7 +4,7 @@ ghost use Rattle.fj_shelf.specs.Hands.{asker};
 ghost use Rattle.fj_store.specs.Fitting.{Fits};
 ghost use Rattle.fj_store.specs.Turns.{AskRight, ToldRight};
 ghost use Rattle.fj_core.specs.Acting.{Acts, ActsInBody, ActsInHook, body_with, handed_back, unserved};
-ghost use Rattle.fj_core.specs.Cores.{ChangesStore};
+ghost use Rattle.fj_core.specs.Cores.{ChangesStore, StaysInside};
 
 use crate::pool_core::Core;
 use fj_model::{Ending, Refusal};
@@ -23,6 +23,7 @@ impl<B: Body> Core<B> {
         requires right { IfSome (asker hand.old) (λ b. AskRight B.right (B.key_of b.1) ask) }
         ensures acts { Acts B.key_of self.old.store hand.old ask result self.new.store hand.new }
         ensures others { ChangesStore self.old self.new }
+        ensures stays { StaysInside self.old.store self.new.store }
         ensures right { ToldRight B.right result }
         ensures fits { Fits self.new.store.past hand.new }
     {

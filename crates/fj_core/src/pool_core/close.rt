@@ -13,7 +13,8 @@ impl<B: Body> Core<B> {
     ///
     /// The first number that is given stays. A stuck core makes no step.
     pub fn close_at(&mut self, number: u64)
-        ensures { ShutsAt self.old (closed_at self.old.closing number) self.new }
+        ensures shuts { ShutsAt self.old (closed_at self.old.closing number) self.new }
+        ensures pool { self.new.store.past.pool ≡ self.old.store.past.pool }
     {
         self.closing = self.closing.at(number);
         make_due(&mut self.store, self.closing, self.bookings.len());
@@ -24,7 +25,8 @@ impl<B: Body> Core<B> {
     ///
     /// The first number that is given stays. A stuck core makes no step.
     pub fn stop_at(&mut self, number: u64)
-        ensures { ShutsAt self.old (stopped_at self.old.closing number) self.new }
+        ensures shuts { ShutsAt self.old (stopped_at self.old.closing number) self.new }
+        ensures pool { self.new.store.past.pool ≡ self.old.store.past.pool }
     {
         self.closing = Closing {
             stopping: true,

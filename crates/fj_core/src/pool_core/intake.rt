@@ -22,7 +22,8 @@ impl<B: Body> Core<B> {
     /// quiescent; `Empty` where the drain gives nothing. Where the closing number is reached now, what is due is made.
     pub fn intake(&mut self, s: SubId) -> Intake
         requires { s < self.old.store.past.pool.limits.submitters }
-        ensures { Intakes B.rooted_as self.old s result self.new }
+        ensures intakes { Intakes B.rooted_as self.old s result self.new }
+        ensures pool { self.new.store.past.pool ≡ self.old.store.past.pool }
     {
         if let Some(answer) = ready(&mut self.store, s) {
             return answer;

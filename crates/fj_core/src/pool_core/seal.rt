@@ -15,7 +15,8 @@ impl<B: Body> Core<B> {
     /// the machine is not quiescent, by `Closed` after a shutdown or a stop, by `LogFull` where the events, the sealed ones too, and the seals
     /// are more than 2^62, or by `OutOfMemory`. Then nothing has changed. Java has no counterpart: it keeps no history.
     pub fn seal(&mut self, alloc: Global) -> Result<(), Refusal>
-        ensures { SealsCore self.old result self.new }
+        ensures seals { SealsCore self.old result self.new }
+        ensures pool { self.new.store.past.pool ≡ self.old.store.past.pool }
     {
         if self.store.is_stuck() {
             return Err(Refusal::LogFull);

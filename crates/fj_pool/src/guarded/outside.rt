@@ -1,5 +1,5 @@
 //! What is asked of a pool from outside, and what its lanes show.
-ghost use Rattle.std.specs.Prelude.{◌≡◌};
+ghost use Rattle.std.specs.Prelude.{◌≡◌, ◌++◌, []};
 ghost use Rattle.fj_core.specs.Closes.{ShutsAt, closed_at, is_finished, stopped_at};
 ghost use Rattle.fj_core.specs.Cores.{CollectsTicket};
 ghost use Rattle.fj_core.specs.Sealing.{may_be_sealed};
@@ -67,7 +67,8 @@ impl<B: Body, N: Naming> Guarded<B, N> {
 
     /// The sealed parts that are kept, which count as handed out from then on.
     pub fn take_parts(&mut self, alloc: Global) -> Vec<Sealed>
-        ensures { result.items ≡ self.old.parts }
+        ensures parts { result.items ≡ self.old.parts }
+        ensures handed { self.new ≡ record self.old { handed = self.old.handed ++ self.old.parts; parts = [] } }
     {
         self.core.take_parts(alloc)
     }
@@ -113,6 +114,7 @@ impl<B: Body, N: Naming> Guarded<B, N> {
 fn take_each<B: Body>(core: &mut Core<B>) -> TakenIn
     ensures takes { TakesEach B.rooted_as core.old result core.new }
     ensures lanes { KeepsLanes core.old core.new }
+    ensures pool { core.new.store.past.pool ≡ core.old.store.past.pool }
 {
     let mut taken = TakenIn::Nothing;
     for s in 0..core.limits().submitters() {

@@ -1,8 +1,10 @@
 //! What a worker does in one holding of the lock: what needs no turn of a body is done at once.
-ghost use Rattle.std.specs.Prelude.{◌≡◌, [], None, IfSome, Err, true, false};
+ghost use Rattle.std.specs.Prelude.{◌≡◌, [], None, IfSome, IfNone, Err, true, false};
 ghost use Rattle.fj_shelf.specs.Hands.{HandState};
 ghost use Rattle.fj_store.specs.Fitting.{Fits};
-ghost use Rattle.fj_pool.specs.Turning.{LeavesWell, MayAsk, NextRight, Serves};
+ghost use Rattle.fj_core.specs.Closes.{is_finished};
+ghost use Rattle.fj_pool.specs.Turning.{LeavesWell, MayAsk, NextRight};
+ghost use Rattle.fj_pool.specs.Working.{JoinsOnce, LooksForWork, Resumes, Serves, Then, Waits, next_idle};
 
 use crate::effect::{Effect, effect_of};
 use crate::guarded::Guarded;
@@ -25,7 +27,9 @@ impl<B: Body, N: Naming> Guarded<B, N> {
         unneeded: &mut Unneeded<B>,
     ) -> Next<B>
         requires { IfSome ask (λ a. MayAsk B.right B.key_of hand.old a) }
-        ensures serves { IfSome ask (λ a. Fits self.old.store.past hand.old → Serves B.key_of self.old.store hand.old a result) }
+        ensures serves { IfSome ask (λ a. Fits self.old.store.past hand.old → Serves B.key_of B.rooted_as self.old hand.old a result self.new hand.new) }
+        ensures resumes { IfNone ask (Fits self.old.store.past hand.old → Resumes B.key_of B.rooted_as self.old hand.old result self.new hand.new) }
+        ensures unfit { (Fits self.old.store.past hand.old → ⊥) → Then (Next.Leave (Err Refusal.NoSuch)) self.old result self.new × (hand.new ≡ hand.old) }
         ensures right { NextRight B.right result }
         ensures leaves { LeavesWell self.new hand.new result }
     {
@@ -48,7 +52,7 @@ impl<B: Body, N: Naming> Guarded<B, N> {
     ) -> Next<B>
         requires fits { Fits self.old.store.past hand.old }
         requires asks { MayAsk B.right B.key_of hand.old ask }
-        ensures serves { Serves B.key_of self.old.store hand.old ask result }
+        ensures serves { Serves B.key_of B.rooted_as self.old hand.old ask result self.new hand.new }
         ensures right { NextRight B.right result }
         ensures leaves { LeavesWell self.new hand.new result }
     {
@@ -74,6 +78,7 @@ impl<B: Body, N: Naming> Guarded<B, N> {
     /// No body runs: the one that waits goes on, or the worker looks for work.
     fn resume(&mut self, alloc: Global, hand: &mut Hand<B>, unneeded: &mut Unneeded<B>) -> Next<B>
         requires { Fits self.old.store.past hand.old }
+        ensures resumes { Resumes B.key_of B.rooted_as self.old hand.old result self.new hand.new }
         ensures right { NextRight B.right result }
         ensures leaves { LeavesWell self.new hand.new result }
     {
@@ -97,6 +102,7 @@ impl<B: Body, N: Naming> Guarded<B, N> {
     ) -> Next<B>
         requires fits { Fits self.old.store.past hand.old }
         requires asks { MayAsk B.right B.key_of hand.old (Ask.Join t) }
+        ensures joins { JoinsOnce B.key_of B.rooted_as self.old hand.old t result self.new hand.new }
         ensures right { NextRight B.right result }
         ensures leaves { LeavesWell self.new hand.new result }
     {
@@ -127,6 +133,7 @@ impl<B: Body, N: Naming> Guarded<B, N> {
     ) -> Next<B>
         requires fits { Fits self.old.store.past hand.old }
         requires idle { (hand.old.stack ≡ []) × (hand.old.hook ≡ None) }
+        ensures looks { LooksForWork B.rooted_as self.old hand.old result self.new hand.new }
         ensures right { NextRight B.right result }
         ensures leaves { LeavesWell self.new hand.new result }
     {
@@ -152,6 +159,7 @@ impl<B: Body, N: Naming> Guarded<B, N> {
 
     /// No task is queued: the worker leaves where the pool has terminated.
     fn after_no_task(&mut self) -> Next<B>
+        ensures next { Then (next_idle (is_finished self.old)) self.old result self.new }
         ensures right { NextRight B.right result }
         ensures leaves { (hand : HandState B) → LeavesWell self.new hand result }
     {
@@ -165,7 +173,8 @@ impl<B: Body, N: Naming> Guarded<B, N> {
 
     /// What a body does that asked for another task and was given none: it waits for what it joined, or hears that there was none.
     fn after_none(&mut self, alloc: Global, hand: &Hand<B>, helps: bool) -> Next<B>
-        ensures helped { helps ≡ true → result ≡ Next.Turn (Heard.Helped false) }
+        ensures helped { helps ≡ true → Then (Next.Turn (Heard.Helped false)) self.old result self.new }
+        ensures waits { helps ≡ false → Waits B.rooted_as self.old result self.new }
         ensures right { NextRight B.right result }
         ensures leaves { LeavesWell self.new hand.now result }
     {
@@ -181,19 +190,36 @@ impl<B: Body, N: Naming> Guarded<B, N> {
     /// The worker waits for a task. Before the shutdown or the stop of the pool it takes in what the lanes show, as an idle one does: that
     /// comes with the last submission, and all workers may wait for tasks that only a stop ends.
     fn wait_for(&mut self, alloc: Global, t: Serial) -> Next<B>
+        ensures waits { Waits B.rooted_as self.old result self.new }
         ensures right { NextRight B.right result }
         ensures leaves { (hand : HandState B) → LeavesWell self.new hand result }
     {
         if self.waits.closing && !self.core.is_shut() {
-            match self.take_in(alloc) {
-                TakenIn::Nothing => {}
-                TakenIn::One => {
-                    self.task_queued();
-                    return Next::Again;
-                }
-                TakenIn::Several => return Next::Again,
-            }
+            return self.look_and_wait(alloc, t);
         }
+        self.sleep_until(t)
+    }
+
+    /// The worker takes in what the lanes show, and waits if that was nothing.
+    fn look_and_wait(&mut self, alloc: Global, t: Serial) -> Next<B>
+        ensures waits { Waits B.rooted_as self.old result self.new }
+        ensures right { NextRight B.right result }
+        ensures leaves { (hand : HandState B) → LeavesWell self.new hand result }
+    {
+        match self.take_in(alloc) {
+            TakenIn::Nothing => self.sleep_until(t),
+            TakenIn::One => {
+                self.task_queued();
+                Next::Again
+            }
+            TakenIn::Several => Next::Again,
+        }
+    }
+
+    /// The worker sleeps until this task is done, or another one is queued.
+    fn sleep_until(&mut self, t: Serial) -> Next<B>
+        ensures { Then Next.Wait self.old result self.new }
+    {
         self.sleep_for(t);
         Next::Wait
     }

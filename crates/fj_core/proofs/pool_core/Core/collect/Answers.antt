@@ -1,3 +1,5 @@
+use Rattle.std.proofs.Common.{subst}
+use Rattle.fj_core.specs.Cores.{StaysInside}
 use Rattle.fj_core.proofs.Frames.{core_stays, collects_stay}
 use Rattle.fj_core.proofs.Parts.{parts_stay}
 use Rattle.fj_core.proofs.pool_core.Core.collect.Goals as goal
@@ -6,3 +8,6 @@ pub invariant_of-self : goal.invariant_of-self
 invariant_of-self g c =
     let stays = collects_stay _ _ _ _ c.collect.ensures in
     (core_stays _ _ _ _ _ stays c.self.invariant.0, c.self.invariant.1, parts_stay _ _ _ stays c.self.invariant.2)
+
+pub returns-in-Some-clause-stays : goal.returns-in-Some-clause-stays
+returns-in-Some-clause-stays g c = subst (λ s. StaysInside s.store c.collect.new.self) c.self.view_is (collects_stay _ _ _ _ c.collect.ensures)

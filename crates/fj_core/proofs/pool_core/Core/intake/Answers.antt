@@ -13,7 +13,7 @@ use Rattle.fj_core.specs.Closings.{is_due}
 use Rattle.fj_core.proofs.Frames.{core_stays, same_stays}
 use Rattle.fj_core.proofs.Lanes.{same_capacity, booking_room}
 use Rattle.fj_core.proofs.Parts.{parts_stay, parts_taken}
-use Rattle.fj_core.proofs.TakingIn.{readies_stay, missed_core, intake_core, one_more}
+use Rattle.fj_core.proofs.TakingIn.{readies_stay, missed_core, intake_core, one_more, taken_pool}
 use Rattle.fj_core.proofs.pool_core.Core.intake.Goals as goal
 
 pub invariant_of-self : goal.invariant_of-self
@@ -58,8 +58,8 @@ invariant_of-self-in-Some-take g c =
       parts_taken (self.archive.handed ++ self.archive.kept) _ _ self.store c.ready.new.store c.hand_in-serial.new.store c.make_due.new.store _ c.in_default.ensures.3 c.hand_in-serial.ensures.event c.make_due.ensures c.self.invariant.2,
     )
 
-pub returns-in-None : goal.returns-in-None
-returns-in-None g c =
+pub returns-in-None-clause-intakes : goal.returns-in-None-clause-intakes
+returns-in-None-clause-intakes g c =
     let self = c.self.inside in
     let lanes : List (DrainState g.row.B.Denot) = self.drains.items in
     let d : DrainState g.row.B.Denot = c.index_mut.result.now in
@@ -79,8 +79,8 @@ returns-in-None g c =
           ∙ ap with_lanes (ap (λ j. slice_set lanes j c.take.new.self) c.s.view_is ∙ ap (λ (e : DrainState g.row.B.Denot). slice_set lanes c.args.s e) c.in-None.ensures.taken);
     }))
 
-pub returns-in-Some-take : goal.returns-in-Some-take
-returns-in-Some-take g c =
+pub returns-in-Some-take-clause-intakes : goal.returns-in-Some-take-clause-intakes
+returns-in-Some-take-clause-intakes g c =
     let self = c.self.inside in
     let lanes : List (DrainState g.row.B.Denot) = self.drains.items in
     let d : DrainState g.row.B.Denot = c.index_mut.result.now in
@@ -108,3 +108,14 @@ returns-in-Some-take g c =
       due = subst (λ n. Dues (is_due self.closing.number n) self.closing.stopping c.hand_in-serial.new.store c.make_due.new.store) long c.make_due.ensures;
       others = ap with_lanes new_lanes ∙ ap with_bookings more;
     })
+
+pub returns-in-Some-clause-pool : goal.returns-in-Some-clause-pool
+returns-in-Some-clause-pool g c = subst (λ s. c.ready.new.store.past.pool ≡ s.store.past.pool) c.self.view_is (readies_stay _ _ c.args.s c.in-Some.answer c.in-Some.ensures).past.pool
+
+pub returns-in-None-clause-pool : goal.returns-in-None-clause-pool
+returns-in-None-clause-pool g c = subst (λ s. c.ready.new.store.past.pool ≡ s.store.past.pool) c.self.view_is (ap (λ (s : StoreState g.row.B.Denot g.row.B-Key.Denot g.row.B-Out.Denot). s.past.pool) c.in_default.ensures.3)
+
+pub returns-in-Some-take-clause-pool : goal.returns-in-Some-take-clause-pool
+returns-in-Some-take-clause-pool g c =
+    subst (λ s. c.make_due.new.store.past.pool ≡ s.store.past.pool) c.self.view_is
+    (taken_pool _ _ c.self.inside.store c.ready.new.store c.hand_in-serial.new.store c.make_due.new.store _ c.in_default.ensures.3 c.hand_in-serial.ensures.event c.make_due.ensures)

@@ -1,3 +1,5 @@
+use Rattle.std.proofs.Common.{subst}
+use Rattle.fj_core.specs.Cores.{StaysInside}
 use Rattle.fj_core.proofs.Frames.{core_stays, polls_stay}
 use Rattle.fj_core.proofs.Parts.{parts_stay}
 use Rattle.fj_core.proofs.pool_core.Core.poll.Goals as goal
@@ -6,3 +8,6 @@ pub invariant_of-self : goal.invariant_of-self
 invariant_of-self g c =
     let stays = polls_stay _ _ _ _ _ c.poll.ensures.polls in
     (core_stays _ _ _ _ _ stays c.self.invariant.0, c.self.invariant.1, parts_stay _ _ _ stays c.self.invariant.2)
+
+pub returns-clause-stays : goal.returns-clause-stays
+returns-clause-stays g c = subst (λ s. StaysInside s.store c.poll.new.self) c.self.view_is (polls_stay _ _ _ _ _ c.poll.ensures.polls)

@@ -14,8 +14,8 @@ invariant_of-self-2 g c =
       parts_kept self.archive c.reserve.new.self c.push.new.self part _ c.reserve.ensures.same c.push.ensures (hands.joins (self.archive.handed ++ self.archive.kept) c.self.invariant.2),
     )
 
-pub returns : goal.returns
-returns g c =
+pub returns-clause-seals : goal.returns-clause-seals
+returns-clause-seals g c =
     let self = c.self.inside in
     let part = c.in_ok-part.part in
     let with_archive : Archived → CoreState g.row.B.Denot g.row.B-Key.Denot g.row.B-Out.Denot =

@@ -15,7 +15,7 @@ intake-answer-requires g c =
 
 pub loop-s-preserved : goal.loop-s-preserved
 loop-s-preserved g c = takes_next g.B.Body.rooted_as c.loop-s.s c.args.core.now c.loop-s.core c.intake-answer.new.self c.loop-s.taken c.count-taken.result c.intake-answer.result
-    c.loop-s.invariant c.intake-answer.ensures c.count-taken.ensures
+    c.loop-s.invariant c.intake-answer.ensures.intakes c.count-taken.ensures
 
 pub returns-clause-takes : goal.returns-clause-takes
 returns-clause-takes g c =
@@ -26,3 +26,6 @@ returns-clause-takes g c =
 
 pub returns-clause-lanes : goal.returns-clause-lanes
 returns-clause-lanes g c = takes_keep g.B.Body.rooted_as c.loop-s.s c.args.core.now c.loop-s.core c.loop-s.taken c.loop-s.invariant
+
+pub returns-clause-pool : goal.returns-clause-pool
+returns-clause-pool g c = takes_same g.B.Body.rooted_as c.loop-s.s c.args.core.now c.loop-s.core c.loop-s.taken c.loop-s.invariant

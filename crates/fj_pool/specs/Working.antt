@@ -1,0 +1,131 @@
+-- What a worker does in one holding of the lock, and what it does next.
+use Rattle.std.specs.Prelude.{ℕ, ◌≡◌, Bool, true, false, Option, Some, None, [], Ok, Err}
+use Rattle.fj_model.specs.declared.refusal.Refusal.TheVariants.{LogFull}
+use Rattle.fj_shelf.specs.Hands.{HandState}
+use Rattle.fj_store.specs.declared.body.Ask.{Ask}
+use Rattle.fj_store.specs.declared.body.Ask.TheVariants as asks
+use Rattle.fj_store.specs.declared.body.Heard.TheVariants as hears
+use Rattle.fj_store.specs.declared.body.Told.{Told}
+use Rattle.fj_store.specs.declared.body.Told.TheVariants as told
+use Rattle.fj_store.specs.Choosing.{Polls}
+use Rattle.fj_store.specs.Fitting.{Fits}
+use Rattle.fj_core.specs.Acting.{Acts}
+use Rattle.fj_core.specs.Closes.{is_finished}
+use Rattle.fj_core.specs.Cores.{ChangesStore, CoreState}
+use Rattle.fj_pool.specs.declared.guarded.outside.TakenIn.{TakenIn}
+use Rattle.fj_pool.specs.declared.guarded.outside.TakenIn.TheVariants.{Nothing, One, Several}
+use Rattle.fj_pool.specs.declared.next.Next.{Next}
+use Rattle.fj_pool.specs.declared.next.Next.TheVariants.{Again, Begin, Leave, Rest, Turn, Wait}
+use Rattle.fj_pool.specs.Looking.{LooksAtLanes}
+
+module _ {B K O : Type 0} where
+  -- ---- a worker waits
+
+  -- what comes next behind a look at the lanes, if there was one
+  abbrev pub next_behind : Option TakenIn → Next B K O
+  next_behind None = Wait
+  next_behind (Some Nothing) = Wait
+  next_behind (Some One) = Again
+  next_behind (Some Several) = Again
+
+  -- the lanes were looked at, or nothing has changed
+  abbrev pub MayLook : (B → Option ℕ) → CoreState B K O → Option TakenIn → CoreState B K O → Type 0
+  MayLook rooted_as old (Some taken) new = LooksAtLanes rooted_as old taken new
+  MayLook rooted_as old None new = new ≡ old
+
+  -- it waits, perhaps behind a look at the lanes, and looks again where that took something in
+  pub record Waits (rooted_as : B → Option ℕ) (old : CoreState B K O) (next : Next B K O) (new : CoreState B K O) : Type 0 where
+    pub looked : Option TakenIn
+    pub looks : MayLook rooted_as old looked new
+    pub next_is : next ≡ next_behind looked
+
+  -- ---- an idle worker
+
+  -- what comes next where no task is queued
+  abbrev pub next_idle : Bool → Next B K O
+  next_idle true = Leave (Ok tt)
+  next_idle false = Rest
+
+  -- what comes next is what a poll told; the last three it never tells
+  abbrev pub next_of_poll : CoreState B K O → Told B K O → Next B K O
+  next_of_poll core (told.Run t) = Begin t
+  next_of_poll core (told.Skip t body) = Again
+  next_of_poll core told.None = next_idle (is_finished core)
+  next_of_poll core (told.Stuck body) = Leave (Err LogFull)
+  next_of_poll core (told.Hear heard) = Again
+  next_of_poll core (told.Hook c caller) = Again
+  next_of_poll core (told.Over body) = Again
+
+  -- one poll
+  pub record PollsOnce (old : CoreState B K O) (hand : HandState B) (next : Next B K O) (new : CoreState B K O) (hand' : HandState B) : Type 0 where
+    pub told : Told B K O
+    pub polls : Polls old.store hand told new.store hand'
+    pub others : ChangesStore old new
+    pub next_is : next ≡ next_of_poll new told
+
+  -- a look at the lanes, and then one poll, where the hand fits yet
+  pub record LooksForWork (rooted_as : B → Option ℕ) (old : CoreState B K O) (hand : HandState B) (next : Next B K O) (new : CoreState B K O) (hand' : HandState B) : Type 0 where
+    pub taken : TakenIn
+    pub mid : CoreState B K O
+    pub looks : LooksAtLanes rooted_as old taken mid
+    pub polls : Fits mid.store.past hand → PollsOnce mid hand next new hand'
+
+  -- ---- a worker goes on with a body
+
+  -- this comes next, and nothing has changed
+  abbrev pub Then : Next B K O → CoreState B K O → Next B K O → CoreState B K O → Type 0
+  Then expected old next new = (next ≡ expected) × (new ≡ old)
+
+  -- what comes next is what a join told; the last two it never tells
+  abbrev pub NextOfJoin : (B → Option ℕ) → Told B K O → CoreState B K O → Next B K O → CoreState B K O → Type 0
+  NextOfJoin rooted_as (told.Hear heard) old next new = Then (Turn heard) old next new
+  NextOfJoin rooted_as (told.Run t) old next new = Then (Begin t) old next new
+  NextOfJoin rooted_as (told.Skip t body) old next new = Then Again old next new
+  NextOfJoin rooted_as told.None old next new = Waits rooted_as old next new
+  NextOfJoin rooted_as (told.Stuck body) old next new = Then (Leave (Err LogFull)) old next new
+  NextOfJoin rooted_as (told.Hook c caller) old next new = Then Again old next new
+  NextOfJoin rooted_as (told.Over body) old next new = Then Again old next new
+
+  -- the body that joined the task joins it once more
+  pub record JoinsOnce (key_of : B → K) (rooted_as : B → Option ℕ) (old : CoreState B K O) (hand : HandState B) (t : ℕ) (next : Next B K O) (new : CoreState B K O) (hand' : HandState B) : Type 0 where
+    pub told : Told B K O
+    pub mid : CoreState B K O
+    pub acts : Acts key_of old.store hand (asks.Join t) told mid.store hand'
+    pub others : ChangesStore old mid
+    pub goes_on : NextOfJoin rooted_as told mid next new
+
+  -- it had joined this task; or it helped, and hears so
+  abbrev pub GoesOn : (B → K) → (B → Option ℕ) → Option ℕ → CoreState B K O → HandState B → Next B K O → CoreState B K O → HandState B → Type 0
+  GoesOn key_of rooted_as (Some t) old hand next new hand' = JoinsOnce key_of rooted_as old hand t next new hand'
+  GoesOn key_of rooted_as None old hand next new hand' = Then (Turn (hears.Helped true)) old next new × (hand' ≡ hand)
+
+  -- a worker whose hand is empty looks for work; in another one the body on top goes on
+  pub record Resumes (key_of : B → K) (rooted_as : B → Option ℕ) (old : CoreState B K O) (hand : HandState B) (next : Next B K O) (new : CoreState B K O) (hand' : HandState B) : Type 0 where
+    pub idle : (hand.stack ≡ []) × (hand.hook ≡ None) → LooksForWork rooted_as old hand next new hand'
+    pub busy : ((hand.stack ≡ []) × (hand.hook ≡ None) → ⊥) → (joined : Option ℕ) × GoesOn key_of rooted_as joined old hand next new hand'
+
+  -- ---- a worker serves what is asked
+
+  -- what comes next where no task was queued: a body that helped hears so, and one that joined waits
+  abbrev pub NextOfNone : (B → Option ℕ) → Ask B K O → CoreState B K O → Next B K O → CoreState B K O → Type 0
+  NextOfNone rooted_as asks.Help old next new = Then (Turn (hears.Helped false)) old next new
+  NextOfNone rooted_as ask old next new = Waits rooted_as old next new
+
+  -- what comes next is what was told; where the body has ended, the worker goes on with another one or looks for one
+  abbrev pub NextOf : (B → K) → (B → Option ℕ) → Ask B K O → Told B K O → CoreState B K O → HandState B → Next B K O → CoreState B K O → HandState B → Type 0
+  NextOf key_of rooted_as ask (told.Hear heard) old hand next new hand' = Then (Turn heard) old next new × (hand' ≡ hand)
+  NextOf key_of rooted_as ask (told.Run t) old hand next new hand' = Then (Begin t) old next new × (hand' ≡ hand)
+  NextOf key_of rooted_as ask (told.Skip t body) old hand next new hand' = Then Again old next new × (hand' ≡ hand)
+  NextOf key_of rooted_as ask told.None old hand next new hand' = NextOfNone rooted_as ask old next new × (hand' ≡ hand)
+  NextOf key_of rooted_as ask (told.Hook c caller) old hand next new hand' = Then (Turn (hears.Hook caller)) old next new × (hand' ≡ hand)
+  NextOf key_of rooted_as ask (told.Over body) old hand next new hand' = Resumes key_of rooted_as old hand next new hand'
+  NextOf key_of rooted_as ask (told.Stuck body) old hand next new hand' = Then (Leave (Err LogFull)) old next new × (hand' ≡ hand)
+
+  -- what was asked is done, by one action, and the worker goes on with what that told
+  pub record Serves (key_of : B → K) (rooted_as : B → Option ℕ) (old : CoreState B K O) (hand : HandState B) (ask : Ask B K O) (next : Next B K O) (new : CoreState B K O) (hand' : HandState B) : Type 0 where
+    pub told : Told B K O
+    pub mid : CoreState B K O
+    pub held : HandState B
+    pub acts : Acts key_of old.store hand ask told mid.store held
+    pub others : ChangesStore old mid
+    pub goes_on : NextOf key_of rooted_as ask told mid held next new hand'
