@@ -1,5 +1,8 @@
 -- The result in an outcome.
-use Rattle.std.specs.Prelude.{Some, None, Result, Ok, Err}
+use Rattle.std.specs.Prelude.{Some, None, Result, Ok, Err, if◌then◌else◌, ◌==◌}
+use Rattle.fj_model.specs.declared.refusal.Refusal.{Refusal}
+use Rattle.fj_model.specs.declared.refusal.Refusal.TheVariants.{LogFull, OutOfMemory}
+use Rattle.fj_model.specs.Replies.{refusal_number}
 use Rattle.fj_store.specs.declared.outcomes.Outcome.{Outcome}
 use Rattle.fj_store.specs.declared.outcomes.Outcome.TheVariants.{Normal, Exceptional, Cancelled}
 use Rattle.fj_crew.specs.declared.results.NoResult.{NoResult}
@@ -11,3 +14,8 @@ result_in (Normal (Some kept)) = Ok kept
 result_in (Normal None) = Err Missing
 result_in (Exceptional code) = Err (Failed code)
 result_in Cancelled = Err Missing
+
+-- what is told of a body that was to give a result: that the history was full where it failed with that number, else that memory was refused
+abbrev pub refusal_of : NoResult → Refusal
+refusal_of (Failed code) = if code == refusal_number LogFull then LogFull else OutOfMemory
+refusal_of Missing = OutOfMemory

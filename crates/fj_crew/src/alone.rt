@@ -54,6 +54,7 @@ where
     B::Out: Send,
     requires gate { N.gate ≡ parts.closer.gate }
     requires lanes { N.lanes ≡ lanes_of parts.core.lanes }
+    requires pool { N.pool ≡ parts.core.store.past.pool }
     ensures { IfErr result RefusesRun }
 {
     match Pool::<B, N>::open(alloc, parts) {

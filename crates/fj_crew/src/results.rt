@@ -1,7 +1,8 @@
 ghost use Rattle.std.specs.Prelude.{◌≡◌, IfOk};
-ghost use Rattle.fj_crew.specs.Results.{result_in};
+ghost use Rattle.fj_crew.specs.Results.{refusal_of, result_in};
+ghost use Rattle.fj_crew.specs.Runs.{RefusesRun};
 
-use fj_model::Status;
+use fj_model::{Refusal, Status};
 use fj_pool::{Body, Outcome};
 
 /// Why an outcome has no result.
@@ -11,6 +12,20 @@ pub enum NoResult {
     Failed(u32),
     /// It was cancelled, or ended without a result.
     Missing,
+}
+
+impl NoResult {
+    /// What a call that runs a body for its result alone tells: `LogFull` where the task failed with the number of that refusal, as a body
+    /// does that found no room for an event; `OutOfMemory` in every other case.
+    pub fn refusal(self) -> Refusal
+        ensures told { result ≡ refusal_of self }
+        ensures run { RefusesRun result }
+    {
+        match self {
+            NoResult::Failed(code) if code == Refusal::LogFull.number() => Refusal::LogFull,
+            _ => Refusal::OutOfMemory,
+        }
+    }
 }
 
 /// The result in an outcome, beside the key for which it is right: what `ForkJoinTask.join` returns.

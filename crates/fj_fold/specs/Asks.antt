@@ -1,22 +1,51 @@
 -- What the body of a node asks.
-use Rattle.std.specs.Prelude.{ℕ, ◌≡◌, ⊤, true, List, length, Some}
+use Rattle.std.specs.Prelude.{ℕ, ◌≡◌, ⊤, true, List, length, Option, Some, None}
 use Rattle.fj_model.specs.declared.kind.Kind.{Kind}
 use Rattle.fj_model.specs.declared.kind.Kind.TheVariants.{Completer}
+use Rattle.fj_model.specs.declared.refusal.Refusal.TheVariants.{OutOfMemory}
+use Rattle.fj_model.specs.Replies.{refusal_number}
+use Rattle.fj_store.specs.declared.body.Heard.{Heard}
+use Rattle.fj_store.specs.declared.body.Heard.TheVariants.{Start}
 use Rattle.fj_store.specs.declared.body.Ask.{Ask}
 use Rattle.fj_store.specs.declared.body.Ask.TheVariants.{Fork, Take, Add, Try, Fail, HookDone}
 use Rattle.fj_jobs.specs.declared.node.Node.{Node}
 use Rattle.fj_jobs.specs.TreeValues.{children}
+use Rattle.fj_fold.specs.declared.course.Stage.{Stage}
+use Rattle.fj_fold.specs.declared.course.Stage.TheVariants.{Adding, Forking}
 
 -- a completer of some parent that waits for nothing yet, and passes a code on
 abbrev pub IsChildKind : Kind → Type 0
 IsChildKind kind = (parent : ℕ) × (kind ≡ Completer true 0 (Some parent))
 
--- only this: to add the number of its children, to fork completers, to end by trying or by code 12, to take results and give one
+-- only this: to add the number of its children, to fork completers, to end by trying or as out of memory, to take results and give one
 abbrev pub AsksAsNode : {B K O : Type 0} → List Node → ℕ → Ask B K O → Type 0
 AsksAsNode nodes p (Add c n) = n ≡ length (children nodes p)
 AsksAsNode nodes p (Fork body kind) = IsChildKind kind
 AsksAsNode nodes p Try = ⊤
 AsksAsNode nodes p (Take t) = ⊤
 AsksAsNode nodes p (HookDone out) = ⊤
-AsksAsNode nodes p (Fail code) = code ≡ 12
+AsksAsNode nodes p (Fail code) = code ≡ refusal_number OutOfMemory
 AsksAsNode nodes p _ = ⊥
+
+-- the task of a body that adds or forks
+abbrev pub task_in : Stage → Option ℕ
+task_in (Adding me) = Some me
+task_in (Forking me) = Some me
+task_in _ = None
+
+-- the same once this is heard: the first turn tells it
+abbrev pub own_task : {B K O : Type 0} → Stage → Heard B K O → Option ℕ
+own_task stage (Start me) = Some me
+own_task stage _ = task_in stage
+
+-- it adds to this task alone, and forks under it alone
+abbrev pub AsksUnder : {B K O : Type 0} → Option ℕ → Ask B K O → Type 0
+AsksUnder own (Add c n) = own ≡ Some c
+AsksUnder own (Fork body kind) = kind ≡ Completer true 0 own
+AsksUnder own _ = ⊤
+
+-- it forks the body of the child that is next, and tries to end where none is left
+abbrev pub ForksNext : {B K O : Type 0} → (B → K) → Option K → Ask B K O → Type 0
+ForksNext key_of (Some child) (Fork body kind) = key_of body ≡ child
+ForksNext key_of (Some child) _ = ⊥
+ForksNext key_of None ask = ask ≡ Try

@@ -4,7 +4,5 @@ pub mod Families
 pub mod Tallies
 -- how far a body has come that folds a node
 pub mod Courses
--- the result of a root
-pub mod Results
 -- what the body of a node asks
 pub mod Asks

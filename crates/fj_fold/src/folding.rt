@@ -1,13 +1,13 @@
 ghost use Rattle.std.specs.Prelude.{◌≡◌, ◌<◌, ◌≤◌, IfErr, IfOk, length};
-ghost use Rattle.fj_model.specs.declared.limits.TheConstants.{MAX_WORKERS};
+ghost use Rattle.fj_model.specs.declared.limits.TheConstants.{MAX_EVENTS, MAX_TASKS, MAX_WORKERS};
+ghost use Rattle.fj_model.specs.Bounds.{bounds};
 ghost use Rattle.fj_jobs.specs.TreeValues.{node_value};
 ghost use Rattle.fj_crew.specs.Runs.{RefusesRun};
 
 use crate::family::Family;
-use crate::result::result_in;
 use crate::tree::Tree;
 use crate::tree_fold::TreeFold;
-use fj_crew::{Turnstile, run_alone};
+use fj_crew::{Turnstile, result_in, run_alone};
 use fj_jobs::Nodes;
 use fj_model::{Limits, MAX_EVENTS, MAX_TASKS, Mode, Refusal};
 use std::alloc::Global;
@@ -18,7 +18,7 @@ use std::thread::Threads;
 /// The value of the root of a tree, folded by so many workers, a thread for each: `ForkJoinPool.invoke` of a `CountedCompleter`. The
 /// turnstile is asked before the first turn of each node's body. Precondition: 1 to 32 workers.
 ///
-/// `LogFull` where the history is full, or the root failed with code 3. `OutOfMemory` where memory or a thread was refused, and where the
+/// `LogFull` where the history is full, or the root failed with that refusal's number. `OutOfMemory` where memory or a thread was refused, and where the
 /// root has no result otherwise.
 pub fn fold_tree<R: Threads + Wait + Sync, T: Turnstile + Sync>(
     rt: &R,
@@ -55,9 +55,7 @@ fn fold_in<F: Tree + Send, R: Threads + Wait + Sync, T: Turnstile + Sync>(
     ensures ok { IfOk result (λ value. value ≡ node_value F.nodes 0) }
     ensures err { IfErr result RefusesRun }
 {
-    let Ok(limits) = Limits::new(workers, 1, MAX_TASKS, MAX_EVENTS) else {
-        unreachable!()
-    };
+    let limits = limits_of(workers);
     let body: TreeFold<F> = TreeFold::new(alloc, family, 0);
     let outcome = match run_alone(rt, alloc, Mode::Async, limits, 0, body, turnstile) {
         Ok(outcome) => outcome,
@@ -71,6 +69,18 @@ fn fold_in<F: Tree + Send, R: Threads + Wait + Sync, T: Turnstile + Sync>(
                 Err(Refusal::OutOfMemory)
             }
         }
-        Err(refusal) => Err(refusal),
+        Err(none) => Err(none.refusal()),
     }
+}
+
+/// The limits of a pool with so many workers, and as much room as may be. Precondition: 1 to 32 workers.
+fn limits_of(workers: u32) -> Limits
+    requires some { 0 < workers }
+    requires few { workers ≤ MAX_WORKERS }
+    ensures { result ≡ bounds workers 1 MAX_TASKS MAX_EVENTS }
+{
+    let Ok(limits) = Limits::new(workers, 1, MAX_TASKS, MAX_EVENTS) else {
+        unreachable!()
+    };
+    limits
 }

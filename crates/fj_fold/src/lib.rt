@@ -13,7 +13,6 @@ mod folding;
 mod in_place;
 mod joining;
 mod member;
-mod result;
 mod tally;
 mod tree;
 mod tree_fold;

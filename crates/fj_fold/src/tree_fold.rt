@@ -1,7 +1,8 @@
-ghost use Rattle.std.specs.Prelude.{◌≡◌, ◌+◌, ◌<◌, Some, length};
+ghost use Rattle.std.specs.Prelude.{◌≡◌, ◌+◌, ◌-◌, ◌<◌, Some, None, IfSome, length, slice_get};
 ghost use Rattle.fj_jobs.specs.TreeValues.{node_value};
 ghost use Rattle.fj_store.specs.Turns.{AskRight, HeardRight, Nearer};
-ghost use Rattle.fj_fold.specs.Asks.{AsksAsNode};
+ghost use Rattle.fj_fold.specs.Asks.{AsksAsNode, AsksUnder, ForksNext, own_task, task_in};
+ghost use Rattle.fj_fold.specs.Families.{child_from};
 ghost use Rattle.fj_fold.specs.Courses.{IsCourse, turns_left};
 ghost use Rattle.fj_fold.specs.Tallies.{numbers_from};
 ghost use Rattle.std.proofs.Props.{props};
@@ -11,7 +12,7 @@ use crate::family::Family;
 use crate::in_place::value_in_place;
 use crate::tally::Tally;
 use crate::tree::Tree;
-use fj_model::{Kind, Serial};
+use fj_model::{Kind, Refusal, Serial};
 use fj_store::{Ask, Body, Heard};
 use std::alloc::Global;
 use std::marker::PhantomData;
@@ -55,6 +56,7 @@ impl<'a, F: Tree> TreeFold<'a, F> {
         ensures right { AskRight (λ k o. o ≡ node_value F.nodes k) self.old.course.tally.node result }
         ensures nearer { Nearer (turns_left (length F.nodes) self.new.course) (turns_left (length F.nodes) self.old.course) result }
         ensures asks { AsksAsNode F.nodes self.old.course.tally.node result }
+        ensures own { AsksUnder (Some me) result }
     {
         let Stage::New = self.course.stage else {
             return self.go_on_without();
@@ -69,6 +71,7 @@ impl<'a, F: Tree> TreeFold<'a, F> {
         ensures right { AskRight (λ k o. o ≡ node_value F.nodes k) self.old.course.tally.node result }
         ensures nearer { Nearer (turns_left (length F.nodes) self.new.course) (turns_left (length F.nodes) self.old.course) result }
         ensures asks { AsksAsNode F.nodes self.old.course.tally.node result }
+        ensures own { AsksUnder (task_in self.old.course.stage) result }
     {
         let Stage::Adding(me) = self.course.stage else {
             return self.go_on_without();
@@ -82,6 +85,7 @@ impl<'a, F: Tree> TreeFold<'a, F> {
         ensures right { AskRight (λ k o. o ≡ node_value F.nodes k) self.old.course.tally.node result }
         ensures nearer { Nearer (turns_left (length F.nodes) self.new.course) (turns_left (length F.nodes) self.old.course) result }
         ensures asks { AsksAsNode F.nodes self.old.course.tally.node result }
+        ensures own { AsksUnder (task_in self.old.course.stage) result }
     {
         let Stage::Forking(me) = self.course.stage else {
             return self.go_on_without();
@@ -98,6 +102,7 @@ impl<'a, F: Tree> TreeFold<'a, F> {
         ensures right { AskRight (λ k o. o ≡ node_value F.nodes k) self.old.course.tally.node result }
         ensures nearer { Nearer (turns_left (length F.nodes) self.new.course) (turns_left (length F.nodes) self.old.course) result }
         ensures asks { AsksAsNode F.nodes self.old.course.tally.node result }
+        ensures own { AsksUnder None result }
     {
         if let Stage::Taking = self.course.stage {
             return self.go_on_without();
@@ -113,6 +118,7 @@ impl<'a, F: Tree> TreeFold<'a, F> {
         ensures right { AskRight (λ k o. o ≡ node_value F.nodes k) self.old.course.tally.node result }
         ensures nearer { Nearer (turns_left (length F.nodes) self.new.course) (turns_left (length F.nodes) self.old.course) result }
         ensures asks { AsksAsNode F.nodes self.old.course.tally.node result }
+        ensures own { AsksUnder None result }
     {
         let Stage::Taking = self.course.stage else {
             return self.go_on_without();
@@ -133,6 +139,7 @@ impl<'a, F: Tree> TreeFold<'a, F> {
         ensures right { AskRight (λ k o. o ≡ node_value F.nodes k) self.old.course.tally.node result }
         ensures nearer { Nearer (turns_left (length F.nodes) self.new.course) (turns_left (length F.nodes) self.old.course) result }
         ensures asks { AsksAsNode F.nodes self.old.course.tally.node result }
+        ensures own { AsksUnder None result }
     {
         let Stage::Taking = self.course.stage else {
             return self.fail();
@@ -150,6 +157,9 @@ impl<'a, F: Tree> TreeFold<'a, F> {
         ensures right { AskRight (λ k o. o ≡ node_value F.nodes k) self.old.course.tally.node result }
         ensures nearer { Nearer (turns_left (length F.nodes) self.new.course) (length F.nodes + 1 + numbers_from (length F.nodes) self.old.course.next) result }
         ensures asks { AsksAsNode F.nodes self.old.course.tally.node result }
+        ensures own { AsksUnder (Some me) result }
+        ensures next { ForksNext (λ b. b.course.tally.node) self.old.course.next result }
+        ensures goes_on { IfSome self.old.course.next (λ c. self.new.course.next ≡ child_from F.nodes (c + 1) self.old.course.tally.node) }
     {
         let Some(child) = self.course.next else {
             self.course.stage = Stage::Ended;
@@ -173,6 +183,8 @@ impl<'a, F: Tree> TreeFold<'a, F> {
         ensures right { AskRight (λ k o. o ≡ node_value F.nodes k) self.old.course.tally.node result }
         ensures nearer { Nearer (turns_left (length F.nodes) self.new.course) (numbers_from (length F.nodes) self.old.course.tally.child + 1) result }
         ensures asks { AsksAsNode F.nodes self.old.course.tally.node result }
+        ensures own { AsksUnder None result }
+        ensures taken { IfSome self.old.course.tally.child (λ c. IfSome (slice_get self.old.forked.items (self.old.course.tally.weight - 1)) (λ t. result ≡ Ask.Take t)) }
     {
         let Some(_child) = self.course.tally.child else {
             return Ask::HookDone(self.course.tally.sum);
@@ -194,20 +206,22 @@ impl<'a, F: Tree> TreeFold<'a, F> {
         ensures right { AskRight (λ k o. o ≡ node_value F.nodes k) self.old.course.tally.node result }
         ensures nearer { Nearer (turns_left (length F.nodes) self.new.course) (turns_left (length F.nodes) self.old.course) result }
         ensures asks { AsksAsNode F.nodes self.old.course.tally.node result }
+        ensures own { AsksUnder None result }
     {
         self.course.tally = self.course.tally.add(self.family, child, value);
         self.take()
     }
 
-    /// Ends with code 12.
+    /// Ends with the code of a run that is out of memory.
     fn fail(&mut self) -> Ask<TreeFold<'a, F>>
         ensures key { self.new.course.tally.node ≡ self.old.course.tally.node }
         ensures right { AskRight (λ k o. o ≡ node_value F.nodes k) self.old.course.tally.node result }
         ensures nearer { Nearer 0 0 result }
         ensures asks { AsksAsNode F.nodes self.old.course.tally.node result }
+        ensures own { AsksUnder None result }
     {
         self.course.stage = Stage::Ended;
-        Ask::Fail(12)
+        Ask::Fail(Refusal::OutOfMemory.number())
     }
 }
 
@@ -243,6 +257,7 @@ impl<'a, F: Tree> Body for TreeFold<'a, F> {
         ensures right { AskRight (λ k o. o ≡ node_value F.nodes k) self.old.course.tally.node result }
         ensures nearer { Nearer (turns_left (length F.nodes) self.new.course) (turns_left (length F.nodes) self.old.course) result }
         ensures asks { AsksAsNode F.nodes self.old.course.tally.node result }
+        ensures own { AsksUnder (own_task self.old.course.stage heard.entry) result }
     {
         // It is looked at, and not taken apart: the check does not do that to an enum with a `Serial` in a type that holds a reference.
         match &heard {

@@ -1,22 +1,16 @@
 -- What is told of the outcome of a job's body.
-use Rattle.std.specs.Prelude.{ℕ, ◌≡◌, ◌==◌, Bool, false, Some, None, if◌then◌else◌}
+use Rattle.std.specs.Prelude.{◌≡◌, Bool, false, Result, Ok, Err}
 use Rattle.fj_model.specs.declared.refusal.Refusal.{Refusal}
-use Rattle.fj_model.specs.declared.refusal.Refusal.TheVariants.{LogFull, OutOfMemory}
-use Rattle.fj_model.specs.Replies.{refusal_number}
+use Rattle.fj_model.specs.declared.refusal.Refusal.TheVariants.{OutOfMemory}
 use Rattle.fj_store.specs.declared.outcomes.Outcome.{Outcome}
-use Rattle.fj_store.specs.declared.outcomes.Outcome.TheVariants.{Normal, Exceptional, Cancelled}
-
--- what is told of a failure with this code
-abbrev pub refusal_of : ℕ → Refusal
-refusal_of code = if code == refusal_number LogFull then LogFull else OutOfMemory
+use Rattle.fj_crew.specs.declared.results.NoResult.{NoResult}
+use Rattle.fj_crew.specs.Results.{refusal_of, result_in}
 
 -- a result is refused only where it stands under another key
-abbrev pub RefusesKept : {K O : Type 0} → (K → K → Bool) → K → K × O → Refusal → Type 0
-RefusesKept eq key kept r = (eq kept.0 key ≡ false) × (r ≡ OutOfMemory)
+abbrev pub RefusesResult : {K O : Type 0} → (K → K → Bool) → K → Result (K × O) NoResult → Refusal → Type 0
+RefusesResult eq key (Ok kept) r = (eq kept.0 key ≡ false) × (r ≡ OutOfMemory)
+RefusesResult eq key (Err none) r = r ≡ refusal_of none
 
--- a failure by a full history is told as one; all else but a result under the key, that memory was refused
+-- the same of the result in an outcome
 abbrev pub RefusesOutcome : {B K O : Type 0} → (K → K → Bool) → K → Outcome B K O → Refusal → Type 0
-RefusesOutcome eq key (Normal (Some kept)) r = RefusesKept eq key kept r
-RefusesOutcome eq key (Normal None) r = r ≡ OutOfMemory
-RefusesOutcome eq key (Exceptional code) r = r ≡ refusal_of code
-RefusesOutcome eq key Cancelled r = r ≡ OutOfMemory
+RefusesOutcome eq key outcome r = RefusesResult eq key (result_in outcome) r

@@ -1,5 +1,5 @@
 -- What a body of a job has in hand.
-use Rattle.std.specs.Prelude.{ℕ, ◌≡◌, ◌+◌, ◌*◌, ⊤, List, [], ◌∷◌, Option, None, Some, map, MatchOption}
+use Rattle.std.specs.Prelude.{ℕ, Bool, false, ◌≡◌, ◌+◌, ◌*◌, ⊤, List, [], ◌∷◌, Option, None, Some, map, MatchOption}
 use Rattle.fj_invoke.specs.declared.stage.Left.{Left}
 use Rattle.fj_invoke.specs.declared.stage.Left.TheVariants.{Forked, Done}
 use Rattle.fj_invoke.specs.declared.stage.Stage.{Stage}
@@ -26,6 +26,11 @@ rest_value key_of value combined Over = None
 abbrev pub Gives : {J K O : Type 0} → (J → K) → (K → O) → (O → O → O) → List (Left J K O) → Stage J K O → O → Type 0
 Gives key_of value combined lefts stage w =
     MatchOption (rest_value key_of value combined stage) ⊤ (λ v. tail_value combined (map (left_value value) lefts) v ≡ w)
+
+-- no job with this key is still to be begun
+abbrev pub NotUnder : {J K O : Type 0} → (J → K) → (K → K → Bool) → Stage J K O → K → Type 0
+NotUnder key_of eq (Going j) key = eq (key_of j) key ≡ false
+NotUnder key_of eq _ key = ⊤
 
 -- how many turns are left, at most
 abbrev pub turns_of : {J K O : Type 0} → (J → ℕ) → ℕ → Stage J K O → ℕ

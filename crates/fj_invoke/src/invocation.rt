@@ -1,12 +1,12 @@
 ghost use Rattle.std.specs.Prelude.{◌≡◌, IfOk, IfErr};
 ghost use Rattle.fj_crew.specs.Runs.{RefusesRun};
-ghost use Rattle.fj_invoke.specs.Answers.{RefusesKept, RefusesOutcome, refusal_of};
+ghost use Rattle.fj_invoke.specs.Answers.{RefusesOutcome};
 
 use crate::recursive::Recursive;
-use fj_crew::{Turnstile, run_alone};
+use fj_crew::{Turnstile, result_in, run_alone};
 use fj_jobs::Divide;
 use fj_model::{Limits, Mode, Refusal};
-use fj_store::{Kept, Outcome};
+use fj_store::Outcome;
 use std::alloc::Global;
 use std::sync::Wait;
 use std::thread::Threads;
@@ -41,41 +41,20 @@ where
     }
 }
 
-/// The value that an outcome gives, if it stands under this key. A failure by a full history is told as one; all else, that memory was
-/// refused.
+/// The value that an outcome gives, if it stands under this key. A result under another key is told as none.
 fn answer_of<J: Divide>(outcome: Outcome<Recursive<J>>, key: J::Key) -> Result<J::Out, Refusal>
     ensures value { IfOk result (λ out. out ≡ J.value key) }
     ensures refused { IfErr result (λ refusal. RefusesOutcome J.Key.eq key outcome refusal) }
     ensures err { IfErr result RefusesRun }
 {
-    match outcome {
-        Outcome::Normal(Some(kept)) => value_under(kept, key),
-        Outcome::Exceptional(code) => Err(refusal_of(code)),
-        _ => Err(Refusal::OutOfMemory),
-    }
-}
-
-/// The value of a result, if it stands under this key.
-fn value_under<J: Divide>(kept: Kept<Recursive<J>>, key: J::Key) -> Result<J::Out, Refusal>
-    ensures value { IfOk result (λ out. out ≡ J.value key) }
-    ensures refused { IfErr result (λ refusal. RefusesKept J.Key.eq key kept refusal) }
-{
-    let (kept_key, out) = kept.into_parts();
-    if kept_key == key {
-        Ok(out)
-    } else {
-        Err(Refusal::OutOfMemory)
-    }
-}
-
-/// What is told of a failure with this code.
-fn refusal_of(code: u32) -> Refusal
-    ensures told { result ≡ refusal_of code }
-    ensures err { RefusesRun result }
-{
-    if code == Refusal::LogFull.number() {
-        Refusal::LogFull
-    } else {
-        Refusal::OutOfMemory
+    match result_in(outcome) {
+        Ok((kept_key, out)) => {
+            if kept_key == key {
+                Ok(out)
+            } else {
+                Err(Refusal::OutOfMemory)
+            }
+        }
+        Err(none) => Err(none.refusal()),
     }
 }

@@ -1,4 +1,5 @@
-ghost use Rattle.std.specs.Prelude.{◌≡◌, ◌<◌, IfOk, IfErr, map, vec_len};
+ghost use Rattle.std.specs.Prelude.{◌≡◌, ◌<◌, ◌++◌, ◌∷◌, [], IfOk, IfErr, map, vec_len};
+ghost use Rattle.fj_invoke.specs.Asks.{forked_in};
 ghost use Rattle.fj_invoke.specs.Recursions.{left_value, tail_value};
 
 use crate::stage::Left;
@@ -14,6 +15,7 @@ pub fn fold_done<J: Divide>(
     ensures all { IfOk result (λ v. tail_value J.combined (map (left_value J.value) lefts.old.items) tail ≡ v) }
     ensures one { IfErr result (λ w. tail_value J.combined (map (left_value J.value) lefts.new.items) (J.combined (J.value w.1) w.2) ≡ tail_value J.combined (map (left_value J.value) lefts.old.items) tail) }
     ensures fewer { IfErr result (λ w. vec_len lefts.new < vec_len lefts.old) }
+    ensures last { IfErr result (λ w. forked_in lefts.old.items ≡ forked_in lefts.new.items ++ w.0 ∷ []) }
 {
     let mut value = tail;
     while let Some(left) = lefts.pop() {

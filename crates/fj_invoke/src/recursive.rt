@@ -1,7 +1,8 @@
-ghost use Rattle.std.specs.Prelude.{◌≡◌, ℕ, ◌+◌, ◌*◌, ◌<◌, ◌≤◌, Option, None, IfOk, IfErr, IfSome, true, map, vec_len};
+ghost use Rattle.std.specs.Prelude.{◌≡◌, ◌⊎◌, ℕ, ◌+◌, ◌*◌, ◌<◌, ◌≤◌, ◌++◌, ◌∷◌, [], Option, None, IfOk, IfErr, IfSome, IfNone, true, false, map, vec_len};
 ghost use Rattle.fj_model.specs.Replies.{refusal_number};
 ghost use Rattle.fj_store.specs.Turns.{HeardRight, AskRight, Nearer};
-ghost use Rattle.fj_invoke.specs.Recursions.{Gives, turns_of, left_value, tail_value};
+ghost use Rattle.fj_invoke.specs.Recursions.{Gives, NotUnder, turns_of, left_value, tail_value};
+ghost use Rattle.fj_invoke.specs.Asks.{AsksAsJob, JoinsLast, forked_by, forked_in};
 ghost use Rattle.fj_invoke.specs.Failures.{AsksFailing, is_want_of_room};
 
 use crate::lefts::fold_done;
@@ -34,6 +35,7 @@ fn is_want_of_room(refusal: Refusal) -> bool
 fn in_place<J: Divide>(body: Recursive<J>, refusal: Refusal, key: J::Key) -> Option<J::Out>
     ensures value { IfSome result (λ v. v ≡ J.value key) }
     ensures room { IfSome result (λ v. is_want_of_room refusal ≡ true) }
+    ensures none { IfNone result ((is_want_of_room refusal ≡ false) ⊎ NotUnder J.key_of J.Key.eq body.stage key) }
 {
     if is_want_of_room(refusal) {
         body.value_at(key)
@@ -56,7 +58,8 @@ impl<J: Divide> Recursive<J> {
 
     /// The value of the job with which it begins, if its key is this one.
     fn value_at(self, key: J::Key) -> Option<J::Out>
-        ensures { IfSome result (λ v. v ≡ J.value key) }
+        ensures value { IfSome result (λ v. v ≡ J.value key) }
+        ensures none { IfNone result (NotUnder J.key_of J.Key.eq self.stage key) }
     {
         let Recursive {
             key: _,
@@ -97,6 +100,8 @@ impl<J: Divide> Recursive<J> {
         ensures key { self.new.key ≡ self.old.key }
         ensures right { AskRight (λ k o. o ≡ J.value k) self.new.key result }
         ensures nearer { Nearer (turns_of J.size (vec_len self.new.lefts) self.new.stage) (2 * vec_len self.old.lefts) result }
+        ensures asks { AsksAsJob result }
+        ensures joins { JoinsLast (forked_in self.old.lefts.items) result }
     {
         self.stage = Stage::Over;
         match fold_done(&mut self.lefts, tail) {
@@ -114,6 +119,8 @@ impl<J: Divide> Recursive<J> {
         ensures key { self.new.key ≡ self.old.key }
         ensures right { AskRight (λ k o. o ≡ J.value k) self.new.key result }
         ensures nearer { Nearer (turns_of J.size (vec_len self.new.lefts) self.new.stage) (4 * J.size job + 2 * vec_len self.old.lefts + 2) result }
+        ensures asks { AsksAsJob result }
+        ensures joins { JoinsLast (forked_in self.old.lefts.items) result }
     {
         self.stage = Stage::Over;
         match job.split() {
@@ -137,6 +144,8 @@ impl<J: Divide> Recursive<J> {
         ensures key { self.new.key ≡ self.old.key }
         ensures right { AskRight (λ k o. o ≡ J.value k) self.new.key result }
         ensures nearer { Nearer (turns_of J.size (vec_len self.new.lefts) self.new.stage) (4 * J.size job + 2 * vec_len self.old.lefts + 5) result }
+        ensures asks { AsksAsJob result }
+        ensures joins { JoinsLast (forked_in (self.old.lefts.items ++ left ∷ [])) result }
     {
         self.stage = Stage::Over;
         match self.lefts.push(left) {
@@ -183,6 +192,8 @@ impl<J: Divide> Body for Recursive<J> {
         ensures right { AskRight (λ k o. o ≡ J.value k) self.old.key result }
         ensures nearer { Nearer (turns_of J.size (vec_len self.new.lefts) self.new.stage) (turns_of J.size (vec_len self.old.lefts) self.old.stage) result }
         ensures failing { AsksFailing J.Key.eq self.old.stage heard result }
+        ensures asks { AsksAsJob result }
+        ensures joins { JoinsLast (forked_by self.old.lefts.items heard) result }
     {
         let stage = mem::replace(&mut self.stage, Stage::Over);
         match heard {

@@ -1,4 +1,4 @@
-use Rattle.fj_fold.proofs.Turns.{course_forked, forks_fewer}
+use Rattle.fj_fold.proofs.Turns.{course_forked, forks_fewer, next_in_turn}
 use Rattle.fj_fold.proofs.tree_fold.TreeFold.fork.Goals as goal
 
 pub invariant_of-self-2 : goal.invariant_of-self-2
@@ -13,3 +13,8 @@ pub returns-clause-nearer : goal.returns-clause-nearer
 returns-clause-nearer g c =
     let self = c.args.self.now in
     forks_fewer self.family.now g.F.Tree.nodes self.course c.in-Some.child _ self.same self.right c.in-Some.is c.next_sibling-self.ensures.next
+
+pub returns-clause-goes_on : goal.returns-clause-goes_on
+returns-clause-goes_on g c =
+    let self = c.args.self.now in
+    next_in_turn self.family.now g.F.Tree.nodes self.course c.in-Some.child _ self.same self.right c.in-Some.is c.next_sibling-self.ensures.next
