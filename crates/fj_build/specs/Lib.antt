@@ -1,5 +1,7 @@
 -- What a target is built to.
 pub mod Artifacts
+-- What the body of a target asks.
+pub mod Asks
 -- How far a target has come.
 pub mod Courses
 -- Why nothing was built.

@@ -1,6 +1,7 @@
-ghost use Rattle.std.specs.Prelude.{◌≡◌, ◌+◌, ◌-◌, Option, ℕ, Some, length, vec_len};
+ghost use Rattle.std.specs.Prelude.{◌≡◌, ◌<◌, ◌+◌, ◌-◌, ◌^◌, Option, ℕ, Some, length, slice_get, vec_len};
 ghost use Rattle.fj_store.specs.Turns.{AskRight, HeardRight, Nearer};
 ghost use Rattle.fj_build.specs.Artifacts.{IsRight};
+ghost use Rattle.fj_build.specs.Asks.{ForksInput, end_of};
 ghost use Rattle.fj_build.specs.Courses.{turns_left};
 
 use crate::artifact::{Artifact, link};
@@ -58,6 +59,7 @@ impl<'p> Make<'p> {
     /// Raises the pending count of this task, its own, by the number of its inputs.
     fn wait(&self, me: u64) -> Ask<Make<'p>>
         ensures right { AskRight IsRight self.now.target result }
+        ensures inputs { length self.now.target.inputs.now < 2 ^ 32 → result ≡ Ask.Add me (length self.now.target.inputs.now) }
     {
         match u32::try_from(self.target.inputs.len()) {
             Ok(inputs) => Ask::Add(Serial(me), inputs),
@@ -69,6 +71,7 @@ impl<'p> Make<'p> {
     fn fork(&self, me: u64) -> Ask<Make<'p>>
         ensures right { AskRight IsRight self.now.target result }
         ensures nearer { Nearer (vec_len self.now.forked) (length self.now.target.inputs.now) result }
+        ensures input { ForksInput (λ b. b.target) self.now.plan.now self.now.target.source (slice_get self.now.target.inputs.now (vec_len self.now.forked)) me result }
     {
         let Some(input) = self.target.inputs.get(self.forked.len()) else {
             return self.compile();
@@ -91,6 +94,7 @@ impl<'p> Make<'p> {
     fn compile(&self) -> Ask<Make<'p>>
         ensures right { AskRight IsRight self.now.target result }
         ensures nearer { Nearer 0 0 result }
+        ensures source { result ≡ end_of self.now.target.source }
     {
         match self.target.source {
             Source::Compiles(_) => Ask::Try,

@@ -27,8 +27,9 @@ Goes v x next =
     ((x ≡ 10) × ((node : Node) × IsNodeAt (length v.nodes) node × (v.line ≡ node_line node) × (next.nodes ≡ v.nodes ++ node ∷ []) × (next.line ≡ [])))
     ⊎ ((x ≢ 10) × (next.nodes ≡ v.nodes) × (next.line ≡ v.line ++ x ∷ []))
 
--- what a fault at a byte says: there are 4,000 nodes, or the line is none that may stand there, or is too long
+-- what a fault at a byte says: there are 4,000 nodes, or the line is none that may stand there, or is too long; memory is refused only to a
+-- line that may stand there
 abbrev pub FaultAt : TreeFault → Kept → ℕ → Type 0
 FaultAt (Line n) v x = (n ≡ length v.nodes + 1) × ((4000 ≤ length v.nodes) ⊎ ((x ≡ 10) × IsNoNode (length v.nodes) v.line) ⊎ ((x ≢ 10) × (64 ≤ length v.line)))
-FaultAt Memory v x = ⊤
+FaultAt Memory v x = (x ≡ 10) × ((node : Node) × IsNodeAt (length v.nodes) node × (v.line ≡ node_line node))
 FaultAt Read v x = ⊥

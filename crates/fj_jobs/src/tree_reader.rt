@@ -1,4 +1,4 @@
-ghost use Rattle.std.specs.Prelude.{◌≡◌, ℕ, ◌+◌, ◌<◌, ◌++◌, [], length, List, OnOk, IfOk, IfErr};
+ghost use Rattle.std.specs.Prelude.{◌≡◌, ◌≢◌, ℕ, ◌+◌, ◌<◌, ◌++◌, [], length, List, OnOk, IfOk, IfErr};
 ghost use Rattle.fj_jobs.specs.Trees.{IsTree, FaultOf, tree_text};
 ghost use Rattle.fj_jobs.specs.TreeReaders.{Kept, Goes, FaultAt, IsAt, nothing_kept};
 
@@ -88,6 +88,7 @@ impl TreeReader {
     pub(crate) fn feed_all(&mut self, bytes: &[u8]) -> Result<(), TreeFault>
         ensures ok { OnOk result ((b : List ℕ) → IsAt b self.old → IsAt (b ++ bytes.now) self.new) }
         ensures err { IfErr result (λ fault. (b after : List ℕ) → IsAt b self.old → FaultOf fault (b ++ bytes.now ++ after)) }
+        ensures no_read { IfErr result (λ fault. fault ≢ TreeFault.Read) }
     {
         for byte in bytes {
             match self.feed(*byte) {
@@ -102,6 +103,7 @@ impl TreeReader {
     pub(crate) fn finish(self) -> Result<Nodes, TreeFault>
         ensures ok { IfOk result (λ nodes. (b : List ℕ) → IsAt b self → b ≡ tree_text nodes) }
         ensures err { IfErr result (λ fault. (b : List ℕ) → IsAt b self → FaultOf fault b) }
+        ensures no_read { IfErr result (λ fault. fault ≢ TreeFault.Read) }
     {
         if !self.line.is_empty() {
             return Err(self.fault());

@@ -1,5 +1,7 @@
 -- What the stages make of a number.
 pub mod Stages
+-- What the body of a stage asks.
+pub mod Asks
 -- How far a stage has come.
 pub mod Courses
 -- Why an event has no level.

@@ -1,7 +1,8 @@
-ghost use Rattle.std.specs.Prelude.{◌≡◌, ℕ, Option, None, Some};
+ghost use Rattle.std.specs.Prelude.{◌≡◌, ℕ, Option, None, Some, IfSome};
 ghost use Rattle.fj_store.specs.Turns.{AskRight, HeardRight, Nearer};
 ghost use Rattle.fj_pipeline.specs.Courses.{turns_left};
-ghost use Rattle.fj_pipeline.specs.Stages.{IsRight, number_of, run};
+ghost use Rattle.fj_pipeline.specs.Asks.{ForksNext};
+ghost use Rattle.fj_pipeline.specs.Stages.{IsRight, after, item_of, number_of, run};
 
 use crate::item::Item;
 use fj_crew::{Ask, Body, Heard, Kind, Serial};
@@ -46,6 +47,7 @@ impl Flow {
         ensures rejected { run self.old.item.stage self.old.item.value ≡ None → result ≡ Ask.Fail (number_of self.old.item.stage) }
         ensures right { AskRight IsRight self.old.item result }
         ensures nearer { Nearer (turns_left self.new.course) 3 result }
+        ensures next { ForksNext (λ b. b.item) (item_of (after self.old.item.stage) (run self.old.item.stage self.old.item.value)) me result }
     {
         if self.item.stage.run(self.item.value).is_none() {
             return Ask::Fail(self.item.stage.code());
@@ -69,6 +71,8 @@ impl Flow {
         ensures item { self.new.item ≡ self.old.item }
         ensures right { AskRight IsRight self.old.item result }
         ensures nearer { Nearer (turns_left self.new.course) 1 result }
+        ensures taken { IfSome next (λ task. result ≡ Ask.Take task) }
+        ensures last { next ≡ None → after self.old.item.stage ≡ None → result ≡ Ask.HookDone (run self.old.item.stage self.old.item.value) }
     {
         self.course = Course::Taking;
         match next {
@@ -85,6 +89,7 @@ impl Flow {
         requires { ∥ IsRight item level ∥₁ }
         ensures right { AskRight IsRight self.now.item result }
         ensures nearer { Nearer 0 0 result }
+        ensures level { item_of (after self.now.item.stage) (run self.now.item.stage self.now.item.value) ≡ Some item → result ≡ Ask.HookDone level }
     {
         match self.item.passed_on() {
             Some(next) if next == item => Ask::HookDone(level),

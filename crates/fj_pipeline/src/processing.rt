@@ -1,4 +1,4 @@
-ghost use Rattle.std.specs.Prelude.{◌≡◌, IfErr, IfOk, Some};
+ghost use Rattle.std.specs.Prelude.{◌≡◌, ◌≤◌, IfErr, IfOk, OnOk, Some};
 ghost use Rattle.fj_pipeline.specs.Faults.{IsTold};
 ghost use Rattle.fj_pipeline.specs.Stages.{IsRight, result_from};
 
@@ -28,6 +28,7 @@ pub fn process<R: Threads + Wait + Sync>(
     word: u32,
 ) -> Result<u32, Fault>
     ensures level { IfOk result (λ level. ∥ result_from Stage.Decode word ≡ Some level ∥₁) }
+    ensures workers { OnOk result ((1 ≤ workers) × (workers ≤ 32)) }
     ensures err { IfErr result (λ fault. IsTold workers fault) }
 {
     let item = Item {
