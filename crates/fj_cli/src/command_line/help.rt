@@ -68,7 +68,7 @@ Exit status:
   0  the sum was written
   2  a fault of the command line, or too many blocks
   3  the pool's history is full
-  4  out of memory
+  4  out of memory, or a thread could not be started
   5  a write failed";
 
 /// Of `fj min`.
@@ -83,7 +83,7 @@ Exit status:
   0  the value and its number were written, or none for an empty range
   2  a fault of the command line, or too many blocks
   3  the pool's history is full
-  4  out of memory
+  4  out of memory, or a thread could not be started
   5  a write failed";
 
 /// Of `fj find`.
@@ -98,7 +98,7 @@ Exit status:
   0  the number was written, or none where no number has the value
   2  a fault of the command line, or too many blocks
   3  the pool's history is full
-  4  out of memory
+  4  out of memory, or a thread could not be started
   5  a write failed";
 
 /// Of `fj tree`.
@@ -117,5 +117,5 @@ Exit status:
   0  the value of node 0 was written
   2  a fault of the command line
   3  a faulty line, told by its number, or the pool's history is full
-  4  out of memory
+  4  out of memory, or a thread could not be started
   5  a read or a write failed";
