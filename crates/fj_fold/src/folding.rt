@@ -18,8 +18,8 @@ use std::thread::Threads;
 /// The value of the root of a tree, folded by so many workers, a thread for each: `ForkJoinPool.invoke` of a `CountedCompleter`. The
 /// turnstile is asked before the first turn of each node's body. Precondition: 1 to 32 workers.
 ///
-/// `LogFull` where the history is full, or the root failed with that refusal's number. `OutOfMemory` where memory or a thread was refused, and where the
-/// root has no result otherwise.
+/// `LogFull` where the history is full, or the root failed with that refusal's number. `OutOfMemory` where memory or a thread was refused,
+/// and where the root has no result otherwise.
 pub fn fold_tree<R: Threads + Wait + Sync, T: Turnstile + Sync>(
     rt: &R,
     alloc: Global,
