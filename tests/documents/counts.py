@@ -1,6 +1,6 @@
 #!/usr/bin/env python3
 """Counts what the documents count: samples, scripts, limits; the tests by threads beside their table, the crates of others beside what is
-trusted, our own in the tables that have one for each. Tells what differs; the exit status is 1 if anything does. Usage: tests/documents/counts.py
+trusted, our own in the tables that have one for each and in the scripts that copy some. Tells what differs; the exit status is 1 if anything does. Usage: tests/documents/counts.py
 """
 import glob
 import os
@@ -71,8 +71,18 @@ def missing_names():
             yield f"crates/{crate}/must-fail: more than 30"
 
 
+def missing_crates():
+    """What a script does not copy of the crates on which those stand that it copies."""
+    below = {it: rest.split() for it, rest in re.findall(r"^(\w+): ?(.*)$", text_of("crates.txt"), flags=re.M)}
+    for script in [*glob.glob("bench/*.sh"), *glob.glob("tests/*/*.sh")]:
+        for listed in re.findall(r"^(?:crates=\(|(?:build|lay_out)_loader \w+ )((?:fj_\w+ ?)+)\)?$", text_of(script), flags=re.M):
+            copied = listed.split()
+            needed = {it for crate in copied for it in below[crate] if it in below}
+            yield from (f"{script}: {it}" for it in sorted(needed - {*copied}))
+
+
 def main():
-    told = [*differing_numbers(), *missing_names()]
+    told = [*differing_numbers(), *missing_names(), *missing_crates()]
     print("\n".join(told) or "each number in the documents is right")
     sys.exit(1 if told else 0)
 
