@@ -110,7 +110,8 @@ impl<B: Body> Core<B> {
     /// soon as it can be.
     ///
     /// `LogFull` where the core is stuck. `Unknown` where the outcome was told before, where a join or a take has had the result, or
-    /// where so many submissions were taken in as there will be, none of them under this ticket. None while nothing was taken in under it, and while its task is undone.
+    /// where so many submissions were taken in as there will be, none of them under this ticket. None while nothing was taken in under it,
+    /// and while its task is undone.
     pub fn collect(&mut self, ticket: Ticket) -> Option<Result<Outcome<B>, Refusal>>
         ensures collects { CollectsTicket self.old ticket result self.new }
         ensures stays { StaysInside self.old.store self.new.store }

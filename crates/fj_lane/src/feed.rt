@@ -7,7 +7,8 @@ use crossbeam_deque::Worker;
 use std::alloc::Global;
 use std::marker::Model;
 
-/// The end of a lane that pushes. There is one. Java has no counterpart of it, nor of its capacity, from 1 to [`MAX_CAPACITY`](crate::MAX_CAPACITY).
+/// The end of a lane that pushes. There is one. Java has no counterpart of it, nor of its capacity, from 1 to
+/// [`MAX_CAPACITY`](crate::MAX_CAPACITY).
 #[derive(Drop)]
 pub struct Feed<B> {
     pub(crate) worker: Worker<Parcel<B>, Global, View<B>, LaneRule>,
