@@ -48,22 +48,13 @@ impl Stage {
         ensures told { IfErr result (λ fault. WriterTells fault (W.calls w.old) (W.calls w.new)) }
     {
         match self {
-            Stage::Start => {
-                *self = begun(alloc, line, number)?;
-                Ok(())
-            }
-            Stage::Titled => {
-                *self = titled(alloc, line, number)?;
-                Ok(())
-            }
+            Stage::Start => self.begin(alloc, line, number),
+            Stage::Titled => self.open(alloc, line, number),
             Stage::Plays(responder) => match responder.read(line) {
                 Ok(asked) => responder.reply(alloc, asked, w),
                 Err(_) => Err(ReplayFault::Line(number)),
             },
-            Stage::Old => {
-                *self = rewriting(alloc, line, number)?;
-                write_head(alloc, line, w)
-            }
+            Stage::Old => self.rewrite_head(alloc, line, number, w),
             Stage::Rewrites(rewriter) => {
                 let Ok(asked) = read_step(line) else {
                     return Err(ReplayFault::Line(number));
@@ -72,35 +63,56 @@ impl Stage {
             }
         }
     }
-}
 
-/// Where a script stands after its first line, which has this number.
-fn begun(alloc: Global, line: &[u8], number: u64) -> Result<Stage, ReplayFault>
-    ensures after { IfOk result (λ stage. stage_after Stage.Start line.now ≡ Some stage) }
-    ensures err { IfErr result (λ fault. (is_title line.now ≡ false) × IsHeadFault fault number line.now) }
-{
-    if is_title(line) {
-        return Ok(Stage::Titled);
+    // A frame is cleared at each call, so the new stages of the three below, which each script makes once, stay out of that of `advance`.
+
+    /// Goes on from `Start` by the first line.
+    #[cold]
+    #[inline(never)]
+    fn begin(&mut self, alloc: Global, line: &[u8], number: u64) -> Result<(), ReplayFault>
+        ensures next { OnOk result (stage_after Stage.Start line.now ≡ Some self.new) }
+        ensures err { IfErr result (λ fault. (is_title line.now ≡ false) × IsHeadFault fault number line.now) }
+    {
+        if is_title(line) {
+            *self = Stage::Titled;
+            return Ok(());
+        }
+        let responder = Responder::open(alloc, line, number, Naming::Numbers)?;
+        *self = Stage::Plays(responder);
+        Ok(())
     }
-    let responder = Responder::open(alloc, line, number, Naming::Numbers)?;
-    Ok(Stage::Plays(responder))
-}
 
-/// Where a script of version 2 stands after its heading, which has this number.
-fn titled(alloc: Global, line: &[u8], number: u64) -> Result<Stage, ReplayFault>
-    ensures after { IfOk result (λ stage. stage_after Stage.Titled line.now ≡ Some stage) }
-    ensures err { IfErr result (λ fault. IsHeadFault fault number line.now) }
-{
-    let names = Names::new(alloc);
-    let responder = Responder::open(alloc, line, number, Naming::Names(names))?;
-    Ok(Stage::Plays(responder))
-}
+    /// Goes on from `Titled` by the heading.
+    #[cold]
+    #[inline(never)]
+    fn open(&mut self, alloc: Global, line: &[u8], number: u64) -> Result<(), ReplayFault>
+        ensures next { OnOk result (stage_after Stage.Titled line.now ≡ Some self.new) }
+        ensures err { IfErr result (λ fault. IsHeadFault fault number line.now) }
+    {
+        let names = Names::new(alloc);
+        let responder = Responder::open(alloc, line, number, Naming::Names(names))?;
+        *self = Stage::Plays(responder);
+        Ok(())
+    }
 
-/// Where a script that is written as version 2 stands after its heading, which has this number.
-fn rewriting(alloc: Global, line: &[u8], number: u64) -> Result<Stage, ReplayFault>
-    ensures after { IfOk result (λ stage. stage_after Stage.Old line.now ≡ Some stage) }
-    ensures err { IfErr result (λ fault. IsHeadFault fault number line.now) }
-{
-    let rewriter = Rewriter::open(alloc, line, number)?;
-    Ok(Stage::Rewrites(rewriter))
+    /// Goes on from `Old` by the heading.
+    #[cold]
+    #[inline(never)]
+    fn rewrite_head<W: Sink>(
+        &mut self,
+        alloc: Global,
+        line: &[u8],
+        number: u64,
+        w: &mut W,
+    ) -> Result<(), ReplayFault>
+        ensures next { OnOk result (stage_after Stage.Old line.now ≡ Some self.new) }
+        ensures wrote { OnOk result (Appends (W.contents w.old) (W.contents w.new) (line_text Stage.Old line.now)) }
+        ensures err { IfErr result (λ fault. FaultAtEnd fault number Stage.Old line.now (W.contents w.old) (W.contents w.new)) }
+        ensures fine { OnOk result (IsFine (W.calls w.old) (W.calls w.new)) }
+        ensures told { IfErr result (λ fault. WriterTells fault (W.calls w.old) (W.calls w.new)) }
+    {
+        let rewriter = Rewriter::open(alloc, line, number)?;
+        *self = Stage::Rewrites(rewriter);
+        write_head(alloc, line, w)
+    }
 }
