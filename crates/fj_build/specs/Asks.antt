@@ -1,11 +1,31 @@
 -- What the body of a target asks.
-use Rattle.std.specs.Prelude.{ℕ, ◌≡◌, true, List, Option, Some, None, slice_get}
+use Rattle.std.specs.Prelude.{ℕ, ◌≡◌, true, List, Option, Some, None, IfSome, slice_get}
 use Rattle.fj_model.specs.declared.kind.Kind.TheVariants.{Completer}
 use Rattle.fj_store.specs.declared.body.Ask.{Ask}
 use Rattle.fj_store.specs.declared.body.Ask.TheVariants.{Fork, Try, Fail}
+use Rattle.fj_store.specs.declared.body.Heard.{Heard}
+use Rattle.fj_store.specs.declared.body.Heard.TheVariants.{Start}
+use Rattle.fj_build.specs.declared.make.Course.{Course}
+use Rattle.fj_build.specs.declared.make.Course.TheVariants.{New, Adding, Forking, Taking}
 use Rattle.fj_build.specs.declared.target.Source.{Source}
 use Rattle.fj_build.specs.declared.target.Source.TheVariants.{Compiles, Fails}
 use Rattle.fj_build.specs.declared.target.Target.{Target}
+
+-- the task of a body that adds or forks
+abbrev pub task_in : Course → Option ℕ
+task_in New = None
+task_in (Adding me) = Some me
+task_in (Forking me) = Some me
+task_in Taking = None
+
+-- the same once this is heard: the first turn tells it
+abbrev pub own_task : {B K O : Type 0} → Course → Heard B K O → Option ℕ
+own_task New (Start me) = Some me
+own_task course _ = task_in course
+
+-- the task that it has is this one, if it has one
+abbrev pub HasTask : Option ℕ → Course → Type 0
+HasTask own course = IfSome (task_in course) (λ me. own ≡ Some me)
 
 -- how a body with these sources ends: it tries to, or fails by the code of its compiler
 abbrev pub end_of : {B K O : Type 0} → Source → Ask B K O

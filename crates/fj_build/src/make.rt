@@ -1,7 +1,8 @@
-ghost use Rattle.std.specs.Prelude.{◌≡◌, ◌<◌, ◌+◌, ◌-◌, ◌^◌, Option, ℕ, Some, length, slice_get, vec_len};
+ghost use Rattle.std.specs.Prelude.{◌≡◌, ◌<◌, ◌+◌, ◌-◌, ◌^◌, Option, ℕ, Some, None, length, slice_get, vec_len};
 ghost use Rattle.fj_store.specs.Turns.{AskRight, HeardRight, Nearer};
 ghost use Rattle.fj_build.specs.Artifacts.{IsRight};
-ghost use Rattle.fj_build.specs.Asks.{ForksInput, end_of};
+ghost use Rattle.fj_crew.specs.Asks.{AsksUnder};
+ghost use Rattle.fj_build.specs.Asks.{ForksInput, HasTask, end_of, own_task};
 ghost use Rattle.fj_build.specs.Courses.{turns_left};
 
 use crate::artifact::{Artifact, link};
@@ -59,6 +60,7 @@ impl<'p> Make<'p> {
     /// Raises the pending count of this task, its own, by the number of its inputs.
     fn wait(&self, me: u64) -> Ask<Make<'p>>
         ensures right { AskRight IsRight self.now.target result }
+        ensures own { AsksUnder (Some me) result }
         ensures inputs { length self.now.target.inputs.now < 2 ^ 32 → result ≡ Ask.Add me (length self.now.target.inputs.now) }
     {
         match u32::try_from(self.target.inputs.len()) {
@@ -71,6 +73,7 @@ impl<'p> Make<'p> {
     fn fork(&self, me: u64) -> Ask<Make<'p>>
         ensures right { AskRight IsRight self.now.target result }
         ensures nearer { Nearer (vec_len self.now.forked) (length self.now.target.inputs.now) result }
+        ensures own { AsksUnder (Some me) result }
         ensures input { ForksInput (λ b. b.target) self.now.plan.now self.now.target.source (slice_get self.now.target.inputs.now (vec_len self.now.forked)) me result }
     {
         let Some(input) = self.target.inputs.get(self.forked.len()) else {
@@ -94,6 +97,7 @@ impl<'p> Make<'p> {
     fn compile(&self) -> Ask<Make<'p>>
         ensures right { AskRight IsRight self.now.target result }
         ensures nearer { Nearer 0 0 result }
+        ensures own { AsksUnder None result }
         ensures source { result ≡ end_of self.now.target.source }
     {
         match self.target.source {
@@ -108,6 +112,7 @@ impl<'p> Make<'p> {
         ensures right { AskRight IsRight self.old.target result }
         ensures course { self.new.course ≡ self.old.course }
         ensures nearer { Nearer (length self.old.target.inputs.now - vec_len self.new.parts) (length self.old.target.inputs.now + 1 - vec_len self.old.parts) result }
+        ensures own { (me : Option ℕ) → AsksUnder me result }
     {
         let inputs = self.target.inputs.len();
         let taken = self.parts.len();
@@ -163,6 +168,8 @@ impl<'p> Body for Make<'p> {
         ensures rooted { ◌≡◌ {A = Option ℕ} (Some 0) (Some 0) }
         ensures right { AskRight IsRight self.old.target result }
         ensures nearer { Nearer (turns_left (length self.new.target.inputs.now) self.new.course (vec_len self.new.forked) (vec_len self.new.parts)) (turns_left (length self.old.target.inputs.now) self.old.course (vec_len self.old.forked) (vec_len self.old.parts)) result }
+        ensures own { AsksUnder (own_task self.old.course heard.entry) result }
+        ensures stays { HasTask (own_task self.old.course heard.entry) self.new.course }
     {
         match (self.course, &heard) {
             (Course::New, Heard::Start(me)) => {

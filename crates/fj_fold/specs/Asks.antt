@@ -1,5 +1,5 @@
 -- What the body of a node asks.
-use Rattle.std.specs.Prelude.{ℕ, ◌≡◌, ⊤, true, List, length, Option, Some, None}
+use Rattle.std.specs.Prelude.{ℕ, ◌≡◌, ⊤, true, List, length, Option, Some, None, IfSome}
 use Rattle.fj_model.specs.declared.kind.Kind.{Kind}
 use Rattle.fj_model.specs.declared.kind.Kind.TheVariants.{Completer}
 use Rattle.fj_model.specs.declared.refusal.Refusal.TheVariants.{OutOfMemory}
@@ -38,11 +38,9 @@ abbrev pub own_task : {B K O : Type 0} → Stage → Heard B K O → Option ℕ
 own_task stage (Start me) = Some me
 own_task stage _ = task_in stage
 
--- it adds to this task alone, and forks under it alone
-abbrev pub AsksUnder : {B K O : Type 0} → Option ℕ → Ask B K O → Type 0
-AsksUnder own (Add c n) = own ≡ Some c
-AsksUnder own (Fork body kind) = kind ≡ Completer true 0 own
-AsksUnder own _ = ⊤
+-- the task that it has is this one, if it has one
+abbrev pub HasTask : Option ℕ → Stage → Type 0
+HasTask own stage = IfSome (task_in stage) (λ me. own ≡ Some me)
 
 -- it forks the body of the child that is next, and tries to end where none is left
 abbrev pub ForksNext : {B K O : Type 0} → (B → K) → Option K → Ask B K O → Type 0

@@ -1,7 +1,8 @@
 ghost use Rattle.std.specs.Prelude.{◌≡◌, ◌+◌, ◌-◌, ◌<◌, Some, None, IfSome, length, slice_get};
 ghost use Rattle.fj_jobs.specs.TreeValues.{node_value};
 ghost use Rattle.fj_store.specs.Turns.{AskRight, HeardRight, Nearer};
-ghost use Rattle.fj_fold.specs.Asks.{AsksAsNode, AsksUnder, ForksNext, own_task, task_in};
+ghost use Rattle.fj_crew.specs.Asks.{AsksUnder};
+ghost use Rattle.fj_fold.specs.Asks.{AsksAsNode, ForksNext, HasTask, own_task, task_in};
 ghost use Rattle.fj_fold.specs.Families.{child_from};
 ghost use Rattle.fj_fold.specs.Courses.{IsCourse, turns_left};
 ghost use Rattle.fj_fold.specs.Tallies.{numbers_from};
@@ -57,6 +58,7 @@ impl<'a, F: Tree> TreeFold<'a, F> {
         ensures nearer { Nearer (turns_left (length F.nodes) self.new.course) (turns_left (length F.nodes) self.old.course) result }
         ensures asks { AsksAsNode F.nodes self.old.course.tally.node result }
         ensures own { AsksUnder (Some me) result }
+        ensures stays { HasTask (Some me) self.new.course.stage }
     {
         let Stage::New = self.course.stage else {
             return self.go_on_without();
@@ -72,6 +74,7 @@ impl<'a, F: Tree> TreeFold<'a, F> {
         ensures nearer { Nearer (turns_left (length F.nodes) self.new.course) (turns_left (length F.nodes) self.old.course) result }
         ensures asks { AsksAsNode F.nodes self.old.course.tally.node result }
         ensures own { AsksUnder (task_in self.old.course.stage) result }
+        ensures stays { HasTask (task_in self.old.course.stage) self.new.course.stage }
     {
         let Stage::Adding(me) = self.course.stage else {
             return self.go_on_without();
@@ -86,6 +89,7 @@ impl<'a, F: Tree> TreeFold<'a, F> {
         ensures nearer { Nearer (turns_left (length F.nodes) self.new.course) (turns_left (length F.nodes) self.old.course) result }
         ensures asks { AsksAsNode F.nodes self.old.course.tally.node result }
         ensures own { AsksUnder (task_in self.old.course.stage) result }
+        ensures stays { HasTask (task_in self.old.course.stage) self.new.course.stage }
     {
         let Stage::Forking(me) = self.course.stage else {
             return self.go_on_without();
@@ -103,6 +107,7 @@ impl<'a, F: Tree> TreeFold<'a, F> {
         ensures nearer { Nearer (turns_left (length F.nodes) self.new.course) (turns_left (length F.nodes) self.old.course) result }
         ensures asks { AsksAsNode F.nodes self.old.course.tally.node result }
         ensures own { AsksUnder None result }
+        ensures stays { HasTask None self.new.course.stage }
     {
         if let Stage::Taking = self.course.stage {
             return self.go_on_without();
@@ -119,6 +124,7 @@ impl<'a, F: Tree> TreeFold<'a, F> {
         ensures nearer { Nearer (turns_left (length F.nodes) self.new.course) (turns_left (length F.nodes) self.old.course) result }
         ensures asks { AsksAsNode F.nodes self.old.course.tally.node result }
         ensures own { AsksUnder None result }
+        ensures stays { HasTask None self.new.course.stage }
     {
         let Stage::Taking = self.course.stage else {
             return self.go_on_without();
@@ -140,6 +146,7 @@ impl<'a, F: Tree> TreeFold<'a, F> {
         ensures nearer { Nearer (turns_left (length F.nodes) self.new.course) (turns_left (length F.nodes) self.old.course) result }
         ensures asks { AsksAsNode F.nodes self.old.course.tally.node result }
         ensures own { AsksUnder None result }
+        ensures stays { HasTask None self.new.course.stage }
     {
         let Stage::Taking = self.course.stage else {
             return self.fail();
@@ -158,6 +165,7 @@ impl<'a, F: Tree> TreeFold<'a, F> {
         ensures nearer { Nearer (turns_left (length F.nodes) self.new.course) (length F.nodes + 1 + numbers_from (length F.nodes) self.old.course.next) result }
         ensures asks { AsksAsNode F.nodes self.old.course.tally.node result }
         ensures own { AsksUnder (Some me) result }
+        ensures stays { HasTask (Some me) self.new.course.stage }
         ensures next { ForksNext (λ b. b.course.tally.node) self.old.course.next result }
         ensures goes_on { IfSome self.old.course.next (λ c. self.new.course.next ≡ child_from F.nodes (c + 1) self.old.course.tally.node) }
     {
@@ -184,6 +192,7 @@ impl<'a, F: Tree> TreeFold<'a, F> {
         ensures nearer { Nearer (turns_left (length F.nodes) self.new.course) (numbers_from (length F.nodes) self.old.course.tally.child + 1) result }
         ensures asks { AsksAsNode F.nodes self.old.course.tally.node result }
         ensures own { AsksUnder None result }
+        ensures stays { HasTask None self.new.course.stage }
         ensures taken { IfSome self.old.course.tally.child (λ c. IfSome (slice_get self.old.forked.items (self.old.course.tally.weight - 1)) (λ t. result ≡ Ask.Take t)) }
     {
         let Some(_child) = self.course.tally.child else {
@@ -207,6 +216,7 @@ impl<'a, F: Tree> TreeFold<'a, F> {
         ensures nearer { Nearer (turns_left (length F.nodes) self.new.course) (turns_left (length F.nodes) self.old.course) result }
         ensures asks { AsksAsNode F.nodes self.old.course.tally.node result }
         ensures own { AsksUnder None result }
+        ensures stays { HasTask None self.new.course.stage }
     {
         self.course.tally = self.course.tally.add(self.family, child, value);
         self.take()
@@ -219,6 +229,7 @@ impl<'a, F: Tree> TreeFold<'a, F> {
         ensures nearer { Nearer 0 0 result }
         ensures asks { AsksAsNode F.nodes self.old.course.tally.node result }
         ensures own { AsksUnder None result }
+        ensures stays { HasTask None self.new.course.stage }
     {
         self.course.stage = Stage::Ended;
         Ask::Fail(Refusal::OutOfMemory.number())
@@ -258,6 +269,7 @@ impl<'a, F: Tree> Body for TreeFold<'a, F> {
         ensures nearer { Nearer (turns_left (length F.nodes) self.new.course) (turns_left (length F.nodes) self.old.course) result }
         ensures asks { AsksAsNode F.nodes self.old.course.tally.node result }
         ensures own { AsksUnder (own_task self.old.course.stage heard.entry) result }
+        ensures stays { HasTask (own_task self.old.course.stage heard.entry) self.new.course.stage }
     {
         // It is looked at, and not taken apart: the check does not do that to an enum with a `Serial` in a type that holds a reference.
         match &heard {
