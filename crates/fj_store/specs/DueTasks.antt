@@ -1,5 +1,5 @@
 -- Which of the tasks whose outcome or result was taken may be such that they can be released.
-use Rattle.std.specs.Prelude.{ℕ, ◌≡◌, Bool, true, false, List, [], ◌∷◌, Option, Some, None, ⊤}
+use Rattle.std.specs.Prelude.{ℕ, ◌≡◌, Bool, true, false, drop, List, [], ◌∷◌, Option, Some, None, Result, Ok, Err, ⊤}
 use Rattle.fj_model.specs.declared.event.Event.{Event}
 use Rattle.fj_model.specs.declared.step.Step.{Step}
 use Rattle.fj_model.specs.declared.step.Step.TheVariants as ask
@@ -7,7 +7,8 @@ use Rattle.fj_model.specs.Lists.{is_in}
 use Rattle.fj_store.specs.declared.due.Due.{Due}
 use Rattle.fj_store.specs.declared.due.Due.TheVariants as due
 use Rattle.fj_store.specs.Stores.{StoreState}
-use Rattle.fj_store.specs.Releases.{Releases, released_of}
+use Rattle.fj_store.specs.declared.tries.HistoryFull.{HistoryFull}
+use Rattle.fj_store.specs.Releases.{ReleasesFrom, released_of}
 use Rattle.fj_model.specs.Releasable.{can_go}
 
 -- none of these can be released but this one
@@ -47,8 +48,10 @@ after_step before ask.Stop = due.All
 after_step before _ = before
 
 module _ {B K O : Type 0} where
-  -- the task was released, and of the taken ones none can be now but its parent; or, where none is told, no other can be released now
-  abbrev pub ReleasesHere : StoreState B K O → Option ℕ → StoreState B K O → Type 0
-  ReleasesHere old (Some p) new =
-      (t : ℕ) × (is_in t old.taken ≡ true) × (can_go old.past.events t ≡ true) × (new ≡ released_of old (t ∷ [])) × OnlyGoes new.past.events new.taken p
-  ReleasesHere old None new = Releases old new
+  -- the task was released, and of the taken ones that stand from this place on none can be now but its parent; or, where none is told, none of
+  -- them can be released now; or the history was full
+  abbrev pub ReleasesHere : ℕ → ℕ → StoreState B K O → Result (Option ℕ) HistoryFull → StoreState B K O → Type 0
+  ReleasesHere t from old (Ok (Some p)) new =
+      (is_in t old.taken ≡ true) × (can_go old.past.events t ≡ true) × (new ≡ released_of old (t ∷ [])) × OnlyGoes new.past.events (drop from new.taken) p
+  ReleasesHere t from old (Ok None) new = ReleasesFrom from old (Ok tt) new
+  ReleasesHere t from old (Err full) new = ReleasesFrom from old (Err full) new
