@@ -8,7 +8,7 @@ use Rattle.fj_store.specs.declared.due.Due.{Due}
 use Rattle.fj_store.specs.declared.due.Due.TheVariants as due
 use Rattle.fj_store.specs.Stores.{StoreState}
 use Rattle.fj_store.specs.declared.tries.HistoryFull.{HistoryFull}
-use Rattle.fj_store.specs.Releases.{ReleasesFrom, released_of}
+use Rattle.fj_store.specs.Releases.{NoneGoesFrom, Releases, ReleasesSome, released_of}
 use Rattle.fj_model.specs.Releasable.{can_go}
 
 -- none of these can be released but this one
@@ -48,10 +48,18 @@ after_step before ask.Stop = due.All
 after_step before _ = before
 
 module _ {B K O : Type 0} where
-  -- the task was released, and of the taken ones that stand from this place on none can be now but its parent; or, where none is told, none of
-  -- them can be released now; or the history was full
-  abbrev pub ReleasesHere : ℕ → ℕ → StoreState B K O → Result (Option ℕ) HistoryFull → StoreState B K O → Type 0
-  ReleasesHere t from old (Ok (Some p)) new =
-      (is_in t old.taken ≡ true) × (can_go old.past.events t ≡ true) × (new ≡ released_of old (t ∷ [])) × OnlyGoes new.past.events (drop from new.taken) p
-  ReleasesHere t from old (Ok None) new = ReleasesFrom from old (Ok tt) new
-  ReleasesHere t from old (Err full) new = ReleasesFrom from old (Err full) new
+  -- of the taken tasks that stand from this place on none can be released but this one
+  abbrev pub OnlyGoesFrom : ℕ → StoreState B K O → ℕ → Type 0
+  OnlyGoesFrom from s t = OnlyGoes s.past.events (drop from s.taken) t
+
+  -- some tasks were released, and from each place on from where only this one could be, none can be now; or the history was full
+  abbrev pub ReleasesUp : ℕ → StoreState B K O → Result ⊤ HistoryFull → StoreState B K O → Type 0
+  ReleasesUp t old (Ok done) new = ReleasesSome old new × ((from : ℕ) → OnlyGoesFrom from old t → NoneGoesFrom from new)
+  ReleasesUp t old (Err full) new = Releases old new
+
+  -- the same of the task alone, where no parent is told; else it was released, and from each such place on only its parent can be now
+  abbrev pub ReleasesHere : ℕ → StoreState B K O → Result (Option ℕ) HistoryFull → StoreState B K O → Type 0
+  ReleasesHere t old (Ok (Some p)) new =
+      (is_in t old.taken ≡ true) × (can_go old.past.events t ≡ true) × (new ≡ released_of old (t ∷ [])) × ((from : ℕ) → OnlyGoesFrom from old t → OnlyGoesFrom from new p)
+  ReleasesHere t old (Ok None) new = ReleasesUp t old (Ok tt) new
+  ReleasesHere t old (Err full) new = ReleasesUp t old (Err full) new

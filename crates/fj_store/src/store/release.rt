@@ -1,7 +1,7 @@
-ghost use Rattle.std.specs.Prelude.{◌≡◌, ◌+◌, true, drop};
+ghost use Rattle.std.specs.Prelude.{◌≡◌, ◌+◌, true};
 ghost use Rattle.fj_model.specs.Lists.{is_in};
 ghost use Rattle.fj_store.specs.Releases.{NoneGoesFrom, Releases, ReleasesFrom, Tries};
-ghost use Rattle.fj_store.specs.DueTasks.{OnlyGoes, ReleasesHere};
+ghost use Rattle.fj_store.specs.DueTasks.{ReleasesHere, ReleasesUp};
 
 use crate::body::Body;
 use crate::due::{Due, is_all, only};
@@ -32,7 +32,7 @@ impl<B: Body> Store<B> {
             return self.release_all();
         }
         match only(self.due) {
-            Some(t) => self.release_up(t, 0),
+            Some(t) => self.release_up(t),
             None => Ok(()),
         }
     }
@@ -60,27 +60,23 @@ impl<B: Body> Store<B> {
             return Ok(());
         }
         let t = self.taken.as_slice()[i];
-        self.release_up(t, i)
+        self.release_up(t)
     }
 
-    /// Releases a task if it was taken and can be released, then so its parent, and so on. Precondition: of the taken tasks that stand from
-    /// this place on no other can be released.
-    fn release_up(&mut self, t: Serial, from: usize) -> Result<(), HistoryFull>
-        requires { OnlyGoes self.old.past.events (drop from self.old.taken) t }
-        ensures { ReleasesFrom from self.old result self.new }
+    /// Releases a task if it was taken and can be released, then so its parent, and so on.
+    fn release_up(&mut self, t: Serial) -> Result<(), HistoryFull>
+        ensures { ReleasesUp t self.old result self.new }
     {
         let mut next = Some(t);
         while let Some(u) = next {
-            next = self.release_here(u, from)?;
+            next = self.release_here(u)?;
         }
         Ok(())
     }
 
-    /// Releases a task if it was taken and can be released. Tells its parent, if it was released and has one. Precondition: of the taken tasks
-    /// that stand from this place on no other can be released.
-    fn release_here(&mut self, t: Serial, from: usize) -> Result<Option<Serial>, HistoryFull>
-        requires { OnlyGoes self.old.past.events (drop from self.old.taken) t }
-        ensures { ReleasesHere t from self.old result self.new }
+    /// Releases a task if it was taken and can be released. Tells its parent, if it was released and has one.
+    fn release_here(&mut self, t: Serial) -> Result<Option<Serial>, HistoryFull>
+        ensures { ReleasesHere t self.old result self.new }
     {
         if !self.taken.has(t) {
             return Ok(None);
