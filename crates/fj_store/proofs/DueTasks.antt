@@ -1,5 +1,5 @@
 -- Which taken tasks may be such that they can be released, step by step.
-use Rattle.std.proofs.Common.{ℕ, ◌≡◌, Bool, true, false, List, [], ◌∷◌, ◌++◌, Some, refl, sym, ◌∙◌, ⊎_elim}
+use Rattle.std.proofs.Common.{ℕ, ◌≡◌, Bool, true, false, List, [], ◌∷◌, ◌++◌, Option, Some, refl, sym, ◌∙◌, subst, ⊎_elim}
 use Rattle.std.specs.Prelude.{if◌then◌else◌, ◌||◌}
 use Rattle.std.specs.List.{list_all}
 use Rattle.std.proofs.lemmas.Bool.{true≢false}
@@ -17,7 +17,7 @@ use Rattle.fj_store.specs.declared.due.Due.{Due}
 use Rattle.fj_store.specs.declared.due.Due.TheVariants as due
 use Rattle.fj_store.specs.Stores.{IsStored}
 use Rattle.fj_model.specs.Releasable.{can_go}
-use Rattle.fj_store.specs.DueTasks.{AreDue, only, is_all, after, after_step}
+use Rattle.fj_store.specs.DueTasks.{AreDue, OnlyGoes, only, is_all, after, after_step}
 use Rattle.fj_store.specs.Asking.{is_calm}
 use Rattle.fj_model.proofs.Events.Releasable.{is_on_way, OnlyAbout, only_it_goes, none_goes}
 use Rattle.fj_model.proofs.Steps.AboutTasks.{quiet_root_about, fault_about, cancel_about}
@@ -36,6 +36,15 @@ pub none_due : (h : List Event) (ts : List ℕ) (d : Due) → AreDue h ts d → 
 none_due h ts due.Nothing none some one u there = none u there
 none_due h ts (due.One t) those some one u there = absurd (one t refl)
 none_due h ts due.All all some one u there = absurd cc
+
+-- where one is due, only it can go
+pub one_due : (h : List Event) (ts : List ℕ) (d : Due) (t : ℕ) → AreDue h ts d → only d ≡ Some t → OnlyGoes h ts t
+one_due h ts due.Nothing t none is = absurd cc
+one_due h ts (due.One u) t one is = subst (OnlyGoes h ts) (same is) one
+  where
+    same : ◌≡◌ {A = Option ℕ} (Some u) (Some t) → u ≡ t
+    same is = cc
+one_due h ts due.All t all is = absurd cc
 
 -- after a step about t
 pub step_due : {B R : Type 0} (past new : Past) (asked : Step) (bodies : Entries B) (results : Entries R) (ts : List ℕ) (t : ℕ) (before : Due) → IsStored past bodies results ts

@@ -12,6 +12,8 @@ pub mod Stored
 pub mod Results
 -- A task is released.
 pub mod Releases
+-- What stands in a list from a place on.
+pub mod FromPlace
 -- One task after another is released.
 pub mod Chains
 -- Which taken tasks may be such that they can be released, step by step.

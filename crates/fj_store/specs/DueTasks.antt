@@ -1,5 +1,5 @@
 -- Which of the tasks whose outcome or result was taken may be such that they can be released.
-use Rattle.std.specs.Prelude.{ℕ, ◌≡◌, Bool, true, false, List, [], ◌∷◌, Option, Some, None, ⊤}
+use Rattle.std.specs.Prelude.{ℕ, ◌≡◌, Bool, true, false, drop, List, [], ◌∷◌, Option, Some, None, Result, Ok, Err, ⊤}
 use Rattle.fj_model.specs.declared.event.Event.{Event}
 use Rattle.fj_model.specs.declared.step.Step.{Step}
 use Rattle.fj_model.specs.declared.step.Step.TheVariants as ask
@@ -7,7 +7,8 @@ use Rattle.fj_model.specs.Lists.{is_in}
 use Rattle.fj_store.specs.declared.due.Due.{Due}
 use Rattle.fj_store.specs.declared.due.Due.TheVariants as due
 use Rattle.fj_store.specs.Stores.{StoreState}
-use Rattle.fj_store.specs.Releases.{Releases, released_of}
+use Rattle.fj_store.specs.declared.tries.HistoryFull.{HistoryFull}
+use Rattle.fj_store.specs.Releases.{NoneGoesFrom, Releases, ReleasesSome, released_of}
 use Rattle.fj_model.specs.Releasable.{can_go}
 
 -- none of these can be released but this one
@@ -47,8 +48,18 @@ after_step before ask.Stop = due.All
 after_step before _ = before
 
 module _ {B K O : Type 0} where
-  -- the task was released, and of the taken ones none can be now but its parent; or, where none is told, no other can be released now
-  abbrev pub ReleasesHere : StoreState B K O → Option ℕ → StoreState B K O → Type 0
-  ReleasesHere old (Some p) new =
-      (t : ℕ) × (is_in t old.taken ≡ true) × (can_go old.past.events t ≡ true) × (new ≡ released_of old (t ∷ [])) × OnlyGoes new.past.events new.taken p
-  ReleasesHere old None new = Releases old new
+  -- of the taken tasks that stand from this place on none can be released but this one
+  abbrev pub OnlyGoesFrom : ℕ → StoreState B K O → ℕ → Type 0
+  OnlyGoesFrom from s t = OnlyGoes s.past.events (drop from s.taken) t
+
+  -- some tasks were released, and from each place on from where only this one could be, none can be now; or the history was full
+  abbrev pub ReleasesUp : ℕ → StoreState B K O → Result ⊤ HistoryFull → StoreState B K O → Type 0
+  ReleasesUp t old (Ok done) new = ReleasesSome old new × ((from : ℕ) → OnlyGoesFrom from old t → NoneGoesFrom from new)
+  ReleasesUp t old (Err full) new = Releases old new
+
+  -- the same of the task alone, where no parent is told; else it was released, and from each such place on only its parent can be now
+  abbrev pub ReleasesHere : ℕ → StoreState B K O → Result (Option ℕ) HistoryFull → StoreState B K O → Type 0
+  ReleasesHere t old (Ok (Some p)) new =
+      (is_in t old.taken ≡ true) × (can_go old.past.events t ≡ true) × (new ≡ released_of old (t ∷ [])) × ((from : ℕ) → OnlyGoesFrom from old t → OnlyGoesFrom from new p)
+  ReleasesHere t old (Ok None) new = ReleasesUp t old (Ok tt) new
+  ReleasesHere t old (Err full) new = ReleasesUp t old (Err full) new

@@ -1,8 +1,9 @@
 -- Tasks whose result or outcome was taken are released as soon as they can be.
-use Rattle.std.specs.Prelude.{ℕ, ◌≡◌, ◌≤◌, ◌⊎◌, Bool, true, false, map, length, List, [], ◌∷◌}
+use Rattle.std.specs.Prelude.{ℕ, ◌≡◌, ◌≤◌, ◌⊎◌, Bool, true, false, map, length, drop, List, [], ◌∷◌, Result, Ok, Err, ⊤}
 use Rattle.fj_model.specs.declared.event.Event.TheVariants.{Rel}
 use Rattle.fj_model.specs.Lists.{is_in, without}
 use Rattle.fj_model.specs.Pasts.{grown, limit}
+use Rattle.fj_store.specs.declared.tries.HistoryFull.{HistoryFull}
 use Rattle.fj_store.specs.declared.tries.Tried.{Tried}
 use Rattle.fj_store.specs.declared.tries.Tried.TheVariants as tried
 use Rattle.fj_model.specs.Releasable.{can_go, CanAllGo}
@@ -37,7 +38,15 @@ module _ {B K O : Type 0} where
   Tries old t tried.Full new = (can_go old.past.events t ≡ true) × (limit old.past ≤ length old.past.events) × (new ≡ record old { stuck = true })
   Tries old t tried.Needed new = (can_go old.past.events t ≡ false) × (new ≡ old)
 
-  -- one was released; or none can be, or the history is full
-  abbrev pub ReleasesOne : StoreState B K O → Bool → StoreState B K O → Type 0
-  ReleasesOne old true new = (t : ℕ) × (is_in t old.taken ≡ true) × (can_go old.past.events t ≡ true) × (new ≡ released_of old (t ∷ []))
-  ReleasesOne old false new = (new ≡ record old { stuck = new.stuck }) × Rests old.stuck new
+  -- some of the taken tasks were released, each as it could be
+  abbrev pub ReleasesSome : StoreState B K O → StoreState B K O → Type 0
+  ReleasesSome old new = (ts : List ℕ) × AreAmong ts old.taken × CanAllGo old.past.events ts × (new ≡ released_of old ts)
+
+  -- of the taken tasks that stand from this place on none can be released
+  abbrev pub NoneGoesFrom : ℕ → StoreState B K O → Type 0
+  NoneGoesFrom from s = (t : ℕ) → is_in t (drop from s.taken) ≡ true → can_go s.past.events t ≡ false
+
+  -- some were released, and of those that stand from this place on none can be now; or the history was full
+  abbrev pub ReleasesFrom : ℕ → StoreState B K O → Result ⊤ HistoryFull → StoreState B K O → Type 0
+  ReleasesFrom from old (Ok done) new = ReleasesSome old new × NoneGoesFrom from new
+  ReleasesFrom from old (Err full) new = Releases old new

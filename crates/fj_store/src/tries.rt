@@ -8,3 +8,7 @@ pub enum Tried {
     /// It could be released, but the history is full.
     Full,
 }
+
+/// What could be released next found no room in the history.
+#[derive(Clone, Copy)]
+pub struct HistoryFull;

@@ -14,7 +14,7 @@ use fj_model::{Ending, Owner, Place, Refusal, Said, Serial, Status, Step, SubId,
 use fj_shelf::Hand;
 
 impl<B: Body> Store<B> {
-    /// The body of the running plain task ends, with its result. Preconditions: the hand fits, and the result is right for the key of its body.
+    /// The body of the running plain task ends, with its result. Preconditions: the hand fits, and the result is right for its body's key.
     pub fn ok(&mut self, hand: &mut Hand<B>, out: B::Out) -> Told<B>
         requires fits { Fits self.old.past hand.old }
         requires right { IfSome (asker hand.old) (λ b. ∥ B.right (B.key_of b.1) out ∥₁) }
@@ -94,8 +94,8 @@ impl<B: Body> Store<B> {
         }
     }
 
-    /// The hook in the hand ends, with its result: `CountedCompleter.onCompletion` has returned. Preconditions: the hand fits, and the result is
-    /// right for the key of the hook's body.
+    /// The hook in the hand ends, with its result: `CountedCompleter.onCompletion` has returned. Preconditions: the hand fits, and the result
+    /// is right for the key of the hook's body.
     ///
     /// Where the hook of its parent comes, the parent's body goes on in it.
     pub fn hook_done(&mut self, hand: &mut Hand<B>, out: B::Out) -> Told<B>

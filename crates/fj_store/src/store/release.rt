@@ -1,13 +1,13 @@
-ghost use Rattle.std.specs.Prelude.{◌≡◌, true};
+ghost use Rattle.std.specs.Prelude.{◌≡◌, ◌+◌, true};
 ghost use Rattle.fj_model.specs.Lists.{is_in};
-ghost use Rattle.fj_store.specs.Releases.{Releases, ReleasesOne, Tries};
-ghost use Rattle.fj_store.specs.DueTasks.{OnlyGoes, ReleasesHere};
+ghost use Rattle.fj_store.specs.Releases.{NoneGoesFrom, Releases, ReleasesFrom, Tries};
+ghost use Rattle.fj_store.specs.DueTasks.{ReleasesHere, ReleasesUp};
 
 use crate::body::Body;
 use crate::due::{Due, is_all, only};
 use crate::hooked::is_hooked;
 use crate::store::Store;
-use crate::tries::Tried;
+use crate::tries::{HistoryFull, Tried};
 use fj_model::{Owner, Place, Refusal, Said, Serial, Status, Step, SubId, WorkerId};
 
 impl<B: Body> Store<B> {
@@ -16,74 +16,77 @@ impl<B: Body> Store<B> {
     pub(crate) fn release_due(&mut self)
         ensures { Releases self.old self.new }
     {
-        self.release_found();
+        // Where the history is full, the store is stuck from now on.
+        let _full = self.release_found();
         self.due = Due::Nothing;
     }
 
     /// Releases from what is due upwards, or whichever can be released.
-    fn release_found(&mut self)
+    fn release_found(&mut self) -> Result<(), HistoryFull>
         ensures { Releases self.old self.new }
     {
         if self.stuck {
-            self.release_all();
-            return;
+            return self.release_all();
         }
         if is_all(self.due) {
-            self.release_all();
-            return;
+            return self.release_all();
         }
-        if let Some(t) = only(self.due) {
-            self.release_up(t);
+        match only(self.due) {
+            Some(t) => self.release_up(t),
+            None => Ok(()),
         }
     }
 
-    /// Releases a task if it was taken and can be released, then so its parent, and so on. Precondition: no other taken task can be released.
-    fn release_up(&mut self, t: Serial)
-        requires { OnlyGoes self.old.past.events self.old.taken t }
+    /// Releases what can be released, whichever it is: from each of the taken tasks upwards, the newest first. A release lets none go but its
+    /// parent, so none is come back to.
+    fn release_all(&mut self) -> Result<(), HistoryFull>
         ensures { Releases self.old self.new }
+    {
+        let mut i = self.taken.as_slice().len();
+        while i > 0 {
+            i -= 1;
+            self.release_from(i)?;
+        }
+        Ok(())
+    }
+
+    /// Releases from the taken task at this place upwards, if one stands there: releases before may have left fewer. Precondition: of the taken
+    /// tasks behind this place none can be released.
+    fn release_from(&mut self, i: usize) -> Result<(), HistoryFull>
+        requires { NoneGoesFrom (i + 1) self.old }
+        ensures { ReleasesFrom i self.old result self.new }
+    {
+        if i >= self.taken.as_slice().len() {
+            return Ok(());
+        }
+        let t = self.taken.as_slice()[i];
+        self.release_up(t)
+    }
+
+    /// Releases a task if it was taken and can be released, then so its parent, and so on.
+    fn release_up(&mut self, t: Serial) -> Result<(), HistoryFull>
+        ensures { ReleasesUp t self.old result self.new }
     {
         let mut next = Some(t);
         while let Some(u) = next {
-            next = self.release_here(u);
+            next = self.release_here(u)?;
         }
+        Ok(())
     }
 
-    /// Releases a task if it was taken and can be released. Tells its parent, if it was released and has one. Precondition: no other taken task
-    /// can be released.
-    fn release_here(&mut self, t: Serial) -> Option<Serial>
-        requires { OnlyGoes self.old.past.events self.old.taken t }
-        ensures { ReleasesHere self.old result self.new }
+    /// Releases a task if it was taken and can be released. Tells its parent, if it was released and has one.
+    fn release_here(&mut self, t: Serial) -> Result<Option<Serial>, HistoryFull>
+        ensures { ReleasesHere t self.old result self.new }
     {
         if !self.taken.has(t) {
-            return None;
+            return Ok(None);
         }
         let parent = self.machine.parent(t);
         match self.try_release(t) {
-            Tried::Released => parent,
-            Tried::Needed | Tried::Full => None,
+            Tried::Released => Ok(parent),
+            Tried::Needed => Ok(None),
+            Tried::Full => Err(HistoryFull),
         }
-    }
-
-    /// Releases what can be released, whichever it is.
-    fn release_all(&mut self)
-        ensures { Releases self.old self.new }
-    {
-        while self.release_one() {}
-    }
-
-    /// Releases one, if one can be.
-    fn release_one(&mut self) -> bool
-        ensures { ReleasesOne self.old result self.new }
-    {
-        for i in 0..self.taken.as_slice().len() {
-            let t = self.taken.as_slice()[i];
-            match self.try_release(t) {
-                Tried::Released => return true,
-                Tried::Full => return false,
-                Tried::Needed => {}
-            }
-        }
-        false
     }
 
     /// Releases this one, if it can be.

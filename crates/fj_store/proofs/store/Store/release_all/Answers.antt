@@ -1,23 +1,16 @@
-use Rattle.std.proofs.Common.{[], ◌∷◌, ◌++◌, ap, ◌∙◌}
-use Rattle.fj_store.specs.Releases.{released_of}
-use Rattle.fj_model.specs.Lists.{without}
-use Rattle.fj_store.proofs.Chains.{none_in, one_in, both_in, none_released, one_more, released_twice, fewer}
+use Rattle.std.proofs.Common.{◌≡◌, length, ap, ◌∙◌, arith}
+use Rattle.fj_store.proofs.Chains.{end_went, more_went, then_releases}
 use Rattle.fj_store.proofs.store.Store.release_all.Goals as goal
 
-pub loop-init : goal.loop-init
-loop-init g c = ([], none_in c.args.self.now.taken, tt, none_released c.args.self.now)
+pub loop-i-init : goal.loop-i-init
+loop-i-init g c =
+    let same : c.as_slice-i.result.now ≡ c.args.self.now.taken = c.as_slice-i.ensures ∙ ap (λ s. s.taken) c.self.view_is in
+    end_went c.args.self.now (length c.as_slice-i.result.now) (omega (arith, ap length same))
 
-pub loop-smaller : goal.loop-smaller
-loop-smaller g c =
-    let one = rw c.loop-test.true at c.release_one.ensures in
-    rw one.3 (fewer c.loop.self.taken one.0 one.1)
+pub loop-i-preserved : goal.loop-i-preserved
+loop-i-preserved g c =
+    let went = rw c.in_ok-release_from.was at c.release_from.ensures in
+    (more_went c.args.self.now c.loop-i.self c.release_from.new.self c.loop-i.invariant.0 went.0, went.1)
 
-pub loop-preserved : goal.loop-preserved
-loop-preserved g c =
-    let one = rw c.loop-test.true at c.release_one.ensures in
-    let was = c.loop.invariant in (
-      was.0 ++ one.0 ∷ [],
-      both_in was.0 (one.0 ∷ []) c.args.self.now.taken was.1 (one_in one.0 (without c.args.self.now.taken was.0) (rw was.3 at one.1)),
-      one_more c.args.self.now.past.events was.0 one.0 was.2 (rw was.3 at one.2),
-      one.3 ∙ ap (λ s. released_of s (one.0 ∷ [])) was.3 ∙ released_twice c.args.self.now was.0 one.0,
-    )
+pub returns-in_err-release_from : goal.returns-in_err-release_from
+returns-in_err-release_from g c = then_releases c.args.self.now c.loop-i.self c.release_from.new.self c.loop-i.invariant.0 c.in_err-release_from.ensures

@@ -1,11 +1,10 @@
-use Rattle.std.proofs.Common.{◌≡◌, List, ℕ, length}
-use Rattle.fj_model.specs.Releasable.{CanAllGo}
-use Rattle.fj_store.specs.Releases.{AreAmong, released_of}
+use Rattle.std.specs.Prelude.{Ok}
+use Rattle.fj_store.specs.Releases.{ReleasesFrom}
 use Rattle.fj_store.proofs.store.Store.release_all.Given as goal
 
--- these taken ones were released
-abbrev pub invariant-loop : goal.invariant-loop
-invariant-loop g l = (ts : List ℕ) × AreAmong ts l.fn.self.taken × CanAllGo l.fn.self.past.events ts × (l.self ≡ released_of l.fn.self ts)
+-- some were released, and of those that stand from here on none can be now
+abbrev pub invariant-loop-i : goal.invariant-loop-i
+invariant-loop-i g l = ReleasesFrom l.i l.fn.self (Ok tt) l.self
 
-abbrev pub decreases-loop : goal.decreases-loop
-decreases-loop g l = length l.self.taken
+abbrev pub decreases-loop-i : goal.decreases-loop-i
+decreases-loop-i g l = l.i
