@@ -12,7 +12,7 @@ module _ {B : Type 0} where
   pub some_asks : (hand : HandState B) → ((hand.stack ≡ []) × (hand.hook ≡ None) → ⊥) → IsSome (asker hand)
   some_asks hand holds = go hand.hook hand.stack holds
     where
-      go : (hook : Option (ℕ × B)) (stack : List (ℕ × B)) → ((stack ≡ []) × (hook ≡ None) → ⊥) → IsSome (asker (record { worker = 0; word = 0; stack = stack; hook = hook }))
+      go : (hook : Option (ℕ × B)) (stack : List (ℕ × B)) → ((stack ≡ []) × (hook ≡ None) → ⊥) → IsSome (asker (record { worker = 0; word = 0; stack = stack; joined = []; hook = hook }))
       go (Some x) stack holds = refl
       go None [] holds = absurd (holds (refl, refl))
       go None (x ∷ xs) holds = newest_there (x ∷ xs) x xs refl

@@ -2,7 +2,7 @@
 use Rattle.std.specs.Prelude.{ℕ, ◌≡◌, ◌⊎◌, ⊤, true, [], IfSome, IsSome, Option, Some, None, Result, Ok, Err}
 use Rattle.fj_model.specs.declared.refusal.Refusal.{Refusal}
 use Rattle.fj_model.specs.declared.refusal.Refusal.TheVariants.{LogFull, NoSuch}
-use Rattle.fj_shelf.specs.Hands.{HandState, asker, with_body, with_hook}
+use Rattle.fj_shelf.specs.Hands.{HandState, HasOnTop, asker, with_body, with_hook}
 use Rattle.fj_store.specs.declared.body.Ask.{Ask}
 use Rattle.fj_store.specs.Fitting.{Fits}
 use Rattle.fj_store.specs.Turns.{AskRight, HeardRight}
@@ -21,14 +21,14 @@ module _ {B K : Type 0} where
     pub has : new ≡ with_hook old task after
     pub key : key_of after ≡ key_of before
 
-  -- the running body took it, in a hand without a hook
+  -- the running body took it, in a hand without a hook; it has joined nothing then
   pub record TurnsBody (key_of : B → K) (old new : HandState B) : Type 0 where
     pub rest : HandState B
     pub task : ℕ
     pub before : B
     pub after : B
     pub bare : old.hook ≡ None
-    pub had : old ≡ with_body rest task before
+    pub had : HasOnTop old rest task before
     pub has : new ≡ with_body rest task after
     pub key : key_of after ≡ key_of before
 

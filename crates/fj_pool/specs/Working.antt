@@ -1,7 +1,7 @@
 -- What a worker does in one holding of the lock, and what it does next.
-use Rattle.std.specs.Prelude.{ℕ, ◌≡◌, Bool, true, false, Option, Some, None, [], Ok, Err}
+use Rattle.std.specs.Prelude.{ℕ, ◌≡◌, Bool, true, false, Option, Some, None, is_some, [], Ok, Err}
 use Rattle.fj_model.specs.declared.refusal.Refusal.TheVariants.{LogFull}
-use Rattle.fj_shelf.specs.Hands.{HandState}
+use Rattle.fj_shelf.specs.Hands.{HandState, newest_note, with_note}
 use Rattle.fj_store.specs.declared.body.Ask.{Ask}
 use Rattle.fj_store.specs.declared.body.Ask.TheVariants as asks
 use Rattle.fj_store.specs.declared.body.Heard.TheVariants as hears
@@ -94,17 +94,31 @@ module _ {B K O : Type 0} where
     pub others : ChangesStore old mid
     pub goes_on : NextOfJoin rooted_as told mid next new
 
-  -- it had joined this task; or it helped, and hears so
+  -- it had joined this task, and joins it once more; or it helped, and hears so
   abbrev pub GoesOn : (B → K) → (B → Option ℕ) → Option ℕ → CoreState B K O → HandState B → Next B K O → CoreState B K O → HandState B → Type 0
   GoesOn key_of rooted_as (Some t) old hand next new hand' = JoinsOnce key_of rooted_as old hand t next new hand'
   GoesOn key_of rooted_as None old hand next new hand' = Then (Turn (hears.Helped true)) old next new × (hand' ≡ hand)
 
-  -- a worker whose hand is empty looks for work; in another one the body on top goes on
+  -- a worker whose hand is empty looks for work; in another one the body on top goes on, with what was noted of it
   pub record Resumes (key_of : B → K) (rooted_as : B → Option ℕ) (old : CoreState B K O) (hand : HandState B) (next : Next B K O) (new : CoreState B K O) (hand' : HandState B) : Type 0 where
     pub idle : (hand.stack ≡ []) × (hand.hook ≡ None) → LooksForWork rooted_as old hand next new hand'
-    pub busy : ((hand.stack ≡ []) × (hand.hook ≡ None) → ⊥) → (joined : Option ℕ) × GoesOn key_of rooted_as joined old hand next new hand'
+    pub busy : ((hand.stack ≡ []) × (hand.hook ≡ None) → ⊥) → GoesOn key_of rooted_as (newest_note hand.joined) old hand next new hand'
 
   -- ---- a worker serves what is asked
+
+  -- of the running body it is noted which task it joins, or that it helps
+  abbrev pub noted_of_body : HandState B → Ask B K O → HandState B
+  noted_of_body hand (asks.Join t) = with_note hand (Some t)
+  noted_of_body hand asks.Help = with_note hand None
+  noted_of_body hand _ = hand
+
+  abbrev pub noted_where : Bool → HandState B → Ask B K O → HandState B
+  noted_where true hand ask = hand
+  noted_where false hand ask = noted_of_body hand ask
+
+  -- the hand with what is noted of an ask; a hook neither joins nor helps
+  abbrev pub noted : HandState B → Ask B K O → HandState B
+  noted hand ask = noted_where (is_some hand.hook) hand ask
 
   -- what comes next where no task was queued: a body that helped hears so, and one that joined waits
   abbrev pub NextOfNone : (B → Option ℕ) → Ask B K O → CoreState B K O → Next B K O → CoreState B K O → Type 0
@@ -121,11 +135,11 @@ module _ {B K O : Type 0} where
   NextOf key_of rooted_as ask (told.Over body) old hand next new hand' = Resumes key_of rooted_as old hand next new hand'
   NextOf key_of rooted_as ask (told.Stuck body) old hand next new hand' = Then (Leave (Err LogFull)) old next new × (hand' ≡ hand)
 
-  -- what was asked is done, by one action, and the worker goes on with what that told
+  -- what was asked is noted and done, by one action, and the worker goes on with what that told
   pub record Serves (key_of : B → K) (rooted_as : B → Option ℕ) (old : CoreState B K O) (hand : HandState B) (ask : Ask B K O) (next : Next B K O) (new : CoreState B K O) (hand' : HandState B) : Type 0 where
     pub told : Told B K O
     pub mid : CoreState B K O
     pub held : HandState B
-    pub acts : Acts key_of old.store hand ask told mid.store held
+    pub acts : Acts key_of old.store (noted hand ask) ask told mid.store held
     pub others : ChangesStore old mid
     pub goes_on : NextOf key_of rooted_as ask told mid held next new hand'

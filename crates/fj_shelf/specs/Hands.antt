@@ -1,21 +1,27 @@
 -- What a worker holds.
-use Rattle.std.specs.Prelude.{ℕ, ◌+◌, ◌-◌, ◌%◌, ◌^◌, List, [], ◌∷◌, ◌++◌, Option, Some, None, option_map, slice_get, length}
+use Rattle.std.specs.Prelude.{ℕ, ◌≡◌, ◌+◌, ◌-◌, ◌%◌, ◌^◌, List, [], ◌∷◌, ◌++◌, Option, Some, None, option_map, slice_get, slice_index_or, slice_set, length}
 use Rattle.fj_model.specs.Lists.{or_else}
 
--- the worker, its scan word, the bodies that it holds under the numbers of their tasks, the oldest first, and the body whose completion action it runs
+-- the worker, its scan word, the bodies that it holds under the numbers of their tasks, the oldest first, for each of them the task that it joined while another body runs above it,
+-- and the body whose completion action it runs
 pub record HandState (B : Type 0) : Type 0 where
   pub worker : ℕ
   pub word : ℕ
   pub stack : List (ℕ × B)
+  pub joined : List (Option ℕ)
   pub hook : Option (ℕ × B)
 
 -- the scan word after one use: it wraps in 32 bits
 abbrev pub next_word : ℕ → ℕ
 next_word r = (r + 1) % 2 ^ 32
 
+-- what the newest body joined, as it was noted last
+abbrev pub newest_note : List (Option ℕ) → Option ℕ
+newest_note joined = slice_index_or joined (length joined - 1) None
+
 module _ {B : Type 0} where
   abbrev pub new_hand : ℕ → ℕ → HandState B
-  new_hand worker word = record { worker = worker; word = word; stack = []; hook = None }
+  new_hand worker word = record { worker = worker; word = word; stack = []; joined = []; hook = None }
 
   -- the number of the hook
   abbrev pub hook_number : Option (ℕ × B) → Option ℕ
@@ -25,9 +31,21 @@ module _ {B : Type 0} where
   abbrev pub with_next_word : HandState B → HandState B
   with_next_word hand = record hand { word = next_word hand.word }
 
-  -- with one body more
+  -- with one body more, which joined this
+  abbrev pub with_begun : HandState B → ℕ → B → Option ℕ → HandState B
+  with_begun hand t body note = record hand { stack = hand.stack ++ (t, body) ∷ []; joined = hand.joined ++ note ∷ [] }
+
+  -- it is the other one with this body on top, whatever that joined
+  abbrev pub HasOnTop : HandState B → HandState B → ℕ → B → Type 0
+  HasOnTop hand rest t body = (note : Option ℕ) × (hand ≡ with_begun rest t body note)
+
+  -- with one body more, which has joined nothing yet
   abbrev pub with_body : HandState B → ℕ → B → HandState B
-  with_body hand t body = record hand { stack = hand.stack ++ (t, body) ∷ [] }
+  with_body hand t body = with_begun hand t body None
+
+  -- with this noted of the newest body, where there is one
+  abbrev pub with_note : HandState B → Option ℕ → HandState B
+  with_note hand note = record hand { joined = slice_set hand.joined (length hand.joined - 1) note }
 
   -- with this hook, and its body
   abbrev pub with_hook : HandState B → ℕ → B → HandState B

@@ -1,6 +1,6 @@
 ghost use Rattle.std.specs.Prelude.{◌≡◌, ◌<◌, ◌++◌, ◌∷◌, length, IfOk, [], None, Some, IsSome, is_some, ◌↔◌, IsTrue, option_map};
 ghost use Rattle.fj_shelf.specs.Aside.{numbers};
-ghost use Rattle.fj_shelf.specs.Hands.{new_hand, hook_number, newest_body, with_body, with_hook, with_next_word, without_hook};
+ghost use Rattle.fj_shelf.specs.Hands.{HasOnTop, new_hand, hook_number, newest_body, newest_note, with_body, with_hook, with_next_word, with_note, without_hook};
 
 use fj_model::{Serial, WorkerId};
 use std::alloc::{AllocError, Global};
@@ -35,8 +35,14 @@ impl<B> Model for Hand<B> {
 
     ghost Value = { HandState B };
 
-    // What a body joined is the worker's own note, of which contracts say nothing.
-    ghost view = { λ h. record { worker = h.worker; word = h.word; stack = map (λ b. (b.serial, b.body)) h.stack.items; hook = h.hook } };
+    // What the bodies joined stands beside them, in the same order.
+    ghost view = { λ h. record {
+      worker = h.worker;
+      word = h.word;
+      stack = map (λ b. (b.serial, b.body)) h.stack.items;
+      joined = map (λ b. b.joined) h.stack.items;
+      hook = h.hook;
+    } };
 
     ghost invariant = { λ h. (4096 ≤ vec_capacity h.stack) × (length h.stack.items ≤ 4096) };
 }
@@ -71,7 +77,8 @@ impl<B: Drop> Hand<B> {
         word
     }
 
-    /// Puts a body on top, which runs from now on. Precondition: it has fewer than 4,096 bodies, the most tasks that a pool keeps.
+    /// Puts a body on top, which runs from now on and has joined nothing. Precondition: it has fewer than 4,096 bodies, the most tasks that a
+    /// pool keeps.
     pub fn push(&mut self, t: Serial, body: B)
         requires { length self.old.stack < 4096 }
         ensures { self.new ≡ with_body self.old t body }
@@ -83,10 +90,10 @@ impl<B: Drop> Hand<B> {
         });
     }
 
-    /// Takes the running body off, with its number. Precondition: there is one.
+    /// Takes the running body off, with its number. What it joined is told no more. Precondition: there is one.
     pub fn pop(&mut self) -> (Serial, B)
         requires { 0 < length self.old.stack }
-        ensures popped { self.old ≡ with_body self.new result.0 result.1 }
+        ensures popped { HasOnTop self.old self.new result.0 result.1 }
         ensures room { length self.new.stack < 4096 }
     {
         let Begun {
@@ -97,17 +104,19 @@ impl<B: Drop> Hand<B> {
         (serial, body)
     }
 
-    /// Notes the task that the running body joined, if it did, where there is a body. Contracts say nothing of such notes.
+    /// Notes the task that the running body joined, if it did, where there is a body.
     pub fn note_join(&mut self, joined: Option<Serial>)
-        ensures { self.new ≡ self.old }
+        ensures { self.new ≡ with_note self.old joined }
     {
         if let Some(begun) = self.stack.pop() {
             self.stack.push_reserved(Begun { joined, ..begun });
         }
     }
 
-    /// The task that the running body joined, as it was noted last.
-    pub fn joined(&self) -> Option<Serial> {
+    /// The task that the running body joined, as it was noted last. None where none was noted, and where there is no body.
+    pub fn joined(&self) -> Option<Serial>
+        ensures { result ≡ newest_note self.now.joined }
+    {
         match self.stack.last() {
             Some(begun) => begun.joined,
             None => None,

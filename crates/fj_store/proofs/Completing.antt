@@ -32,7 +32,7 @@ use Rattle.fj_model.proofs.Events.Hands.{hand_same}
 use Rattle.fj_ledger.proofs.Lists.HookLists.{hand_after}
 use Rattle.fj_shelf.specs.Aside.{numbers}
 use Rattle.fj_shelf.specs.Shelves.{Entries, is_there, with_entry, without_entries, entries, AreFewer}
-use Rattle.fj_shelf.specs.Hands.{HandState, with_body, with_hook}
+use Rattle.fj_shelf.specs.Hands.{HandState, HasOnTop, with_begun, with_hook}
 use Rattle.fj_store.specs.Fitting.{Fits}
 use Rattle.fj_store.specs.Stores.{StoreState, has_body, HoldsBodies, IsStored, still_held, went}
 use Rattle.fj_store.specs.Releases.{Releases}
@@ -126,22 +126,22 @@ end_unfired past w ending reply is no_hook no_refusal = go (end_gives past w end
 -- ---- the hand
 
 -- the task that runs is on top of the hand
-pub popped : {B : Type 0} (past : Past) (hand hand' : HandState B) (w t u : ℕ) (body : B) → Fits past hand → w ≡ hand.worker → hand ≡ with_body hand' u body → running past.events w ≡ Some t → u ≡ t
+pub popped : {B : Type 0} (past : Past) (hand hand' : HandState B) (w t u : ℕ) (body : B) → Fits past hand → w ≡ hand.worker → HasOnTop hand hand' u body → running past.events w ≡ Some t → u ≡ t
 popped past hand hand' w t u body fits same held runs =
-    let stack_is : numbers hand'.stack ++ u ∷ [] ≡ stack past.events w = sym (numbers_more hand'.stack u body) ∙ ap (λ x. numbers x.stack) (sym held) ∙ fits.bodies ∙ ap (stack past.events) (sym same) in
+    let stack_is : numbers hand'.stack ++ u ∷ [] ≡ stack past.events w = sym (numbers_more hand'.stack u body) ∙ ap (λ x. numbers x.stack) (sym held.1) ∙ fits.bodies ∙ ap (stack past.events) (sym same) in
     some_same (sym (newest_is (numbers hand'.stack) u) ∙ ap last_of stack_is ∙ runs)
   where
     some_same : {x y : ℕ} → ◌≡◌ {A = Option ℕ} (Some x) (Some y) → x ≡ y
     some_same is = cc
 
 -- what is taken off the hand runs
-pub popped_runs : {B : Type 0} (past : Past) (hand hand' : HandState B) (w u : ℕ) (body : B) → Fits past hand → w ≡ hand.worker → hand ≡ with_body hand' u body → running past.events w ≡ Some u
+pub popped_runs : {B : Type 0} (past : Past) (hand hand' : HandState B) (w u : ℕ) (body : B) → Fits past hand → w ≡ hand.worker → HasOnTop hand hand' u body → running past.events w ≡ Some u
 popped_runs past hand hand' w u body fits same held =
-    let stack_is : numbers hand'.stack ++ u ∷ [] ≡ stack past.events w = sym (numbers_more hand'.stack u body) ∙ ap (λ x. numbers x.stack) (sym held) ∙ fits.bodies ∙ ap (stack past.events) (sym same) in
+    let stack_is : numbers hand'.stack ++ u ∷ [] ≡ stack past.events w = sym (numbers_more hand'.stack u body) ∙ ap (λ x. numbers x.stack) (sym held.1) ∙ fits.bodies ∙ ap (stack past.events) (sym same) in
     ap last_of (sym stack_is) ∙ newest_is (numbers hand'.stack) u
 
 -- so it is the one that ended
-pub popped_ends : {B : Type 0} (past : Past) (hand hand' : HandState B) (w u : ℕ) (body : B) (events : List Event) → Fits past hand → w ≡ hand.worker → hand ≡ with_body hand' u body
+pub popped_ends : {B : Type 0} (past : Past) (hand hand' : HandState B) (w u : ℕ) (body : B) (events : List Event) → Fits past hand → w ≡ hand.worker → HasOnTop hand hand' u body
     → (t : ℕ) × EndsUnfired past.events w t events → EndsUnfired past.events w u events
 popped_ends past hand hand' w u body events fits same held (t, over) = subst (λ v. EndsUnfired past.events w v events) (sym (popped past hand hand' w t u body fits same held over.runs)) over
 
@@ -158,16 +158,16 @@ ended_stack pool h t w u rest xs so last parts unmoved =
 
 -- no hook came
 pub unfired_fits : {B : Type 0} (past past' past'' : Past) (hand hand' : HandState B) (w u : ℕ) (body : B) (events : List Event) (ts : List ℕ) → IsPast past → Fits past hand → w ≡ hand.worker
-    → hand ≡ with_body hand' u body → past' ≡ grown past events → EndsUnfired past.events w u events → past'' ≡ grown past' (map event.Rel ts) → Fits past'' hand'
+    → HasOnTop hand hand' u body → past' ≡ grown past events → EndsUnfired past.events w u events → past'' ≡ grown past' (map event.Rel ts) → Fits past'' hand'
 unfired_fits past past' past'' hand hand' w u body events ts run fits same held grew over more =
     released_fits past' past'' hand' ts (rw (grew, over.made) (record {
-      there = rw held at fits.there;
-      bodies = sym (rw (same, held) (ended_stack past.pool past.events u hand'.worker u over.rest (numbers hand'.stack) (history_allowed past run) (rw (same, held) at over.runs) stack_is (rest_unmoved over.rest over.still)));
-      hook = (rw held at fits.hook) ∙ sym (kept_hook hand'.worker);
+      there = rw held.1 at fits.there;
+      bodies = sym (rw (same, held.1) (ended_stack past.pool past.events u hand'.worker u over.rest (numbers hand'.stack) (history_allowed past run) (rw (same, held.1) at over.runs) stack_is (rest_unmoved over.rest over.still)));
+      hook = (rw held.1 at fits.hook) ∙ sym (kept_hook hand'.worker);
     })) more
   where
     stack_is : stack past.events hand'.worker ≡ numbers hand'.stack ++ u ∷ []
-    stack_is = sym (rw held at fits.bodies) ∙ numbers_more hand'.stack u body
+    stack_is = sym (rw held.1 at fits.bodies) ∙ numbers_more hand'.stack u body
 
     kept_hook : (v : ℕ) → hook_of (past.events ++ event.End u w ∷ over.rest) v ≡ hook_of past.events v
     kept_hook v =
@@ -188,16 +188,16 @@ fired_hand h t w how free = ap (completer_in w) more ∙ hand_after w (hooks h).
         ∙ ap (λ s. s.in_hands) (hooks_more h1 (event.Fire t how) ∙ ap (λ s. hooks_after s (event.Fire t how)) (hooks_more h (event.End t w))) ∙ rw (eq-eqb t t refl) refl
 
 pub fired_fits : {B : Type 0} (past past' past'' : Past) (hand rest hand' : HandState B) (w c u : ℕ) (body : B) (events : List Event) (ts : List ℕ) → IsPast past → Fits past hand → w ≡ hand.worker
-    → hand ≡ with_body rest u body → hand' ≡ with_hook rest u body → past' ≡ grown past events → EndsFired past.events w c events → past'' ≡ grown past' (map event.Rel ts) → Fits past'' hand'
+    → HasOnTop hand rest u body → hand' ≡ with_hook rest u body → past' ≡ grown past events → EndsFired past.events w c events → past'' ≡ grown past' (map event.Rel ts) → Fits past'' hand'
 fired_fits past past' past'' hand rest hand' w c u body events ts run fits same held hooked grew fired more =
     released_fits past' past'' hand' ts (rw (grew, fired.made, hooked) (record {
-      there = rw held at fits.there;
-      bodies = sym (rw (same, held) (ended_stack past.pool past.events c rest.worker u (event.Fire c fired.how ∷ []) (numbers rest.stack) (history_allowed past run) (rw (same, held) at fired.runs) stack_is refl));
-      hook = ap Some (popped past hand rest w c u body fits same held fired.runs) ∙ sym (rw (same, held) (fired_hand past.events c rest.worker fired.how (rw (same, held) at fired.free)));
+      there = rw held.1 at fits.there;
+      bodies = sym (rw (same, held.1) (ended_stack past.pool past.events c rest.worker u (event.Fire c fired.how ∷ []) (numbers rest.stack) (history_allowed past run) (rw (same, held.1) at fired.runs) stack_is refl));
+      hook = ap Some (popped past hand rest w c u body fits same held fired.runs) ∙ sym (rw (same, held.1) (fired_hand past.events c rest.worker fired.how (rw (same, held.1) at fired.free)));
     })) more
   where
     stack_is : stack past.events rest.worker ≡ numbers rest.stack ++ u ∷ []
-    stack_is = sym (rw held at fits.bodies) ∙ numbers_more rest.stack u body
+    stack_is = sym (rw held.1 at fits.bodies) ∙ numbers_more rest.stack u body
 
 -- ---- what holds of the store then
 
@@ -297,7 +297,7 @@ end_room {B} {R} past new w t room ending bodies swept results ts is over grew l
 
 module _ {B K O : Type 0} where
   pub ends_over_out : (old mid new : StoreState B K O) (hand hand' : HandState B) (w t : ℕ) (ending : Ending) (body : B) (reply : Said) → w ≡ hand.worker → Steps old.past (End w ending) reply mid.past → is_over reply ≡ true
-      → hand ≡ with_body hand' t body → is_gone (place mid.past.events t) ≡ true → mid ≡ record old { past = mid.past; bodies = mid.bodies } → entries mid.bodies ≡ still_held old mid.past → Releases mid new
+      → HasOnTop hand hand' t body → is_gone (place mid.past.events t) ≡ true → mid ≡ record old { past = mid.past; bodies = mid.bodies } → entries mid.bodies ≡ still_held old mid.past → Releases mid new
       → EndsOver old hand ending (Some body) new hand'
   ends_over_out old mid new hand hand' w t ending body reply same step over held gone others swept releases = record {
     mid = mid;
@@ -312,7 +312,7 @@ module _ {B K O : Type 0} where
   }
 
   pub ends_over_in : (old mid new : StoreState B K O) (hand hand' : HandState B) (w t : ℕ) (ending : Ending) (body : B) (reply : Said) (swept : Entries B) → w ≡ hand.worker → Steps old.past (End w ending) reply mid.past → is_over reply ≡ true
-      → hand ≡ with_body hand' t body → is_gone (place mid.past.events t) ≡ false → mid ≡ record old { past = mid.past; bodies = mid.bodies } → swept ≡ still_held old mid.past → entries mid.bodies ≡ with_entry swept t body
+      → HasOnTop hand hand' t body → is_gone (place mid.past.events t) ≡ false → mid ≡ record old { past = mid.past; bodies = mid.bodies } → swept ≡ still_held old mid.past → entries mid.bodies ≡ with_entry swept t body
       → Releases mid new → EndsOver old hand ending None new hand'
   ends_over_in old mid new hand hand' w t ending body reply swept same step over held opened others left put releases = record {
     mid = mid;
@@ -327,14 +327,14 @@ module _ {B K O : Type 0} where
   }
 
   pub ends_in_hook : (old mid new : StoreState B K O) (hand rest hand' : HandState B) (w t c : ℕ) (ending : Ending) (body : B) → w ≡ hand.worker → t ≡ c → Steps old.past (End w ending) (says.Hook c) mid.past
-      → hand ≡ with_body rest t body → hand' ≡ with_hook rest t body → mid ≡ record old { past = mid.past; bodies = mid.bodies } → entries mid.bodies ≡ still_held old mid.past → Releases mid new
+      → HasOnTop hand rest t body → hand' ≡ with_hook rest t body → mid ≡ record old { past = mid.past; bodies = mid.bodies } → entries mid.bodies ≡ still_held old mid.past → Releases mid new
       → EndsInHook old hand ending c new hand'
   ends_in_hook old mid new hand rest hand' w t c ending body same one step held hooked others swept releases = record {
     mid = mid;
     rest = rest;
     body = body;
     step = rw same at step;
-    held = held ∙ ap (λ u. with_body rest u body) one;
+    held = (held.0, held.1 ∙ ap (λ u. with_begun rest u body held.0) one);
     hooked = hooked ∙ ap (λ u. with_hook rest u body) one;
     bodies = swept;
     others = others;

@@ -27,7 +27,7 @@ use Rattle.fj_model.proofs.Steps.AnswersAllowed.{history_allowed, answer_allowed
 use Rattle.fj_model.proofs.Events.Hands.{hand_same}
 use Rattle.fj_shelf.specs.Aside.{numbers}
 use Rattle.fj_shelf.specs.Shelves.{Entries}
-use Rattle.fj_shelf.specs.Hands.{HandState, with_body, asker, hook_number}
+use Rattle.fj_shelf.specs.Hands.{HandState, HasOnTop, asker, hook_number}
 use Rattle.fj_store.specs.Fitting.{Fits}
 use Rattle.fj_store.specs.Stores.{IsStored}
 use Rattle.fj_store.proofs.Stored.{stored_on, kept_on, numbers_more, numbers_long}
@@ -64,10 +64,10 @@ filled past hand w events fits same done =
     let there : last_of (numbers hand.stack) ≡ Some done.task = rw fits.bodies (rw same at done.runs) in
     omega (arith, last_filled done.task (numbers hand.stack) there, numbers_long hand.stack)
 
-pub newest_kept : {B : Type 0} (past : Past) (hand hand' : HandState B) (w t : ℕ) (body : B) → IsPast past → Fits past hand → w ≡ hand.worker → hand ≡ with_body hand' t body
+pub newest_kept : {B : Type 0} (past : Past) (hand hand' : HandState B) (w t : ℕ) (body : B) → IsPast past → Fits past hand → w ≡ hand.worker → HasOnTop hand hand' t body
     → OkDone past.events w (answer past (End w EndOk)).1 → is_kept (past.events ++ (answer past (End w EndOk)).1) t ≡ true
 newest_kept past hand hand' w t body run fits same held done =
-    let stack_is : numbers hand'.stack ++ t ∷ [] ≡ stack past.events hand.worker = sym (numbers_more hand'.stack t body) ∙ ap (λ x. numbers x.stack) (sym held) ∙ fits.bodies in
+    let stack_is : numbers hand'.stack ++ t ∷ [] ≡ stack past.events hand.worker = sym (numbers_more hand'.stack t body) ∙ ap (λ x. numbers x.stack) (sym held.1) ∙ fits.bodies in
     let there : is_in t (stack past.events hand.worker) ≡ true = rw (← stack_is, is_in_append t (numbers hand'.stack) (t ∷ [])) (or_right (is_in t (numbers hand'.stack)) (is_in t (t ∷ [])) (itself t)) in
     let kept = held_kept past.pool past.events hand.worker t (history_allowed past run) there in
     rw done.made (kept_on past.events (event.End done.task w ∷ settling (past.events ++ event.End done.task w ∷ []) done.task Normal) t (none_released (past.events ++ event.End done.task w ∷ []) done.task w) kept)
@@ -107,16 +107,16 @@ ended_hook h t w =
     ∙ hook_settling (h ++ event.End t w ∷ []) t w ∙ hand_same h (event.End t w) w refl
 
 pub ok_fits : {B : Type 0} (past past' past'' : Past) (hand hand' : HandState B) (w t : ℕ) (body : B) (events : List Event) (ts : List ℕ) → IsPast past → Fits past hand → w ≡ hand.worker
-    → hand ≡ with_body hand' t body → past' ≡ grown past events → OkDone past.events w events → past'' ≡ grown past' (map Rel ts) → Fits past'' hand'
+    → HasOnTop hand hand' t body → past' ≡ grown past events → OkDone past.events w events → past'' ≡ grown past' (map Rel ts) → Fits past'' hand'
 ok_fits past past' past'' hand hand' w t body events ts run fits same held grew done more =
     released_fits past' past'' hand' ts (rw (grew, done.made) (record {
-      there = rw held at fits.there;
-      bodies = sym (rw (same, held) (ended_stack past.pool past.events done.task hand'.worker (numbers hand'.stack) t (history_allowed past run) (rw (same, held) at done.runs) stack_is));
-      hook = (rw held at fits.hook) ∙ sym (rw (same, held) (ended_hook past.events done.task hand'.worker));
+      there = rw held.1 at fits.there;
+      bodies = sym (rw (same, held.1) (ended_stack past.pool past.events done.task hand'.worker (numbers hand'.stack) t (history_allowed past run) (rw (same, held.1) at done.runs) stack_is));
+      hook = (rw held.1 at fits.hook) ∙ sym (rw (same, held.1) (ended_hook past.events done.task hand'.worker));
     })) more
   where
     stack_is : stack past.events hand'.worker ≡ numbers hand'.stack ++ t ∷ []
-    stack_is = sym (rw held at fits.bodies) ∙ numbers_more hand'.stack t body
+    stack_is = sym (rw held.1 at fits.bodies) ∙ numbers_more hand'.stack t body
 
 -- ---- who asks
 
@@ -130,7 +130,7 @@ no_hook_of : {B : Type 0} (hook : Option (ℕ × B)) → hook_number hook ≡ No
 no_hook_of None is = refl
 no_hook_of (Some x) is = absurd cc
 
-pub asker_is : {B : Type 0} (past : Past) (hand hand' : HandState B) (w t : ℕ) (body : B) → Fits past hand → w ≡ hand.worker → hook_of past.events w ≡ None → hand ≡ with_body hand' t body → asker hand ≡ Some (t, body)
+pub asker_is : {B : Type 0} (past : Past) (hand hand' : HandState B) (w t : ℕ) (body : B) → Fits past hand → w ≡ hand.worker → hook_of past.events w ≡ None → HasOnTop hand hand' t body → asker hand ≡ Some (t, body)
 asker_is past hand hand' w t body fits same free held =
-    let none : hand'.hook ≡ None = no_hook_of hand'.hook (rw held at (fits.hook ∙ ap (hook_of past.events) (sym same) ∙ free)) in
-    rw (held, none) (newest_is hand'.stack (t, body))
+    let none : hand'.hook ≡ None = no_hook_of hand'.hook (rw held.1 at (fits.hook ∙ ap (hook_of past.events) (sym same) ∙ free)) in
+    rw (held.1, none) (newest_is hand'.stack (t, body))

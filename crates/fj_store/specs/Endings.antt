@@ -11,7 +11,7 @@ use Rattle.fj_store.specs.declared.body.Heard.TheVariants as hears
 use Rattle.fj_store.specs.declared.body.Told.{Told}
 use Rattle.fj_store.specs.declared.body.Told.TheVariants as told
 use Rattle.fj_shelf.specs.Shelves.{entries, with_entry}
-use Rattle.fj_shelf.specs.Hands.{HandState, with_body, with_hook}
+use Rattle.fj_shelf.specs.Hands.{HandState, HasOnTop, with_hook}
 use Rattle.fj_store.specs.Stores.{StoreState, still_held}
 use Rattle.fj_store.specs.Releases.{Releases}
 use Rattle.fj_store.specs.Results.{Keeps}
@@ -32,7 +32,7 @@ module _ {B K O : Type 0} where
     pub body : B
     pub step : Steps old.past (ask.End hand.worker ending.Ok) says.Done mid.past
     pub others : mid ≡ record old { past = mid.past }
-    pub held : hand ≡ with_body hand' task body
+    pub held : HasOnTop hand hand' task body
     pub kept : Keeps mid task (key_of body, out) done
     pub releases : Releases done new
 
@@ -56,7 +56,7 @@ module _ {B K O : Type 0} where
     pub reply : Said
     pub step : Steps old.past (ask.End hand.worker ending) reply mid.past
     pub over : is_over reply ≡ true
-    pub held : hand ≡ with_body hand' task body
+    pub held : HasOnTop hand hand' task body
     pub goes : LeftOver old task body out mid
     pub releases : Releases mid new
 
@@ -66,7 +66,7 @@ module _ {B K O : Type 0} where
     pub rest : HandState B
     pub body : B
     pub step : Steps old.past (ask.End hand.worker ending) (says.Hook t) mid.past
-    pub held : hand ≡ with_body rest t body
+    pub held : HasOnTop hand rest t body
     pub hooked : hand' ≡ with_hook rest t body
     pub bodies : entries mid.bodies ≡ still_held old mid.past
     pub others : mid ≡ record old { past = mid.past; bodies = mid.bodies }

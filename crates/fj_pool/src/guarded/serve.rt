@@ -4,7 +4,7 @@ ghost use Rattle.fj_shelf.specs.Hands.{HandState};
 ghost use Rattle.fj_store.specs.Fitting.{Fits};
 ghost use Rattle.fj_core.specs.Closes.{is_finished};
 ghost use Rattle.fj_pool.specs.Turning.{LeavesWell, MayAsk, NextRight};
-ghost use Rattle.fj_pool.specs.Working.{JoinsOnce, LooksForWork, Resumes, Serves, Then, Waits, next_idle};
+ghost use Rattle.fj_pool.specs.Working.{JoinsOnce, LooksForWork, Resumes, Serves, Then, Waits, next_idle, noted};
 
 use crate::effect::{Effect, effect_of};
 use crate::guarded::Guarded;
@@ -257,9 +257,9 @@ fn skip<B: Body>(body: B, unneeded: &mut Unneeded<B>) -> Next<B>
     Next::Again
 }
 
-/// Notes what the running body joins, if it asks that. A hook neither joins nor helps.
+/// Notes which task the running body joins, or that it helps, if it asks that. A hook does neither.
 fn note<B: Body>(hand: &mut Hand<B>, ask: &Ask<B>)
-    ensures { hand.new ≡ hand.old }
+    ensures { hand.new ≡ noted hand.old ask.now }
 {
     if hand.hooked().is_some() {
         return;
