@@ -36,7 +36,7 @@ impl<B: Body> Unneeded<B> {
         }
     }
 
-    /// A body has ended, where there is one. One that ended before it in the same holding of the lock stays.
+    /// A body has ended, where there is one. Where there is none, one that ended before in the same holding of the lock stays.
     pub fn add_ended(&mut self, body: Option<B>) {
         if body.is_some() {
             self.ended = body;
