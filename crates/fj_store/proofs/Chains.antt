@@ -28,12 +28,12 @@ without_twice (x ∷ xs) ts us = rw (is_in_append x ts us) (go (is_in x ts) (is_
 pub none_in : (us : List ℕ) → AreAmong [] us
 none_in us t there = absurd (true≢false (sym there))
 
-pub one_in : (t : ℕ) (us : List ℕ) → is_in t us ≡ true → AreAmong (t ∷ []) us
+one_in : (t : ℕ) (us : List ℕ) → is_in t us ≡ true → AreAmong (t ∷ []) us
 one_in t us is u there =
     ⊎_elim (λ here. subst (λ v. is_in v us ≡ true) (eqb-true t u here) is) (λ later. absurd (true≢false (sym later))) (or_cases (t == u) false there)
 
 -- some, and then some of those that are left
-pub both_in : (ts more us : List ℕ) → AreAmong ts us → AreAmong more (without us ts) → AreAmong (ts ++ more) us
+both_in : (ts more us : List ℕ) → AreAmong ts us → AreAmong more (without us ts) → AreAmong (ts ++ more) us
 both_in ts more us are rest u there =
     ⊎_elim (are u) (λ later. in_rest u us ts (rest u later)) (or_cases (is_in u ts) (is_in u more) (sym (is_in_append u ts more) ∙ there))
 

@@ -15,7 +15,6 @@ use Rattle.fj_model.specs.Allowed.{Allowed}
 use Rattle.fj_model.specs.Epochs.{IsPast}
 use Rattle.fj_model.proofs.Steps.AnswersAllowed.{history_allowed}
 use Rattle.fj_store.specs.declared.tries.HistoryFull.{HistoryFull}
-use Rattle.fj_store.specs.declared.tries.Tried.{Tried}
 use Rattle.fj_store.specs.declared.tries.Tried.TheVariants as tried
 use Rattle.fj_store.specs.Stores.{StoreState}
 use Rattle.fj_model.specs.Releasable.{can_go}
