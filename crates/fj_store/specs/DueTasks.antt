@@ -57,7 +57,7 @@ module _ {B K O : Type 0} where
   ReleasesUp t old (Ok done) new = ReleasesSome old new × ((from : ℕ) → OnlyGoesFrom from old t → NoneGoesFrom from new)
   ReleasesUp t old (Err full) new = Releases old new
 
-  -- the same of the task alone, where no parent is told; else it was released, and from each such place on only its parent can be now
+  -- it was released, and from each such place on only its parent can be now; or, where none is told, as above
   abbrev pub ReleasesHere : ℕ → StoreState B K O → Result (Option ℕ) HistoryFull → StoreState B K O → Type 0
   ReleasesHere t old (Ok (Some p)) new =
       (is_in t old.taken ≡ true) × (can_go old.past.events t ≡ true) × (new ≡ released_of old (t ∷ [])) × ((from : ℕ) → OnlyGoesFrom from old t → OnlyGoesFrom from new p)

@@ -38,7 +38,7 @@ impl<B: Body> Store<B> {
     }
 
     /// Releases what can be released, whichever it is: from each of the taken tasks upwards, the newest first. A release lets none go but its
-    /// parent, so none is come back to.
+    /// parent, so one pass is enough.
     fn release_all(&mut self) -> Result<(), HistoryFull>
         ensures { Releases self.old self.new }
     {
