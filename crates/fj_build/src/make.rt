@@ -1,4 +1,4 @@
-ghost use Rattle.std.specs.Prelude.{◌≡◌, ◌<◌, ◌+◌, ◌-◌, ◌^◌, Option, ℕ, Some, None, length, slice_get, vec_len};
+ghost use Rattle.std.specs.Prelude.{◌≡◌, ◌<◌, ◌+◌, ◌-◌, ◌^◌, Option, ℕ, Some, length, slice_get, vec_len};
 ghost use Rattle.fj_store.specs.Turns.{AskRight, HeardRight, Nearer};
 ghost use Rattle.fj_build.specs.Artifacts.{IsRight};
 ghost use Rattle.fj_crew.specs.Asks.{AsksUnder};
@@ -97,7 +97,6 @@ impl<'p> Make<'p> {
     fn compile(&self) -> Ask<Make<'p>>
         ensures right { AskRight IsRight self.now.target result }
         ensures nearer { Nearer 0 0 result }
-        ensures own { AsksUnder None result }
         ensures source { result ≡ end_of self.now.target.source }
     {
         match self.target.source {
