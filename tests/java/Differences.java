@@ -5,6 +5,7 @@ import java.util.concurrent.CountedCompleter;
 import java.util.concurrent.ForkJoinPool;
 import java.util.concurrent.ForkJoinTask;
 import java.util.concurrent.RecursiveAction;
+import java.util.concurrent.atomic.AtomicBoolean;
 
 /** What Java does where docs/JAVA.md says that the pool differs: a line for each row that can be seen from outside. */
 class Differences {
@@ -155,6 +156,37 @@ class Differences {
         }
     }
 
+    /** One of two workers joins a task that the other one runs, while a third task waits in its own queue. */
+    static void joinOfAStolenTask() {
+        ForkJoinPool pool = new ForkJoinPool(2);
+        AtomicBoolean joins = new AtomicBoolean();
+        AtomicBoolean ranMeanwhile = new AtomicBoolean();
+        pool.invoke(action(() -> {
+            Thread joiner = Thread.currentThread();
+            CountDownLatch begun = new CountDownLatch(1);
+            ForkJoinTask<?> stolen = action(() -> {
+                begun.countDown();
+                try {
+                    Thread.sleep(200);
+                } catch (InterruptedException e) {
+                    throw new IllegalStateException(e);
+                }
+            }).fork();
+            try {
+                begun.await();
+            } catch (InterruptedException e) {
+                throw new IllegalStateException(e);
+            }
+            ForkJoinTask<?> queued = action(() -> ranMeanwhile.set(joins.get() && Thread.currentThread() == joiner)).fork();
+            joins.set(true);
+            stolen.join();
+            joins.set(false);
+            queued.join();
+        }));
+        pool.shutdown();
+        tell("who joins a task that another worker runs, runs a queued one meanwhile", ranMeanwhile.get());
+    }
+
     static RecursiveAction action(Runnable work) {
         return new RecursiveAction() {
             @Override
@@ -200,6 +232,24 @@ class Differences {
         ForkJoinPool pool = pool(true);
         ForkJoinTask<Integer> task = pool.submit(() -> 17);
         tell("an outcome asked for twice", List.of(task.join(), task.join()));
+        List<Integer> heard = new ArrayList<>();
+        pool.invoke(action(() -> {
+            ForkJoinTask<Integer> child = ForkJoinTask.adapt(() -> 5).fork();
+            heard.add(child.join());
+            heard.add(child.join());
+        }));
+        tell("a result joined twice", heard);
+        CountDownLatch cancelled = new CountDownLatch(1);
+        pool.execute(() -> {
+            try {
+                cancelled.await();
+            } catch (InterruptedException e) {
+                throw new IllegalStateException(e);
+            }
+        });
+        ForkJoinTask<?> queued = pool.submit(() -> { });
+        tell("a queued task can be cancelled from outside", queued.cancel(false) && queued.isCancelled());
+        cancelled.countDown();
         pool.shutdown();
     }
 
@@ -212,6 +262,7 @@ class Differences {
         forkInAnAction();
         exceptions();
         joinOfTheMiddle();
+        joinOfAStolenTask();
         shutdownNow();
         outcomes();
     }
