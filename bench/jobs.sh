@@ -68,8 +68,10 @@ build_others() {
 
 # rayon as Debian has it, without a network.
 build_rayon() {
-    local sources=/usr/share/cargo/registry
-    command -v cargo > /dev/null && [[ -d $(echo $sources/rayon-1*) ]] || return 1
+    local of_package sources
+    command -v cargo > /dev/null || return 1
+    of_package=$(dpkg -L librust-rayon-dev 2> /dev/null | grep '/rayon-[^/]*$') || return 1
+    sources=$(dirname "$of_package")
     cp -r bench/jobs/rayon "$folder/rayon_source"
     cargo build --release --offline --quiet --manifest-path "$folder/rayon_source/Cargo.toml" --target-dir "$folder/rayon" \
         --config 'source.crates-io.replace-with="debian"' --config "source.debian.directory=\"$sources\"" > "$loader.log" 2>&1
