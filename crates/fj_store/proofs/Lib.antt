@@ -34,6 +34,8 @@ pub mod Endings
 pub mod Ended
 -- A body ends without a result.
 pub mod Completing
+-- Why an ending is refused.
+pub mod Refused
 -- The end of the submissions, and quiescence.
 pub mod Shutting
 -- What has happened is handed out in parts.

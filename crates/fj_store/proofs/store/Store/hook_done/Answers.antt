@@ -9,7 +9,9 @@ use Rattle.fj_store.proofs.Completing.{not_over}
 use Rattle.fj_store.proofs.Sweeps.{gone_longer}
 use Rattle.fj_store.proofs.HookEndings.{hook_fired, hook_unfired, hook_in, hook_swept, parent_there, hook_fired_stored, hook_over_stored}
 use Rattle.fj_store.proofs.HookEndings.{own_hook_about, hook_kept_fired, hook_kept_over, hook_fired_fits, hook_over_fits, hook_ends_in_hook, hook_ends_over}
+use Rattle.fj_store.proofs.Calms.{refused_steps}
 use Rattle.fj_store.proofs.DueTasks.{step_due}
+use Rattle.fj_store.proofs.Refused.{hook_refused}
 use Rattle.fj_store.proofs.store.Store.hook_done.Goals as goal
 
 -- ---- the hook of the parent came
@@ -90,6 +92,19 @@ unreachable-requires g c =
     let w = c.worker-w.result in
     let fired = hook_fired past w c.in-Hook.p c.step.result c.step.ensures.step.0 c.in-Hook.is in
     parent_there past w c.in-Hook.p _ _ _ c.self.invariant.0 fired (sym c.take.ensures.taken ∙ c.in-None.is)
+
+-- ---- it is refused
+
+pub returns-in-Refused-clause-ends : goal.returns-in-Refused-clause-ends
+returns-in-Refused-clause-ends g c =
+    let past = c.self.inside.machine in
+    let hand = c.args.hand.now in
+    let w = c.worker-w.result in
+    let fits : Fits past hand = subst (λ p. Fits p hand) (ap (λ s. s.past) (sym c.self.view_is)) c.requires.fits in
+    let why = hook_refused past hand w c.step.result c.in-Refused.refusal fits c.worker-w.ensures c.step.ensures.step.0 c.in-Refused.is c.in_default-refusal.not-LogFull in
+    let same = c.step.ensures.refused _ c.in-Refused.is in
+    rw (← c.self.view_is, same, ← c.worker-w.ensures)
+    (c.if-self.false, (refused_steps past c.step.new.self (HookDone w) c.step.result _ c.step.ensures.step c.in-Refused.is same, refl), refl, why)
 
 -- ---- no hook came
 

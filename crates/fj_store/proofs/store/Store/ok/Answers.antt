@@ -1,4 +1,4 @@
-use Rattle.std.proofs.Common.{map, sym, ap, subst, ◌∙◌}
+use Rattle.std.proofs.Common.{map, refl, sym, ap, subst, ◌∙◌}
 use Rattle.fj_model.specs.declared.event.Event.TheVariants.{Rel}
 use Rattle.fj_model.specs.declared.step.Step.TheVariants.{End}
 use Rattle.fj_model.specs.declared.step.Ending.TheVariants.{Ok as EndOk}
@@ -6,7 +6,9 @@ use Rattle.fj_model.specs.Runs.{grown}
 use Rattle.fj_store.specs.Fitting.{Fits}
 use Rattle.fj_model.proofs.Steps.Answered.{ok_done, ok_replies, end_free}
 use Rattle.fj_store.proofs.Endings.{ok_stored, filled, newest_kept, ok_fits, asker_is}
+use Rattle.fj_store.proofs.Calms.{refused_steps}
 use Rattle.fj_store.proofs.Completing.{popped_runs}
+use Rattle.fj_store.proofs.Refused.{end_refused}
 use Rattle.fj_model.proofs.Steps.AboutTasks.{end_about}
 use Rattle.fj_store.proofs.DueTasks.{step_due}
 use Rattle.fj_store.proofs.store.Store.ok.Goals as goal
@@ -60,3 +62,13 @@ pub unreachable-requires : goal.unreachable-requires
 unreachable-requires g c =
     let past = c.self.inside.machine in
     ok_replies past c.worker.result c.step.result c.step.ensures.step.0 c.in_default.not-Done c.in_default.not-Refused
+
+pub returns-in-Refused-clause-ends : goal.returns-in-Refused-clause-ends
+returns-in-Refused-clause-ends g c =
+    let past = c.self.inside.machine in
+    let hand = c.args.hand.now in
+    let fits : Fits past hand = subst (λ p. Fits p hand) (ap (λ s. s.past) (sym c.self.view_is)) c.requires.fits in
+    let why = end_refused past hand c.worker.result EndOk c.step.result c.in-Refused.refusal fits c.worker.ensures c.step.ensures.step.0 c.in-Refused.is c.in_default-refusal.not-LogFull in
+    let same = c.step.ensures.refused _ c.in-Refused.is in
+    rw (← c.self.view_is, same, ← c.worker.ensures)
+    (c.if-self.false, (refused_steps past c.step.new.self (End c.worker.result EndOk) c.step.result _ c.step.ensures.step c.in-Refused.is same, refl), refl, why)
