@@ -30,10 +30,10 @@ use Rattle.fj_model.proofs.Steps.Inside.{same_inside}
 use Rattle.fj_core.proofs.Frames.{same_stays, then_stays, step_stays, sticks_stay, releases_stay, hands_out_stays, skips_stay, moves_stay}
 use Rattle.fj_model.proofs.Steps.KeepsHands.{KeepsHands, is_bare, step_keeps, releases_keep, same_keeps, then_keeps}
 
--- a hook whose number is there
-pub hook_there : {B : Type 0} (hook : Option (ℕ × B)) → is_some (hook_number hook) ≡ true → is_some hook ≡ true
-hook_there None is = absurd cc
-hook_there (Some k) is = refl
+-- a hook is there where its number is
+pub hook_there : {B : Type 0} (hook : Option (ℕ × B)) → is_some hook ≡ is_some (hook_number hook)
+hook_there None = refl
+hook_there (Some k) = refl
 
 module _ {B K O : Type 0} where
   -- what an action that moves no body of a hand leaves
@@ -226,8 +226,7 @@ module _ {B K O : Type 0} where
   hook_acts_stay key_of old new hand hand' (asks.HookDone out) answer is = hook_ends_stay key_of old new hand hand' out answer is
   hook_acts_stay key_of old new hand hand' _ answer is = same_stays old new is.1
 
-  -- an action in a hook
-  pub hooked_acts : (key_of : B → K) (old new : StoreState B K O) (hand hand' : HandState B) (ask : Ask B K O) (answer : Told B K O) → is_some hand.hook ≡ true
-      → ActsInHook key_of old hand ask answer new hand'
-      → Acts key_of old hand ask answer new hand'
-  hooked_acts key_of old new hand hand' ask answer hooked is = subst (λ b. ActsWhere b key_of old hand ask answer new hand') (sym hooked) is
+  -- an action in a hook, or of a running body
+  pub acts_as : (hooked : Bool) (key_of : B → K) (old new : StoreState B K O) (hand hand' : HandState B) (ask : Ask B K O) (answer : Told B K O) → is_some hand.hook ≡ hooked
+      → ActsWhere hooked key_of old hand ask answer new hand' → Acts key_of old hand ask answer new hand'
+  acts_as hooked key_of old new hand hand' ask answer at is = subst (λ b. ActsWhere b key_of old hand ask answer new hand') (sym at) is

@@ -2,6 +2,7 @@
 use Rattle.std.proofs.Common.{ℕ, ◌≡◌, ◌+◌, Bool, true, false, not, List, [], ◌∷◌, ◌++◌, Option, Some, None, refl, ap, sym, ◌∙◌, subst}
 use Rattle.std.specs.Prelude.{if◌then◌else◌, ◌||◌, drop, length}
 use Rattle.std.specs.List.{list_all}
+use Rattle.std.proofs.lemmas.Bool.{true≢false}
 use Rattle.std.proofs.lemmas.List.{append-nil}
 use Rattle.std.proofs.Math.Seq.{drop-append_seam}
 use Rattle.fj_model.specs.declared.event.Event.{Event}
@@ -15,10 +16,10 @@ use Rattle.fj_model.specs.declared.step.Step.{Step}
 use Rattle.fj_model.specs.declared.step.Step.TheVariants as ask
 use Rattle.fj_model.specs.Allowed.{is_closed, is_stopped}
 use Rattle.fj_model.specs.Bounds.{Pool}
-use Rattle.fj_model.specs.Climbs.{path}
+use Rattle.fj_model.specs.Climbs.{path, path_up}
 use Rattle.fj_model.specs.Tasks.{released}
 use Rattle.fj_model.specs.Places.{gone}
-use Rattle.fj_model.specs.Answers.{answer, events_of, reply_of, cancel_says, settling, failing, root_events, root_of}
+use Rattle.fj_model.specs.Answers.{answer, events_of, reply_of, cancel_says, quiet_root_says, settling, failing, root_events, root_of}
 use Rattle.fj_model.specs.Pasts.{Past, grown}
 use Rattle.fj_model.specs.Runs.{Steps}
 use Rattle.fj_model.proofs.Places.PlaceLaws.{moves}
@@ -32,7 +33,7 @@ use Rattle.fj_store.specs.Stores.{StoreState, still_held}
 use Rattle.fj_store.specs.Releases.{Releases}
 use Rattle.fj_store.specs.Asking.{is_calm, Drops}
 use Rattle.fj_store.specs.Asking as does
-use Rattle.fj_model.proofs.Steps.Answered.{Answered, Refuses, Makes, answered}
+use Rattle.fj_model.proofs.Steps.Answered.{Answered, Refuses, Makes, answered, last_none}
 use Rattle.fj_store.proofs.Following.{is_rest, rest_unmoved, rest_released, settling_rest, failing_rest}
 use Rattle.fj_store.proofs.Stored.{stored_on}
 use Rattle.fj_store.proofs.Sweeps.{unmoved_bodies}
@@ -130,6 +131,26 @@ add_replies past w c n reply is no_count no_refusal = go (answered past (ask.Add
     go : Answered past (ask.Add w c n) (answer past (ask.Add w c n)).0 (answer past (ask.Add w c n)).1 → ⊥
     go (Refuses r refused none) = no_refusal r (is ∙ refused)
     go (Makes stands replied made) = no_count (pending past.events c + n) (is ∙ replied)
+
+-- each path has a root
+pub root_replies : (past : Past) (w t : ℕ) (reply : Said) → reply ≡ (answer past (ask.QuietRoot w t)).0 → ((r : Refusal) → reply ≡ says.Refused r → ⊥) → does.is_root reply ≡ true
+unfolding reply_of path path_up
+root_replies past w t reply is no_refusal = go (answered past (ask.QuietRoot w t))
+  where
+    h : List Event
+    h = past.events
+
+    pick : (c : ℕ) (b : Bool) → does.is_root (if b then says.Root c else says.Spent c) ≡ true
+    pick c true = refl
+    pick c false = refl
+
+    there : (root : Option ℕ) → root_of (path h t) ≡ root → does.is_root (quiet_root_says h root) ≡ true
+    there None at = absurd (true≢false (sym (last_none (path h t) at)))
+    there (Some c) at = pick c (is_undone (status h c))
+
+    go : Answered past (ask.QuietRoot w t) (answer past (ask.QuietRoot w t)).0 (answer past (ask.QuietRoot w t)).1 → does.is_root reply ≡ true
+    go (Refuses r refused none) = absurd (no_refusal r (is ∙ refused))
+    go (Makes stands replied made) = ap does.is_root (is ∙ replied) ∙ there (root_of (path h t)) refl
 
 module _ {B K O : Type 0} where
   made_drops : (old : StoreState B K O) (asked : Step) (reply : Said) (new : StoreState B K O) → ((r : Refusal) → reply ≡ says.Refused r → ⊥) → Drops old asked reply new → does.Makes old asked reply new

@@ -8,6 +8,8 @@ use Rattle.fj_model.specs.declared.event.Event.TheVariants as event
 use Rattle.fj_model.specs.declared.event.How.{How}
 use Rattle.fj_model.specs.declared.step.Step.TheVariants.{End}
 use Rattle.fj_model.specs.declared.step.Ending.{Ending}
+use Rattle.fj_model.specs.declared.step.Ending.TheVariants.{Ok as EndOk}
+use Rattle.fj_model.specs.declared.status.Status.TheVariants.{Normal}
 use Rattle.fj_model.specs.declared.said.Said.{Said}
 use Rattle.fj_model.specs.declared.said.Said.TheVariants as says
 use Rattle.fj_model.specs.declared.refusal.Refusal.{Refusal}
@@ -18,7 +20,7 @@ use Rattle.fj_model.specs.Stacks.{stack}
 use Rattle.fj_model.specs.Hooks.{hooks, hooks_after, hand as hook_of, completer_in}
 use Rattle.fj_model.specs.Places.{place, is_gone}
 use Rattle.fj_model.specs.Allowed.{AllowedFrom}
-use Rattle.fj_model.specs.Answers.{answer, running, after_end, end_says, ending_events, ending_says, reply_of, events_of}
+use Rattle.fj_model.specs.Answers.{answer, running, settling, after_end, end_says, ending_events, ending_says, reply_of, events_of}
 use Rattle.fj_model.specs.Epochs.{IsPast}
 use Rattle.fj_model.specs.Runs.{Past, Steps, grown}
 use Rattle.fj_model.proofs.Events.Growth.{hooks_more}
@@ -34,15 +36,16 @@ use Rattle.fj_shelf.specs.Aside.{numbers}
 use Rattle.fj_shelf.specs.Shelves.{Entries, is_there, with_entry, without_entries, entries, AreFewer}
 use Rattle.fj_shelf.specs.Hands.{HandState, HasOnTop, with_begun, with_hook}
 use Rattle.fj_store.specs.Fitting.{Fits}
-use Rattle.fj_store.specs.Stores.{StoreState, has_body, HoldsBodies, IsStored, still_held, went}
+use Rattle.fj_store.specs.Stores.{StoreState, has_body, HoldsBodies, GivesNoMore, IsStored, still_held, went}
 use Rattle.fj_store.specs.Releases.{Releases}
 use Rattle.fj_store.specs.Endings.{is_over, EndsOver, EndsInHook}
 use Rattle.fj_store.proofs.Bodies.{has_kept, fewer_kept}
 use Rattle.fj_store.proofs.Ended.{IsEnd, own_free, others_wait, ended_out, ended_in, fired_gone}
+use Rattle.fj_store.proofs.Given.{held_none, ok_given}
 use Rattle.fj_store.proofs.Endings.{take_front, newest_is, last_filled}
 use Rattle.fj_store.proofs.Following.{is_rest, rest_unmoved, rest_released, rest_hand, unmoved_stacks, AfterEnd, Fired, Unfired, after_ended}
 use Rattle.fj_model.proofs.Steps.RunsGrow.{history_more}
-use Rattle.fj_model.proofs.Steps.Answered.{Answered, Refuses, Makes, answered, last_none}
+use Rattle.fj_model.proofs.Steps.Answered.{Answered, Refuses, Makes, OkDone, answered, last_none}
 use Rattle.fj_store.proofs.Stored.{stored_on, kept_on, numbers_more, numbers_long}
 use Rattle.fj_store.proofs.Taking.{released_fits}
 
@@ -144,6 +147,25 @@ popped_runs past hand hand' w u body fits same held =
 pub popped_ends : {B : Type 0} (past : Past) (hand hand' : HandState B) (w u : ℕ) (body : B) (events : List Event) → Fits past hand → w ≡ hand.worker → HasOnTop hand hand' u body
     → (t : ℕ) × EndsUnfired past.events w t events → EndsUnfired past.events w u events
 popped_ends past hand hand' w u body events fits same held (t, over) = subst (λ v. EndsUnfired past.events w v events) (sym (popped past hand hand' w t u body fits same held over.runs)) over
+
+-- a plain task that ends with a result gave none before, and gives none after it
+pub ok_first : {B R : Type 0} (past : Past) (hand hand' : HandState B) (w u : ℕ) (body : B) (bodies : Entries B) (results : Entries R) (ts : List ℕ) → IsStored past bodies results ts → Fits past hand → w ≡ hand.worker
+    → HasOnTop hand hand' u body → OkDone past.events w (answer past (End w EndOk)).1 → results u ≡ None
+ok_first past hand hand' w u body bodies results ts is fits same held done =
+    let h = past.events in
+    let at : u ≡ done.task = popped past hand hand' w done.task u body fits same held done.runs in
+    let all : AllowedFrom past.pool h (event.End done.task w ∷ settling (h ++ event.End done.task w ∷ []) done.task Normal) = rw done.made at (answer_allowed past (End w EndOk) is.run) in
+    ap results at ∙ held_none past w done.task bodies results ts is (ended_held past.pool h done.task w all.0) done.plain
+
+pub ok_last : {B : Type 0} (past new : Past) (hand hand' : HandState B) (w u : ℕ) (body : B) → IsPast past → Fits past hand → w ≡ hand.worker
+    → HasOnTop hand hand' u body → OkDone past.events w (answer past (End w EndOk)).1 → new ≡ grown past (answer past (End w EndOk)).1 → GivesNoMore new.events u
+ok_last past new hand hand' w u body run fits same held done grew =
+    let h = past.events in
+    let at : u ≡ done.task = popped past hand hand' w done.task u body fits same held done.runs in
+    let rest = settling (h ++ event.End done.task w ∷ []) done.task Normal in
+    let all : AllowedFrom past.pool h (event.End done.task w ∷ rest) = rw done.made at (answer_allowed past (End w EndOk) run) in
+    subst (λ (p : Past). GivesNoMore p.events u) (sym (grew ∙ ap (grown past) done.made))
+    (subst (GivesNoMore (h ++ event.End done.task w ∷ rest)) (sym at) (ok_given past.pool h done.task w rest (history_allowed past run) all done.plain))
 
 pub filled_hand : {B : Type 0} (past : Past) (hand : HandState B) (w t : ℕ) → Fits past hand → w ≡ hand.worker → running past.events w ≡ Some t → 0 < length hand.stack
 filled_hand past hand w t fits same runs =

@@ -43,7 +43,7 @@ use Rattle.fj_shelf.specs.Shelves.{Entries, without_entry, without_entries, entr
 use Rattle.fj_shelf.specs.Hands.{HandState, with_hook, without_hook, hook_number}
 use Rattle.fj_shelf.proofs.Standing.{same_everywhere}
 use Rattle.fj_store.specs.Fitting.{Fits}
-use Rattle.fj_store.specs.Stores.{StoreState, has_body, HoldsBodies, IsStored, still_held, went}
+use Rattle.fj_store.specs.Stores.{GivesNoMore, StoreState, has_body, HoldsBodies, IsStored, still_held, went}
 use Rattle.fj_model.specs.Releasable.{is_hooked}
 use Rattle.fj_store.specs.Releases.{Releases}
 use Rattle.fj_store.specs.Results.{Keeps}
@@ -51,6 +51,7 @@ use Rattle.fj_store.specs.Endings.{is_over}
 use Rattle.fj_store.specs.HookEndings.{EndsHookOver, EndsHookInHook}
 use Rattle.fj_store.proofs.Closes.{closes_all}
 use Rattle.fj_store.proofs.Following.{is_rest, rest_unmoved, rest_released, unmoved_stacks, settling_rest}
+use Rattle.fj_store.proofs.Given.{hook_ended, hook_none}
 use Rattle.fj_store.proofs.InHands.{in_hand_hooked}
 use Rattle.fj_model.proofs.Steps.Answered.{Answered, Refuses, Makes, answered}
 use Rattle.fj_store.proofs.Stored.{stored_on, kept_on}
@@ -373,6 +374,20 @@ hook_kept_over past new hand w c body bodies results ts is fits same held over g
     rw (grew, over.made)
     (kept_on past.events (event.Hooked over.task ∷ over.rest) c (unfired_released over.task over.rest over.still)
     (hook_kept past w c bodies results ts is (in_hand past hand w c body fits same held)))
+
+-- it gave none before, and gives none after it
+pub hook_first : {B R : Type 0} (past : Past) (hand : HandState B) (w c : ℕ) (body : B) (bodies : Entries B) (results : Entries R) (ts : List ℕ) → IsStored past bodies results ts → Fits past hand → w ≡ hand.worker
+    → hand.hook ≡ Some (c, body) → results c ≡ None
+hook_first past hand w c body bodies results ts is fits same held = hook_none past w c bodies results ts is (in_hand past hand w c body fits same held)
+
+pub hook_last : {B : Type 0} (past new : Past) (hand : HandState B) (w c d : ℕ) (body : B) (rest : List Event) → IsPast past → Fits past hand → w ≡ hand.worker → hand.hook ≡ Some (c, body)
+    → hook_of past.events w ≡ Some d → (answer past (HookDone w)).1 ≡ event.Hooked d ∷ rest → new ≡ grown past (answer past (HookDone w)).1 → GivesNoMore new.events c
+hook_last past new hand w c d body rest run fits same held at made grew =
+    subst (λ (p : Past). GivesNoMore p.events c) (sym (grew ∙ ap (grown past) made))
+    (subst (GivesNoMore (past.events ++ event.Hooked d ∷ rest)) (some_same (sym at ∙ in_hand past hand w c body fits same held)) (hook_ended past w d rest run at made))
+  where
+    some_same : {x y : ℕ} → ◌≡◌ {A = Option ℕ} (Some x) (Some y) → x ≡ y
+    some_same is = cc
 
 -- ---- the hand
 

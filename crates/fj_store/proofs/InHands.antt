@@ -30,7 +30,7 @@ use Rattle.fj_model.specs.Releasable.{hooked, is_hooked}
 use Rattle.fj_store.specs.Stores.{NoneReleased}
 
 -- the hooks after one event more
-after_one : (h : List Event) (e : Event) (c : ℕ) → is_in c (hooked (h ++ e ∷ [])) ≡ true → (is_in c (hooked h) ≡ true) ⊎ ((how : How) × (e ≡ event.Fire c how))
+pub after_one : (h : List Event) (e : Event) (c : ℕ) → is_in c (hooked (h ++ e ∷ [])) ≡ true → (is_in c (hooked h) ≡ true) ⊎ ((how : How) × (e ≡ event.Fire c how))
 after_one h e c there = go e (subst (λ s. is_in c (map (λ hook. hook.completer) s.in_hands) ≡ true) (hooks_more h e) there)
   where
     with_one : (d : ℕ) (w : Option ℕ) (others : List Hook) → is_in c (map (λ hook. hook.completer) (with_hook d w others)) ≡ true → (is_in c (map (λ hook. hook.completer) others) ≡ true) ⊎ (d ≡ c)

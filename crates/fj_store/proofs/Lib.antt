@@ -2,6 +2,8 @@
 pub mod Bodies
 -- A task whose completion action is in a hand is not released.
 pub mod InHands
+-- A task gives one result at most.
+pub mod Given
 -- Where a body goes when its task ends, is settled, fires or is passed.
 pub mod Closes
 -- The bodies of open tasks that went are dropped.
@@ -34,6 +36,8 @@ pub mod Endings
 pub mod Ended
 -- A body ends without a result.
 pub mod Completing
+-- Why an ending is refused.
+pub mod Refused
 -- The end of the submissions, and quiescence.
 pub mod Shutting
 -- What has happened is handed out in parts.

@@ -1,5 +1,5 @@
 -- A task is released.
-use Rattle.std.proofs.Common.{ℕ, ◌≡◌, ◌≢◌, ◌+◌, ◌≤◌, ◌&&◌, not, Bool, true, false, List, [], ◌∷◌, ◌++◌, length, refl, ap, sym, ◌∙◌, arith}
+use Rattle.std.proofs.Common.{ℕ, ◌≡◌, ◌≢◌, ◌+◌, ◌≤◌, ◌&&◌, not, Bool, true, false, List, [], ◌∷◌, ◌++◌, length, refl, ap, sym, ◌∙◌, subst, arith}
 use Rattle.std.specs.Prelude.{if◌then◌else◌}
 use Rattle.std.proofs.lemmas.Bool.{and_parts, eq-eqb, true≢false, ltb-true}
 use Rattle.fj_model.specs.declared.event.Event.{Event}
@@ -23,9 +23,11 @@ use Rattle.fj_model.proofs.Steps.AnswersAllowed.{history_allowed, answer_allowed
 use Rattle.fj_model.proofs.Steps.RunsGrow.{history_more}
 use Rattle.std.specs.Prelude.{Option, None, is_some}
 use Rattle.fj_shelf.specs.Shelves.{Entries}
-use Rattle.fj_store.specs.Stores.{is_waiting, HoldsBodies, IsStored}
+use Rattle.fj_store.specs.Stores.{is_waiting, HoldsBodies, GivesNoMore, IsStored}
 use Rattle.fj_model.specs.Releasable.{hooked, is_hooked}
 use Rattle.fj_model.specs.Releasable.{can_go}
+use Rattle.fj_model.proofs.Events.KindsKept.{kept_known}
+use Rattle.fj_store.proofs.Given.{given_on}
 use Rattle.fj_store.proofs.InHands.{unreleased_rel}
 use Rattle.fj_store.proofs.Bodies.{same_body}
 use Rattle.fj_model.proofs.Steps.Answered.{ReleaseGives, Went, Finds, Stays, release_gives}
@@ -67,6 +69,8 @@ release_stored {B} {R} past t bodies results ts is taken free made =
       run = history_more past (Release t) is.run;
       bodies_held = rw made (release_bodies past.pool h t bodies (history_allowed past is.run) may is.bodies_held);
       results_kept = λ u there. ap (λ (es : List Event). is_kept (h ++ es) u) made ∙ release_keeps h t u (λ same. differs (results u) (ap results same ∙ is.apart t taken) there) ∙ is.results_kept u there;
+      results_given = λ u there.
+          subst (λ (es : List Event). GivesNoMore (h ++ es) u) (sym made) (given_on past.pool h (Rel t ∷ []) u (history_allowed past is.run) (may, tt) (kept_known h u (is.results_kept u there)) (is.results_given u there));
       taken_kept = rw made (record {
         kept = λ u there. let parts = in_without u t ts there in release_keeps h t u parts.1 ∙ is.taken_kept.kept u parts.0;
         once = λ u. without_once t u ts (is.taken_kept.once u);

@@ -12,8 +12,7 @@ use Rattle.fj_model.proofs.Places.FewLive.{few_live}
 use Rattle.fj_model.proofs.Places.KeptPlaces.{few_kept}
 use Rattle.fj_model.proofs.Steps.AnswersAllowed.{history_allowed}
 use Rattle.fj_shelf.specs.Shelves.{Entries, with_entry, without_entry, AreFewer}
-use Rattle.fj_shelf.proofs.Standing.{same_everywhere}
-use Rattle.fj_store.specs.Stores.{AreKept, IsStored}
+use Rattle.fj_store.specs.Stores.{AreKept, GivesNoMore, IsStored}
 use Rattle.fj_store.proofs.Bodies.{fewer_kept}
 
 -- ---- lists of kept tasks
@@ -34,44 +33,33 @@ one_more_kept h ts t are kept new = record {
 
 -- ---- a result more
 
-pub result_stored : {B R : Type 0} (past : Past) (bodies : Entries B) (results results' : Entries R) (ts : List ℕ) (t : ℕ) (x : R) → IsStored past bodies results ts → is_kept past.events t ≡ true → is_in t ts ≡ false
-    → results' ≡ with_entry (without_entry results t) t x → IsStored past bodies results' ts
-result_stored {B} {R} past bodies results results' ts t x is kept free more = rw more (record {
+pub result_stored : {B R : Type 0} (past : Past) (bodies : Entries B) (results results' : Entries R) (ts : List ℕ) (t : ℕ) (x : R) → IsStored past bodies results ts → is_kept past.events t ≡ true → GivesNoMore past.events t
+    → is_in t ts ≡ false → results' ≡ with_entry results t x → IsStored past bodies results' ts
+result_stored {B} {R} past bodies results results' ts t x is kept given free more = rw more (record {
   run = is.run;
   bodies_held = is.bodies_held;
   results_kept = λ u there. known u (t == u) refl there;
+  results_given = λ u there. last u (t == u) refl there;
   taken_kept = is.taken_kept;
   apart = λ u there. none u (t == u) refl there;
   hooks_kept = is.hooks_kept;
 })
   where
-    known : (u : ℕ) (b : Bool) → (t == u) ≡ b → is_some (if b then Some x else (if b then None else results u)) ≡ true → is_kept past.events u ≡ true
+    known : (u : ℕ) (b : Bool) → (t == u) ≡ b → is_some (if b then Some x else results u) ≡ true → is_kept past.events u ≡ true
     known u true same there = subst (λ v. is_kept past.events v ≡ true) (eqb-true t u same) kept
     known u false same there = is.results_kept u there
 
-    none : (u : ℕ) (b : Bool) → (t == u) ≡ b → is_in u ts ≡ true → (if b then Some x else (if b then None else results u)) ≡ None
+    last : (u : ℕ) (b : Bool) → (t == u) ≡ b → is_some (if b then Some x else results u) ≡ true → GivesNoMore past.events u
+    last u true same there = subst (GivesNoMore past.events) (eqb-true t u same) given
+    last u false same there = is.results_given u there
+
+    none : (u : ℕ) (b : Bool) → (t == u) ≡ b → is_in u ts ≡ true → (if b then Some x else results u) ≡ None
     none u true same there = absurd (true≢false (sym there ∙ ap (λ v. is_in v ts) (sym (eqb-true t u same)) ∙ free))
     none u false same there = is.apart u there
 
--- an entry that takes the place of another
-pub with_again : {R : Type 0} (results : Entries R) (t : ℕ) (x : R) → with_entry (without_entry results t) t x ≡ with_entry results t x
-with_again {R} results t x = same_everywhere (with_entry (without_entry results t) t x) (with_entry results t x) (λ u. go u (t == u))
-  where
-    go : (u : ℕ) (b : Bool) → (if b then Some x else (if b then None else results u)) ≡ (if b then Some x else results u)
-    go u true = refl
-    go u false = refl
-
-pub free_again : {R : Type 0} (results : Entries R) (t : ℕ) → without_entry results t t ≡ None
-free_again results t = rw (eq-eqb t t refl) refl
-
-pub result_room : {B R : Type 0} (past : Past) (bodies : Entries B) (results : Entries R) (ts : List ℕ) (t room : ℕ) → IsStored past bodies results ts → is_kept past.events t ≡ true → past.pool.limits.tasks ≤ room
-    → AreFewer (without_entry results t) room
-result_room {B} {R} past bodies results ts t room is kept within =
-    fewer_kept past.pool past.events (without_entry results t) t room (history_allowed past is.run) (λ u there. known u (t == u) there) kept (free_again results t) within
-  where
-    known : (u : ℕ) (b : Bool) → is_some (if b then None else results u) ≡ true → is_kept past.events u ≡ true
-    known u true there = absurd cc
-    known u false there = is.results_kept u there
+pub result_room : {B R : Type 0} (past : Past) (bodies : Entries B) (results : Entries R) (ts : List ℕ) (t room : ℕ) → IsStored past bodies results ts → is_kept past.events t ≡ true → results t ≡ None
+    → past.pool.limits.tasks ≤ room → AreFewer results room
+result_room past bodies results ts t room is kept free within = fewer_kept past.pool past.events results t room (history_allowed past is.run) is.results_kept kept free within
 
 -- ---- a result is taken out
 
@@ -86,6 +74,7 @@ marked_stored {B} {R} past bodies results results' ts t is kept free less = rw l
   run = is.run;
   bodies_held = is.bodies_held;
   results_kept = λ u there. known u (t == u) there;
+  results_given = λ u there. last u (t == u) there;
   taken_kept = one_more_kept past.events ts t is.taken_kept kept free;
   apart = λ u there. none u (t == u) refl (in_one_more u t ts there);
   hooks_kept = is.hooks_kept;
@@ -94,6 +83,10 @@ marked_stored {B} {R} past bodies results results' ts t is kept free less = rw l
     known : (u : ℕ) (b : Bool) → is_some (if b then None else results u) ≡ true → is_kept past.events u ≡ true
     known u true there = absurd cc
     known u false there = is.results_kept u there
+
+    last : (u : ℕ) (b : Bool) → is_some (if b then None else results u) ≡ true → GivesNoMore past.events u
+    last u true there = absurd cc
+    last u false there = is.results_given u there
 
     none : (u : ℕ) (b : Bool) → (t == u) ≡ b → (is_in u ts ≡ true) ⊎ (t ≡ u) → (if b then None else results u) ≡ None
     none u true same there = refl

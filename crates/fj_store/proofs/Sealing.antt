@@ -17,6 +17,7 @@ seal_stored {B} {R} {T} (Ok part) past new bodies results ts is may sealed stays
   run = subst IsPast sealed (seal_past (Ok part) past new is.run may sealed stays);
   bodies_held = is.bodies_held;
   results_kept = is.results_kept;
+  results_given = is.results_given;
   taken_kept = is.taken_kept;
   apart = is.apart;
   hooks_kept = is.hooks_kept;

@@ -20,6 +20,7 @@ use Rattle.fj_model.specs.Pasts.{Past, grown, fresh}
 use Rattle.fj_model.specs.Epochs.{IsPast}
 use Rattle.fj_model.proofs.Lists.Members.{is_in_append}
 use Rattle.fj_model.specs.Completers.{is_spent}
+use Rattle.fj_model.proofs.Events.KindsKept.{kept_known}
 use Rattle.fj_model.proofs.Events.Lawful.{is_new}
 use Rattle.fj_model.proofs.Completers.Unknown.{unknown_unspent}
 use Rattle.fj_model.proofs.Completers.Unfired.{climbs_unfired}
@@ -31,6 +32,7 @@ use Rattle.fj_shelf.specs.Shelves.{Entries, no_entries, with_entry, AreFewer}
 use Rattle.fj_store.specs.Stores.{has_body, HoldsBodies, AreKept, NoneReleased, IsStored}
 use Rattle.fj_model.proofs.Steps.RunsGrow.{history_more}
 use Rattle.fj_store.proofs.Bodies.{accept_bodies, make_bodies, new_free, has_kept, fewer_kept}
+use Rattle.fj_store.proofs.Given.{given_on}
 use Rattle.fj_store.proofs.InHands.{unreleased_on}
 
 -- ---- lists of things under numbers
@@ -63,6 +65,8 @@ stored_on {B} {R} past new asked es bodies bodies' results ts is grew made none 
       run = run;
       bodies_held = held;
       results_kept = λ t there. kept_on past.events es t none (is.results_kept t there);
+      results_given = λ t there.
+          given_on past.pool past.events es t (history_allowed past is.run) (rw made at (answer_allowed past asked is.run)) (kept_known past.events t (is.results_kept t there)) (is.results_given t there);
       taken_kept = are_kept_on past.events es ts none is.taken_kept;
       apart = is.apart;
       hooks_kept =
@@ -149,6 +153,7 @@ fresh_stored {B} {R} mode limits bodies results none none' =
       run = ([], [], refl);
       bodies_held = nothing_held B;
       results_kept = λ t there. absurd cc;
+      results_given = λ t there. absurd cc;
       taken_kept = none_kept;
       apart = λ t there. refl;
       hooks_kept = none_hooked;

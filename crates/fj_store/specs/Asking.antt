@@ -26,6 +26,12 @@ is_calm (ask.State t) = true
 is_calm ask.IsQuiescent = true
 is_calm _ = false
 
+-- whether such a reply tells of the root, made normal by the step or done before
+abbrev pub is_root : Said → Bool
+is_root (says.Root c) = true
+is_root (says.Spent c) = true
+is_root _ = false
+
 module _ {B K O : Type 0} where
   -- the step was made; the bodies of the tasks that came to be gone are dropped; then what can be is released
   pub record Drops (old : StoreState B K O) (asked : Step) (reply : Said) (new : StoreState B K O) : Type 0 where
@@ -47,9 +53,9 @@ module _ {B K O : Type 0} where
   Adds old asked (told.Stuck None) new = WasStuck old new
   Adds old asked _ new = ⊥
 
-  -- a root is made normal
+  -- a root is made normal, or was done before
   abbrev pub QuietsRoot : StoreState B K O → Step → Told B K O → StoreState B K O → Type 0
-  QuietsRoot old asked (told.Hear hears.Went) new = (old.stuck ≡ false) × (reply : Said) × Drops old asked reply new
+  QuietsRoot old asked (told.Hear hears.Went) new = (old.stuck ≡ false) × (reply : Said) × Drops old asked reply new × (is_root reply ≡ true)
   QuietsRoot old asked (told.Hear (hears.Refused r)) new = (old.stuck ≡ false) × Refuses old asked (says.Refused r) new
   QuietsRoot old asked (told.Stuck None) new = WasStuck old new
   QuietsRoot old asked _ new = ⊥

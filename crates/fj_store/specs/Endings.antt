@@ -1,5 +1,7 @@
 -- The running body ends.
-use Rattle.std.specs.Prelude.{ℕ, ◌≡◌, ◌⊎◌, Bool, true, false, Option, Some, None}
+use Rattle.std.specs.Prelude.{ℕ, ◌≡◌, ◌⊎◌, Bool, true, false, List, [], ◌∷◌, Option, Some, None}
+use Rattle.fj_model.specs.declared.refusal.Refusal.{Refusal}
+use Rattle.fj_model.specs.declared.refusal.Refusal.TheVariants.{NotIdle, NotRunning, NotCompleter}
 use Rattle.fj_model.specs.declared.step.Ending.{Ending}
 use Rattle.fj_model.specs.declared.step.Ending.TheVariants as ending
 use Rattle.fj_model.specs.declared.step.Step.TheVariants as ask
@@ -23,6 +25,12 @@ is_over (says.Hook c) = false
 is_over (says.Refused r) = false
 is_over _ = true
 
+-- which refusal an ending hears of, by the hook and the bodies of its hand: a running body that ends hears only that its task is of the other kind
+abbrev pub end_refusal : {A B : Type 0} → Option A → List B → Refusal
+end_refusal (Some hook) bodies = NotIdle
+end_refusal None [] = NotRunning
+end_refusal None (body ∷ bodies) = NotCompleter
+
 module _ {B K O : Type 0} where
   -- the running task's body ended with a result: it is kept beside the body's key, and what can be is released
   pub record Finishes (key_of : B → K) (old : StoreState B K O) (hand : HandState B) (out : O) (new : StoreState B K O) (hand' : HandState B) : Type 0 where
@@ -36,10 +44,11 @@ module _ {B K O : Type 0} where
     pub kept : Keeps mid task (key_of body, out) done
     pub releases : Releases done new
 
-  -- the ending Ok
+  -- the ending Ok. Where it finds no room the body hears nothing, and the store is stuck
   abbrev pub EndsOk : (B → K) → StoreState B K O → HandState B → O → Told B K O → StoreState B K O → HandState B → Type 0
   EndsOk key_of old hand out (told.Over None) new hand' = (old.stuck ≡ false) × Finishes key_of old hand out new hand'
-  EndsOk key_of old hand out (told.Hear (hears.Refused r)) new hand' = (old.stuck ≡ false) × Refuses old (ask.End hand.worker ending.Ok) (says.Refused r) new × (hand' ≡ hand)
+  EndsOk key_of old hand out (told.Hear (hears.Refused r)) new hand' =
+      (old.stuck ≡ false) × Refuses old (ask.End hand.worker ending.Ok) (says.Refused r) new × (hand' ≡ hand) × (r ≡ end_refusal hand.hook hand.stack)
   EndsOk key_of old hand out (told.Stuck None) new hand' = (WasStuck old new ⊎ GetsStuck old (ask.End hand.worker ending.Ok) new) × (hand' ≡ hand)
   EndsOk key_of old hand out _ new hand' = ⊥
 
@@ -76,6 +85,7 @@ module _ {B K O : Type 0} where
   abbrev pub EndsBody : StoreState B K O → HandState B → Ending → Told B K O → StoreState B K O → HandState B → Type 0
   EndsBody old hand ending (told.Hook c caller) new hand' = (old.stuck ≡ false) × (caller ≡ c) × EndsInHook old hand ending c new hand'
   EndsBody old hand ending (told.Over out) new hand' = (old.stuck ≡ false) × EndsOver old hand ending out new hand'
-  EndsBody old hand ending (told.Hear (hears.Refused r)) new hand' = (old.stuck ≡ false) × Refuses old (ask.End hand.worker ending) (says.Refused r) new × (hand' ≡ hand)
+  EndsBody old hand ending (told.Hear (hears.Refused r)) new hand' =
+      (old.stuck ≡ false) × Refuses old (ask.End hand.worker ending) (says.Refused r) new × (hand' ≡ hand) × (r ≡ end_refusal hand.hook hand.stack)
   EndsBody old hand ending (told.Stuck None) new hand' = (WasStuck old new ⊎ GetsStuck old (ask.End hand.worker ending) new) × (hand' ≡ hand)
   EndsBody old hand ending _ new hand' = ⊥

@@ -1,5 +1,6 @@
 -- A hook ends.
 use Rattle.std.specs.Prelude.{ℕ, ◌≡◌, ◌⊎◌, true, false, Some, None}
+use Rattle.fj_model.specs.declared.refusal.Refusal.TheVariants.{NotRunning}
 use Rattle.fj_model.specs.declared.step.Step.TheVariants as ask
 use Rattle.fj_model.specs.declared.said.Said.{Said}
 use Rattle.fj_model.specs.declared.said.Said.TheVariants as says
@@ -51,6 +52,7 @@ module _ {B K O : Type 0} where
   abbrev pub EndsHook : (B → K) → StoreState B K O → HandState B → O → Told B K O → StoreState B K O → HandState B → Type 0
   EndsHook key_of old hand out (told.Hook p caller) new hand' = (old.stuck ≡ false) × EndsHookInHook key_of old hand out p caller new hand'
   EndsHook key_of old hand out (told.Over None) new hand' = (old.stuck ≡ false) × EndsHookOver key_of old hand out new hand'
-  EndsHook key_of old hand out (told.Hear (hears.Refused r)) new hand' = (old.stuck ≡ false) × Refuses old (ask.HookDone hand.worker) (says.Refused r) new × (hand' ≡ hand)
+  EndsHook key_of old hand out (told.Hear (hears.Refused r)) new hand' =
+      (old.stuck ≡ false) × Refuses old (ask.HookDone hand.worker) (says.Refused r) new × (hand' ≡ hand) × (r ≡ NotRunning)
   EndsHook key_of old hand out (told.Stuck None) new hand' = (WasStuck old new ⊎ GetsStuck old (ask.HookDone hand.worker) new) × (hand' ≡ hand)
   EndsHook key_of old hand out _ new hand' = ⊥

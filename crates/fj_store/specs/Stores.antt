@@ -4,8 +4,9 @@ use Rattle.fj_model.specs.declared.event.Event.{Event}
 use Rattle.fj_model.specs.declared.place.Place.{Place}
 use Rattle.fj_model.specs.declared.place.Place.TheVariants.{Queued, Held, Open, Gone}
 use Rattle.fj_model.specs.Lists.{is_in, times_in}
-use Rattle.fj_model.specs.Tasks.{tasks, is_kept, released}
-use Rattle.fj_model.specs.Places.{place, gone}
+use Rattle.fj_model.specs.Tasks.{tasks, is_kept, is_completer, released}
+use Rattle.fj_model.specs.Completers.{is_spent}
+use Rattle.fj_model.specs.Places.{place, gone, is_gone}
 use Rattle.fj_model.specs.Releasable.{hooked}
 use Rattle.fj_model.specs.Pasts.{Past}
 use Rattle.fj_model.specs.Epochs.{IsPast}
@@ -44,6 +45,15 @@ pub record AreKept (h : List Event) (ns : List ℕ) : Type 0 where
   pub kept : (t : ℕ) → is_in t ns ≡ true → is_kept h t ≡ true
   pub once : (t : ℕ) → times_in t ns ≤ 1
 
+-- a plain task is gone; a completer is spent, and its completion action is in no hand
+abbrev pub IsGiven : Bool → List Event → ℕ → Type 0
+IsGiven false h t = is_gone (place h t) ≡ true
+IsGiven true h t = (is_spent h t ≡ true) × (is_in t (hooked h) ≡ false)
+
+-- no result of the task comes any more
+abbrev pub GivesNoMore : List Event → ℕ → Type 0
+GivesNoMore h t = IsGiven (is_completer h t) h t
+
 -- what holds of every store
 pub record IsStored {B R : Type 0} (past : Past) (bodies : Entries B) (results : Entries R) (taken : List ℕ) : Type 0 where
   -- its machine's past is that of some run
@@ -51,6 +61,8 @@ pub record IsStored {B R : Type 0} (past : Past) (bodies : Entries B) (results :
   pub bodies_held : HoldsBodies past.events bodies
   -- a result is that of a kept task
   pub results_kept : (t : ℕ) → is_there results t ≡ true → is_kept past.events t ≡ true
+  -- it is the last that the task gives
+  pub results_given : (t : ℕ) → is_there results t ≡ true → GivesNoMore past.events t
   pub taken_kept : AreKept past.events taken
   -- a task whose result was taken has none
   pub apart : (t : ℕ) → is_in t taken ≡ true → results t ≡ None

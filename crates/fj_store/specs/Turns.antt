@@ -23,7 +23,7 @@ abbrev pub ToldRight : {B K O : Type 0} → (K → O → Type 0) → Told B K O 
 ToldRight right (Hear heard) = HeardRight right heard
 ToldRight right _ = ⊤
 
--- a turn that does not end the body brings it nearer to its end
+-- a turn that asks for no ending brings the body nearer to one
 abbrev pub Nearer : {B K O : Type 0} → ℕ → ℕ → Ask B K O → Type 0
 Nearer new old (AskOk o) = ⊤
 Nearer new old Quiet = ⊤

@@ -42,7 +42,7 @@ impl<B: Body> Store<B> {
         }
     }
 
-    /// The root of a task's path becomes normal: `CountedCompleter.quietlyCompleteRoot`.
+    /// The root of a task's path becomes normal: `CountedCompleter.quietlyCompleteRoot`. It hears `Went`, also where that is done.
     pub fn quiet_root(&mut self, w: WorkerId, t: Serial) -> Told<B>
         ensures { QuietsRoot self.old (QuietRoot w t) result self.new }
     {

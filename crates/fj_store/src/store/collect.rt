@@ -1,6 +1,7 @@
-ghost use Rattle.std.specs.Prelude.{◌≡◌, true, false};
+ghost use Rattle.std.specs.Prelude.{◌≡◌, true, false, None};
 ghost use Rattle.fj_model.specs.Lists.{is_in};
 ghost use Rattle.fj_model.specs.Tasks.{is_kept};
+ghost use Rattle.fj_store.specs.Stores.{GivesNoMore};
 ghost use Rattle.fj_store.specs.Turns.{ToldRight};
 ghost use Rattle.fj_store.specs.Results.{Keeps, Marks, TakesOut, TakesResult, Collects};
 ghost use Rattle.fj_shelf.specs.Shelves.{entries};
@@ -14,16 +15,18 @@ use crate::store::Store;
 use fj_model::{Owner, Place, Refusal, Said, Serial, Status, Step, SubId, WorkerId};
 
 impl<B: Body> Store<B> {
-    /// Keeps a result under a task's number, or drops it where the task's result was taken.
+    /// Keeps the one result of a task under its number, or drops it where the task's result was taken. Preconditions: the task is kept, has no
+    /// result, and gives no other.
     pub(crate) fn keep(&mut self, t: Serial, kept: Kept<B>)
-        requires { is_kept self.old.past.events t ≡ true }
+        requires kept { is_kept self.old.past.events t ≡ true }
+        requires first { entries self.old.results t ≡ None }
+        requires last { GivesNoMore self.old.past.events t }
         ensures kept { Keeps self.old t kept self.new }
         ensures past { self.new.past ≡ self.old.past }
     {
         if self.taken.has(t) {
             return;
         }
-        let _old = self.results.take(t);
         self.results.put(t, kept);
     }
 

@@ -15,6 +15,8 @@ use fj_shelf::Hand;
 
 impl<B: Body> Store<B> {
     /// The body of the running plain task ends, with its result. Preconditions: the hand fits, and the result is right for its body's key.
+    ///
+    /// The body of a completer hears `NotCompleter`. Where the history has no room the store is stuck, here and in the next two.
     pub fn ok(&mut self, hand: &mut Hand<B>, out: B::Out) -> Told<B>
         requires fits { Fits self.old.past hand.old }
         requires right { IfSome (asker hand.old) (λ b. ∥ B.right (B.key_of b.1) out ∥₁) }
@@ -50,7 +52,7 @@ impl<B: Body> Store<B> {
     /// The running body ends without a result: `Quiet`, `Try`, `Pass`, `Complete` or `Fail`. Precondition: the hand fits.
     ///
     /// Where the hook of its own task comes, the body goes on in it. If not, it goes out where its task is gone, and stays here where that is
-    /// open.
+    /// open. The body of a plain task hears `NotCompleter`, but of `Fail`.
     pub fn end(&mut self, hand: &mut Hand<B>, ending: Ending) -> Told<B>
         requires fits { Fits self.old.past hand.old }
         ensures ends { EndsBody self.old hand.old ending result self.new hand.new }
@@ -97,7 +99,7 @@ impl<B: Body> Store<B> {
     /// The hook in the hand ends, with its result: `CountedCompleter.onCompletion` has returned. Preconditions: the hand fits, and the result
     /// is right for the key of the hook's body.
     ///
-    /// Where the hook of its parent comes, the parent's body goes on in it.
+    /// Where the hook of its parent comes, the parent's body goes on in it. A hand without a hook hears `NotRunning`.
     pub fn hook_done(&mut self, hand: &mut Hand<B>, out: B::Out) -> Told<B>
         requires fits { Fits self.old.past hand.old }
         requires right { IfSome hand.old.hook (λ b. ∥ B.right (B.key_of b.1) out ∥₁) }

@@ -4,7 +4,9 @@ use Rattle.fj_store.specs.Fitting.{Fits}
 use Rattle.fj_model.proofs.Steps.RunsGrow.{history_more}
 use Rattle.fj_store.proofs.Completing.{end_fired, end_unfired, not_over, popped, popped_runs, popped_ends, filled_hand, fired_fits, unfired_fits, fired_stored, out_stored, in_stored, end_kept, end_free, end_room, ends_in_hook, ends_over_out, ends_over_in}
 use Rattle.fj_model.proofs.Steps.AboutTasks.{end_about}
+use Rattle.fj_store.proofs.Calms.{refused_steps}
 use Rattle.fj_store.proofs.DueTasks.{step_due}
+use Rattle.fj_store.proofs.Refused.{end_refused}
 use Rattle.fj_store.proofs.store.Store.end.Goals as goal
 
 -- ---- the hook came
@@ -53,6 +55,18 @@ returns-in-Hook-clause-fits g c =
     let fired = end_fired past c.worker.result c.in-Hook.c c.args.ending c.make.result c.make.ensures.step.0 c.in-Hook.is in
     fired_fits past c.make.new.machine _ hand c.pop-t.new.self c.give_hook.new.self c.worker.result c.in-Hook.c c.pop-t.result.0 c.pop-t.result.1 _ c.release_due.ensures.tasks c.self.invariant.0.run fits c.worker.ensures c.pop-t.ensures.popped
     c.give_hook.ensures c.make.ensures.step.1 fired (ap (λ s. s.past) c.release_due.ensures.were)
+
+-- ---- it is refused
+
+pub returns-in_default-refusal-clause-ends : goal.returns-in_default-refusal-clause-ends
+returns-in_default-refusal-clause-ends g c =
+    let past = c.self.inside.machine in
+    let hand = c.args.hand.now in
+    let fits : Fits past hand = subst (λ p. Fits p hand) (ap (λ s. s.past) (sym c.self.view_is)) c.requires.fits in
+    let why = end_refused past hand c.worker.result c.args.ending c.make.result c.in-Refused.refusal fits c.worker.ensures c.make.ensures.step.0 c.in-Refused.is c.in_default-refusal.not-LogFull in
+    let same = c.make.ensures.refused _ c.in-Refused.is in
+    rw (← c.self.view_is, same.0, same.1, ← c.worker.ensures)
+    (c.if-self.false, (refused_steps past c.make.new.machine (End c.worker.result c.args.ending) c.make.result _ c.make.ensures.step c.in-Refused.is same.0, refl), refl, why)
 
 -- ---- no hook came
 

@@ -8,8 +8,10 @@ use Rattle.fj_store.specs.Fitting.{Fits}
 use Rattle.fj_store.proofs.Completing.{not_over}
 use Rattle.fj_store.proofs.Sweeps.{gone_longer}
 use Rattle.fj_store.proofs.HookEndings.{hook_fired, hook_unfired, hook_in, hook_swept, parent_there, hook_fired_stored, hook_over_stored}
-use Rattle.fj_store.proofs.HookEndings.{own_hook_about, hook_kept_fired, hook_kept_over, hook_fired_fits, hook_over_fits, hook_ends_in_hook, hook_ends_over}
+use Rattle.fj_store.proofs.HookEndings.{own_hook_about, hook_first, hook_last, hook_kept_fired, hook_kept_over, hook_fired_fits, hook_over_fits, hook_ends_in_hook, hook_ends_over}
+use Rattle.fj_store.proofs.Calms.{refused_steps}
 use Rattle.fj_store.proofs.DueTasks.{step_due}
+use Rattle.fj_store.proofs.Refused.{hook_refused}
 use Rattle.fj_store.proofs.store.Store.hook_done.Goals as goal
 
 -- ---- the hook of the parent came
@@ -46,8 +48,24 @@ invariant_of-self g c =
           (c.self.invariant.5 free)),
     )
 
-pub keep-requires : goal.keep-requires
-keep-requires g c =
+pub keep-requires-clause-first : goal.keep-requires-clause-first
+keep-requires-clause-first g c =
+    let past = c.self.inside.machine in
+    let hand = c.args.hand.now in
+    let fits : Fits past hand = subst (λ p. Fits p hand) (ap (λ s. s.past) (sym c.self.view_is)) c.requires.fits in
+    hook_first past hand c.worker-w.result c.take_hook-c.result.0 c.take_hook-c.result.1 _ _ _ c.self.invariant.0 fits c.worker-w.ensures c.take_hook-c.ensures.hook
+
+pub keep-requires-clause-last : goal.keep-requires-clause-last
+keep-requires-clause-last g c =
+    let past = c.self.inside.machine in
+    let hand = c.args.hand.now in
+    let w = c.worker-w.result in
+    let fits : Fits past hand = subst (λ p. Fits p hand) (ap (λ s. s.past) (sym c.self.view_is)) c.requires.fits in
+    let fired = hook_fired past w c.in-Hook.p c.step.result c.step.ensures.step.0 c.in-Hook.is in
+    hook_last past c.step.new.self hand w c.take_hook-c.result.0 fired.task c.take_hook-c.result.1 _ c.self.invariant.0.run fits c.worker-w.ensures c.take_hook-c.ensures.hook fired.hooked fired.made c.step.ensures.step.1
+
+pub keep-requires-clause-kept : goal.keep-requires-clause-kept
+keep-requires-clause-kept g c =
     let past = c.self.inside.machine in
     let hand = c.args.hand.now in
     let w = c.worker-w.result in
@@ -91,6 +109,19 @@ unreachable-requires g c =
     let fired = hook_fired past w c.in-Hook.p c.step.result c.step.ensures.step.0 c.in-Hook.is in
     parent_there past w c.in-Hook.p _ _ _ c.self.invariant.0 fired (sym c.take.ensures.taken ∙ c.in-None.is)
 
+-- ---- it is refused
+
+pub returns-in-Refused-clause-ends : goal.returns-in-Refused-clause-ends
+returns-in-Refused-clause-ends g c =
+    let past = c.self.inside.machine in
+    let hand = c.args.hand.now in
+    let w = c.worker-w.result in
+    let fits : Fits past hand = subst (λ p. Fits p hand) (ap (λ s. s.past) (sym c.self.view_is)) c.requires.fits in
+    let why = hook_refused past hand w c.step.result c.in-Refused.refusal fits c.worker-w.ensures c.step.ensures.step.0 c.in-Refused.is c.in_default-refusal.not-LogFull in
+    let same = c.step.ensures.refused _ c.in-Refused.is in
+    rw (← c.self.view_is, same, ← c.worker-w.ensures)
+    (c.if-self.false, (refused_steps past c.step.new.self (HookDone w) c.step.result _ c.step.ensures.step c.in-Refused.is same, refl), refl, why)
+
 -- ---- no hook came
 
 pub take_hook-c-requires-in_default : goal.take_hook-c-requires-in_default
@@ -125,8 +156,25 @@ invariant_of-self-in_default g c =
           (c.self.invariant.5 free)),
     )
 
-pub keep-requires-in_default : goal.keep-requires-in_default
-keep-requires-in_default g c =
+pub keep-requires-in_default-clause-first : goal.keep-requires-in_default-clause-first
+keep-requires-in_default-clause-first g c =
+    let past = c.self.inside.machine in
+    let hand = c.args.hand.now in
+    let fits : Fits past hand = subst (λ p. Fits p hand) (ap (λ s. s.past) (sym c.self.view_is)) c.requires.fits in
+    hook_first past hand c.worker-w.result c.take_hook-c-in_default.result.0 c.take_hook-c-in_default.result.1 _ _ _ c.self.invariant.0 fits c.worker-w.ensures c.take_hook-c-in_default.ensures.hook
+
+pub keep-requires-in_default-clause-last : goal.keep-requires-in_default-clause-last
+keep-requires-in_default-clause-last g c =
+    let past = c.self.inside.machine in
+    let hand = c.args.hand.now in
+    let w = c.worker-w.result in
+    let fits : Fits past hand = subst (λ p. Fits p hand) (ap (λ s. s.past) (sym c.self.view_is)) c.requires.fits in
+    let over = hook_unfired past w c.step.result c.step.ensures.step.0 c.in_default.not-Hook c.in_default.not-Refused in
+    hook_last past c.step.new.self hand w c.take_hook-c-in_default.result.0 over.task c.take_hook-c-in_default.result.1 over.rest c.self.invariant.0.run fits c.worker-w.ensures c.take_hook-c-in_default.ensures.hook
+    over.hooked over.made c.step.ensures.step.1
+
+pub keep-requires-in_default-clause-kept : goal.keep-requires-in_default-clause-kept
+keep-requires-in_default-clause-kept g c =
     let past = c.self.inside.machine in
     let hand = c.args.hand.now in
     let w = c.worker-w.result in

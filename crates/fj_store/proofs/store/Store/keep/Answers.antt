@@ -1,27 +1,27 @@
-use Rattle.std.proofs.Common.{◌≡◌, true, false, refl, sym, ap, ◌∙◌}
+use Rattle.std.proofs.Common.{◌≡◌, true, false, None, refl, sym, ap, subst, ◌∙◌}
 use Rattle.fj_model.specs.Lists.{is_in}
 use Rattle.fj_model.specs.Tasks.{is_kept}
-use Rattle.fj_shelf.specs.Shelves.{entries, with_entry}
-use Rattle.fj_store.proofs.Results.{result_stored, result_room, free_again, with_again}
+use Rattle.fj_shelf.specs.Shelves.{entries}
+use Rattle.fj_store.specs.Stores.{GivesNoMore}
+use Rattle.fj_store.proofs.Results.{result_stored, result_room}
 use Rattle.fj_store.proofs.store.Store.keep.Goals as goal
-
-pub put-requires-clause-free : goal.put-requires-clause-free
-put-requires-clause-free g c = rw c.take-old.ensures.entries (free_again (entries c.self.inside.results) c.args.t)
 
 pub put-requires-clause-room : goal.put-requires-clause-room
 put-requires-clause-room g c =
     let past = c.self.inside.machine in
-    let kept : is_kept past.events c.args.t ≡ true = ap (λ s. is_kept s.past.events c.args.t) c.self.view_is ∙ c.requires in
-    rw (c.take-old.ensures.entries, c.take-old.ensures.room) (result_room past _ (entries c.self.inside.results) _ c.args.t c.self.inside.results.room c.self.invariant.0 kept c.self.invariant.2)
+    let kept : is_kept past.events c.args.t ≡ true = ap (λ s. is_kept s.past.events c.args.t) c.self.view_is ∙ c.requires.kept in
+    let first : entries c.self.inside.results c.args.t ≡ None = ap (λ s. entries s.results c.args.t) c.self.view_is ∙ c.requires.first in
+    result_room past _ (entries c.self.inside.results) _ c.args.t c.self.inside.results.room c.self.invariant.0 kept first c.self.invariant.2
 
 pub invariant_of-self : goal.invariant_of-self
 invariant_of-self g c =
     let past = c.self.inside.machine in
-    let kept : is_kept past.events c.args.t ≡ true = ap (λ s. is_kept s.past.events c.args.t) c.self.view_is ∙ c.requires in
+    let kept : is_kept past.events c.args.t ≡ true = ap (λ s. is_kept s.past.events c.args.t) c.self.view_is ∙ c.requires.kept in
+    let last : GivesNoMore past.events c.args.t = subst (λ s. GivesNoMore s.past.events c.args.t) (sym c.self.view_is) c.requires.last in
     let free : is_in c.args.t c.self.inside.taken.items ≡ false = sym c.has.ensures ∙ c.if-has.false in (
-      result_stored past _ (entries c.self.inside.results) (entries c.put.new.self) _ c.args.t _ c.self.invariant.0 kept free (c.put.ensures.entries ∙ ap (λ all. with_entry all c.args.t c.args.kept) c.take-old.ensures.entries),
+      result_stored past _ (entries c.self.inside.results) (entries c.put.new.self) _ c.args.t _ c.self.invariant.0 kept last free c.put.ensures.entries,
       c.self.invariant.1,
-      rw (c.put.ensures.room, c.take-old.ensures.room) c.self.invariant.2,
+      rw c.put.ensures.room c.self.invariant.2,
       c.self.invariant.3,
       c.self.invariant.4,
       c.self.invariant.5,
@@ -30,5 +30,4 @@ invariant_of-self g c =
 pub returns-clause-kept : goal.returns-clause-kept
 returns-clause-kept g c =
     let free : is_in c.args.t c.self.inside.taken.items ≡ false = sym c.has.ensures ∙ c.if-has.false in
-    rw (← c.self.view_is, free)
-    (c.put.ensures.entries ∙ ap (λ all. with_entry all c.args.t c.args.kept) c.take-old.ensures.entries ∙ with_again (entries c.self.inside.results) c.args.t c.args.kept, refl)
+    rw (← c.self.view_is, free) (c.put.ensures.entries, refl)

@@ -1,4 +1,4 @@
-use Rattle.std.proofs.Common.{map, sym, ap, subst, ◌∙◌}
+use Rattle.std.proofs.Common.{map, refl, sym, ap, subst, ◌∙◌}
 use Rattle.fj_model.specs.declared.event.Event.TheVariants.{Rel}
 use Rattle.fj_model.specs.declared.step.Step.TheVariants.{End}
 use Rattle.fj_model.specs.declared.step.Ending.TheVariants.{Ok as EndOk}
@@ -6,7 +6,9 @@ use Rattle.fj_model.specs.Runs.{grown}
 use Rattle.fj_store.specs.Fitting.{Fits}
 use Rattle.fj_model.proofs.Steps.Answered.{ok_done, ok_replies, end_free}
 use Rattle.fj_store.proofs.Endings.{ok_stored, filled, newest_kept, ok_fits, asker_is}
-use Rattle.fj_store.proofs.Completing.{popped_runs}
+use Rattle.fj_store.proofs.Calms.{refused_steps}
+use Rattle.fj_store.proofs.Completing.{popped_runs, ok_first, ok_last}
+use Rattle.fj_store.proofs.Refused.{end_refused}
 use Rattle.fj_model.proofs.Steps.AboutTasks.{end_about}
 use Rattle.fj_store.proofs.DueTasks.{step_due}
 use Rattle.fj_store.proofs.store.Store.ok.Goals as goal
@@ -39,13 +41,27 @@ new-requires g c =
     let asks = asker_is past c.args.hand.now c.pop-t.new.self c.worker.result c.pop-t.result.0 c.pop-t.result.1 fits c.worker.ensures free c.pop-t.ensures.popped in
     rw c.into_key.ensures (rw asks at c.requires.right)
 
-pub keep-requires : goal.keep-requires
-keep-requires g c =
+pub keep-requires-clause-kept : goal.keep-requires-clause-kept
+keep-requires-clause-kept g c =
     let past = c.self.inside.machine in
     let fits : Fits past c.args.hand.now = subst (λ p. Fits p c.args.hand.now) (ap (λ s. s.past) (sym c.self.view_is)) c.requires.fits in
     rw c.step.ensures.step.1
     (newest_kept past c.args.hand.now c.pop-t.new.self c.worker.result c.pop-t.result.0 c.pop-t.result.1 c.self.invariant.0.run fits c.worker.ensures c.pop-t.ensures.popped
     (ok_done past c.worker.result c.step.result c.step.ensures.step.0 c.in-Done.is))
+
+pub keep-requires-clause-first : goal.keep-requires-clause-first
+keep-requires-clause-first g c =
+    let past = c.self.inside.machine in
+    let fits : Fits past c.args.hand.now = subst (λ p. Fits p c.args.hand.now) (ap (λ s. s.past) (sym c.self.view_is)) c.requires.fits in
+    ok_first past c.args.hand.now c.pop-t.new.self c.worker.result c.pop-t.result.0 c.pop-t.result.1 _ _ _ c.self.invariant.0 fits c.worker.ensures c.pop-t.ensures.popped
+    (ok_done past c.worker.result c.step.result c.step.ensures.step.0 c.in-Done.is)
+
+pub keep-requires-clause-last : goal.keep-requires-clause-last
+keep-requires-clause-last g c =
+    let past = c.self.inside.machine in
+    let fits : Fits past c.args.hand.now = subst (λ p. Fits p c.args.hand.now) (ap (λ s. s.past) (sym c.self.view_is)) c.requires.fits in
+    ok_last past c.step.new.self c.args.hand.now c.pop-t.new.self c.worker.result c.pop-t.result.0 c.pop-t.result.1 c.self.invariant.0.run fits c.worker.ensures c.pop-t.ensures.popped
+    (ok_done past c.worker.result c.step.result c.step.ensures.step.0 c.in-Done.is) c.step.ensures.step.1
 
 pub returns-in-Done-clause-fits : goal.returns-in-Done-clause-fits
 returns-in-Done-clause-fits g c =
@@ -60,3 +76,13 @@ pub unreachable-requires : goal.unreachable-requires
 unreachable-requires g c =
     let past = c.self.inside.machine in
     ok_replies past c.worker.result c.step.result c.step.ensures.step.0 c.in_default.not-Done c.in_default.not-Refused
+
+pub returns-in-Refused-clause-ends : goal.returns-in-Refused-clause-ends
+returns-in-Refused-clause-ends g c =
+    let past = c.self.inside.machine in
+    let hand = c.args.hand.now in
+    let fits : Fits past hand = subst (λ p. Fits p hand) (ap (λ s. s.past) (sym c.self.view_is)) c.requires.fits in
+    let why = end_refused past hand c.worker.result EndOk c.step.result c.in-Refused.refusal fits c.worker.ensures c.step.ensures.step.0 c.in-Refused.is c.in_default-refusal.not-LogFull in
+    let same = c.step.ensures.refused _ c.in-Refused.is in
+    rw (← c.self.view_is, same, ← c.worker.ensures)
+    (c.if-self.false, (refused_steps past c.step.new.self (End c.worker.result EndOk) c.step.result _ c.step.ensures.step c.in-Refused.is same, refl), refl, why)

@@ -1,8 +1,14 @@
 use Rattle.std.proofs.Common.{sym, ap, ◌∙◌}
 use Rattle.fj_model.specs.declared.step.Step.TheVariants.{QuietRoot}
-use Rattle.fj_store.proofs.Calms.{drops_made}
+use Rattle.fj_store.proofs.Calms.{drops_made, makes_reply, root_replies}
 use Rattle.fj_store.proofs.store.Store.quiet_root.Goals as goal
 
 pub returns-in_default : goal.returns-in_default
 returns-in_default g c =
-    (ap (λ s. s.stuck) (sym c.self.view_is) ∙ c.if-self.false, c.ask.result, drops_made c.args.self.now (QuietRoot c.args.w c.args.t) c.ask.result _ c.in_default.not-Refused c.ask.ensures)
+    let old = c.args.self.now in
+    let reply = makes_reply old (QuietRoot c.args.w c.args.t) c.ask.result _ c.ask.ensures in (
+      ap (λ s. s.stuck) (sym c.self.view_is) ∙ c.if-self.false,
+      c.ask.result,
+      drops_made old (QuietRoot c.args.w c.args.t) c.ask.result _ c.in_default.not-Refused c.ask.ensures,
+      root_replies old.past c.args.w c.args.t c.ask.result reply c.in_default.not-Refused,
+    )
