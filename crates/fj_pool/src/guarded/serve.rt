@@ -108,7 +108,7 @@ impl<B: Body, N: Naming> Guarded<B, N> {
     {
         match self.core.act(hand, Ask::Join(t)) {
             Told::Hear(heard) => {
-                self.task_ended(t);
+                self.result_taken(t);
                 Next::Turn(heard)
             }
             Told::Run(u) => Next::Begin(u),
@@ -233,6 +233,7 @@ impl<B: Body, N: Naming> Guarded<B, N> {
             Effect::Nothing => self.tell_if_stuck(),
             Effect::Queues => self.task_queued(),
             Effect::Ends(t) => self.task_ended(t),
+            Effect::Takes(t) => self.result_taken(t),
             Effect::EndsSeveral => self.tasks_ended(),
         }
     }
