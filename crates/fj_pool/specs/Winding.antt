@@ -1,5 +1,6 @@
 -- What is left of a pool that is wound up.
 use Rattle.std.specs.Prelude.{ℕ, ◌≡◌, ◌&&◌, All, Bool, List, [], ◌∷◌, ◌++◌, Option, Some, length, map, slice_get}
+use Rattle.std.specs.List.{range_with_len, sum_by}
 use Rattle.fj_model.specs.declared.event.Event.{Event}
 use Rattle.fj_model.specs.declared.owner.Owner.TheVariants.{Sub}
 use Rattle.fj_model.specs.Answers.{is_quiet}
@@ -49,6 +50,10 @@ module _ {B : Type 0} where
   abbrev pub AreEmpty : List (List (Parcel B)) → Type 0
   AreEmpty rests = All (λ r. r ≡ []) rests
 
--- whether it had terminated: exactly the closing number of submissions was taken in, it was shut, and all is quiet
-abbrev pub has_terminated : Option ℕ → List Booking → Past → Bool
-has_terminated closed bookings past = is_number closed (length bookings) && is_over past.events && is_quiet past.pool.limits past.events
+-- how many submissions the machine accepted, from all submitters
+abbrev pub submissions : Past → ℕ
+submissions past = sum_by (λ s. length (pushed past.events (Sub s))) (range_with_len 0 past.pool.limits.submitters)
+
+-- whether it had terminated: exactly the closing number of submissions was accepted, it was shut, and all is quiet
+abbrev pub has_terminated : Option ℕ → Past → Bool
+has_terminated closed past = is_number closed (submissions past) && is_over past.events && is_quiet past.pool.limits past.events

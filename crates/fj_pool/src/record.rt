@@ -4,7 +4,7 @@ ghost use Rattle.fj_model.specs.Epochs.{IsPast};
 ghost use Rattle.fj_core.specs.Cores.{AreParts};
 ghost use Rattle.fj_pool.specs.Lanes.{lanes_of};
 ghost use Rattle.fj_pool.specs.Seats.{IsSeat};
-ghost use Rattle.fj_pool.specs.Winding.{AreAll, AreEmpty, AreSettled, HaveMet, has_terminated, tickets_of};
+ghost use Rattle.fj_pool.specs.Winding.{AreAll, AreEmpty, AreSettled, HaveMet, has_terminated, submissions, tickets_of};
 
 use crate::closer::Closer;
 use crate::guarded::Guarded;
@@ -58,7 +58,9 @@ impl<B: Body, N: Naming> Pool<B, N> {
         ensures admitted { IsNumbersBelow result.admitted (tickets_of submitters.items) }
         ensures closed { result.closed ≡ closer.closed }
         ensures at_close { IfSome result.closed (λ n. result.admitted ≡ n) }
-        ensures terminated { result.terminated ≡ has_terminated closer.closed result.bookings.bookings result.machine }
+        // As many were taken in as the machine accepted.
+        ensures taken_in { length result.bookings.bookings ≡ submissions result.machine }
+        ensures terminated { result.terminated ≡ has_terminated closer.closed result.machine }
         ensures emptied { result.terminated ≡ true → AreEmpty result.lanes.items }
     {
         let Pool {
