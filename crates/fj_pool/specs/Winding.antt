@@ -33,10 +33,12 @@ module _ {B : Type 0} where
   HaveMet (d ∷ ds) [] rs = ⊥
   HaveMet (d ∷ ds) (s ∷ ss) [] = ⊥
 
-  -- what was taken in from a submitter, and then what its lane still holds, is what it pushed; the tasks taken in are those that it pushed
-  -- into its queue
+  -- what was taken in from a submitter, and then what its lane still holds, is what it pushed, bodies and all; what was taken in is booked
+  -- under its tickets, in order, and the tasks of that are those that were pushed into its queue
   pub record IsSettled (h : List Event) (bookings : List Booking) (seat : SeatState B) (rest : List (Parcel B)) : Type 0 where
-    pub tickets_all : map (λ b. b.ticket) (booked_by bookings seat.number) ++ tickets rest ≡ tickets seat.feed.fed
+    pub taken_in : List (Parcel B)
+    pub all : taken_in ++ rest ≡ seat.feed.fed
+    pub booked : map (λ b. b.ticket) (booked_by bookings seat.number) ≡ tickets taken_in
     pub tasks : map (λ b. b.serial) (booked_by bookings seat.number) ≡ pushed h (Sub seat.number)
 
   -- the same of each submitter and its lane

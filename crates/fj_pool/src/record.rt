@@ -52,7 +52,7 @@ impl<B: Body, N: Naming> Pool<B, N> {
         ensures pool { result.machine.pool ≡ N.pool }
         // The parts that were handed out, and then those of the record, are the history up to the last seal.
         ensures history { AreParts (result.archive.handed ++ result.archive.kept) result.machine }
-        // What was taken in from a submitter, and then what its lane still holds, is what it pushed.
+        // What was taken in from a submitter, and then what its lane still holds, is what it pushed, bodies and all.
         ensures lanes { AreSettled result.machine.events result.bookings.bookings submitters.items result.lanes.items }
         // The tickets that were drawn are the numbers below that of the admissions, which is the closing number of a closed gate.
         ensures admitted { IsNumbersBelow result.admitted (tickets_of submitters.items) }
