@@ -63,22 +63,13 @@ impl<B: Body, N: Naming> Pool<B, N> {
         ensures terminated { result.terminated ≡ has_terminated closer.closed result.machine }
         ensures emptied { result.terminated ≡ true → AreEmpty result.lanes.items }
     {
-        let Pool {
-            alloc: _,
-            lanes: _,
-            core,
-            joining: _,
-            idle: _,
-            awaiting: _,
-            giving_way: _,
-        } = self;
         let Guarded {
             mut core,
             waits: _,
             entrants,
             rests,
             of: _,
-        } = core.into_inner();
+        } = self.into_guarded();
         let shut = core.is_shut();
         let quiet = core.is_quiescent();
         let Remains {
@@ -106,6 +97,20 @@ impl<B: Body, N: Naming> Pool<B, N> {
 }
 
 impl<B: Body, N: Naming> Pool<B, N> {
+    /// What stands behind the lock.
+    fn into_guarded(self) -> Guarded<B, N> {
+        let Pool {
+            alloc: _,
+            lanes: _,
+            core,
+            joining: _,
+            idle: _,
+            awaiting: _,
+            giving_way: _,
+        } = self;
+        core.into_inner()
+    }
+
     /// Whether these are all submitters of the pool, by their numbers.
     pub fn are_all(&self, submitters: &[Submitter<B, N>]) -> bool
         ensures { IsTrue result ↔ AreAll (length N.lanes) submitters.now }
