@@ -34,6 +34,7 @@ impl<B: Body, N: Naming> Guarded<B, N> {
         ensures leaves { LeavesWell self.new hand.new result }
     {
         if !self.core.fits(hand) {
+            unneeded.asked = ask;
             return Next::Leave(Err(Refusal::NoSuch));
         }
         match ask {

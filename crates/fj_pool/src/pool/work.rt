@@ -87,7 +87,7 @@ impl<B: Body, N: Naming> Pool<B, N> {
         next
     }
 
-    /// Lets the lock go, wakes those whose wait has ended, and drops the bodies that are needed no more.
+    /// Lets the lock go, wakes those whose wait has ended, and drops what is needed no more.
     fn let_go(&self, guard: MutexGuard<'_, Guarded<B, N>>, wake: Wake, unneeded: &mut Unneeded<B>) {
         drop(guard);
         self.wake(wake);
