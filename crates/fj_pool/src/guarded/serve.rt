@@ -115,13 +115,9 @@ impl<B: Body, N: Naming> Guarded<B, N> {
             Told::Run(u) => Next::Begin(u),
             Told::Skip(_, body) => skip(body, unneeded),
             Told::None => self.wait_for(alloc, t),
-            // Endings alone are answered so.
-            Told::Hook(_, _) => Next::Again,
-            Told::Over(body) => {
-                unneeded.add_ended(body);
-                Next::Again
-            }
             Told::Stuck(body) => self.leave_stuck(body, unneeded),
+            // Endings alone are answered otherwise.
+            _ => unreachable!(),
         }
     }
 
@@ -148,13 +144,7 @@ impl<B: Body, N: Naming> Guarded<B, N> {
             Told::Skip(_, body) => skip(body, unneeded),
             Told::None => self.after_no_task(),
             Told::Stuck(body) => self.leave_stuck(body, unneeded),
-            // A poll is not answered so.
-            Told::Hear(_) => Next::Again,
-            Told::Hook(_, _) => Next::Again,
-            Told::Over(body) => {
-                unneeded.add_ended(body);
-                Next::Again
-            }
+            _ => unreachable!(),
         }
     }
 
