@@ -1,6 +1,6 @@
 use fj_model::Serial;
 use fj_shelf::Hand;
-use fj_store::{Ask, Body};
+use fj_store::{Ask, Body, Heard, Told};
 
 /// What it may change for those who wait that something is asked.
 pub enum Effect {
@@ -9,8 +9,8 @@ pub enum Effect {
     Queues,
     /// This task may be done, and no other.
     Ends(Serial),
-    /// The result of this task may be taken: its outcome cannot be told any more. It may be released by that, and completers above it with
-    /// it, which are kept only for a task below: they cannot be joined any more.
+    /// The result of this task is taken, where one was told: its outcome cannot be told any more. It may be released by that, and completers
+    /// above it with it, which are kept only for a task below: they cannot be joined any more.
     Takes(Serial),
     /// Several tasks may be done.
     EndsSeveral,
@@ -30,6 +30,11 @@ pub fn effect_of<B: Body>(hand: &Hand<B>, ask: &Ask<B>) -> Effect {
         // These go on to parents or to the root.
         Ask::Pass | Ask::Fail(_) | Ask::QuietRoot(_) | Ask::Fault(_, _) => Effect::EndsSeveral,
     }
+}
+
+/// Whether a result was taken by what was told so.
+pub fn is_result<B: Body>(told: &Told<B>) -> bool {
+    matches!(told, Told::Hear(Heard::Got(_, _)))
 }
 
 /// This task is done, where there is one.

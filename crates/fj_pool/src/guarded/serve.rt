@@ -6,7 +6,7 @@ ghost use Rattle.fj_core.specs.Closes.{is_finished};
 ghost use Rattle.fj_pool.specs.Turning.{LeavesWell, MayAsk, NextRight};
 ghost use Rattle.fj_pool.specs.Working.{JoinsOnce, LooksForWork, Resumes, Serves, Then, Waits, next_idle, noted};
 
-use crate::effect::{Effect, effect_of};
+use crate::effect::{Effect, effect_of, is_result};
 use crate::guarded::Guarded;
 use crate::guarded::outside::TakenIn;
 use crate::naming::Naming;
@@ -61,7 +61,7 @@ impl<B: Body, N: Naming> Guarded<B, N> {
         let effect = effect_of(hand, &ask);
         note(hand, &ask);
         let told = self.core.act(hand, ask);
-        self.tell_waiting(effect);
+        self.tell_waiting(effect, is_result(&told));
         match told {
             Told::Hear(heard) => Next::Turn(heard),
             Told::Run(t) => Next::Begin(t),
@@ -109,7 +109,9 @@ impl<B: Body, N: Naming> Guarded<B, N> {
     {
         match self.core.act(hand, Ask::Join(t)) {
             Told::Hear(heard) => {
-                self.result_taken(t);
+                if matches!(heard, Heard::Got(_, _)) {
+                    self.result_taken(t);
+                }
                 Next::Turn(heard)
             }
             Told::Run(u) => Next::Begin(u),
@@ -215,16 +217,16 @@ impl<B: Body, N: Naming> Guarded<B, N> {
         Next::Wait
     }
 
-    /// Who waits for what this may have changed is to be woken.
-    fn tell_waiting(&mut self, effect: Effect)
+    /// Who waits for what this may have changed is to be woken, once it is known whether a result was taken.
+    fn tell_waiting(&mut self, effect: Effect, taken: bool)
         ensures { self.new ≡ self.old }
     {
         match effect {
+            Effect::Takes(t) if taken => self.result_taken(t),
             // A release that followed may have made the core stuck.
-            Effect::Nothing => self.tell_if_stuck(),
+            Effect::Nothing | Effect::Takes(_) => self.tell_if_stuck(),
             Effect::Queues => self.task_queued(),
             Effect::Ends(t) => self.task_ended(t),
-            Effect::Takes(t) => self.result_taken(t),
             Effect::EndsSeveral => self.tasks_ended(),
         }
     }

@@ -60,7 +60,7 @@ impl<B: Body, N: Naming> Guarded<B, N> {
         }
     }
 
-    /// The result of this task may be taken now: who awaits its outcome is to be woken, and who joined it, or a task that was released with
+    /// The result of this task is taken: who awaits its outcome is to be woken, and who joined it, or a task that was released with
     /// it. All are where a release made the core stuck.
     pub fn result_taken(&mut self, t: Serial)
         ensures { self.new ≡ self.old }
