@@ -8,13 +8,12 @@ use Rattle.std.proofs.lemmas.List.Elements.{All-tail}
 use Rattle.std.proofs.lemmas.List.Sums.{get_or-le-sum_by, sum_by-cons}
 use Rattle.fj_lane.specs.declared.parcel.Parcel.{Parcel}
 use Rattle.fj_lane.specs.Ends.{DrainState}
-use Rattle.fj_core.specs.declared.booking.Booking.{Booking}
 use Rattle.fj_core.specs.Closes.{is_number}
 use Rattle.fj_core.specs.Closings.{is_over}
 use Rattle.fj_model.specs.Answers.{is_quiet}
 use Rattle.fj_model.specs.Pasts.{Past}
 use Rattle.fj_pool.specs.Seats.{IsSeat, SeatState}
-use Rattle.fj_pool.specs.Winding.{AreEmpty, HaveMet, has_terminated, tickets_of}
+use Rattle.fj_pool.specs.Winding.{AreEmpty, HaveMet, has_terminated, submissions, tickets_of}
 
 module _ {B : Type 0} where
   abbrev drained : DrainState B → ℕ
@@ -59,14 +58,14 @@ first_holds true b e = refl
 first_holds false b e = e
 
 -- where it had terminated, the closing number was reached
-reached_by : (closed : Option ℕ) (bookings : List Booking) (past : Past) → has_terminated closed bookings past ≡ true → is_number closed (length bookings) ≡ true
-reached_by closed bookings past terminated =
-    first_holds (is_number closed (length bookings)) (is_over past.events) (first_holds (is_number closed (length bookings) && is_over past.events) (is_quiet past.pool.limits past.events) terminated)
+reached_by : (closed : Option ℕ) (past : Past) → has_terminated closed past ≡ true → is_number closed (submissions past) ≡ true
+reached_by closed past terminated =
+    first_holds (is_number closed (submissions past)) (is_over past.events) (first_holds (is_number closed (submissions past) && is_over past.events) (is_quiet past.pool.limits past.events) terminated)
 
 number_is : (closed : Option ℕ) (n admitted : ℕ) → is_number closed n ≡ true → IfSome closed (λ m. admitted ≡ m) → admitted ≡ n
 number_is (Some m) n admitted reached at = at ∙ eqb-true m n reached
 number_is None n admitted reached at = absurd (true≢false (sym reached))
 
--- where it had terminated, all that was admitted was taken in
-pub all_admitted : (closed : Option ℕ) (bookings : List Booking) (past : Past) (admitted : ℕ) → has_terminated closed bookings past ≡ true → IfSome closed (λ m. admitted ≡ m) → admitted ≡ length bookings
-all_admitted closed bookings past admitted terminated at = number_is closed (length bookings) admitted (reached_by closed bookings past terminated) at
+-- where it had terminated, all that was admitted was accepted
+pub all_admitted : (closed : Option ℕ) (past : Past) (admitted : ℕ) → has_terminated closed past ≡ true → IfSome closed (λ m. admitted ≡ m) → admitted ≡ submissions past
+all_admitted closed past admitted terminated at = number_is closed (submissions past) admitted (reached_by closed past terminated) at

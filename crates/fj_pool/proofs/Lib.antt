@@ -6,6 +6,8 @@ mod Settling
 mod Seating
 -- the tickets, the lanes and the end that a record tells of
 mod Records
+-- as many submissions were booked as the machine accepted
+mod Accepted
 -- where all that was admitted was taken in, the lanes are empty
 mod Emptied
 -- a hand that holds something asks

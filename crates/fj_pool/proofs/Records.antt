@@ -3,7 +3,7 @@ use Rattle.std.proofs.Common.{ℕ, zero, suc, ◌≡◌, ◌&&◌, Bool, true, f
 use Rattle.std.specs.Prelude.{slice_get}
 use Rattle.std.specs.Option.{option_eq}
 use Rattle.std.proofs.Math.Dec.{eqb}
-use Rattle.std.proofs.lemmas.List.{append-nil, map-append, reverse-append}
+use Rattle.std.proofs.lemmas.List.{append-nil, reverse-append}
 use Rattle.std.proofs.lemmas.Grind.{flat_map-append}
 use Rattle.fj_model.specs.declared.event.Event.{Event}
 use Rattle.fj_model.specs.Lists.{times_in}
@@ -15,7 +15,7 @@ use Rattle.fj_lane.specs.Ends.{DrainState}
 use Rattle.fj_core.specs.declared.booking.Booking.{Booking}
 use Rattle.fj_core.specs.Booked.{IsBooked}
 use Rattle.fj_core.specs.Closes.{is_number}
-use Rattle.fj_pool.specs.Seats.{SeatState, tickets}
+use Rattle.fj_pool.specs.Seats.{SeatState}
 use Rattle.fj_pool.specs.Winding.{AreSettled, HaveMet, IsSettled}
 
 -- ---- the tickets, in either order of the entrants
@@ -42,10 +42,7 @@ numbers_either_way n es are = (sym (as_many es) ∙ are.0, λ x. sym (as_often x
 
 module _ {B : Type 0} where
   one_settled : (h : List Event) (bookings : List Booking) (d : DrainState B) (s : SeatState B) (r : List (Parcel B)) → d.drained ++ r ≡ s.feed.fed → IsBooked h bookings s.number d → IsSettled h bookings s r
-  one_settled h bookings d s r met booked = record {
-    tickets_all = ap (λ (ns : List ℕ). ns ++ tickets r) booked.tickets ∙ sym (map-append (λ (p : Parcel B). p.ticket) d.drained r) ∙ ap (λ (ps : List (Parcel B)). tickets ps) met;
-    tasks = booked.tasks;
-  }
+  one_settled h bookings d s r met booked = record { taken_in = d.drained; all = met; booked = booked.tickets; tasks = booked.tasks }
 
   -- the seats and drains are those of these numbers
   settled_at : (h : List Event) (bookings : List Booking) (number : ℕ → ℕ) (drains : List (DrainState B)) (seats : List (SeatState B)) (rests : List (List (Parcel B))) → HaveMet drains seats rests

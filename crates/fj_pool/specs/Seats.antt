@@ -1,5 +1,5 @@
 -- A submitter's ends: of the gate, and of its lane.
-use Rattle.std.specs.Prelude.{ℕ, ◌≡◌, ◌+◌, true, List, [], ◌∷◌, Some, length, map, slice_get}
+use Rattle.std.specs.Prelude.{ℕ, ◌≡◌, ◌+◌, ◌<◌, true, List, [], ◌∷◌, Some, length, map, slice_get}
 use Rattle.atomic_table.specs.Seated.{TableId}
 use Rattle.fj_model.specs.declared.refusal.Refusal.{Refusal}
 use Rattle.fj_model.specs.declared.refusal.Refusal.TheVariants.{Closed, LaneSpent}
@@ -47,8 +47,8 @@ module _ {B : Type 0} where
     pub pushes : Pushes old.feed (record { ticket = ticket; body = body }) new.feed
     pub number : new.number ≡ old.number
 
-  -- a refused submission: no exchange was made where the lane is spent; where the gate is closed, it was told so
+  -- a refused submission: no exchange was made where the lane is spent; where it has room and the gate is closed, it was told so
   abbrev pub RefusesSubmission : SeatState B → Refusal → SeatState B → Type 0
   RefusesSubmission old LaneSpent new = (length old.feed.fed ≡ old.feed.capacity) × (new ≡ old)
-  RefusesSubmission old Closed new = new ≡ record old { entrant = record old.entrant { told = true } }
+  RefusesSubmission old Closed new = (length old.feed.fed < old.feed.capacity) × (new ≡ record old { entrant = record old.entrant { told = true } })
   RefusesSubmission old _ new = ⊥

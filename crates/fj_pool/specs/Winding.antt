@@ -1,5 +1,6 @@
 -- What is left of a pool that is wound up.
 use Rattle.std.specs.Prelude.{ℕ, ◌≡◌, ◌&&◌, All, Bool, List, [], ◌∷◌, ◌++◌, Option, Some, length, map, slice_get}
+use Rattle.std.specs.List.{range_with_len, sum_by}
 use Rattle.fj_model.specs.declared.event.Event.{Event}
 use Rattle.fj_model.specs.declared.owner.Owner.TheVariants.{Sub}
 use Rattle.fj_model.specs.Answers.{is_quiet}
@@ -32,10 +33,12 @@ module _ {B : Type 0} where
   HaveMet (d ∷ ds) [] rs = ⊥
   HaveMet (d ∷ ds) (s ∷ ss) [] = ⊥
 
-  -- what was taken in from a submitter, and then what its lane still holds, is what it pushed; the tasks taken in are those that it pushed
-  -- into its queue
+  -- what was taken in from a submitter, and then what its lane still holds, is what it pushed, bodies and all; what was taken in is booked
+  -- under its tickets, in order, and the tasks of that are those that were pushed into its queue
   pub record IsSettled (h : List Event) (bookings : List Booking) (seat : SeatState B) (rest : List (Parcel B)) : Type 0 where
-    pub tickets_all : map (λ b. b.ticket) (booked_by bookings seat.number) ++ tickets rest ≡ tickets seat.feed.fed
+    pub taken_in : List (Parcel B)
+    pub all : taken_in ++ rest ≡ seat.feed.fed
+    pub booked : map (λ b. b.ticket) (booked_by bookings seat.number) ≡ tickets taken_in
     pub tasks : map (λ b. b.serial) (booked_by bookings seat.number) ≡ pushed h (Sub seat.number)
 
   -- the same of each submitter and its lane
@@ -49,6 +52,10 @@ module _ {B : Type 0} where
   abbrev pub AreEmpty : List (List (Parcel B)) → Type 0
   AreEmpty rests = All (λ r. r ≡ []) rests
 
--- whether it had terminated: exactly the closing number of submissions was taken in, it was shut, and all is quiet
-abbrev pub has_terminated : Option ℕ → List Booking → Past → Bool
-has_terminated closed bookings past = is_number closed (length bookings) && is_over past.events && is_quiet past.pool.limits past.events
+-- how many submissions the machine accepted, from all submitters
+abbrev pub submissions : Past → ℕ
+submissions past = sum_by (λ s. length (pushed past.events (Sub s))) (range_with_len 0 past.pool.limits.submitters)
+
+-- whether it had terminated: exactly the closing number of submissions was accepted, it was shut, and all is quiet
+abbrev pub has_terminated : Option ℕ → Past → Bool
+has_terminated closed past = is_number closed (submissions past) && is_over past.events && is_quiet past.pool.limits past.events

@@ -46,22 +46,20 @@ module _ {B K O : Type 0} where
   next_idle true = Leave (Ok tt)
   next_idle false = Rest
 
-  -- what comes next is what a poll told; the last three it never tells
-  abbrev pub next_of_poll : CoreState B K O → Told B K O → Next B K O
-  next_of_poll core (told.Run t) = Begin t
-  next_of_poll core (told.Skip t body) = Again
-  next_of_poll core told.None = next_idle (is_finished core)
-  next_of_poll core (told.Stuck body) = Leave (Err LogFull)
-  next_of_poll core (told.Hear heard) = Again
-  next_of_poll core (told.Hook c caller) = Again
-  next_of_poll core (told.Over body) = Again
+  -- what comes next is what a poll told
+  abbrev pub NextOfPoll : CoreState B K O → Told B K O → Next B K O → Type 0
+  NextOfPoll core (told.Run t) next = next ≡ Begin t
+  NextOfPoll core (told.Skip t body) next = next ≡ Again
+  NextOfPoll core told.None next = next ≡ next_idle (is_finished core)
+  NextOfPoll core (told.Stuck body) next = next ≡ Leave (Err LogFull)
+  NextOfPoll core _ next = ⊥
 
   -- one poll
   pub record PollsOnce (old : CoreState B K O) (hand : HandState B) (next : Next B K O) (new : CoreState B K O) (hand' : HandState B) : Type 0 where
     pub told : Told B K O
     pub polls : Polls old.store hand told new.store hand'
     pub others : ChangesStore old new
-    pub next_is : next ≡ next_of_poll new told
+    pub next_is : NextOfPoll new told next
 
   -- a look at the lanes, and then one poll, where the hand fits yet
   pub record LooksForWork (rooted_as : B → Option ℕ) (old : CoreState B K O) (hand : HandState B) (next : Next B K O) (new : CoreState B K O) (hand' : HandState B) : Type 0 where
@@ -76,15 +74,14 @@ module _ {B K O : Type 0} where
   abbrev pub Then : Next B K O → CoreState B K O → Next B K O → CoreState B K O → Type 0
   Then expected old next new = (next ≡ expected) × (new ≡ old)
 
-  -- what comes next is what a join told; the last two it never tells
+  -- what comes next is what a join told
   abbrev pub NextOfJoin : (B → Option ℕ) → Told B K O → CoreState B K O → Next B K O → CoreState B K O → Type 0
   NextOfJoin rooted_as (told.Hear heard) old next new = Then (Turn heard) old next new
   NextOfJoin rooted_as (told.Run t) old next new = Then (Begin t) old next new
   NextOfJoin rooted_as (told.Skip t body) old next new = Then Again old next new
   NextOfJoin rooted_as told.None old next new = Waits rooted_as old next new
   NextOfJoin rooted_as (told.Stuck body) old next new = Then (Leave (Err LogFull)) old next new
-  NextOfJoin rooted_as (told.Hook c caller) old next new = Then Again old next new
-  NextOfJoin rooted_as (told.Over body) old next new = Then Again old next new
+  NextOfJoin rooted_as _ old next new = ⊥
 
   -- the body that joined the task joins it once more
   pub record JoinsOnce (key_of : B → K) (rooted_as : B → Option ℕ) (old : CoreState B K O) (hand : HandState B) (t : ℕ) (next : Next B K O) (new : CoreState B K O) (hand' : HandState B) : Type 0 where

@@ -1,14 +1,17 @@
 use fj_model::Serial;
 use fj_shelf::Hand;
-use fj_store::{Ask, Body};
+use fj_store::{Ask, Body, Heard, Told};
 
 /// What it may change for those who wait that something is asked.
 pub enum Effect {
     Nothing,
     /// A task is queued.
     Queues,
-    /// This task is done, or its result is taken, which cannot be told as an outcome any more.
+    /// This task may be done, and no other.
     Ends(Serial),
+    /// The result of this task is taken, where one was told: its outcome cannot be told any more. It may be released by that, and completers
+    /// above it with it, which are kept only for a task below: they cannot be joined any more.
+    Takes(Serial),
     /// Several tasks may be done.
     EndsSeveral,
 }
@@ -20,12 +23,18 @@ pub fn effect_of<B: Body>(hand: &Hand<B>, ask: &Ask<B>) -> Effect {
         Ask::Trigger(_, _) | Ask::Help | Ask::Add(_, _) | Ask::State(_) => Effect::Nothing,
         // These end the body alone: the status of its task stays.
         Ask::Quiet | Ask::Try | Ask::Complete => Effect::Nothing,
-        Ask::Join(t) | Ask::Take(t) | Ask::Cancel(t) => Effect::Ends(*t),
+        Ask::Join(t) | Ask::Take(t) => Effect::Takes(*t),
+        Ask::Cancel(t) => Effect::Ends(*t),
         Ask::Ok(_) => ends(hand.running()),
         Ask::HookDone(_) => ends(hand.hooked()),
         // These go on to parents or to the root.
         Ask::Pass | Ask::Fail(_) | Ask::QuietRoot(_) | Ask::Fault(_, _) => Effect::EndsSeveral,
     }
+}
+
+/// Whether a result was taken by what was told so.
+pub fn is_result<B: Body>(told: &Told<B>) -> bool {
+    matches!(told, Told::Hear(Heard::Got(_, _)))
 }
 
 /// This task is done, where there is one.

@@ -1,5 +1,5 @@
 use fj_model::{Refusal, Serial};
-use fj_store::{Body, Heard};
+use fj_store::{Ask, Body, Heard};
 
 /// What a worker does once it has let the lock go.
 #[derive(Drop)]
@@ -18,9 +18,11 @@ pub enum Next<B: Body> {
     Leave(Result<(), Refusal>),
 }
 
-/// Bodies that are needed no more. They are dropped once the lock is free.
+/// What is needed no more. It is dropped once the lock is free.
 #[derive(Drop)]
 pub struct Unneeded<B: Body> {
+    /// What was asked by a hand that does not fit.
+    pub asked: Option<Ask<B>>,
     /// One that has ended.
     pub ended: Option<B>,
     /// One that was skipped.
@@ -31,6 +33,7 @@ impl<B: Body> Unneeded<B> {
     /// There is none.
     pub fn none() -> Unneeded<B> {
         Unneeded {
+            asked: None,
             ended: None,
             skipped: None,
         }
@@ -43,8 +46,9 @@ impl<B: Body> Unneeded<B> {
         }
     }
 
-    /// Drops them.
+    /// Drops it.
     pub fn clear(&mut self) {
+        self.asked = None;
         self.ended = None;
         self.skipped = None;
     }

@@ -4,7 +4,7 @@ ghost use Rattle.fj_model.specs.Epochs.{IsPast};
 ghost use Rattle.fj_core.specs.Cores.{AreParts};
 ghost use Rattle.fj_pool.specs.Lanes.{lanes_of};
 ghost use Rattle.fj_pool.specs.Seats.{IsSeat};
-ghost use Rattle.fj_pool.specs.Winding.{AreAll, AreEmpty, AreSettled, HaveMet, has_terminated, tickets_of};
+ghost use Rattle.fj_pool.specs.Winding.{AreAll, AreEmpty, AreSettled, HaveMet, has_terminated, submissions, tickets_of};
 
 use crate::closer::Closer;
 use crate::guarded::Guarded;
@@ -52,31 +52,24 @@ impl<B: Body, N: Naming> Pool<B, N> {
         ensures pool { result.machine.pool ≡ N.pool }
         // The parts that were handed out, and then those of the record, are the history up to the last seal.
         ensures history { AreParts (result.archive.handed ++ result.archive.kept) result.machine }
-        // What was taken in from a submitter, and then what its lane still holds, is what it pushed.
+        // What was taken in from a submitter, and then what its lane still holds, is what it pushed, bodies and all.
         ensures lanes { AreSettled result.machine.events result.bookings.bookings submitters.items result.lanes.items }
         // The tickets that were drawn are the numbers below that of the admissions, which is the closing number of a closed gate.
         ensures admitted { IsNumbersBelow result.admitted (tickets_of submitters.items) }
         ensures closed { result.closed ≡ closer.closed }
         ensures at_close { IfSome result.closed (λ n. result.admitted ≡ n) }
-        ensures terminated { result.terminated ≡ has_terminated closer.closed result.bookings.bookings result.machine }
+        // As many were taken in as the machine accepted.
+        ensures taken_in { length result.bookings.bookings ≡ submissions result.machine }
+        ensures terminated { result.terminated ≡ has_terminated closer.closed result.machine }
         ensures emptied { result.terminated ≡ true → AreEmpty result.lanes.items }
     {
-        let Pool {
-            alloc: _,
-            lanes: _,
-            core,
-            joining: _,
-            idle: _,
-            awaiting: _,
-            giving_way: _,
-        } = self;
         let Guarded {
             mut core,
             waits: _,
             entrants,
             rests,
             of: _,
-        } = core.into_inner();
+        } = self.into_guarded();
         let shut = core.is_shut();
         let quiet = core.is_quiescent();
         let Remains {
@@ -104,6 +97,20 @@ impl<B: Body, N: Naming> Pool<B, N> {
 }
 
 impl<B: Body, N: Naming> Pool<B, N> {
+    /// What stands behind the lock.
+    fn into_guarded(self) -> Guarded<B, N> {
+        let Pool {
+            alloc: _,
+            lanes: _,
+            core,
+            joining: _,
+            idle: _,
+            awaiting: _,
+            giving_way: _,
+        } = self;
+        core.into_inner()
+    }
+
     /// Whether these are all submitters of the pool, by their numbers.
     pub fn are_all(&self, submitters: &[Submitter<B, N>]) -> bool
         ensures { IsTrue result ↔ AreAll (length N.lanes) submitters.now }

@@ -28,8 +28,8 @@ impl<B, N: Naming> Submitter<B, N> {
     /// Hands a body in, by one exchange on the gate and one push into the lane of this submitter: `ForkJoinPool.submit`. It takes no lock,
     /// waits for nobody, and is never refused for being out of memory. The outcome is told under the ticket.
     ///
-    /// `LaneSpent` once as many were handed in as the lane takes in its life; then no exchange is made. `Closed` once the pool was shut
-    /// down or stopped. The body comes back in both cases.
+    /// `LaneSpent` once as many were handed in as the lane takes in its life, also where the pool was shut down or stopped; then no exchange
+    /// is made. `Closed` once it was shut down or stopped. The body comes back in both cases.
     pub fn submit(&mut self, body: B) -> Result<Ticket, (Refusal, B)>
         ensures ok { IfOk result (λ ticket. Submits self.old ticket body self.new) }
         ensures refused { IfErr result (λ e. RefusesSubmission self.old e.0 self.new) }

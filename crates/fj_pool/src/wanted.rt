@@ -15,6 +15,15 @@ impl<T: Copy + PartialEq> Wanted<T> {
         matches!(self, Wanted::Nothing)
     }
 
+    /// Whether somebody may sleep for this.
+    pub fn may_be(&self, wanted: T) -> bool {
+        match self {
+            Wanted::Nothing => false,
+            Wanted::One(other) => *other == wanted,
+            Wanted::Several => true,
+        }
+    }
+
     /// The same, and somebody sleeps for this, too.
     pub fn and(self, wanted: T) -> Wanted<T> {
         match self {

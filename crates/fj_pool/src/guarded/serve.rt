@@ -6,7 +6,7 @@ ghost use Rattle.fj_core.specs.Closes.{is_finished};
 ghost use Rattle.fj_pool.specs.Turning.{LeavesWell, MayAsk, NextRight};
 ghost use Rattle.fj_pool.specs.Working.{JoinsOnce, LooksForWork, Resumes, Serves, Then, Waits, next_idle, noted};
 
-use crate::effect::{Effect, effect_of};
+use crate::effect::{Effect, effect_of, is_result};
 use crate::guarded::Guarded;
 use crate::guarded::outside::TakenIn;
 use crate::naming::Naming;
@@ -34,6 +34,7 @@ impl<B: Body, N: Naming> Guarded<B, N> {
         ensures leaves { LeavesWell self.new hand.new result }
     {
         if !self.core.fits(hand) {
+            unneeded.asked = ask;
             return Next::Leave(Err(Refusal::NoSuch));
         }
         match ask {
@@ -60,7 +61,7 @@ impl<B: Body, N: Naming> Guarded<B, N> {
         let effect = effect_of(hand, &ask);
         note(hand, &ask);
         let told = self.core.act(hand, ask);
-        self.tell_waiting(effect);
+        self.tell_waiting(effect, is_result(&told));
         match told {
             Told::Hear(heard) => Next::Turn(heard),
             Told::Run(t) => Next::Begin(t),
@@ -108,19 +109,17 @@ impl<B: Body, N: Naming> Guarded<B, N> {
     {
         match self.core.act(hand, Ask::Join(t)) {
             Told::Hear(heard) => {
-                self.task_ended(t);
+                if matches!(heard, Heard::Got(_, _)) {
+                    self.result_taken(t);
+                }
                 Next::Turn(heard)
             }
             Told::Run(u) => Next::Begin(u),
             Told::Skip(_, body) => skip(body, unneeded),
             Told::None => self.wait_for(alloc, t),
-            // Endings alone are answered so.
-            Told::Hook(_, _) => Next::Again,
-            Told::Over(body) => {
-                unneeded.add_ended(body);
-                Next::Again
-            }
             Told::Stuck(body) => self.leave_stuck(body, unneeded),
+            // Endings alone are answered otherwise.
+            _ => unreachable!(),
         }
     }
 
@@ -147,13 +146,7 @@ impl<B: Body, N: Naming> Guarded<B, N> {
             Told::Skip(_, body) => skip(body, unneeded),
             Told::None => self.after_no_task(),
             Told::Stuck(body) => self.leave_stuck(body, unneeded),
-            // A poll is not answered so.
-            Told::Hear(_) => Next::Again,
-            Told::Hook(_, _) => Next::Again,
-            Told::Over(body) => {
-                unneeded.add_ended(body);
-                Next::Again
-            }
+            _ => unreachable!(),
         }
     }
 
@@ -224,13 +217,14 @@ impl<B: Body, N: Naming> Guarded<B, N> {
         Next::Wait
     }
 
-    /// Who waits for what this may have changed is to be woken.
-    fn tell_waiting(&mut self, effect: Effect)
+    /// Who waits for what this may have changed is to be woken, once it is known whether a result was taken.
+    fn tell_waiting(&mut self, effect: Effect, taken: bool)
         ensures { self.new ≡ self.old }
     {
         match effect {
+            Effect::Takes(t) if taken => self.result_taken(t),
             // A release that followed may have made the core stuck.
-            Effect::Nothing => self.tell_if_stuck(),
+            Effect::Nothing | Effect::Takes(_) => self.tell_if_stuck(),
             Effect::Queues => self.task_queued(),
             Effect::Ends(t) => self.task_ended(t),
             Effect::EndsSeveral => self.tasks_ended(),

@@ -44,7 +44,7 @@ impl<B: Body, N: Naming> Guarded<B, N> {
         self.waits.resting = self.waits.resting.saturating_sub(1);
     }
 
-    /// This task may be done now, or its result taken: who sleeps for it is to be woken. All are where its release made the core stuck.
+    /// This task may be done now: who sleeps for it is to be woken. All are where its release made the core stuck.
     pub fn task_ended(&mut self, t: Serial)
         ensures { self.new ≡ self.old }
     {
@@ -52,18 +52,27 @@ impl<B: Body, N: Naming> Guarded<B, N> {
             self.waits.all_ended();
             return;
         }
-        let may_be_joined = match self.waits.joined {
-            Wanted::Nothing => false,
-            Wanted::One(joined) => joined == t,
-            Wanted::Several => true,
-        };
-        let may_be_awaited = match self.waits.awaited {
-            Wanted::Nothing => false,
-            Wanted::One(ticket) => self.core.booked(ticket) == Some(t),
-            Wanted::Several => true,
-        };
-        if may_be_joined || may_be_awaited {
-            self.tasks_ended();
+        if self.waits.joined.may_be(t) {
+            self.tell_joining();
+        }
+        if self.may_be_awaited(t) {
+            self.tell_awaiting();
+        }
+    }
+
+    /// The result of this task is taken: who awaits its outcome is to be woken, and who joined it, or a task that was released with
+    /// it. All are where a release made the core stuck.
+    pub fn result_taken(&mut self, t: Serial)
+        ensures { self.new ≡ self.old }
+    {
+        if self.core.is_stuck() {
+            self.waits.all_ended();
+            return;
+        }
+        self.tell_joining();
+        // What is released with it has lost its result before.
+        if self.may_be_awaited(t) {
+            self.tell_awaiting();
         }
     }
 
@@ -76,14 +85,37 @@ impl<B: Body, N: Naming> Guarded<B, N> {
             self.waits.all_ended();
             return;
         }
-        let is_joined = match self.waits.joined {
+        self.tell_joining();
+        self.tell_awaiting();
+    }
+
+    /// Whether somebody may await the outcome of this task.
+    fn may_be_awaited(&self, t: Serial) -> bool {
+        match self.waits.awaited {
+            Wanted::Nothing => false,
+            Wanted::One(ticket) => self.core.booked(ticket) == Some(t),
+            Wanted::Several => true,
+        }
+    }
+
+    /// Who sleeps in a join is to be woken, where one of the tasks that were joined may be done or released.
+    fn tell_joining(&mut self)
+        ensures { self.new ≡ self.old }
+    {
+        let is_over = match self.waits.joined {
             Wanted::Nothing => false,
             Wanted::One(t) => !self.core.is_undone(t),
             Wanted::Several => true,
         };
-        if is_joined {
+        if is_over {
             self.waits.join_ended();
         }
+    }
+
+    /// Who awaits an outcome is to be woken, where one of those that are awaited may be told.
+    fn tell_awaiting(&mut self)
+        ensures { self.new ≡ self.old }
+    {
         let is_told = match self.waits.awaited {
             Wanted::Nothing => false,
             Wanted::One(ticket) => !self.core.is_awaited(ticket),

@@ -3,16 +3,18 @@ ghost use Rattle.std.specs.Prelude.{IfSome};
 ghost use Rattle.fj_pool.specs.Turning.{MayAsk, NextRight};
 
 use crate::contention::Contention;
+use crate::guarded::Guarded;
 use crate::idle::Idle;
 use crate::naming::Naming;
 use crate::next::{Next, Unneeded};
 use crate::pool::Pool;
 use crate::turns::take_turn;
 use crate::turnstile::Turnstile;
+use crate::wake::Wake;
 use fj_model::Refusal;
 use fj_shelf::Hand;
 use fj_store::{Ask, Body, Heard};
-use std::sync::Wait;
+use std::sync::{MutexGuard, Wait};
 use std::thread;
 use std::time::Duration;
 
@@ -57,7 +59,7 @@ impl<B: Body, N: Naming> Pool<B, N> {
         unreachable!()
     }
 
-    /// Takes the lock once, wakes those whose wait has ended by what was done, and waits where there is nothing to do.
+    /// Takes the lock once, and lets it go again as what comes next wants it.
     fn serve<R: Wait>(
         &self,
         rt: &R,
@@ -78,31 +80,51 @@ impl<B: Body, N: Naming> Pool<B, N> {
         let next = core.serve(self.alloc, hand, ask, unneeded);
         let wake = core.take_wake();
         match next {
-            Next::Wait => {
-                // Under the lock, so that what it wakes is not taken for a change, and no change after this is missed.
-                self.wake(wake);
-                let seen = self.joining.notifications();
-                drop(guard);
-                unneeded.clear();
-                self.joining
-                    .sleep(rt, seen, Duration::from_secs(LONGEST_WAIT));
-            }
-            Next::Rest => {
-                let seen = self.idle.notifications();
-                drop(guard);
-                self.wake(wake);
-                unneeded.clear();
-                match idle.next_sleep() {
-                    Some(sleep) => self.idle.sleep(rt, seen, sleep),
-                    None => thread::yield_now(),
-                }
-            }
-            _ => {
-                drop(guard);
-                self.wake(wake);
-                unneeded.clear();
-            }
+            Next::Wait => self.wait_in_join(rt, guard, wake, unneeded),
+            Next::Rest => self.rest(rt, guard, wake, idle, unneeded),
+            _ => self.let_go(guard, wake, unneeded),
         }
         next
+    }
+
+    /// Lets the lock go, wakes those whose wait has ended, and drops what is needed no more.
+    fn let_go(&self, guard: MutexGuard<'_, Guarded<B, N>>, wake: Wake, unneeded: &mut Unneeded<B>) {
+        drop(guard);
+        self.wake(wake);
+        unneeded.clear();
+    }
+
+    /// The same, and sleeps until what was joined may have changed.
+    fn wait_in_join<R: Wait>(
+        &self,
+        rt: &R,
+        guard: MutexGuard<'_, Guarded<B, N>>,
+        wake: Wake,
+        unneeded: &mut Unneeded<B>,
+    ) {
+        // Under the lock, so that what it wakes is not taken for a change, and no change after this is missed.
+        self.wake(wake);
+        let seen = self.joining.notifications();
+        drop(guard);
+        unneeded.clear();
+        self.joining
+            .sleep(rt, seen, Duration::from_secs(LONGEST_WAIT));
+    }
+
+    /// The same as letting it go, and sleeps or yields until it is time to look for work again.
+    fn rest<R: Wait>(
+        &self,
+        rt: &R,
+        guard: MutexGuard<'_, Guarded<B, N>>,
+        wake: Wake,
+        idle: &mut Idle,
+        unneeded: &mut Unneeded<B>,
+    ) {
+        let seen = self.idle.notifications();
+        self.let_go(guard, wake, unneeded);
+        match idle.next_sleep() {
+            Some(sleep) => self.idle.sleep(rt, seen, sleep),
+            None => thread::yield_now(),
+        }
     }
 }

@@ -1,9 +1,10 @@
-use Rattle.std.proofs.Common.{◌≡◌, ◌&&◌, true, List, Some, length, map, sym, ap, ◌∙◌, subst}
+use Rattle.std.proofs.Common.{ℕ, ◌≡◌, ◌&&◌, true, List, Some, length, map, sym, ap, ◌∙◌, subst}
 use Rattle.std.specs.Prelude.{IfSome, slice_get}
 use Rattle.std.specs.List.{sum_by}
 use Rattle.std.specs.Option.{option_eq}
 use Rattle.std.proofs.Math.Dec.{eqb}
 use Rattle.fj_model.specs.Answers.{is_quiet}
+use Rattle.fj_model.specs.Pasts.{Past}
 use Rattle.fj_core.specs.Closes.{is_number}
 use Rattle.fj_core.specs.Closings.{is_over}
 use Rattle.fj_gate.specs.Ends.{EntrantState, drawn_by}
@@ -14,7 +15,8 @@ use Rattle.fj_core.specs.declared.booking.Booking.{Booking}
 use Rattle.fj_core.specs.Booked.{IsBooked}
 use Rattle.fj_pool.specs.Lanes.{lanes_of}
 use Rattle.fj_pool.specs.Seats.{SeatState}
-use Rattle.fj_pool.specs.Winding.{has_terminated}
+use Rattle.fj_pool.specs.Winding.{has_terminated, submissions}
+use Rattle.fj_pool.proofs.Accepted.{booked_accepted}
 use Rattle.fj_pool.proofs.Emptied.{all_admitted, emptied}
 use Rattle.fj_pool.proofs.Records.{all_settled, numbers_either_way, same_number, second_made, second_spared, third_after}
 use Rattle.fj_pool.proofs.pool.Pool.wind_up.Goals.{then-eq, else-eq, then-reached, else-reached}
@@ -43,13 +45,18 @@ returns-clause-admitted g c =
     let entrants : List EntrantState = map (λ (s : SeatState g.row.B.Denot). s.entrant) c.args.submitters.items in
     numbers_either_way c.meet-tickets.result.drawn entrants (subst (λ (es : List EntrantState). IsNumbersBelow c.meet-tickets.result.drawn (drawn_by es)) c.settle-entrants.ensures.entrants c.meet-tickets.ensures.numbers)
 
+pub returns-clause-taken_in : goal.returns-clause-taken_in
+returns-clause-taken_in g c =
+    let left = c.into_remains-machine.ensures in
+    ap (λ (bs : List Booking). length bs) left.bookings ∙ booked_accepted c.is_quiescent-quiet.new.self.store.past c.is_quiescent-quiet.new.self.lanes c.is_quiescent-quiet.new.self.bookings left.booked ∙ ap (λ (past : Past). submissions past) (sym left.past)
+
 pub returns-clause-terminated : goal.returns-clause-terminated
 returns-clause-terminated g c =
     let machine = c.into_remains-machine.result.machine in
     let past : c.core.inside.core.store.past ≡ machine = sym (c.into_remains-machine.ensures.past ∙ ap (λ core. core.store.past) c.is_quiescent-quiet.ensures.same) in
     let closed : c.meet-tickets.result.closed ≡ c.args.closer.closed = c.meet-tickets.ensures.closed ∙ ap (λ closer. closer.closed) c.closer.view_is in
-    let number : c.eq.result ≡ is_number c.args.closer.closed (length c.into_remains-machine.result.bookings.bookings) =
-    c.eq.ensures ∙ (λ i. option_eq eqb (closed i) (Some (c.len.ensures i))) ∙ same_number c.args.closer.closed (length c.into_remains-machine.result.bookings.bookings) in
+    let number : c.eq.result ≡ is_number c.args.closer.closed (submissions machine) =
+    c.eq.ensures ∙ (λ i. option_eq eqb (closed i) (Some (c.len.ensures i))) ∙ same_number c.args.closer.closed (length c.into_remains-machine.result.bookings.bookings) ∙ ap (λ (n : ℕ). is_number c.args.closer.closed n) (returns-clause-taken_in g c) in
     let shut : c.is_shut-shut.result ≡ is_over machine.events = c.is_shut-shut.ensures ∙ ap (λ p. is_over p.events) past in
     let quiet : c.is_quiescent-quiet.result ≡ is_quiet machine.pool.limits machine.events = c.is_quiescent-quiet.ensures.quiet ∙ ap (λ p. is_quiet p.pool.limits p.events) past in
     let reached : c.if-eq.reached ≡ (c.eq.result && c.is_shut-shut.result) = elim c.if-eq.branch [
@@ -67,10 +74,10 @@ returns-clause-emptied g c terminated =
     let left = c.into_remains-machine.ensures in
     let machine = c.into_remains-machine.result.machine in
     let bookings = c.into_remains-machine.result.bookings.bookings in
-    let reached : has_terminated c.args.closer.closed bookings machine ≡ true = sym (returns-clause-terminated g c) ∙ terminated in
+    let reached : has_terminated c.args.closer.closed machine ≡ true = sym (returns-clause-terminated g c) ∙ terminated in
     let closed : c.meet-tickets.result.closed ≡ c.args.closer.closed = c.meet-tickets.ensures.closed ∙ ap (λ closer. closer.closed) c.closer.view_is in
     let admitted : c.meet-tickets.result.drawn ≡ length bookings =
-    all_admitted c.args.closer.closed bookings machine c.meet-tickets.result.drawn reached (subst (λ o. IfSome o (λ m. c.meet-tickets.result.drawn ≡ m)) closed c.meet-tickets.ensures.at_close) in
+    all_admitted c.args.closer.closed machine c.meet-tickets.result.drawn reached (subst (λ o. IfSome o (λ m. c.meet-tickets.result.drawn ≡ m)) closed c.meet-tickets.ensures.at_close) ∙ sym (returns-clause-taken_in g c) in
     emptied c.into_remains-machine.result.drains.items c.args.submitters.items c.settle-entrants.result.1.items (length bookings) c.settle-entrants.ensures.rests c.settle-entrants.ensures.seats
     (ap (λ (bs : List Booking). length bs) left.bookings ∙ left.booked.all ∙ ap (λ (ds : List (DrainState g.row.B.Denot)). sum_by (λ d. length d.drained) ds) (sym left.drains))
     ((returns-clause-admitted g c).0 ∙ admitted)
