@@ -112,6 +112,12 @@ up b = text_from Old (lines b)
 abbrev pub IsRun : List ℕ → Type 0
 IsRun b = (play : Play) × (stage_from Start (lines b) ≡ Some (Plays play)) × IsPast play.past
 
+-- ---- version 2: what its names stand for
+
+-- the lines lead to this past by names, which are these so far
+abbrev pub LeadsBy : List ℕ → List (List ℕ) → Past → Type 0
+LeadsBy b names past = stage_from Start (lines b) ≡ Some (Plays (record { past = past; naming = Names names }))
+
 -- ---- version 1, by itself
 
 abbrev pub before_those : Option Step → List Step → List Step

@@ -27,5 +27,4 @@ mod upgrade_script;
 
 pub use fault::ReplayFault;
 pub use replay_script::{replay, replayed};
-pub use title::is_title;
 pub use upgrade_script::{upgrade, upgraded};

@@ -1,9 +1,14 @@
 //! The replay of a script, from a reader to a writer or in memory.
-ghost use Rattle.std.specs.Prelude.{◌≡◌, ◌≢◌, ℕ, OnOk, IfOk, IfErr, List, [], Option, Some};
+ghost use Rattle.std.specs.Prelude.{◌≡◌, ◌≢◌, ℕ, OnOk, IfOk, IfErr, List, [], Option, Some, false};
 ghost use Rattle.fj_streams.specs.Calls.{IsFine};
 ghost use Rattle.fj_replay.specs.Tells.{Stops, seen};
-ghost use Rattle.fj_replay.specs.Scripts.{text};
+ghost use Rattle.fj_replay.specs.Cuts.{lines};
+ghost use Rattle.fj_replay.specs.Namings.{AreNamesOf};
+ghost use Rattle.fj_replay.specs.Scripts.{AreRun, LeadsBy, is_titled, numbered_text, text};
 ghost use Rattle.fj_replay.specs.Faults.{IsScript, Replays, Ends};
+ghost use Rattle.fj_model.specs.Bounds.{Pool};
+ghost use Rattle.fj_model.specs.Pasts.{Past};
+ghost use Rattle.fj_model.specs.declared.step.Step.{Step};
 
 use crate::fault::ReplayFault;
 use crate::in_memory::InMemory;
@@ -23,6 +28,11 @@ pub fn replay<R: Source, W: Sink>(alloc: Global, r: &mut R, w: &mut W) -> Result
     ensures ok { OnOk result (Replays (R.remaining r.old) (R.remaining r.new) (W.contents w.old) (W.contents w.new)) }
     ensures fine { OnOk result (IsFine (R.calls r.old) (R.calls r.new) × IsFine (W.calls w.old) (W.calls w.new)) }
     ensures err { IfErr result (Stops (seen R.remaining R.calls r.old r.new) (seen W.contents W.calls w.old w.new)) }
+    // Of a script of version 1 the text is the lines of the replies to its steps, and these are a run.
+    ensures numbered { (b : List ℕ) → is_titled (lines b) ≡ false → text b ≡ numbered_text (lines b) }
+    ensures runs { (p : Pool) (asked : List Step) → AreRun p asked }
+    // In one of version 2 a name stands for one task, and what is no task's name for a number that no task has.
+    ensures names { (b : List ℕ) (names : List (List ℕ)) (past : Past) → LeadsBy b names past → AreNamesOf names past.events }
 {
     run(alloc, Stage::Start, r, w)
 }
