@@ -10,13 +10,17 @@ use Rattle.fj_replay.specs.declared.asked.Asked.{Asked}
 use Rattle.fj_replay.specs.declared.stage.Stage.{Stage}
 use Rattle.fj_replay.specs.declared.stage.Stage.TheVariants.{Start, Titled, Plays, Old, Rewrites}
 use Rattle.fj_replay.specs.Plays.{Play, asked_in, play_after, is_title}
-use Rattle.fj_replay.specs.Scripts.{pool_in, start, opened, stage_after, stage_from}
+use Rattle.fj_replay.specs.Scripts.{pool_in, start, opened, stage_from}
 
--- it holds at a heading, of either version, and stays so at a line
+-- it stays so at a line
+abbrev pub Stays : (Play → Type 0) → Type 0
+Stays P = (play : Play) (line : List ℕ) (asked : Asked) → asked_in play.naming line ≡ Some asked → P play → P (play_after play asked)
+
+-- it holds at a heading too, of either version
 pub record IsKept (P : Play → Type 0) : Type 0 where
   pub numbers : (p : Pool) → P (record { past = start p; naming = Numbers })
   pub names : (p : Pool) → P (record { past = start p; naming = Names [] })
-  pub more : (play : Play) (line : List ℕ) (asked : Asked) → asked_in play.naming line ≡ Some asked → P play → P (play_after play asked)
+  pub more : Stays P
 
 -- where there is a play, it holds of it
 abbrev pub Holds : (Play → Type 0) → Stage → Type 0
@@ -26,30 +30,31 @@ Holds P (Plays play) = P play
 Holds P Old = ⊥
 Holds P (Rewrites past) = ⊥
 
-opened_holds : (P : Play → Type 0) (naming : Naming) (o : Option Pool) (n : Stage) → ((p : Pool) → P (record { past = start p; naming = naming })) → opened naming o ≡ Some n → Holds P n
-opened_holds P naming None n new e = absurd cc
-opened_holds P naming (Some p) n new e = subst (λ (s : Stage). Holds P s) (some_is _ n e) (new p)
+there : (P : Play → Type 0) (play : Play) (o : Option Asked) (t : Stage) (ls : List (List ℕ)) → ((asked : Asked) → o ≡ Some asked → stage_from (Plays (play_after play asked)) ls ≡ Some t → Holds P t)
+    → option_and_then (λ n. stage_from n ls) (option_map (λ asked. Plays (play_after play asked)) o) ≡ Some t → Holds P t
+there P play None t ls each e = absurd cc
+there P play (Some asked) t ls each e = each asked refl e
 
-next_holds : (P : Play → Type 0) (play : Play) (o : Option Asked) (n : Stage) → ((asked : Asked) → o ≡ Some asked → P (play_after play asked)) → option_map (λ asked. Plays (play_after play asked)) o ≡ Some n → Holds P n
-next_holds P play None n more e = absurd cc
-next_holds P play (Some asked) n more e = subst (λ (s : Stage). Holds P s) (some_is _ n e) (more asked refl)
+-- behind a play of which it holds
+pub holds_later : (P : Play → Type 0) (play : Play) (t : Stage) (ls : List (List ℕ)) → Stays P → P play → stage_from (Plays play) ls ≡ Some t → Holds P t
+holds_later P play t [] more holds e = subst (λ (n : Stage). Holds P n) (some_is (Plays play) t e) holds
+holds_later P play t (l ∷ ls) more holds e =
+    there P play (asked_in play.naming l) t ls (λ asked is later. holds_later P (play_after play asked) t ls more (more play l asked is holds) later) e
 
-begun_holds : (P : Play → Type 0) (title : Bool) (l : List ℕ) (n : Stage) → IsKept P → (if title then Some Titled else opened Numbers (pool_in l)) ≡ Some n → Holds P n
-begun_holds P true l n kept e = subst (λ (s : Stage). Holds P s) (some_is Titled n e) tt
-begun_holds P false l n kept e = opened_holds P Numbers (pool_in l) n kept.numbers e
+opened_holds : (P : Play → Type 0) (naming : Naming) (o : Option Pool) (t : Stage) (ls : List (List ℕ)) → Stays P → ((p : Pool) → P (record { past = start p; naming = naming }))
+    → option_and_then (λ n. stage_from n ls) (opened naming o) ≡ Some t → Holds P t
+opened_holds P naming None t ls more new e = absurd cc
+opened_holds P naming (Some p) t ls more new e = holds_later P (record { past = start p; naming = naming }) t ls more (new p) e
 
-after_holds : (P : Play → Type 0) (s n : Stage) (l : List ℕ) → IsKept P → Holds P s → stage_after s l ≡ Some n → Holds P n
-after_holds P Start n l kept holds e = begun_holds P (is_title l) l n kept e
-after_holds P Titled n l kept holds e = opened_holds P (Names []) (pool_in l) n kept.names e
-after_holds P (Plays play) n l kept holds e = next_holds P play (asked_in play.naming l) n (λ asked is. kept.more play l asked is holds) e
-after_holds P Old n l kept holds e = absurd holds
-after_holds P (Rewrites past) n l kept holds e = absurd holds
+titled_holds : (P : Play → Type 0) (t : Stage) (ls : List (List ℕ)) → IsKept P → stage_from Titled ls ≡ Some t → Holds P t
+titled_holds P t [] kept e = subst (λ (n : Stage). Holds P n) (some_is Titled t e) tt
+titled_holds P t (l ∷ ls) kept e = opened_holds P (Names []) (pool_in l) t ls kept.more kept.names e
 
-there : (P : Play → Type 0) (o : Option Stage) (t : Stage) (ls : List (List ℕ)) → ((n : Stage) → o ≡ Some n → stage_from n ls ≡ Some t → Holds P t) → option_and_then (λ n. stage_from n ls) o ≡ Some t → Holds P t
-there P None t ls each e = absurd cc
-there P (Some n) t ls each e = each n refl e
-
--- from any stage on
-pub holds_from : (P : Play → Type 0) (s t : Stage) (ls : List (List ℕ)) → IsKept P → Holds P s → stage_from s ls ≡ Some t → Holds P t
-holds_from P s t [] kept holds e = subst (λ (n : Stage). Holds P n) (some_is s t e) holds
-holds_from P s t (l ∷ ls) kept holds e = there P (stage_after s l) t ls (λ n next rest. holds_from P n t ls kept (after_holds P s n l kept holds next) rest) e
+-- behind all lines of a script
+pub holds_of : (P : Play → Type 0) (t : Stage) (ls : List (List ℕ)) → IsKept P → stage_from Start ls ≡ Some t → Holds P t
+holds_of P t [] kept e = subst (λ (n : Stage). Holds P n) (some_is Start t e) tt
+holds_of P t (l ∷ ls) kept e = go (is_title l) e
+  where
+    go : (title : Bool) → option_and_then (λ n. stage_from n ls) (if title then Some Titled else opened Numbers (pool_in l)) ≡ Some t → Holds P t
+    go true e = titled_holds P t ls kept e
+    go false e = opened_holds P Numbers (pool_in l) t ls kept.more kept.numbers e

@@ -3,25 +3,28 @@ use Rattle.std.specs.Prelude.{Bool, true, false, not, ◌||◌, ◌==◌, if◌t
 use Rattle.std.specs.List.{list_any, position_or_len}
 use Rattle.std.specs.Str.{bytes_eq}
 use Rattle.std.proofs.Common.{ℕ, ◌≡◌, ◌+◌, ◌<◌, ◌≤◌, List, [], ◌∷◌, ◌++◌, length, get_or, Some, None, refl, ap, sym, subst, ◌∙◌, arith, ⊎_elim, length-append}
-use Rattle.std.proofs.lemmas.Bool.{cases_lt, not-false, le-ltb}
+use Rattle.std.proofs.lemmas.Bool.{cases_lt, not-false, le-ltb, lt-ltb}
 use Rattle.std.proofs.lemmas.Bool.Decides.{Decides-eqb}
 use Rattle.std.proofs.lemmas.List.{get_or_append_left}
 use Rattle.std.proofs.Math.Seq.{get_or-append_seam}
-use Rattle.std.proofs.lemmas.List.Folds.{list_any_at, position_or_len_push}
+use Rattle.std.proofs.lemmas.List.Folds.{list_any-append, list_any_at, position_or_len_push}
+use Rattle.std.proofs.lemmas.List.Elements.{filter_map-append}
 use Rattle.std.proofs.lemmas.List.Sums.{position_or_len_is, prefix_len_stops}
 use Rattle.std.proofs.lemmas.Option.{unwrap_or-slice_get}
 use Rattle.std.proofs.lemmas.Slice.Eq.{bytes_eq-Decides}
 use Rattle.fj_model.specs.declared.refusal.Refusal.{Refusal}
+use Rattle.fj_model.specs.declared.said.Said.TheVariants as says
 use Rattle.fj_model.specs.declared.step.Step.{Step}
 use Rattle.fj_model.specs.declared.line2.Line2.{Line2}
 use Rattle.fj_model.specs.declared.line2.Line2.TheVariants as line
 use Rattle.fj_model.specs.Lists.{is_in}
-use Rattle.fj_model.specs.Tasks.{accepted, tasks}
+use Rattle.fj_model.specs.Tasks.{accepted, accepted_by, tasks}
 use Rattle.fj_model.specs.Answers.{answer}
 use Rattle.fj_model.specs.Pasts.{Past, grown}
 use Rattle.fj_model.specs.Epochs.{IsPast, seal_refusal}
 use Rattle.fj_model.specs.Lines.{step_in}
 use Rattle.fj_model.specs.Lines2.{line2_in}
+use Rattle.fj_model.proofs.Events.Growth.{or_false}
 use Rattle.fj_model.proofs.Events.Lawful.{is_numbered}
 use Rattle.fj_model.proofs.Places.OnePlace.{never}
 use Rattle.fj_model.proofs.Reading.PartLaws.{some_is}
@@ -31,13 +34,15 @@ use Rattle.fj_replay.specs.declared.naming.Naming.{Naming}
 use Rattle.fj_replay.specs.declared.naming.Naming.TheVariants.{Numbers, Names}
 use Rattle.fj_replay.specs.declared.asked.Asked.{Asked}
 use Rattle.fj_replay.specs.declared.asked.Asked.TheVariants as ask
+use Rattle.fj_replay.specs.declared.replied.Replied.TheVariants.{Said as Says, NameTaken}
 use Rattle.fj_replay.specs.declared.stage.Stage.TheVariants.{Start, Plays}
 use Rattle.fj_replay.specs.Cuts.{lines}
-use Rattle.fj_replay.specs.Namings.{number_of, is_taken, with_name, name_of, AreNamesOf}
-use Rattle.fj_replay.specs.Plays.{Play, asked_by, asked_in, play_after, accepting, sealing, is_task}
-use Rattle.fj_replay.specs.Scripts.{LeadsBy}
-use Rattle.fj_replay.proofs.Kept.{IsKept, holds_from}
-use Rattle.fj_replay.proofs.Runs.{run_kept}
+use Rattle.fj_replay.specs.Namings.{number_of, is_taken, is_named, with_name, name_of, AreNamesOf, StandsFor}
+use Rattle.fj_replay.specs.Plays.{Play, asked_by, asked_in, play_after, accepting, replied, sealing, is_task}
+use Rattle.fj_replay.specs.Scripts.{stage_from, LeadsBy, GivesName}
+use Rattle.fj_replay.proofs.Kept.{IsKept, Stays, holds_later, holds_of}
+use Rattle.fj_replay.proofs.Runs.{run_kept, step_past}
+use Rattle.fj_replay.proofs.Stages.{stage-append}
 use Rattle.fj_replay.proofs.Version2.Accepted.{accepted_after, known_number, none_accepted}
 use Rattle.fj_replay.proofs.Version2.Told.{is_accept, answer_told}
 
@@ -65,6 +70,12 @@ abbrev Own : List (List ℕ) → Type 0
 Own names = (t : ℕ) → t < length names → number_of names (get_or names t []) ≡ t
 
 -- with a name that was free
+-- a name that was free stands for the next place
+new_place : (names : List (List ℕ)) (name : List ℕ) → is_taken names name ≡ false → number_of (names ++ name ∷ []) name ≡ length names
+new_place names name free =
+    let same : (length names == length names) ≡ true = (Decides-eqb (length names) (length names)).1 refl in
+    position_or_len_push (bytes_eq name) names name ∙ rw (absent (bytes_eq name) names free, same, own_place name) (omega arith)
+
 own_more : (names : List (List ℕ)) (name : List ℕ) → is_taken names name ≡ false → Own names → Own (names ++ name ∷ [])
 own_more names name free own t low = ⊎_elim before last (cases_lt t (length names))
   where
@@ -78,8 +89,7 @@ own_more names name free own t low = ⊎_elim before last (cases_lt t (length na
         let many = length-append names (name ∷ []) in
         let is : t ≡ length names = omega (arith, low, many, high) in
         let here : get_or (names ++ name ∷ []) t [] ≡ name = rw is (get_or-append_seam names name [] []) in
-        let same : (length names == length names) ≡ true = (Decides-eqb (length names) (length names)).1 refl in
-        rw (here, position_or_len_push (bytes_eq name) names name, absent (bytes_eq name) names free, same, own_place name) (omega (arith, is))
+        rw here (new_place names name free ∙ sym is)
 
 -- ---- a line
 
@@ -173,7 +183,7 @@ fit_kept = record {
 -- ---- a script
 
 fits_there : (b : List ℕ) (names : List (List ℕ)) (past : Past) → LeadsBy b names past → IsFit (by names past)
-fits_there b names past leads = holds_from IsFit Start (Plays (by names past)) (lines b) fit_kept tt leads
+fits_there b names past leads = holds_of IsFit (Plays (by names past)) (lines b) fit_kept leads
 
 name_at : (names : List (List ℕ)) (t : ℕ) → name_of (Names names) t ≡ get_or names t []
 name_at names t = unwrap_or-slice_get names t []
@@ -202,3 +212,99 @@ are_names b names past leads = record {
     free name none =
         let next : number_of names name ≡ accepted past.events = absent (bytes_eq name) names none ∙ fit.fits.0 in
         is_numbered past.pool past.events (history_allowed past fit.run) (number_of names name) ∙ le-ltb (number_of names name) (accepted past.events) (omega (arith, next))
+
+-- ---- the line that gave a name
+
+-- the name is that of this task
+Stands : List ℕ → ℕ → Naming → Type 0
+Stands name t Numbers = ⊥
+Stands name t (Names names) = StandsFor names name t
+
+-- a table with one name more keeps its place
+stands_more : (names : List (List ℕ)) (name other : List ℕ) (t : ℕ) → StandsFor names name t → StandsFor (names ++ other ∷ []) name t
+stands_more names name other t stands = record {
+  taken = list_any-append (bytes_eq name) names (other ∷ []) ∙ rw stands.taken refl;
+  number = kept;
+}
+  where
+    below : number_of names name < length names
+    below = present (bytes_eq name) names stands.taken
+
+    apart : (number_of names name == length names) ≡ false
+    apart = never (number_of names name == length names) (λ is. let same = (Decides-eqb (number_of names name) (length names)).0 is in absurd (omega (arith, same, below)))
+
+    kept : number_of (names ++ other ∷ []) name ≡ t
+    kept = position_or_len_push (bytes_eq name) names other ∙ rw apart stands.number
+
+naming_stands : (name other : List ℕ) (t : ℕ) (naming : Naming) (told : Bool) → Stands name t naming → Stands name t (if told then with_name naming other else naming)
+unfolding Stands
+naming_stands name other t Numbers told stands = absurd stands
+naming_stands name other t (Names names) true stands = stands_more names name other t stands
+naming_stands name other t (Names names) false stands = stands
+
+Keeps : List ℕ → ℕ → Play → Type 0
+Keeps name t play = Stands name t play.naming
+
+-- it stays so at each line
+stands_stays : (name : List ℕ) (t : ℕ) → Stays (Keeps name t)
+unfolding Keeps
+stands_stays name t play l (ask.Step wanted) is stands = stands
+stands_stays name t play l (ask.Accept other wanted) is stands = go (is_named play.naming other)
+  where
+    go : (taken : Bool) → Stands name t (if taken then play else accepting play other (answer play.past wanted)).naming
+    go true = stands
+    go false = naming_stands name other t play.naming (is_task (answer play.past wanted).0) stands
+stands_stays name t play l ask.Seal is stands = stands
+stands_stays name t play l ask.Epoch is stands = stands
+
+-- the next task has the next number
+next_number : (past : Past) (asked : Step) (t : ℕ) → IsPast past → (answer past asked).0 ≡ says.Task t → t ≡ accepted past.events
+unfolding tasks
+next_number past asked t run told =
+    let one : tasks (answer past asked).1 ≡ t ∷ [] = (answer_tells past asked).accepts ∙ rw told refl in
+    let more : is_in n (tasks (past.events ++ (answer past asked).1)) ≡ true = is_numbered past.pool (past.events ++ (answer past asked).1) (history_allowed (grown past (answer past asked).1) (step_past past asked run)) n ∙ lt-ltb n _ grows in
+    let none : is_in n (tasks past.events) ≡ false = is_numbered past.pool past.events (history_allowed past run) n ∙ le-ltb n n (omega arith) in
+    let all : is_in n (tasks (past.events ++ (answer past asked).1)) ≡ (t == n) =
+    ap (is_in n) (filter_map-append accepted_by past.events (answer past asked).1 ∙ ap (λ (ts : List ℕ). tasks past.events ++ ts) one)
+    ∙ (list_any-append (λ u. u == n) (tasks past.events) (t ∷ []) ∙ rw none (or_false (t == n))) in
+    (Decides-eqb t n).0 (sym all ∙ more)
+  where
+    n : ℕ
+    n = accepted past.events
+
+    grows : n < accepted (past.events ++ (answer past asked).1)
+    grows = let more = next_accepted past asked true (rw told refl) in omega (arith, more)
+
+-- a new name is that of the task which was accepted
+new_stands : (names : List (List ℕ)) (name : List ℕ) (t : ℕ) → is_taken names name ≡ false → t ≡ length names → StandsFor (names ++ name ∷ []) name t
+new_stands names name t free is = record {
+  taken = list_any-append (bytes_eq name) names (name ∷ []) ∙ rw (free, own_place name) refl;
+  number = new_place names name free ∙ sym is;
+}
+
+no_accept : (o : Option Step) (name : List ℕ) (wanted : Step) → option_map ask.Step o ≡ Some (ask.Accept name wanted) → ⊥
+no_accept None name wanted e = cc
+no_accept (Some asked) name wanted e = cc
+
+accept_stands : (naming : Naming) (past : Past) (text name : List ℕ) (wanted : Step) (t : ℕ) → asked_in naming text ≡ Some (ask.Accept name wanted)
+    → replied (record { past = past; naming = naming }) (ask.Accept name wanted) ≡ Says (says.Task t) → IsFit (record { past = past; naming = naming })
+    → Keeps name t (play_after (record { past = past; naming = naming }) (ask.Accept name wanted))
+unfolding Keeps Stands
+accept_stands Numbers past text name wanted t asks told fit = absurd (no_accept (step_in text) name wanted asks)
+accept_stands (Names names) past text name wanted t asks told fit = go (is_taken names name) refl told
+  where
+    go : (taken : Bool) → is_taken names name ≡ taken → (if taken then NameTaken else Says (answer past wanted).0) ≡ Says (says.Task t)
+        → Stands name t (if taken then by names past else accepting (by names past) name (answer past wanted)).naming
+    go true is told = absurd cc
+    go false is told =
+        let said : (answer past wanted).0 ≡ says.Task t = cc in
+        let next : t ≡ length names = next_number past wanted t fit.run said ∙ sym fit.fits.0 in
+        rw said (new_stands names name t is next)
+
+-- where a line gave a name to a task, the name stands for it from there on
+pub given_name : (b : List ℕ) (names : List (List ℕ)) (past : Past) (name : List ℕ) (t : ℕ) → LeadsBy b names past → GivesName b name t → StandsFor names name t
+unfolding Keeps Stands
+given_name b names past name t leads gives =
+    holds_later (Keeps name t) (play_after gives.play (ask.Accept name gives.wanted)) (Plays (by names past)) gives.after (stands_stays name t)
+    (accept_stands gives.play.naming gives.play.past gives.line name gives.wanted t gives.asks gives.told (holds_of IsFit (Plays gives.play) gives.before fit_kept gives.good))
+    (sym (ap (stage_from Start) gives.cut ∙ (stage-append Start gives.before (gives.line ∷ gives.after) ∙ rw (gives.good, gives.asks) refl)) ∙ leads)

@@ -16,9 +16,9 @@ use Rattle.fj_replay.specs.declared.stage.Stage.TheVariants.{Start, Titled, Play
 use Rattle.fj_replay.specs.Cuts.{lines}
 use Rattle.fj_replay.specs.Plays.{Play, play_after, accepting, sealing}
 use Rattle.fj_replay.specs.Scripts.{stage_from, IsRun}
-use Rattle.fj_replay.proofs.Kept.{IsKept, Holds, holds_from}
+use Rattle.fj_replay.proofs.Kept.{IsKept, Holds, holds_of}
 
-step_past : (past : Past) (asked : Step) → IsPast past → IsPast (grown past (answer past asked).1)
+pub step_past : (past : Past) (asked : Step) → IsPast past → IsPast (grown past (answer past asked).1)
 step_past past asked run = past_more past (move.Step asked) (gives.Said (answer past asked).0) (grown past (answer past asked).1) run (refl, refl)
 
 accept_past : (taken : Bool) (play : Play) (name : List ℕ) (asked : Step) → IsPast play.past → IsPast (if taken then play else accepting play name (answer play.past asked)).past
@@ -51,4 +51,4 @@ is_run_at b (Rewrites past) e run no_start no_title = absurd run
 
 -- where the heading has come, there is a run
 pub is_run : (b : List ℕ) (t : Stage) → stage_from Start (lines b) ≡ Some t → (t ≡ Start → ⊥) → (t ≡ Titled → ⊥) → IsRun b
-is_run b t e no_start no_title = is_run_at b t e (holds_from HasRun Start t (lines b) run_kept tt e) no_start no_title
+is_run b t e no_start no_title = is_run_at b t e (holds_of HasRun t (lines b) run_kept e) no_start no_title

@@ -64,6 +64,11 @@ pub record AreNamesOf (names : List (List ℕ)) (h : List Event) : Type 0 where
   pub taken : (name : List ℕ) → is_taken names name ≡ true → name_of (Names names) (number_of names name) ≡ name
   pub free : (name : List ℕ) → is_taken names name ≡ false → is_in (number_of names name) (tasks h) ≡ false
 
+-- the name is that of this task
+pub record StandsFor (names : List (List ℕ)) (name : List ℕ) (t : ℕ) : Type 0 where
+  pub taken : is_taken names name ≡ true
+  pub number : number_of names name ≡ t
+
 -- what a reply says of a task: its first word, and the task
 abbrev pub task_told : Said → Option (List ℕ × ℕ)
 task_told (said.Task t) = Some (codes "task", t)

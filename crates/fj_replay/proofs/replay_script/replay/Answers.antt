@@ -1,5 +1,5 @@
 use Rattle.std.proofs.lemmas.Result.{on_ok_weaker}
-use Rattle.fj_replay.proofs.Named.{are_names}
+use Rattle.fj_replay.proofs.Named.{are_names, given_name}
 use Rattle.fj_replay.proofs.Version1.{are_run, text_numbered}
 use Rattle.fj_replay.proofs.Whole.{replays}
 use Rattle.fj_replay.proofs.replay_script.replay.Goals as goal
@@ -15,3 +15,6 @@ returns-clause-runs g c = are_run
 
 pub returns-clause-names : goal.returns-clause-names
 returns-clause-names g c = are_names
+
+pub returns-clause-given : goal.returns-clause-given
+returns-clause-given g c = given_name
