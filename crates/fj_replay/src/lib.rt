@@ -24,6 +24,7 @@ mod stage;
 mod task_told;
 mod title;
 mod upgrade_script;
+mod writing;
 
 pub use fault::ReplayFault;
 pub use replay_script::{replay, replayed};

@@ -22,8 +22,8 @@ use std::alloc::Global;
 /// What was written is `text b` of the bytes `b` that were read; at `Memory` and `Write` it is a beginning of `text b`. `Read` and
 /// `Write` come only where the reader or the writer failed, and a failure of one is told as nothing else. A reply is
 /// handed to the writer before the next line is looked at, so what was replied before a fault is written. The writer is flushed before
-/// each further read, so that who sends one line at a time has each reply; a flush that fails there is `Write`. It is not flushed at the
-/// end. An interrupted read, write or flush is tried again.
+/// each further read, so that who sends one line at a time has each reply; a flush that fails there is `Write`. At `Ok` all was flushed;
+/// at a fault the last replies may not be. An interrupted read, write or flush is tried again.
 pub fn replay<R: Source, W: Sink>(alloc: Global, r: &mut R, w: &mut W) -> Result<(), ReplayFault>
     ensures ok { OnOk result (Replays (R.remaining r.old) (R.remaining r.new) (W.contents w.old) (W.contents w.new)) }
     ensures fine { OnOk result (IsFine (R.calls r.old) (R.calls r.new) × IsFine (W.calls w.old) (W.calls w.new)) }

@@ -8,8 +8,9 @@ ghost use Rattle.fj_replay.specs.Tells.{WriterTells};
 ghost use Rattle.fj_replay.specs.Plays.{is_title};
 
 use crate::fault::ReplayFault;
+use crate::writing::write_all;
 use fj_model::LINE_FEED;
-use fj_streams::{Sink, write_whole};
+use fj_streams::Sink;
 use std::alloc::{AllocError, Global};
 
 /// Whether a first line says that its script is of version 2.
@@ -29,10 +30,7 @@ pub fn write_head<W: Sink>(alloc: Global, heading: &[u8], w: &mut W) -> Result<(
     ensures some { OnErr result (AppendsSome (W.contents w.old) (W.contents w.new) (titled_head heading.now)) }
 {
     match titled(alloc, heading) {
-        Ok(head) => match write_whole(w, head.as_slice()) {
-            Ok(()) => Ok(()),
-            Err(_) => Err(ReplayFault::Write),
-        },
+        Ok(head) => write_all(w, head.as_slice()),
         Err(_) => Err(ReplayFault::Memory),
     }
 }
