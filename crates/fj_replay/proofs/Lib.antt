@@ -12,6 +12,8 @@ pub mod Kept
 pub mod Runs
 -- each name stands at the number of its task
 pub mod Named
+-- the replies are the answers to the moves that lines ask for
+pub mod Moves
 -- a session takes one byte more
 pub mod Steps
 -- what a session has found when it stops

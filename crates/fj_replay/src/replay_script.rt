@@ -3,11 +3,9 @@ ghost use Rattle.std.specs.Prelude.{◌≡◌, ◌≢◌, ℕ, OnOk, IfOk, IfErr
 ghost use Rattle.fj_streams.specs.Calls.{IsFine};
 ghost use Rattle.fj_replay.specs.Tells.{Stops, seen};
 ghost use Rattle.fj_replay.specs.Cuts.{lines};
-ghost use Rattle.fj_replay.specs.Namings.{AreNamesOf, StandsFor};
-ghost use Rattle.fj_replay.specs.Scripts.{AreRun, GivesName, LeadsBy, is_titled, numbered_text, text};
+ghost use Rattle.fj_replay.specs.Scripts.{AreRun, KeepsNames, MakesMoves, NamesTasks, is_titled, numbered_text, text};
 ghost use Rattle.fj_replay.specs.Faults.{IsScript, Replays, Ends};
 ghost use Rattle.fj_model.specs.Bounds.{Pool};
-ghost use Rattle.fj_model.specs.Pasts.{Past};
 ghost use Rattle.fj_model.specs.declared.step.Step.{Step};
 
 use crate::fault::ReplayFault;
@@ -31,10 +29,12 @@ pub fn replay<R: Source, W: Sink>(alloc: Global, r: &mut R, w: &mut W) -> Result
     // Of a script of version 1 the text is the lines of the replies to its steps, and these are a run.
     ensures numbered { (b : List ℕ) → is_titled (lines b) ≡ false → text b ≡ numbered_text (lines b) }
     ensures runs { (p : Pool) (asked : List Step) → AreRun p asked }
-    // In one of version 2 a name stands for one task, the one that was accepted where it was given, and what is no task's name for a
-    // number that no task has.
-    ensures names { (b : List ℕ) (names : List (List ℕ)) (past : Past) → LeadsBy b names past → AreNamesOf names past.events }
-    ensures given { (b : List ℕ) (names : List (List ℕ)) (past : Past) (name : List ℕ) (t : ℕ) → LeadsBy b names past → GivesName b name t → StandsFor names name t }
+    // Of both versions: the moves that lines ask for have the answers that the replies tell.
+    ensures moves { (ls : List (List ℕ)) → MakesMoves ls }
+    // In a script of version 2 each name stands for one task, and what is no task's name for a number that no task has.
+    ensures names { (b : List ℕ) → NamesTasks b }
+    // It is the task that was accepted where the name was given.
+    ensures given { (b : List ℕ) → KeepsNames b }
 {
     run(alloc, Stage::Start, r, w)
 }

@@ -1,4 +1,5 @@
 use Rattle.std.proofs.lemmas.Result.{on_ok_weaker}
+use Rattle.fj_replay.proofs.Moves.{are_moves}
 use Rattle.fj_replay.proofs.Named.{are_names, given_name}
 use Rattle.fj_replay.proofs.Version1.{are_run, text_numbered}
 use Rattle.fj_replay.proofs.Whole.{replays}
@@ -12,6 +13,9 @@ returns-clause-numbered g c = text_numbered
 
 pub returns-clause-runs : goal.returns-clause-runs
 returns-clause-runs g c = are_run
+
+pub returns-clause-moves : goal.returns-clause-moves
+returns-clause-moves g c = λ ls play later leads. are_moves play later ls leads
 
 pub returns-clause-names : goal.returns-clause-names
 returns-clause-names g c = are_names
