@@ -4,3 +4,5 @@
 pub mod Running
 -- one move
 pub mod MovesMore
+-- what one move hands out
+pub mod HandedMore

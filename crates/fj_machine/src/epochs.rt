@@ -1,10 +1,11 @@
-ghost use Rattle.std.specs.Prelude.{◌≡◌, ◌++◌, [], length, IfOk, OnOk};
+ghost use Rattle.std.specs.Prelude.{◌≡◌, ◌++◌, ◌∷◌, [], length, map, IfOk, OnOk};
 ghost use Rattle.std.specs.List.{filter_map};
 ghost use Rattle.fj_model.specs.Places.{gone};
 ghost use Rattle.fj_model.specs.Pasts.{fresh, present, gone_since};
 ghost use Rattle.fj_model.specs.Epochs.{Moves, MovesFrom, reply_in};
 ghost use Rattle.fj_model.specs.Headline.{IsInOnePlace, IsHandedOutOnce, LeftInOrder, NoneAfterShutdown, IsFiredOnce, FiredAtZero, FiresByCompleteOnlyOwn, RepliesTell};
 ghost use Rattle.fj_model.specs.Parts.{Fits, events_in, gone_in};
+ghost use Rattle.fj_machine.specs.Handed.{handed, shown};
 
 use crate::machine::Machine;
 use fj_model::{
@@ -32,6 +33,8 @@ pub fn run_epochs(
     ensures gone { IfOk result (λ r. gone r.0.events ≡ gone_in r.1.items ++ gone_since r.0) }
     // There is one part for each seal.
     ensures parts { IfOk result (λ r. length r.1.items ≡ r.0.seals) }
+    // Each part has what happened between its seal and the seal before it, and the tasks that came to be gone there.
+    ensures handed { IfOk result (λ r. map shown r.1.items ≡ handed (fresh mode limits) moves.now r.2.items) }
     // Each accepted task is in exactly one place: one queue, one stack, among the open or among the gone tasks.
     ensures place { IfOk result (λ r. IsInOnePlace r.0.pool.limits r.0.events) }
     // Each task was handed out at most once.
@@ -75,6 +78,7 @@ fn move_all(
     ensures pool { OnOk result (machine.new.pool ≡ machine.old.pool) }
     ensures runs { OnOk result (MovesFrom machine.old moves.now answers.new.items machine.new) }
     ensures parts { OnOk result (Fits parts.new.items machine.new) }
+    ensures handed { OnOk result (map shown parts.new.items ≡ handed machine.old moves.now answers.new.items) }
 {
     // The check wants each type inside a reply to be named where one is moved.
     let _inside: Option<(Said, Place, Owner, Status, Refusal, Serial, SubId, WorkerId)> = None;
@@ -93,6 +97,7 @@ fn make_move(
 ) -> Result<Answer, OutOfMemory>
     ensures made { IfOk result (λ answer. Moves machine.old asked.now answer machine.new) }
     ensures parts { OnOk result (Fits parts.old.items machine.old → Fits parts.new.items machine.new) }
+    ensures handed { IfOk result (λ answer. map shown parts.new.items ≡ map shown parts.old.items ++ handed machine.old (asked.now ∷ []) (answer ∷ [])) }
 {
     match asked {
         Move::Step(step) => Ok(Answer::Said(machine.step(step))),

@@ -6,8 +6,14 @@ pub mod Stages
 pub mod NameTables
 -- what is replied to a script of version 1, by itself
 pub mod Version1
+-- what each line keeps, every play has
+pub mod Kept
 -- what has happened in a play is the history of a run
 pub mod Runs
+-- each name stands at the number of its task
+pub mod Named
+-- the replies are the answers to the moves that lines ask for
+pub mod Moves
 -- a session takes one byte more
 pub mod Steps
 -- what a session has found when it stops

@@ -1,5 +1,3 @@
-pub use Rattle.fj_streams.specs.Calls
-pub use Rattle.fj_streams.specs.Beginnings
 pub mod Cuts
 pub mod Namings
 pub mod Plays

@@ -1,5 +1,5 @@
 -- By what the tasks of a script go: by their numbers, or by names.
-use Rattle.std.specs.Prelude.{ℕ, Bool, false, List, [], ◌∷◌, ◌++◌, Option, Some, None, unwrap_or, slice_get, codes, decimal}
+use Rattle.std.specs.Prelude.{ℕ, ◌≡◌, Bool, true, false, List, [], ◌∷◌, ◌++◌, length, Option, Some, None, unwrap_or, slice_get, codes, decimal}
 use Rattle.std.specs.List.{list_any, position_or_len}
 use Rattle.std.specs.Str.{bytes_eq}
 use Rattle.fj_model.specs.declared.read.TheConstants.{LINE_FEED}
@@ -9,7 +9,10 @@ use Rattle.fj_model.specs.declared.line2.NamedKind.{NamedKind}
 use Rattle.fj_model.specs.declared.line2.NamedKind.TheVariants as named
 use Rattle.fj_model.specs.declared.said.Said.{Said}
 use Rattle.fj_model.specs.declared.said.Said.TheVariants as said
+use Rattle.fj_model.specs.declared.event.Event.{Event}
 use Rattle.fj_model.specs.Bounds.{Bounds}
+use Rattle.fj_model.specs.Lists.{is_in}
+use Rattle.fj_model.specs.Tasks.{accepted, tasks}
 use Rattle.fj_model.specs.Words.{joined}
 use Rattle.fj_model.specs.Replies.{reply_words}
 use Rattle.fj_replay.specs.declared.naming.Naming.{Naming}
@@ -52,6 +55,19 @@ with_name (Names names) name = Names (names ++ name ∷ [])
 abbrev pub name_of : Naming → ℕ → List ℕ
 name_of Numbers t = decimal t
 name_of (Names names) t = unwrap_or (slice_get names t) []
+
+-- these are the names of the tasks of this history, each at its task's number. So each task is called by a name that stands for it alone, and
+-- a name that is no task's stands for a number that no task has
+pub record AreNamesOf (names : List (List ℕ)) (h : List Event) : Type 0 where
+  pub count : length names ≡ accepted h
+  pub own : (t : ℕ) → is_in t (tasks h) ≡ true → number_of names (name_of (Names names) t) ≡ t
+  pub taken : (name : List ℕ) → is_taken names name ≡ true → name_of (Names names) (number_of names name) ≡ name
+  pub free : (name : List ℕ) → is_taken names name ≡ false → is_in (number_of names name) (tasks h) ≡ false
+
+-- the name is that of this task
+pub record StandsFor (names : List (List ℕ)) (name : List ℕ) (t : ℕ) : Type 0 where
+  pub taken : is_taken names name ≡ true
+  pub number : number_of names name ≡ t
 
 -- what a reply says of a task: its first word, and the task
 abbrev pub task_told : Said → Option (List ℕ × ℕ)

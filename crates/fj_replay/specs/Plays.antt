@@ -1,5 +1,7 @@
 -- How a script is played, line after line.
-use Rattle.std.specs.Prelude.{ℕ, Bool, true, false, if◌then◌else◌, List, length, Option, Some, None, option_map, codes}
+use Rattle.std.specs.Prelude.{ℕ, Bool, true, false, if◌then◌else◌, List, [], ◌∷◌, length, map, Option, Some, None, option_map, codes}
+use Rattle.std.specs.List.{cons_option}
+use Rattle.std.specs.Option.{option_map_or}
 use Rattle.std.specs.Str.{bytes_eq}
 use Rattle.fj_model.specs.declared.step.Step.TheVariants as step
 use Rattle.fj_model.specs.declared.line2.Line2.{Line2}
@@ -10,7 +12,11 @@ use Rattle.fj_model.specs.declared.said.Said.{Said}
 use Rattle.fj_model.specs.declared.said.Said.TheVariants as said
 use Rattle.fj_model.specs.Answers.{answer}
 use Rattle.fj_model.specs.Pasts.{Past, grown, present, sealed_now}
-use Rattle.fj_model.specs.Epochs.{seal_refusal}
+use Rattle.fj_model.specs.declared.epoch.Move.{Move}
+use Rattle.fj_model.specs.declared.epoch.Move.TheVariants as move
+use Rattle.fj_model.specs.declared.epoch.Answer.{Answer}
+use Rattle.fj_model.specs.declared.epoch.Answer.TheVariants as gives
+use Rattle.fj_model.specs.Epochs.{seal_refusal, MovesFrom}
 use Rattle.fj_model.specs.Lines.{step_in}
 use Rattle.fj_model.specs.Lines2.{line2_in}
 use Rattle.fj_replay.specs.declared.naming.Naming.{Naming}
@@ -104,6 +110,26 @@ replied play ask.Epoch = Epoch play.past.seals (length (present play.past))
 -- the line of the reply
 abbrev pub reply_text : Play → Asked → List ℕ
 reply_text play asked = replied_line (play_after play asked).naming play.past.pool.limits (replied play asked)
+
+-- ---- the moves of the machine: steps and seals
+
+-- the move that is asked for, and the answer that the reply tells. A name that belongs to a task and `epoch` ask the machine for none
+abbrev pub move_told : Asked → Replied → Option (Move × Answer)
+move_told (ask.Step wanted) (Says reply) = Some (move.Step wanted, gives.Said reply)
+move_told (ask.Accept name wanted) (Says reply) = Some (move.Step wanted, gives.Said reply)
+move_told ask.Seal (Sealed epoch events) = Some (move.Seal, gives.Sealed)
+move_told ask.Seal (Says (said.Refused refusal)) = Some (move.Seal, gives.Refused refusal)
+move_told _ _ = None
+
+-- the moves that the lines ask for, up to the first that may not stand there, each with the answer that the reply to its line tells
+abbrev pub moves_told : Play → List (List ℕ) → List (Move × Answer)
+moves_told play [] = []
+moves_told play (text ∷ later) =
+    option_map_or (λ asked. cons_option (move_told asked (replied play asked)) (moves_told (play_after play asked) later)) (asked_in play.naming text) []
+
+-- these moves, which lead from the one past to the other, have these answers
+abbrev pub AreMoves : Past → List (Move × Answer) → Past → Type 0
+AreMoves old made new = MovesFrom old (map (λ m. m.0) made) (map (λ m. m.1) made) new
 
 -- whether a script's first line says that it is of version 2
 abbrev pub is_title : List ℕ → Bool

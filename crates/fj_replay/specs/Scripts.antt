@@ -9,6 +9,7 @@ use Rattle.fj_model.specs.declared.limits.TheConstants.{MAX_WORKERS, MAX_SUBMITT
 use Rattle.fj_model.specs.declared.mode.Mode.{Mode}
 use Rattle.fj_model.specs.declared.step.Step.{Step}
 use Rattle.fj_model.specs.declared.said.Said.{Said}
+use Rattle.fj_model.specs.declared.said.Said.TheVariants.{Task}
 use Rattle.fj_model.specs.declared.event.Event.{Event}
 use Rattle.fj_model.specs.Bounds.{Bounds, Pool}
 use Rattle.fj_model.specs.Answers.{answer}
@@ -19,10 +20,13 @@ use Rattle.fj_model.specs.Epochs.{IsPast}
 use Rattle.fj_model.specs.Lines.{head_in, step_in, reply_line}
 use Rattle.fj_replay.specs.declared.naming.Naming.{Naming}
 use Rattle.fj_replay.specs.declared.naming.Naming.TheVariants.{Numbers, Names}
+use Rattle.fj_replay.specs.declared.asked.Asked.TheVariants.{Accept}
+use Rattle.fj_replay.specs.declared.replied.Replied.TheVariants.{Said as Says}
 use Rattle.fj_replay.specs.declared.stage.Stage.{Stage}
 use Rattle.fj_replay.specs.declared.stage.Stage.TheVariants.{Start, Titled, Plays, Old, Rewrites}
 use Rattle.fj_replay.specs.Cuts.{lines}
-use Rattle.fj_replay.specs.Plays.{Play, asked_in, play_after, reply_text, is_title}
+use Rattle.fj_replay.specs.Namings.{AreNamesOf, StandsFor}
+use Rattle.fj_replay.specs.Plays.{Play, asked_in, play_after, replied, reply_text, moves_told, AreMoves, is_title}
 use Rattle.fj_replay.specs.TaskNames.{named_line, titled_head}
 
 -- ---- headings
@@ -111,6 +115,38 @@ up b = text_from Old (lines b)
 -- the lines lead to a play, and what has happened in it is the history of a run, with seals or without
 abbrev pub IsRun : List ℕ → Type 0
 IsRun b = (play : Play) × (stage_from Start (lines b) ≡ Some (Plays play)) × IsPast play.past
+
+-- ---- both versions, as moves of the machine
+
+-- what these lines ask for from any play on, with the answers that the replies to them tell, leads to the play behind them
+abbrev pub MakesMoves : List (List ℕ) → Type 0
+MakesMoves ls = (play later : Play) → stage_from (Plays play) ls ≡ Some (Plays later) → AreMoves play.past (moves_told play ls) later.past
+
+-- ---- version 2: what its names stand for
+
+-- the lines lead to this past by names, which are these so far
+abbrev pub LeadsBy : List ℕ → List (List ℕ) → Past → Type 0
+LeadsBy b names past = stage_from Start (lines b) ≡ Some (Plays (record { past = past; naming = Names names }))
+
+-- a line of these gave this name to this task: what it asked for under the name was replied to by `task`
+pub record GivesName (b : List ℕ) (name : List ℕ) (t : ℕ) : Type 0 where
+  pub before : List (List ℕ)
+  pub line : List ℕ
+  pub after : List (List ℕ)
+  pub play : Play
+  pub wanted : Step
+  pub cut : lines b ≡ before ++ line ∷ after
+  pub good : stage_from Start before ≡ Some (Plays play)
+  pub asks : asked_in play.naming line ≡ Some (Accept name wanted)
+  pub told : replied play (Accept name wanted) ≡ Says (Task t)
+
+-- the names to which these bytes lead are those of the tasks there
+abbrev pub NamesTasks : List ℕ → Type 0
+NamesTasks b = (names : List (List ℕ)) (past : Past) → LeadsBy b names past → AreNamesOf names past.events
+
+-- and each that a line of them gave stands for the task to which that line gave it
+abbrev pub KeepsNames : List ℕ → Type 0
+KeepsNames b = (names : List (List ℕ)) (past : Past) (name : List ℕ) (t : ℕ) → LeadsBy b names past → GivesName b name t → StandsFor names name t
 
 -- ---- version 1, by itself
 

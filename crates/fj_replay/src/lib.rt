@@ -24,8 +24,8 @@ mod stage;
 mod task_told;
 mod title;
 mod upgrade_script;
+mod writing;
 
 pub use fault::ReplayFault;
 pub use replay_script::{replay, replayed};
-pub use title::is_title;
 pub use upgrade_script::{upgrade, upgraded};

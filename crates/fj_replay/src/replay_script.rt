@@ -1,9 +1,12 @@
 //! The replay of a script, from a reader to a writer or in memory.
-ghost use Rattle.std.specs.Prelude.{◌≡◌, ◌≢◌, ℕ, OnOk, IfOk, IfErr, List, [], Option, Some};
+ghost use Rattle.std.specs.Prelude.{◌≡◌, ◌≢◌, ℕ, OnOk, IfOk, IfErr, List, [], Option, Some, false};
 ghost use Rattle.fj_streams.specs.Calls.{IsFine};
 ghost use Rattle.fj_replay.specs.Tells.{Stops, seen};
-ghost use Rattle.fj_replay.specs.Scripts.{text};
+ghost use Rattle.fj_replay.specs.Cuts.{lines};
+ghost use Rattle.fj_replay.specs.Scripts.{AreRun, KeepsNames, MakesMoves, NamesTasks, is_titled, numbered_text, text};
 ghost use Rattle.fj_replay.specs.Faults.{IsScript, Replays, Ends};
+ghost use Rattle.fj_model.specs.Bounds.{Pool};
+ghost use Rattle.fj_model.specs.declared.step.Step.{Step};
 
 use crate::fault::ReplayFault;
 use crate::in_memory::InMemory;
@@ -17,12 +20,21 @@ use std::alloc::Global;
 /// What was written is `text b` of the bytes `b` that were read; at `Memory` and `Write` it is a beginning of `text b`. `Read` and
 /// `Write` come only where the reader or the writer failed, and a failure of one is told as nothing else. A reply is
 /// handed to the writer before the next line is looked at, so what was replied before a fault is written. The writer is flushed before
-/// each further read, so that who sends one line at a time has each reply; a flush that fails there is `Write`. It is not flushed at the
-/// end. An interrupted read, write or flush is tried again.
+/// each further read, so that who sends one line at a time has each reply; a flush that fails there is `Write`. At `Ok` all was flushed;
+/// at a fault the last replies may not be. An interrupted read, write or flush is tried again.
 pub fn replay<R: Source, W: Sink>(alloc: Global, r: &mut R, w: &mut W) -> Result<(), ReplayFault>
     ensures ok { OnOk result (Replays (R.remaining r.old) (R.remaining r.new) (W.contents w.old) (W.contents w.new)) }
     ensures fine { OnOk result (IsFine (R.calls r.old) (R.calls r.new) × IsFine (W.calls w.old) (W.calls w.new)) }
     ensures err { IfErr result (Stops (seen R.remaining R.calls r.old r.new) (seen W.contents W.calls w.old w.new)) }
+    // Of a script of version 1 the text is the lines of the replies to its steps, and these are a run.
+    ensures numbered { (b : List ℕ) → is_titled (lines b) ≡ false → text b ≡ numbered_text (lines b) }
+    ensures runs { (p : Pool) (asked : List Step) → AreRun p asked }
+    // Of both versions: the moves that lines ask for have the answers that the replies tell.
+    ensures moves { (ls : List (List ℕ)) → MakesMoves ls }
+    // In a script of version 2 each name stands for one task, and what is no task's name for a number that no task has.
+    ensures names { (b : List ℕ) → NamesTasks b }
+    // It is the task that was accepted where the name was given.
+    ensures given { (b : List ℕ) → KeepsNames b }
 {
     run(alloc, Stage::Start, r, w)
 }

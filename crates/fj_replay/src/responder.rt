@@ -15,9 +15,10 @@ use crate::naming::Naming;
 use crate::opening::open;
 use crate::replied::Replied;
 use crate::task_told::is_task;
+use crate::writing::write_all;
 use fj_machine::Machine;
 use fj_model::{Limits, LineFault, Name, OutOfMemory, Refusal, Said, Step};
-use fj_streams::{Sink, write_whole};
+use fj_streams::Sink;
 use std::alloc::Global;
 use std::marker::Model;
 
@@ -150,10 +151,7 @@ impl Responder {
     {
         self.line.clear();
         match self.naming.push_line(reply, &self.limits, &mut self.line) {
-            Ok(()) => match write_whole(w, self.line.as_bytes()) {
-                Ok(()) => Ok(()),
-                Err(_) => Err(ReplayFault::Write),
-            },
+            Ok(()) => write_all(w, self.line.as_bytes()),
             Err(_) => Err(ReplayFault::Memory),
         }
     }

@@ -14,9 +14,10 @@ use crate::fault::ReplayFault;
 use crate::named_step::push_named;
 use crate::opening::open;
 use crate::task_told::is_task;
+use crate::writing::write_all;
 use fj_machine::Machine;
 use fj_model::Step;
-use fj_streams::{Sink, write_whole};
+use fj_streams::Sink;
 use std::alloc::Global;
 use std::marker::Model;
 
@@ -89,10 +90,7 @@ impl Rewriter {
     {
         self.line.clear();
         match push_named(asked, self.count, &mut self.line) {
-            Ok(()) => match write_whole(w, self.line.as_bytes()) {
-                Ok(()) => Ok(()),
-                Err(_) => Err(ReplayFault::Write),
-            },
+            Ok(()) => write_all(w, self.line.as_bytes()),
             Err(_) => Err(ReplayFault::Memory),
         }
     }

@@ -1,27 +1,21 @@
-ghost use Rattle.std.specs.Prelude.{◌≡◌, ℕ, List, false, OnOk, OnErr, IfOk, IfErr};
+ghost use Rattle.std.specs.Prelude.{◌≡◌, OnOk, OnErr, IfOk, IfErr};
 ghost use Rattle.std.specs.Io.KnownBytes.{Appends};
 ghost use Rattle.fj_streams.specs.Calls.{IsFine};
 ghost use Rattle.fj_streams.specs.Beginnings.{AppendsSome};
 ghost use Rattle.fj_replay.specs.Sessions.{IsReplyFault};
 ghost use Rattle.fj_replay.specs.TaskNames.{titled_head};
 ghost use Rattle.fj_replay.specs.Tells.{WriterTells};
-ghost use Rattle.fj_replay.specs.Cuts.{lines};
 ghost use Rattle.fj_replay.specs.Plays.{is_title};
-ghost use Rattle.fj_replay.specs.Scripts.{AreRun, is_titled, numbered_text, text};
-ghost use Rattle.fj_model.specs.declared.step.Step.{Step};
-ghost use Rattle.fj_model.specs.Bounds.{Pool};
 
 use crate::fault::ReplayFault;
+use crate::writing::write_all;
 use fj_model::LINE_FEED;
-use fj_streams::{Sink, write_whole};
+use fj_streams::Sink;
 use std::alloc::{AllocError, Global};
 
 /// Whether a first line says that its script is of version 2.
 pub fn is_title(line: &[u8]) -> bool
-    ensures title { result ≡ is_title line.now }
-    // What is replied to a script of version 1 is the lines of the replies to its steps.
-    ensures numbered { (b : List ℕ) → is_titled (lines b) ≡ false → text b ≡ numbered_text (lines b) }
-    ensures runs { (p : Pool) (asked : List Step) → AreRun p asked }
+    ensures { result ≡ is_title line.now }
 {
     line == b"fj 2".as_slice()
 }
@@ -36,10 +30,7 @@ pub fn write_head<W: Sink>(alloc: Global, heading: &[u8], w: &mut W) -> Result<(
     ensures some { OnErr result (AppendsSome (W.contents w.old) (W.contents w.new) (titled_head heading.now)) }
 {
     match titled(alloc, heading) {
-        Ok(head) => match write_whole(w, head.as_slice()) {
-            Ok(()) => Ok(()),
-            Err(_) => Err(ReplayFault::Write),
-        },
+        Ok(head) => write_all(w, head.as_slice()),
         Err(_) => Err(ReplayFault::Memory),
     }
 }

@@ -1,4 +1,4 @@
-use Rattle.std.proofs.Common.{◌≡◌, ◌∙◌, ap, subst}
+use Rattle.std.proofs.Common.{◌≡◌, ◌∙◌, ap, map, subst}
 use Rattle.fj_model.specs.Pasts.{Past, fresh}
 use Rattle.fj_model.specs.Headline.{Headline}
 use Rattle.fj_model.specs.Epochs.{IsPast, MovesFrom}
@@ -6,6 +6,7 @@ use Rattle.fj_model.proofs.Headline.Headlines.{headline}
 use Rattle.fj_model.proofs.Completers.OwnFirings.{fires_by_complete_only_own}
 use Rattle.fj_model.proofs.Steps.Replies.{moves_tell}
 use Rattle.fj_model.proofs.Headline.Parting.{parts_joined, gone_joined}
+use Rattle.fj_machine.specs.Handed.{handed, shown}
 use Rattle.fj_machine.proofs.MoreSteps.MovesMore.{run_past}
 use Rattle.fj_machine.proofs.epochs.run_epochs.Goals as goal
 use Rattle.fj_machine.proofs.epochs.run_epochs.Goals.{In_ok-move_all}
@@ -36,6 +37,10 @@ returns-clause-events c = parts_joined c.move_all.new.parts.items c.move_all.new
 
 pub returns-clause-gone : goal.returns-clause-gone
 returns-clause-gone c = gone_joined c.move_all.new.parts.items c.move_all.new.machine (run (goal.at.returns-clause-gone c).In_ok-move_all) c.in_ok-move_all.ensures.parts
+
+pub returns-clause-handed : goal.returns-clause-handed
+returns-clause-handed c =
+    subst (λ m. map shown c.move_all.new.parts.items ≡ handed m c.args.moves.now c.move_all.new.answers.items) c.in-Ok.ensures.ok c.in_ok-move_all.ensures.handed
 
 pub returns-clause-place : goal.returns-clause-place
 returns-clause-place c = (holds (goal.at.returns-clause-place c).In_ok-move_all).place

@@ -1,0 +1,21 @@
+-- Which events and which gone tasks stand in which part of a run with seals.
+use Rattle.std.specs.Prelude.{ℕ, List, [], ◌∷◌}
+use Rattle.fj_model.specs.declared.event.Event.{Event}
+use Rattle.fj_model.specs.declared.epoch.Sealed.{Sealed as Part}
+use Rattle.fj_model.specs.declared.epoch.Move.{Move}
+use Rattle.fj_model.specs.declared.epoch.Move.TheVariants.{Step, Seal}
+use Rattle.fj_model.specs.declared.epoch.Answer.{Answer}
+use Rattle.fj_model.specs.declared.epoch.Answer.TheVariants.{Said, Sealed, Refused}
+use Rattle.fj_model.specs.Answers.{answer}
+use Rattle.fj_model.specs.Pasts.{Past, grown, present, gone_since, sealed_now}
+
+-- what a part has: its events, and its gone tasks
+abbrev pub shown : Part → List Event × List ℕ
+shown part = (part.events.items, part.gone.items)
+
+-- what these moves hand out from this past on, where these are their answers: at each seal that is made, what has happened since the one before
+unfoldable pub handed : Past → List Move → List Answer → List (List Event × List ℕ)
+handed past (Step asked ∷ moves) (Said reply ∷ answers) = handed (grown past (answer past asked).1) moves answers
+handed past (Seal ∷ moves) (Sealed ∷ answers) = (present past, gone_since past) ∷ handed (sealed_now past) moves answers
+handed past (Seal ∷ moves) (Refused refusal ∷ answers) = handed past moves answers
+handed past _ _ = []
