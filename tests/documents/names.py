@@ -1,7 +1,8 @@
 #!/usr/bin/env python3
 """Looks up what the documents name: each file and heading to which a link leads, each name, `Type::method` and path in their text, in the tables of
-docs/PROOFS.md each function, clause, definition and test, and under "What is proved" of a crate's page each function and clause. What a library
-exports has a doc comment, and is named on the page of its crate. Tells what is not there; the exit status is 1 if there is any.
+docs/PROOFS.md each function, clause, definition and test, and under "What is proved" of a crate's page each function and clause. So with paths from
+the top in comments of code. What a library exports has a doc comment, and is named on the page of its crate. Tells what is not there; the exit
+status is 1 if there is any.
 """
 import glob
 import os
@@ -152,6 +153,13 @@ def unknown_in_text(path, text, names):
             yield f"{word}: no such path"
 
 
+def unknown_in_code(text):
+    """The paths from the top that comments of code name and that are not there."""
+    for word in re.findall(r"`((?:bench|crates|docs|tests)/[\w./]+)`", text):
+        if not os.path.exists(f"{TOP}/{word}"):
+            yield f"{word}: no such path"
+
+
 def unknown_on_page(text, of, names):
     """The functions and the clauses that the page of a crate lists as proved and that are not there."""
     proved = text.partition("## What is proved")[2].partition("\n## ")[0]
@@ -190,6 +198,8 @@ def main():
         text = text_of(path)
         page = os.path.relpath(path, TOP)
         told += [f"{page}: {it}" for it in [*broken_links(path, text), *unknown_in_text(path, text, names), *unheard_in_text(text, words)]]
+    for path in files("", ".rt", ".rt.in", ".antt"):
+        told += [f"{os.path.relpath(path, TOP)}: {it}" for it in unknown_in_code(text_of(path))]
     for crate in crates:
         page = text_of(f"{TOP}/crates/{crate}/README.md")
         unknown = [*unknown_on_page(page, names[crate], names)]

@@ -75,7 +75,7 @@ fn numbers_tell_how_many_there_are(rt: HostRuntime) -> Result<(), Fail> {
     Ok(())
 }
 
-/// It allocates only where its queues are made, and `tests/refused_memory/queues.sh` refuses that.
+/// It allocates only where its queues are made, and `tests/refused_memory/makings.sh` refuses that.
 #[test]
 fn many_owners_share_two_cells(rt: HostRuntime) -> Result<(), Fail> {
     let mut queues = Queues::new(rt.alloc(), 64, 2)?;

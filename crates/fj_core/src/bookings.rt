@@ -7,7 +7,7 @@ use fj_model::{OutOfMemory, Serial};
 use std::alloc::Global;
 use std::marker::Model;
 
-/// What was taken in, in order, each found by its ticket without a walk.
+/// What was taken in, in order, each found by its ticket without a walk. Java has no counterpart: there a task is its own ticket.
 #[derive(Drop)]
 pub struct Bookings {
     list: Vec<Booking>,

@@ -27,7 +27,8 @@ pub use remains::Remains;
 use std::alloc::Global;
 use std::marker::Model;
 
-/// The store, the drains of the lanes, what was taken in, the closing number, and the sealed parts of the history.
+/// All of a pool that is behind its lock: the store, the drains of the lanes, what was taken in, the closing number, and the sealed parts of
+/// the history. Each call is one action of a worker, of who asks from outside, or of the lanes. Java has no counterpart: its pool has no lock.
 #[derive(Drop)]
 pub struct Core<B: Body> {
     store: Store<B>,

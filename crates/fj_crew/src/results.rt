@@ -5,7 +5,7 @@ ghost use Rattle.fj_crew.specs.Runs.{RefusesRun};
 use fj_model::{Refusal, Status};
 use fj_pool::{Body, Outcome};
 
-/// Why an outcome has no result.
+/// Why an outcome has no result. Java throws: `ForkJoinTask.getException`.
 #[derive(Clone, Copy, Debug, PartialEq)]
 pub enum NoResult {
     /// The task failed with this code.

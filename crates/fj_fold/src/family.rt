@@ -11,7 +11,7 @@ use std::alloc::Global;
 use std::marker::Model;
 
 /// A tree in which each node leads to its first child and to its next sibling, so that a body finds its children without a walk over all
-/// nodes.
+/// nodes. Java has no counterpart.
 #[derive(Drop)]
 pub struct Family {
     members: Vec<Member>,

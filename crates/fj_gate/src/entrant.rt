@@ -12,7 +12,7 @@ use std::sync::Arc;
 pub struct Entrant {
     pub(crate) table: Arc<Word>,
     pub(crate) token: Token,
-    /// How many tickets it may draw. Contracts alone ask for it.
+    /// How many tickets it may draw. No code reads it: the precondition of an admission speaks of it.
     pub(crate) each: u32,
     /// Whether it was told Closed, so that it never asks the word for a ticket again.
     pub(crate) told: bool,

@@ -1,6 +1,6 @@
 ghost use Rattle.std.specs.Prelude.{◌≡◌, ℕ, ◌<◌, IfOk, IfErr, true};
 
-/// A job that is a leaf, or is done by two smaller jobs.
+/// A job that is a leaf, or is done by two smaller jobs: what `RecursiveTask` is mostly used for.
 ///
 /// Its laws: splitting lowers `size`; the value of a job that splits is the combination of its halves' values, the left one first; the
 /// value of a leaf is its `leaf`; jobs with equal keys have equal values. So each job has one value, however it is computed.

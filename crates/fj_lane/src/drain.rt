@@ -42,7 +42,8 @@ impl<B> Model for Drain<B> {
 }
 
 impl<B> Drain<B> {
-    /// Takes the oldest parcel out of the lane, by one steal. It waits for nobody, and never runs out of memory.
+    /// Takes the oldest parcel out of the lane, by one steal, or by none once all that may be pushed was taken. It waits for nobody, and never
+    /// runs out of memory.
     ///
     /// Of the parcels pushed it is the one that follows those taken so far; where the ends meet that is seen. `None` only where the
     /// lane was empty at one moment of the call, or the steal answered `Retry`. Then the count of misses has grown by one, and

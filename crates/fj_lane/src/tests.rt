@@ -129,7 +129,7 @@ fn a_body_comes_out_as_it_went_in(rt: HostRuntime) -> Result<(), Fail> {
     Ok(())
 }
 
-/// `tests/refused_memory/lane.sh` runs this with memory refused once the lane is made.
+/// `tests/refused_memory/makings.sh` runs this with memory refused once the lane is made.
 #[test]
 fn a_hundred_parcels_in_order(rt: HostRuntime) -> Result<(), Fail> {
     let (mut feed, mut drain) = lane::<u64>(rt.alloc(), 100)?;

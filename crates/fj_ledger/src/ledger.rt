@@ -73,7 +73,7 @@ impl Model for Ledger {
 }
 
 impl Ledger {
-    /// A ledger to which nothing has happened. All the memory that its updates need is taken here.
+    /// A ledger to which nothing has happened. All the memory that its updates need is taken here; `OutOfMemory` where it is refused.
     pub fn new(alloc: Global, mode: Mode, limits: Limits) -> Result<Ledger, OutOfMemory>
         ensures { IfOk result (λ l. l ≡ fresh mode limits) }
     {
@@ -169,6 +169,7 @@ impl Ledger {
         ensures record { MatchOption (option_copied result) (is_kept self.now.events t.serial ≡ false) (TellsOf self.now.events t.serial) }
         ensures lawful { IsLawful self.now.pool (limit self.now) self.now.events }
     {
+        // That the ledger's invariant holds has to be seen here.
         let _ = &self.mode;
         self.tree.look(t)
     }

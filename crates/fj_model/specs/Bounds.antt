@@ -6,7 +6,7 @@ use Rattle.fj_model.specs.declared.mode.Mode.{Mode}
 use Rattle.fj_model.specs.declared.owner.Owner.{Owner}
 use Rattle.fj_model.specs.declared.owner.Owner.TheVariants.{Sub, Work}
 
--- how many workers and submitters there are, how many tasks may be kept, and how many events a history may have
+-- how many workers and submitters there are, how many tasks may be kept, and how many events there may be since the last seal
 pub record Bounds : Type 0 where
   pub workers : ℕ
   pub submitters : ℕ

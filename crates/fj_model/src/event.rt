@@ -29,7 +29,7 @@ pub enum Event {
     Add(Serial, u32),
     /// The pending count of the completer fell by one.
     Dec(Serial),
-    /// The completion action of the completer was handed out.
+    /// The completion action of the completer was handed out: its `CountedCompleter.onCompletion`.
     Fire(Serial, How),
     /// A climb passed the completer without its completion action.
     Pass(Serial),

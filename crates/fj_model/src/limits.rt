@@ -97,7 +97,7 @@ impl Limits {
         self.tasks
     }
 
-    /// How many events a history may have.
+    /// How many events there may be between two seals of a history.
     pub fn events(&self) -> u32
         ensures number { result ≡ self.now.events }
     {

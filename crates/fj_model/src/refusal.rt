@@ -1,6 +1,7 @@
 use thiserror::Error;
 
-/// Why a call was refused. A refused call changes nothing.
+/// Why a call was refused. A refused call changes nothing, but for two marks: a submitter keeps that it was told `Closed`, a pool that it is
+/// stuck.
 ///
 /// Where several hold, a step is answered the first in this order: `NoSuch`, `NotIdle`, `NotRunning`, `Unknown`, `NotCompleter`,
 /// `NotDone`, `OwnStack`, `Closed`, `CountTooLarge`, `TooManyTasks`, `LogFull`.

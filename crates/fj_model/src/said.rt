@@ -18,7 +18,7 @@ pub enum Said {
     Done,
     /// The pending count of this completer fell by one.
     Counted(Serial),
-    /// The completion action of this completer is handed out.
+    /// The completion action of this completer is handed out: its `CountedCompleter.onCompletion` is to be called.
     Hook(Serial),
     /// This completer had fired, was passed or is done: nothing changed at it.
     Spent(Serial),

@@ -7,11 +7,11 @@ use std::fmt;
 pub enum Status {
     /// Not completed yet.
     Undone,
-    /// Completed without a fault.
+    /// Completed without a fault: `ForkJoinTask.isCompletedNormally`.
     Normal,
     /// Completed with a fault, of this code.
     Exceptional(u32),
-    /// Cancelled.
+    /// Cancelled: `ForkJoinTask.isCancelled`.
     Cancelled,
 }
 

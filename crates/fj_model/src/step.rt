@@ -40,7 +40,7 @@ pub enum Step {
     // end: a body or a completion action ends
     /// The body of a worker's running task ends.
     End { w: WorkerId, ending: Ending },
-    /// The completion action in a worker's hand ends.
+    /// The completion action in a worker's hand ends: `CountedCompleter.onCompletion` returns.
     HookDone { w: WorkerId },
     // completer: a count is raised, or a root made normal
     /// `CountedCompleter.addToPendingCount`.

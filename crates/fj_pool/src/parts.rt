@@ -14,7 +14,8 @@ use fj_store::Body;
 use std::alloc::Global;
 use std::marker::Model;
 
-/// All that a pool is made of. `Pool::open` puts it together, under a name that the caller picks.
+/// All that a pool is made of. `Pool::open` puts it together, under a name that the caller picks. In Java that is one call, the constructor of
+/// `ForkJoinPool`.
 #[derive(Drop)]
 pub struct Parts<B: Body> {
     pub(crate) core: Core<B>,

@@ -20,7 +20,8 @@ struct Begun<B> {
 
 /// What a worker holds: the bodies that it has begun, each under its task's number, and the hook that it runs, with its body.
 ///
-/// The last body on the stack is the running one; the others wait for tasks that they joined. No call after `new` takes memory.
+/// The last body on the stack is the running one; the others wait for tasks that they joined. No call after `new` takes memory. In Java it is
+/// the stack of a `ForkJoinWorkerThread`.
 #[derive(Drop)]
 pub struct Hand<B> {
     worker: WorkerId,

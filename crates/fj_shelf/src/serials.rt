@@ -7,7 +7,7 @@ use std::alloc::{AllocError, Global};
 use std::marker::Model;
 
 /// Task numbers in the order in which they came, each once, with room that is taken when it is made. Whether a number is there is told
-/// without a walk over the others.
+/// without a walk over the others. Java has no counterpart.
 #[derive(Drop)]
 pub struct Serials {
     numbers: Vec<Serial>,

@@ -7,7 +7,7 @@ use fj_model::Serial;
 use std::alloc::{AllocError, Global};
 use std::marker::Model;
 
-/// Entries under task numbers, with room that is taken when it is made.
+/// Entries under task numbers, with room that is taken when it is made. Java has no counterpart: there an entry is a field of its task.
 ///
 /// An entry is looked for in the slot at its number modulo the room. What finds that slot filled by another number stands aside in a list,
 /// which is empty as long as no two numbers are as far apart as there is room.

@@ -22,7 +22,8 @@ use fj_shelf::{Serials, Shelf};
 use std::alloc::Global;
 use std::marker::Model;
 
-/// A machine, the bodies that no worker holds, the results that were not taken, and the tasks that wait for their release.
+/// A machine, the bodies that no worker holds, the results that were not taken, and the tasks that wait for their release. In Java a task is
+/// its body and holds its result, and is garbage once nobody refers to it.
 ///
 /// A call that a body asks for answers the refusal of its step as the machine gives it, and then nothing has changed. Once the store is stuck
 /// it answers `Stuck`, with the body that came, and nothing changes.

@@ -28,6 +28,20 @@ impl<T> Watched<T> {
     }
 }
 
+impl<T> Watched<T> {
+    /// Counts a call that ended with this error.
+    fn count(&mut self, e: &io::Error)
+        ensures inner { self.new.inner ≡ self.old.inner }
+        ensures counts { ErrorCounts (Some (record { failed = self.old.failed; again = self.old.again })) (Some (record { failed = self.new.failed; again = self.new.again })) e.now }
+    {
+        if e.kind() == ErrorKind::Interrupted {
+            self.again.add_one();
+        } else {
+            self.failed.add_one();
+        }
+    }
+}
+
 impl<R: Read> Source for Watched<R> {
     ghost remaining = { λ r. R.remaining r.inner };
 
@@ -41,11 +55,7 @@ impl<R: Read> Source for Watched<R> {
                 Ok(n)
             }
             Err(e) => {
-                if e.kind() == ErrorKind::Interrupted {
-                    self.again.add_one();
-                } else {
-                    self.failed.add_one();
-                }
+                self.count(&e);
                 Err(e)
             }
         }
@@ -66,11 +76,7 @@ impl<W: Write> Sink for Watched<W> {
                 Ok(n)
             }
             Err(e) => {
-                if e.kind() == ErrorKind::Interrupted {
-                    self.again.add_one();
-                } else {
-                    self.failed.add_one();
-                }
+                self.count(&e);
                 Err(e)
             }
         }
@@ -80,11 +86,7 @@ impl<W: Write> Sink for Watched<W> {
         match self.inner.flush() {
             Ok(()) => Ok(()),
             Err(e) => {
-                if e.kind() == ErrorKind::Interrupted {
-                    self.again.add_one();
-                } else {
-                    self.failed.add_one();
-                }
+                self.count(&e);
                 Err(e)
             }
         }

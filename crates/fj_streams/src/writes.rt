@@ -30,7 +30,7 @@ fn write_some<W: Sink>(w: &mut W, bytes: &[u8]) -> io::Result<usize>
     Err(io::Error::from(ErrorKind::WriteZero))
 }
 
-/// Writes all bytes. At an error a first part of them was written: the writer failed, or took nothing.
+/// Writes all bytes: `Write::write_all`. At an error a first part of them was written: the writer failed, or took nothing.
 #[tactic(auto, using(crate::proofs::Bytes::appends_more))]
 pub fn write_whole<W: Sink>(w: &mut W, bytes: &[u8]) -> io::Result<()>
     ensures ok { OnOk result (Appends (W.contents w.old) (W.contents w.new) bytes.now) }
@@ -45,7 +45,7 @@ pub fn write_whole<W: Sink>(w: &mut W, bytes: &[u8]) -> io::Result<()>
     Ok(())
 }
 
-/// Flushes, and tries again where it was interrupted.
+/// Flushes, and tries again where it was interrupted. An error where the flush failed otherwise: `Write::flush`.
 #[tactic(auto, using(crate::proofs::Bytes::keeps_self, crate::proofs::Bytes::keeps_twice))]
 pub fn flush_whole<W: Sink>(w: &mut W) -> io::Result<()>
     ensures bytes { Keeps (W.contents w.old) (W.contents w.new) }

@@ -1,7 +1,11 @@
 use fj_model::Serial;
 use std::alloc::{AllocError, Global};
 
-/// Where to look first for the record of a number: the key under which the last number was put that has the same rest by 16,384.
+/// How many cells the table has.
+const CELLS: usize = 16_384;
+
+/// Where to look first for the record of a number: the key under which the last number was put that has the same rest by
+/// `CELLS`.
 ///
 /// It is a guess, which the record at the key confirms or not. So nothing has to hold of it.
 #[derive(Drop)]
@@ -13,13 +17,13 @@ impl Hints {
     /// Nothing was put so far.
     pub fn new(alloc: Global) -> Result<Hints, AllocError> {
         Ok(Hints {
-            keys: Vec::from_elem(alloc, 0, 16384)?,
+            keys: Vec::from_elem(alloc, 0, CELLS)?,
         })
     }
 
     /// The key to look at first for a number.
     pub fn key(&self, serial: Serial) -> usize {
-        match self.keys.get((serial.0 & 16383) as usize) {
+        match self.keys.get(cell_of(serial)) {
             Some(key) => usize::from(*key),
             None => 0,
         }
@@ -27,8 +31,14 @@ impl Hints {
 
     /// The record of this number was put at this key.
     pub fn put(&mut self, serial: Serial, key: usize) {
-        if let Some(hint) = self.keys.get_mut((serial.0 & 16383) as usize) {
-            *hint = (key % 65536) as u16;
+        if let Some(hint) = self.keys.get_mut(cell_of(serial)) {
+            // Keys are below the room of a tree. One that has more than 16 bits is no good guess, and costs a search.
+            *hint = (key % 65_536) as u16;
         }
     }
+}
+
+/// The cell of a number.
+fn cell_of(serial: Serial) -> usize {
+    (serial.0 % CELLS as u64) as usize
 }

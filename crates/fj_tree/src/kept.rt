@@ -37,7 +37,8 @@ impl Model for Kept {
 }
 
 impl Kept {
-    /// No numbers, with room for those of so many kept records, which is all the memory that is ever taken.
+    /// No numbers, with room for those of so many kept records, which is all the memory that is ever taken. `OutOfMemory` where it is
+    /// refused.
     pub fn new(alloc: Global, room: usize) -> Result<Kept, OutOfMemory>
         ensures { IfOk result (λ k. k ≡ record { pairs = []; room = room; released = 0 }) }
     {
@@ -87,7 +88,7 @@ impl Kept {
 
     /// A record was released, and these are left. Once as many were released as there is room for, the list is closed up: each release
     /// pays for a part of it.
-    pub fn release(&mut self, records: &Slab<Record>)
+    pub(crate) fn release(&mut self, records: &Slab<Record>)
         ensures left { self.new ≡ after_release records.now.slots self.old }
         ensures room { self.new.room ≡ self.old.room }
         ensures rising { IsRising self.old.pairs }

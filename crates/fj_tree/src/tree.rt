@@ -116,6 +116,7 @@ impl Tree {
         ensures absent { IfNone result (HasNone self.now serial) }
         ensures sound { IsSound self.now }
     {
+        // The records are sound by the invariant, which has to be seen here.
         let _ = &self.records;
         let guess = Handle {
             key: self.hints.key(serial),
