@@ -1,5 +1,6 @@
 -- Why nothing was built.
 use Rattle.std.specs.Prelude.{ℕ, ◌≡◌, ◌≤◌, ◌⊎◌, ⊤}
+use Rattle.fj_model.specs.declared.refusal.Refusal.TheVariants.{BadLimits}
 use Rattle.fj_crew.specs.Runs.{RefusesRun}
 use Rattle.fj_crew.specs.declared.results.NoResult.{NoResult}
 use Rattle.fj_crew.specs.declared.results.NoResult.TheVariants as none
@@ -14,5 +15,5 @@ fault_of none.Missing = Lost
 -- of so many targets, by so many workers: there is no target, or no such number of workers; or a run is refused, or has no result
 abbrev pub IsTold : ℕ → ℕ → Fault → Type 0
 IsTold targets workers NoTarget = targets ≡ 0
-IsTold targets workers (Refused r) = ((1 ≤ workers) × (workers ≤ 32) → ⊥) ⊎ RefusesRun r
+IsTold targets workers (Refused r) = (((1 ≤ workers) × (workers ≤ 32) → ⊥) × (r ≡ BadLimits)) ⊎ RefusesRun r
 IsTold targets workers _ = ⊤

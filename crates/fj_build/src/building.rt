@@ -1,4 +1,4 @@
-ghost use Rattle.std.specs.Prelude.{◌≡◌, ◌≤◌, IfErr, IfOk, IfSome, OnOk, length, slice_get};
+ghost use Rattle.std.specs.Prelude.{◌≡◌, ◌<◌, ◌≤◌, IfErr, IfOk, IfSome, OnOk, length, slice_get};
 ghost use Rattle.fj_build.specs.Artifacts.{IsBuilt, IsRight};
 ghost use Rattle.fj_build.specs.Faults.{IsTold};
 
@@ -32,6 +32,7 @@ pub fn build<R: Threads + Wait + Sync>(
     plan: &[Target],
 ) -> Result<Artifact, Fault>
     ensures built { IfOk result (λ a. IfSome (slice_get plan.now 0) (λ t. ∥ IsBuilt t a ∥₁)) }
+    ensures first { OnOk result (0 < length plan.now) }
     ensures workers { OnOk result ((1 ≤ workers) × (workers ≤ 32)) }
     ensures err { IfErr result (λ fault. IsTold (length plan.now) workers fault) }
 {

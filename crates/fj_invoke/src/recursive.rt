@@ -188,7 +188,7 @@ impl<J: Divide> Body for Recursive<J> {
     fn turn(&mut self, heard: Heard<Recursive<J>>) -> Ask<Recursive<J>>
         requires { HeardRight (λ k o. o ≡ J.value k) heard }
         ensures key { self.new.key ≡ self.old.key }
-        ensures rooted { self.new.key ≡ self.old.key }
+        ensures rooted { ◌≡◌ {A = Option ℕ} None None }
         ensures right { AskRight (λ k o. o ≡ J.value k) self.old.key result }
         ensures nearer { Nearer (turns_of J.size (vec_len self.new.lefts) self.new.stage) (turns_of J.size (vec_len self.old.lefts) self.old.stage) result }
         ensures failing { AsksFailing J.Key.eq self.old.stage heard result }

@@ -1,5 +1,6 @@
 -- Why an event has no level.
-use Rattle.std.specs.Prelude.{ℕ, ◌≤◌, ◌⊎◌, ⊤}
+use Rattle.std.specs.Prelude.{ℕ, ◌≡◌, ◌≤◌, ◌⊎◌, ⊤}
+use Rattle.fj_model.specs.declared.refusal.Refusal.TheVariants.{BadLimits}
 use Rattle.fj_crew.specs.Runs.{RefusesRun}
 use Rattle.fj_crew.specs.declared.results.NoResult.{NoResult}
 use Rattle.fj_crew.specs.declared.results.NoResult.TheVariants as none
@@ -13,5 +14,5 @@ fault_of none.Missing = Lost
 
 -- there is no such number of workers; or a run is refused, or has no result
 abbrev pub IsTold : ℕ → Fault → Type 0
-IsTold workers (Refused r) = ((1 ≤ workers) × (workers ≤ 32) → ⊥) ⊎ RefusesRun r
+IsTold workers (Refused r) = (((1 ≤ workers) × (workers ≤ 32) → ⊥) × (r ≡ BadLimits)) ⊎ RefusesRun r
 IsTold workers _ = ⊤
