@@ -12,7 +12,7 @@ impl<B: Body, N: Naming> Pool<B, N> {
     /// key beside it.
     ///
     /// A task keeps its place among the live tasks until its outcome was told. So where more is submitted than there are places, the
-    /// outcomes are to be asked for in the order of the submissions, or by as many threads.
+    /// outcomes of each submitter are to be asked for in the order of its submissions, and those of several submitters by as many threads.
     ///
     /// `Unknown` where the outcome was told before, where a body has had the result by a join or a take, or where the pool was shut down or
     /// stopped and all that was admitted was taken in, nothing of it under this ticket. `LogFull` where the core is stuck.
