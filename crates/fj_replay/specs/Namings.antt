@@ -20,7 +20,7 @@ use Rattle.fj_replay.specs.declared.naming.Naming.TheVariants.{Numbers, Names}
 use Rattle.fj_replay.specs.declared.replied.Replied.{Replied}
 use Rattle.fj_replay.specs.declared.replied.Replied.TheVariants.{Said as Says, NameTaken, Sealed, Epoch}
 
--- ---- from names to numbers. Names stand in the order in which their tasks were accepted, so each stands at its task's number
+-- ---- from names to numbers. Names stand in the order in which their tasks were accepted, so each stands at its task's number (`AreNamesOf`)
 
 -- the number of the task with this name. A name that belongs to no task stands for the next number, which no task has yet
 abbrev pub number_of : List (List ℕ) → List ℕ → ℕ
