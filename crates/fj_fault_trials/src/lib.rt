@@ -11,6 +11,8 @@ mod failing_tests;
 #[cfg(test)]
 mod folds;
 #[cfg(test)]
+mod making_tests;
+#[cfg(test)]
 mod stop_tests;
 #[cfg(test)]
 mod sums;

@@ -1,0 +1,61 @@
+ghost use Rattle.std.specs.Prelude.{◌≡◌};
+ghost use Rattle.fj_pool.specs.Lanes.{lanes_of};
+
+use fj_invoke::{BlockedRange, Limits, Mode, RangeSum, Recursive};
+use fj_pool::{Naming, Parts, Pool, Rest, Submitter};
+use std::alloc::Global;
+use std::marker::Brand;
+use std::test::Fail;
+
+/// The bodies of the pool.
+type Sum = Recursive<RangeSum>;
+
+/// Hands three bodies to each submitter.
+fn hand_in<N: Naming>(alloc: Global, submitters: &mut [Submitter<Sum, N>]) {
+    for submitter in submitters {
+        for number in 1..=3 {
+            let range = BlockedRange::new(number, number, 1);
+            let _answer = submitter.submit(Recursive::new(alloc, RangeSum { range }));
+        }
+    }
+}
+
+/// How many bodies stand in the lanes, of which none has more than three.
+fn count(lanes: Vec<Rest<Sum>>) -> u64 {
+    let mut bodies = 0u64;
+    for mut lane in lanes {
+        for _ in 0..3 {
+            if lane.next().is_some() {
+                bodies = bodies.saturating_add(1);
+            }
+        }
+    }
+    bodies
+}
+
+/// Opens a pool, hands bodies in while no worker is at work, and winds it up: how many were admitted, and how many stand in the lanes.
+/// Preconditions: the name is that of the parts.
+fn handed_in<N: Naming>(alloc: Global, parts: Parts<Sum>) -> Result<(u64, u64), Fail>
+    requires gate { N.gate ≡ parts.closer.gate }
+    requires lanes { N.lanes ≡ lanes_of parts.core.lanes }
+    requires pool { N.pool ≡ parts.core.store.past.pool }
+{
+    let (pool, _hands, mut submitters, closer) = Pool::<Sum, N>::open(alloc, parts)?;
+    hand_in(alloc, &mut submitters);
+    if pool.are_all(submitters.as_slice()) {
+        let record = pool.wind_up(submitters, closer);
+        return Ok((record.admitted, count(record.lanes)));
+    }
+    Err("other submitters".into())
+}
+
+/// A pool is made, with lanes of two bodies, and wound up. `tests/refused_memory/makings.sh` refuses it its memory.
+#[test]
+fn a_pool_is_made_and_wound_up(rt: HostRuntime) -> Result<(), Fail> {
+    let limits = Limits::new(2, 2, 8, 32)?;
+    let parts = Parts::new(rt.alloc(), Mode::Async, limits, 2, 0)?;
+    let (admitted, left) = handed_in::<Brand>(rt.alloc(), parts)?;
+    assert_eq!(rt; admitted, 4);
+    assert_eq!(rt; left, 4);
+    Ok(())
+}
