@@ -3,10 +3,9 @@ ghost use Rattle.std.specs.Prelude.{◌≡◌};
 
 use crate::guarded::Guarded;
 use crate::naming::Naming;
-use crate::wake::Wake;
-use crate::wanted::Wanted;
 use fj_model::Serial;
 use fj_store::Body;
+use fj_waiting::{Wake, Wanted};
 
 impl<B: Body, N: Naming> Guarded<B, N> {
     /// Who is to be woken by all that was done since the last call.
