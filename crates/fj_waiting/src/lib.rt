@@ -20,3 +20,6 @@ pub use idle::Idle;
 pub use sleeps::Sleeps;
 pub use wake::{Wake, Woken};
 pub use wanted::Wanted;
+
+#[cfg(test)]
+mod tests;
