@@ -88,6 +88,18 @@ impl<B: Body, N: Naming> Guarded<B, N> {
         self.tell_awaiting();
     }
 
+    /// An outcome is told: whoever awaits the same ticket is to be woken, to be told that it was told before, and who joined its task, which
+    /// may be released now. Before the shutdown or the stop of the pool there may be room now for what stands in the lanes, into which those
+    /// look who wait in joins.
+    pub fn outcome_told(&mut self)
+        ensures { self.new ≡ self.old }
+    {
+        self.tasks_ended();
+        if self.waits.closing && !self.core.is_shut() {
+            self.waits.join_ended();
+        }
+    }
+
     /// Whether somebody may await the outcome of this task.
     fn may_be_awaited(&self, t: Serial) -> bool {
         match self.waits.awaited {
