@@ -9,7 +9,7 @@ cd "$(dirname "${BASH_SOURCE[0]}")/.."
 
 runs=${RUNS:-5}
 limit=60
-crates=(fj_model fj_streams fj_queues fj_tree fj_ledger fj_machine fj_gate fj_lane fj_shelf fj_store fj_core fj_pool fj_jobs fj_primes fj_crew fj_invoke fj_fold)
+crates=(fj_model fj_streams fj_queues fj_tree fj_ledger fj_machine fj_gate fj_lane fj_shelf fj_store fj_core fj_waiting fj_pool fj_jobs fj_primes fj_crew fj_invoke fj_fold)
 declare -A program_of
 
 . bench/loader.sh

@@ -6,7 +6,11 @@ mod job_tests;
 #[cfg(test)]
 mod name_tests;
 #[cfg(test)]
+mod read_tests;
+#[cfg(test)]
 mod stream_tests;
+#[cfg(test)]
+mod streams;
 #[cfg(test)]
 mod test_rows;
 #[cfg(test)]
@@ -15,3 +19,5 @@ mod tests;
 mod upgrade_tests;
 #[cfg(test)]
 mod word_tests;
+#[cfg(test)]
+mod write_tests;

@@ -12,23 +12,18 @@
 #![tactic(auto)]
 
 mod closer;
-mod contention;
 mod effect;
 mod guarded;
-mod idle;
 mod naming;
 mod next;
 mod parts;
 mod pool;
 mod record;
 mod seat;
-mod sleeps;
 mod submitter;
 mod turns;
 mod turnstile;
 mod waits;
-mod wake;
-mod wanted;
 
 pub use closer::Closer;
 pub use fj_core::{Archive, Booking, Bookings, Core, Intake};

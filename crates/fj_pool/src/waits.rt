@@ -1,7 +1,6 @@
-use crate::wake::{Wake, Woken};
-use crate::wanted::Wanted;
 use fj_gate::Ticket;
 use fj_model::Serial;
+use fj_waiting::{Wake, Wanted, Woken};
 
 /// What those sleep for who wait until a task is done, and who is to be woken once the lock is free. It stands behind the lock of a pool, so
 /// that nobody is woken whose wait cannot have ended.

@@ -58,8 +58,7 @@ impl<B: Body, N: Naming> Guarded<B, N> {
     {
         let answer = self.core.collect(ticket);
         match answer {
-            // Whoever awaits the same ticket is told now that it was told before.
-            Some(_) => self.tasks_ended(),
+            Some(_) => self.outcome_told(),
             None => self.waits.awaited = self.waits.awaited.and(ticket),
         }
         answer

@@ -3,10 +3,9 @@ ghost use Rattle.std.specs.Prelude.{◌≡◌};
 
 use crate::guarded::Guarded;
 use crate::naming::Naming;
-use crate::wake::Wake;
-use crate::wanted::Wanted;
 use fj_model::Serial;
 use fj_store::Body;
+use fj_waiting::{Wake, Wanted};
 
 impl<B: Body, N: Naming> Guarded<B, N> {
     /// Who is to be woken by all that was done since the last call.
@@ -87,6 +86,18 @@ impl<B: Body, N: Naming> Guarded<B, N> {
         }
         self.tell_joining();
         self.tell_awaiting();
+    }
+
+    /// An outcome is told: whoever awaits the same ticket is to be woken, to be told that it was told before, and who joined its task, which
+    /// may be released now. Before the shutdown or the stop of the pool there may be room now for what stands in the lanes, into which those
+    /// look who wait in joins.
+    pub fn outcome_told(&mut self)
+        ensures { self.new ≡ self.old }
+    {
+        self.tasks_ended();
+        if self.waits.closing && !self.core.is_shut() {
+            self.waits.join_ended();
+        }
     }
 
     /// Whether somebody may await the outcome of this task.

@@ -1,10 +1,10 @@
 //! How the lock is taken.
-use crate::contention::Contention;
 use crate::guarded::Guarded;
 use crate::naming::Naming;
 use crate::pool::Pool;
 use crossbeam_utils::Backoff;
 use fj_store::Body;
+use fj_waiting::Contention;
 use std::sync::{MutexGuard, Wait};
 
 /// After as many pauses and yields a `Backoff` is completed. The lock is looked for before each of them, and once more behind the last.

@@ -2,18 +2,16 @@
 ghost use Rattle.std.specs.Prelude.{IfSome};
 ghost use Rattle.fj_pool.specs.Turning.{MayAsk, NextRight};
 
-use crate::contention::Contention;
 use crate::guarded::Guarded;
-use crate::idle::Idle;
 use crate::naming::Naming;
 use crate::next::{Next, Unneeded};
 use crate::pool::Pool;
 use crate::turns::take_turn;
 use crate::turnstile::Turnstile;
-use crate::wake::Wake;
 use fj_model::Refusal;
 use fj_shelf::Hand;
 use fj_store::{Ask, Body, Heard};
+use fj_waiting::{Contention, Idle, Wake};
 use std::sync::{MutexGuard, Wait};
 use std::thread;
 use std::time::Duration;

@@ -1,3 +1,7 @@
+ghost use Rattle.std.specs.Prelude.{◌≡◌, ◌≤◌, ◌*◌, IfSome};
+ghost use Rattle.std.specs.Duration.{as_nanos};
+ghost use Rattle.fj_waiting.specs.declared.idle.TheConstants.{LONGEST_SLEEP};
+
 use crate::sleeps::Sleeps;
 use std::time::Duration;
 
@@ -17,6 +21,7 @@ pub struct Idle {
     rounds: u32,
     sleeps: Sleeps,
     resting: bool,
+    ghost longest: { sleeps.longest ≡ LONGEST_SLEEP },
 }
 
 impl Idle {
@@ -37,7 +42,9 @@ impl Idle {
     }
 
     /// It rests. How long to sleep before the next look; none where a yield is enough.
-    pub fn next_sleep(&mut self) -> Option<Duration> {
+    pub fn next_sleep(&mut self) -> Option<Duration>
+        ensures { IfSome result (λ sleep. as_nanos sleep ≤ LONGEST_SLEEP * 1_000) }
+    {
         self.resting = true;
         if self.rounds < YIELDS {
             self.rounds += 1;

@@ -1,3 +1,6 @@
+ghost use Rattle.std.specs.Prelude.{◌≡◌, true};
+ghost use Rattle.fj_waiting.specs.Waking.{wakes_all, wakes_some};
+
 /// How many of those who sleep on a condition variable are woken.
 #[derive(Clone, Copy)]
 pub enum Woken {
@@ -19,7 +22,10 @@ pub struct Wake {
 
 impl Woken {
     /// One more, who may be the same one.
-    pub fn and_one(self) -> Woken {
+    pub fn and_one(self) -> Woken
+        ensures some { wakes_some result ≡ true }
+        ensures all { wakes_all result ≡ wakes_all self }
+    {
         match self {
             Woken::Everybody => Woken::Everybody,
             _ => Woken::One,
@@ -29,7 +35,9 @@ impl Woken {
 
 impl Wake {
     /// Nobody is woken.
-    pub fn nobody() -> Wake {
+    pub fn nobody() -> Wake
+        ensures { result ≡ record { idle = Woken.Nobody; joining = Woken.Nobody; awaiting = Woken.Nobody } }
+    {
         Wake {
             idle: Woken::Nobody,
             joining: Woken::Nobody,
@@ -38,7 +46,9 @@ impl Wake {
     }
 
     /// All are woken.
-    pub fn everybody() -> Wake {
+    pub fn everybody() -> Wake
+        ensures { result ≡ record { idle = Woken.Everybody; joining = Woken.Everybody; awaiting = Woken.Everybody } }
+    {
         Wake {
             idle: Woken::Everybody,
             joining: Woken::Everybody,

@@ -1,3 +1,7 @@
+ghost use Rattle.std.specs.Prelude.{◌≡◌, ◌≤◌, ◌*◌};
+ghost use Rattle.std.specs.Duration.{as_nanos};
+ghost use Rattle.fj_waiting.specs.declared.contention.TheConstants.{LONGEST_SLEEP};
+
 use crate::sleeps::Sleeps;
 use std::time::Duration;
 
@@ -21,6 +25,7 @@ const LONGEST_SLEEP: u64 = 256;
 pub struct Contention {
     in_a_row: u32,
     sleeps: Sleeps,
+    ghost longest: { sleeps.longest ≡ LONGEST_SLEEP },
 }
 
 impl Contention {
@@ -50,7 +55,9 @@ impl Contention {
     }
 
     /// For how long the worker gives way.
-    pub fn next_sleep(&mut self) -> Duration {
+    pub fn next_sleep(&mut self) -> Duration
+        ensures { as_nanos result ≤ LONGEST_SLEEP * 1_000 }
+    {
         self.sleeps.next_sleep()
     }
 }

@@ -1,0 +1,4 @@
+-- what somebody sleeps for
+pub mod Sought
+-- who is woken
+pub mod Waking
