@@ -114,6 +114,7 @@ impl Ledger {
     }
 
     /// The tasks that a worker holds, the oldest first. There are none for a worker that is not there.
+    #[inline(always)]
     pub fn stack(&self, w: WorkerId) -> &[Serial]
         ensures { result.now ≡ stack self.now.events w }
     {
@@ -147,6 +148,7 @@ impl Ledger {
     }
 
     /// A handle of a task, kept or not. If the task is kept, its record is found at once by it.
+    #[inline(always)]
     pub fn named(&self, t: Serial) -> Handle
         ensures { result.serial ≡ t }
     {
@@ -157,6 +159,7 @@ impl Ledger {
     }
 
     /// The handle of a kept task. None if the task was never accepted, or was released.
+    #[inline(always)]
     pub fn kept(&self, t: Serial) -> Option<Handle>
         ensures kept { MatchOption result (is_kept self.now.events t ≡ false) (λ h. (h.serial ≡ t) × (is_kept self.now.events t ≡ true)) }
         ensures lawful { IsLawful self.now.pool (limit self.now) self.now.events }
@@ -165,6 +168,7 @@ impl Ledger {
     }
 
     /// The record of a task by its handle. None if the task was never accepted, or was released.
+    #[inline(always)]
     pub fn look(&self, t: Handle) -> Option<&Record>
         ensures record { MatchOption (option_copied result) (is_kept self.now.events t.serial ≡ false) (TellsOf self.now.events t.serial) }
         ensures lawful { IsLawful self.now.pool (limit self.now) self.now.events }
@@ -175,6 +179,7 @@ impl Ledger {
     }
 
     /// The record of a task by its handle. Precondition: the task is kept.
+    #[inline(always)]
     pub fn record(&self, t: Handle) -> &Record
         requires { is_kept self.now.events t.serial ≡ true }
         ensures { TellsOf self.now.events t.serial result.now }
@@ -183,6 +188,7 @@ impl Ledger {
     }
 
     /// The running task of a worker: the newest that it holds. None for a worker that is not there.
+    #[inline(always)]
     pub fn running(&self, w: WorkerId) -> Option<Serial>
         ensures { result ≡ running self.now.events w }
     {
@@ -190,6 +196,7 @@ impl Ledger {
     }
 
     /// The completion action in a worker's hand. Precondition: there is such a worker.
+    #[inline(always)]
     pub fn hook(&self, w: WorkerId) -> Option<Hook>
         requires { w < self.now.pool.limits.workers }
         ensures hand { option_map (λ k. k.completer) result ≡ hand self.now.events w }
@@ -200,6 +207,7 @@ impl Ledger {
     }
 
     /// How large the pool may grow.
+    #[inline(always)]
     pub fn limits(&self) -> Limits
         ensures { result ≡ self.now.pool.limits }
     {
@@ -207,6 +215,7 @@ impl Ledger {
     }
 
     /// Whether there is such a worker.
+    #[inline(always)]
     pub fn has_worker(&self, w: WorkerId) -> bool
         ensures there { result ≡ nat_lt w self.now.pool.limits.workers }
         ensures lawful { IsLawful self.now.pool (limit self.now) self.now.events }
@@ -223,6 +232,7 @@ impl Ledger {
     }
 
     /// Whether submissions are refused: there was a shutdown or a stop.
+    #[inline(always)]
     pub fn is_shut(&self) -> bool
         ensures closed { result ≡ (is_closed self.now.events || is_stopped self.now.events) }
         ensures lawful { IsLawful self.now.pool (limit self.now) self.now.events }
@@ -231,6 +241,7 @@ impl Ledger {
     }
 
     /// Whether forks and triggers are refused too: there was a stop.
+    #[inline(always)]
     pub fn is_stopped(&self) -> bool
         ensures stopped { result ≡ is_stopped self.now.events }
         ensures lawful { IsLawful self.now.pool (limit self.now) self.now.events }
@@ -239,6 +250,7 @@ impl Ledger {
     }
 
     /// Whether one task more can be kept.
+    #[inline(always)]
     pub fn has_task_room(&self) -> bool
         ensures { IsTrue result ↔ (live self.now.events < self.now.pool.limits.tasks) }
     {
@@ -275,6 +287,7 @@ impl Ledger {
     }
 
     /// Whether there is room for so many events more before the next seal.
+    #[inline(always)]
     pub fn has_room(&self, events: u64) -> bool
         ensures room { IsTrue result ↔ (length self.now.events + events ≤ limit self.now) }
         ensures lawful { IsLawful self.now.pool (limit self.now) self.now.events }

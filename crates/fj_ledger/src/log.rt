@@ -67,6 +67,7 @@ impl Log {
     }
 
     /// How many events there were since the last seal.
+    #[inline(always)]
     pub fn len(&self) -> usize
         ensures { length self.now.events ≡ length self.now.sealed + result }
     {
@@ -125,6 +126,7 @@ impl Log {
     }
 
     /// One event more. Precondition: there is room for it.
+    #[inline(always)]
     pub fn push(&mut self, event: Event)
         requires { length self.old.events < length self.old.sealed + self.old.room }
         ensures { self.new ≡ record self.old { events = self.old.events ++ event ∷ [] } }
@@ -158,6 +160,7 @@ fn take_all(alloc: Global, events: &mut Vec<Event>, room: usize) -> Result<Vec<E
 }
 
 /// Whether the event is a shutdown.
+#[inline(always)]
 fn is_close(event: &Event) -> bool
     ensures { result ≡ is_close event.now }
 {
@@ -165,6 +168,7 @@ fn is_close(event: &Event) -> bool
 }
 
 /// Whether the event is a stop.
+#[inline(always)]
 fn is_stop(event: &Event) -> bool
     ensures { result ≡ is_stop event.now }
 {

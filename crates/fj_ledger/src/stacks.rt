@@ -46,6 +46,7 @@ impl Stacks {
     }
 
     /// The stack of a worker.
+    #[inline(always)]
     pub fn stack(&self, w: usize) -> &[Serial]
         requires { w < length self.now.lists }
         ensures { result.now ≡ stack_at self.now w }
@@ -74,6 +75,7 @@ impl Stacks {
     }
 
     /// Puts a number on top of a worker's stack.
+    #[inline(always)]
     pub fn push(&mut self, w: usize, t: Serial)
         requires within { w < length self.old.lists }
         requires room { length (stack_at self.old w) < self.old.room }
@@ -83,6 +85,7 @@ impl Stacks {
     }
 
     /// Takes the top number off a worker's stack. Precondition: it has one. Which one it is, the caller knows.
+    #[inline(always)]
     pub fn take_last(&mut self, w: usize)
         requires within { w < length self.old.lists }
         requires filled { 0 < length (stack_at self.old w) }

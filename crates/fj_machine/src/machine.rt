@@ -187,6 +187,7 @@ impl Machine {
     /// | IsQuiescent | none |
     /// | State | `Unknown` |
     /// | Release | `Unknown`, `NotDone`, `LogFull` |
+    #[inline(always)]
     pub fn step(&mut self, asked: &Step) -> Said
         ensures step { Steps self.old asked.now result self.new }
         // Each event may follow those before it.
@@ -204,6 +205,7 @@ impl Machine {
 }
 
 /// The reply to a step.
+#[inline(always)]
 fn said(outcome: Result<Said, Refusal>) -> Said
     ensures { result ≡ said_by outcome }
 {
@@ -214,6 +216,7 @@ fn said(outcome: Result<Said, Refusal>) -> Said
 }
 
 /// Makes one step, or tells why it is refused.
+#[inline(always)]
 fn make(ledger: &mut Ledger, asked: &Step) -> Result<Said, Refusal>
     ensures { Makes ledger.old asked.now result ledger.new }
 {

@@ -82,6 +82,7 @@ impl Tree {
     }
 
     /// The record that a handle names. None if the handle is not good.
+    #[inline(always)]
     pub fn get(&self, h: Handle) -> Option<&Record>
         ensures { option_copied result ≡ record_of self.now h }
     {
@@ -94,6 +95,7 @@ impl Tree {
     }
 
     /// Writes how far a task has come. Precondition: a good handle.
+    #[inline(always)]
     pub fn set_status(&mut self, h: Handle, status: Status)
         requires { IsGood self.old h }
         ensures { self.new ≡ changed self.old h.key (with_status status) }
@@ -102,6 +104,7 @@ impl Tree {
     }
 
     /// Writes where a task is. Precondition: a good handle.
+    #[inline(always)]
     pub fn set_place(&mut self, h: Handle, place: Place)
         requires { IsGood self.old h }
         ensures { self.new ≡ changed self.old h.key (with_place place) }
@@ -110,6 +113,7 @@ impl Tree {
     }
 
     /// The kept record of a number. None if the number was never given out, or its record is not kept.
+    #[inline(always)]
     pub fn find(&self, serial: Serial) -> Option<Handle>
         ensures found { result ≡ handle_of self.now serial }
         ensures good { IfSome result (IsGood self.now) }
@@ -135,6 +139,7 @@ impl Tree {
     }
 
     /// The kept record of a handle's number: the handle itself where it is good. None if that number is not kept.
+    #[inline(always)]
     pub fn renew(&self, h: Handle) -> Option<Handle>
         ensures found { result ≡ handle_of self.now h.serial }
         ensures good { IfSome result (IsGood self.now) }
@@ -149,6 +154,7 @@ impl Tree {
     }
 
     /// The record of a handle's number. None if that number is not kept.
+    #[inline(always)]
     pub fn look(&self, h: Handle) -> Option<&Record>
         ensures found { option_copied result ≡ option_and_then (record_of self.now) (handle_of self.now h.serial) }
         ensures sound { IsSound self.now }
@@ -273,6 +279,7 @@ impl Tree {
     }
 
     /// Makes a task under a parent that was found before, with the next number. What [`Tree::make`] refuses, the caller has excluded.
+    #[inline(always)]
     pub fn insert(&mut self, kind: Kind, place: Place, parent: Option<Handle>) -> Handle
         requires made { self.old.made < 2 ^ 63 }
         requires room { count self.old < self.old.room }

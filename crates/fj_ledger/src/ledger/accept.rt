@@ -16,6 +16,7 @@ impl Ledger {
     /// Accepts a task into an owner's queue, with the next number: the event `Acc`.
     ///
     /// Precondition: the parent is the one that the kind names, the event may follow the history, and there is room for it.
+    #[inline(always)]
     pub fn accept(&mut self, owner: &Owner, kind: &Kind, parent: Option<Handle>) -> Serial
         requires parent { option_map (λ p. p.serial) parent ≡ parent_in (Some kind.now) }
         requires may { Allowed self.old.pool self.old.events (Acc (accepted self.old.events) owner.now kind.now) }
@@ -50,6 +51,7 @@ impl Ledger {
 }
 
 /// The good handle of a parent. Precondition: it is kept.
+#[inline(always)]
 fn renewed(tree: &Tree, parent: Option<Handle>) -> Option<Handle>
     requires { IfSome parent (λ p. IsSome (handle_of tree.now p.serial)) }
     ensures number { option_map (λ p. p.serial) result ≡ option_map (λ p. p.serial) parent }

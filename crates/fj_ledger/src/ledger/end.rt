@@ -16,6 +16,7 @@ impl Ledger {
     /// The body of a worker's running task ends: the event `End`. A completer that is not spent is open from now on, any other task gone.
     ///
     /// Precondition: there is such a worker, the event may follow the history, and there is room for it.
+    #[inline(always)]
     pub fn end_body(&mut self, t: Handle, w: WorkerId)
         requires worker { w < self.old.pool.limits.workers }
         requires may { Allowed self.old.pool self.old.events (End t.serial w) }
@@ -50,6 +51,7 @@ impl Ledger {
 }
 
 /// Whether a task whose body ends is open then: a completer that is not spent.
+#[inline(always)]
 fn stays_open(kept: &Record) -> bool
     ensures { result ≡ (is_completer_kind (Some kept.now.kind) && not (is_spent kept.now)) }
 {

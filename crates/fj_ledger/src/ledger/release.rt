@@ -13,6 +13,7 @@ use fj_tree::Handle;
 
 impl Ledger {
     /// Whether a kept task names this one as its parent. Precondition: this one is kept.
+    #[inline(always)]
     pub fn has_children(&self, t: Handle) -> bool
         requires kept { is_kept self.now.events t.serial ≡ true }
         ensures { result ≡ has_kept_child self.now.events t.serial }
@@ -24,6 +25,7 @@ impl Ledger {
     /// A task is released: the event `Rel`. If its completion action is in a hand, what the end of that needs stays there.
     ///
     /// Precondition: the event may follow the history, and there is room for it.
+    #[inline(always)]
     pub fn release(&mut self, t: Handle)
         requires may { Allowed self.old.pool self.old.events (Rel t.serial) }
         requires fits { length self.old.events < limit self.old }

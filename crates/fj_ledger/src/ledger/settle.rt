@@ -17,6 +17,7 @@ impl Ledger {
     /// An undone task gets its status: the event `Settle`. If the task is kept, its record tells it from now on.
     ///
     /// Precondition: a task whose completion action is in a hand is kept, the event may follow the history, and there is room for it.
+    #[inline(always)]
     pub fn settle(&mut self, t: Handle, status: Status)
         requires kept { is_in t.serial (hook_completers self.old.events) ≡ true → is_kept self.old.events t.serial ≡ true }
         requires may { Allowed self.old.pool self.old.events (Settle t.serial status) }

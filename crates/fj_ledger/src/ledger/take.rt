@@ -15,6 +15,7 @@ use fj_model::{Event, Mode, Owner, Place, Said, WorkerId};
 impl Ledger {
     /// Where the worker's next task stands: at the mode's end of its own queue, or at the old end of the first queue that the scan meets.
     /// None if all queues are empty. Precondition: there is such a worker.
+    #[inline(always)]
     pub fn chosen(&self, w: WorkerId, r: u32) -> Option<Source>
         requires { w < self.now.pool.limits.workers }
         ensures { MatchOption result (choice self.now.pool self.now.events w r ≡ None) (IsChosenFrom self.now w r) }
@@ -35,6 +36,7 @@ impl Ledger {
     /// Takes a queued task: it is handed out if it is undone, the event `Out`, and else skipped, the event `Skip`.
     ///
     /// Precondition: there is such a worker, a task stands there, the event may follow the history, and there is room for it.
+    #[inline(always)]
     pub fn take(&mut self, w: WorkerId, source: Source) -> Said
         requires worker { w < self.old.pool.limits.workers }
         requires fits { length self.old.events < limit self.old }

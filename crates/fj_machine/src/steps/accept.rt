@@ -30,6 +30,7 @@ pub fn submit_refusal(ledger: &Ledger, s: SubId, kind: &SubmittedKind) -> Option
 }
 
 /// The running task of a worker forks a task, which goes to the new end of the worker's queue: `ForkJoinTask.fork`.
+#[inline(always)]
 pub fn fork(ledger: &mut Ledger, w: WorkerId, kind: &Kind) -> Result<Said, Refusal>
     ensures { Makes ledger.old (Fork w kind.now) result ledger.new }
 {
@@ -60,6 +61,7 @@ fn may_submit(ledger: &Ledger, s: SubId, kind: &SubmittedKind) -> Result<(), Ref
 }
 
 /// The parent of the task that a worker may fork.
+#[inline(always)]
 fn may_fork(ledger: &Ledger, w: WorkerId, kind: &Kind) -> Result<Option<Handle>, Refusal>
     ensures refusal { Checks ledger.now (Fork w kind.now) result }
     ensures named { IfOk result (λ parent. option_map (λ p. p.serial) parent ≡ parent_in (Some kind.now)) }
@@ -74,6 +76,7 @@ fn may_fork(ledger: &Ledger, w: WorkerId, kind: &Kind) -> Result<Option<Handle>,
 }
 
 /// The parent that a kind names, if it names one: a kept completer.
+#[inline(always)]
 fn parent_of(ledger: &Ledger, kind: &Kind) -> Result<Option<Handle>, Refusal>
     ensures refusal { ChecksFirst (parent_refusals ledger.now (parent_in (Some kind.now))) result }
     ensures named { IfOk result (λ parent. option_map (λ p. p.serial) parent ≡ parent_in (Some kind.now)) }

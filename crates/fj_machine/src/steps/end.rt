@@ -16,6 +16,7 @@ use fj_model::{Ending, How, Refusal, Said, Status, WorkerId};
 use fj_tree::Handle;
 
 /// The body of a worker's running task ends.
+#[inline(always)]
 pub fn end(ledger: &mut Ledger, w: WorkerId, ending: Ending) -> Result<Said, Refusal>
     ensures { Makes ledger.old (End w ending) result ledger.new }
 {
@@ -31,6 +32,7 @@ pub fn end(ledger: &mut Ledger, w: WorkerId, ending: Ending) -> Result<Said, Ref
 }
 
 /// The running task of a worker, if its body can end so.
+#[inline(always)]
 fn ending_task(ledger: &Ledger, w: WorkerId, ending: Ending) -> Result<Handle, Refusal>
     ensures { FindsEnding ledger.now w ending result }
 {
@@ -42,6 +44,7 @@ fn ending_task(ledger: &Ledger, w: WorkerId, ending: Ending) -> Result<Handle, R
 }
 
 /// The end of a plain task's body, which completes the task if it is undone.
+#[inline(always)]
 fn end_ok(ledger: &mut Ledger, t: Handle, w: WorkerId) -> Result<Said, Refusal>
     requires { MayEnd ledger.old w Ending.Ok t.serial }
     ensures { Makes ledger.old (End w Ending.Ok) result ledger.new }
@@ -104,6 +107,7 @@ fn end_fail(ledger: &mut Ledger, t: Handle, w: WorkerId, code: u32) -> Result<Sa
 }
 
 /// Whether an ending suits a task that is a completer, or is not: `ok` is for plain tasks, and each other one but `fail` for completers.
+#[inline(always)]
 fn suits(ending: Ending, is_completer: bool) -> bool
     ensures { result ≡ suits ending is_completer }
 {

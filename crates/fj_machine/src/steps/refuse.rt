@@ -10,6 +10,7 @@ use fj_model::{MAX_PENDING, Refusal, Serial, WorkerId};
 use fj_tree::Handle;
 
 /// A worker that can make a step: there is one, and it has no completion action in hand.
+#[inline(always)]
 pub fn free_worker(ledger: &Ledger, w: WorkerId) -> Result<(), Refusal>
     ensures refusal { ChecksFirst (hand_refusals ledger.now w) result }
     ensures lawful { IsLawful ledger.now.pool (limit ledger.now) ledger.now.events }
@@ -24,6 +25,7 @@ pub fn free_worker(ledger: &Ledger, w: WorkerId) -> Result<(), Refusal>
 }
 
 /// The running task of a worker that can make a step.
+#[inline(always)]
 pub fn running_task(ledger: &Ledger, w: WorkerId) -> Result<Serial, Refusal>
     ensures refusal { ChecksFirst (running_refusals ledger.now w) result }
     ensures running { IfOk result (λ t. running ledger.now.events w ≡ Some t) }
@@ -37,6 +39,7 @@ pub fn running_task(ledger: &Ledger, w: WorkerId) -> Result<Serial, Refusal>
 }
 
 /// Room for one task more, with this pending count.
+#[inline(always)]
 pub fn task_room(ledger: &Ledger, count: u32) -> Result<(), Refusal>
     requires lawful { IsLawful ledger.now.pool (limit ledger.now) ledger.now.events }
     ensures { ChecksFirst (count_too_large count ∷ too_many_tasks ledger.now.pool ledger.now.events ∷ []) result }
@@ -51,6 +54,7 @@ pub fn task_room(ledger: &Ledger, count: u32) -> Result<(), Refusal>
 }
 
 /// Room for so many events more.
+#[inline(always)]
 pub fn room_for(ledger: &Ledger, events: u64) -> Result<(), Refusal>
     ensures room { FindsRoom ledger.now events result }
     ensures lawful { IsLawful ledger.now.pool (limit ledger.now) ledger.now.events }
@@ -62,6 +66,7 @@ pub fn room_for(ledger: &Ledger, events: u64) -> Result<(), Refusal>
 }
 
 /// The kept task of a number.
+#[inline(always)]
 pub fn known(ledger: &Ledger, t: Serial) -> Result<Handle, Refusal>
     ensures refusal { ChecksFirst (unknown_task ledger.now.events t ∷ []) result }
     ensures number { IfOk result (λ h. h.serial ≡ t) }

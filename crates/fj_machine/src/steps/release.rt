@@ -12,6 +12,7 @@ use fj_model::{Place, Refusal, Said, Serial};
 use fj_tree::{Handle, Record};
 
 /// A task that is gone, and that no kept task names as its parent, is forgotten: its number stands for no task any more.
+#[inline(always)]
 pub fn release(ledger: &mut Ledger, t: Serial) -> Result<Said, Refusal>
     ensures { Makes ledger.old (Release t) result ledger.new }
 {
@@ -22,6 +23,7 @@ pub fn release(ledger: &mut Ledger, t: Serial) -> Result<Said, Refusal>
 }
 
 /// The task of a number, if it can be released: it is kept and gone, and no kept task names it as its parent.
+#[inline(always)]
 fn releasable(ledger: &Ledger, t: Serial) -> Result<Handle, Refusal>
     ensures refusal { Checks ledger.now (Release t) result }
     ensures number { IfOk result (λ h. h.serial ≡ t) }
@@ -35,6 +37,7 @@ fn releasable(ledger: &Ledger, t: Serial) -> Result<Handle, Refusal>
 }
 
 /// Whether the task of a record is gone.
+#[inline(always)]
 fn is_gone(kept: &Record) -> bool
     ensures { result ≡ is_gone kept.now.place }
 {

@@ -15,6 +15,7 @@ use fj_ledger::Ledger;
 use fj_model::{Place, Refusal, Said, Serial, Status, WorkerId};
 
 /// An idle worker takes its choice, if there is one.
+#[inline(always)]
 pub fn poll(ledger: &mut Ledger, w: WorkerId, r: u32) -> Result<Said, Refusal>
     ensures { Makes ledger.old (Poll w r) result ledger.new }
 {
@@ -31,6 +32,7 @@ pub fn help(ledger: &mut Ledger, w: WorkerId, r: u32) -> Result<Said, Refusal>
 }
 
 /// A running task asks for the status of a task that is done, and helps while it is not: one turn of `ForkJoinTask.join`.
+#[inline(always)]
 pub fn join(ledger: &mut Ledger, w: WorkerId, t: Serial, r: u32) -> Result<Said, Refusal>
     ensures { Makes ledger.old (Join w t r) result ledger.new }
 {
@@ -43,6 +45,7 @@ pub fn join(ledger: &mut Ledger, w: WorkerId, t: Serial, r: u32) -> Result<Said,
 }
 
 /// A worker that can poll: it has no completion action in hand, and runs nothing.
+#[inline(always)]
 fn idle_worker(ledger: &Ledger, w: WorkerId) -> Result<(), Refusal>
     ensures refusal { ChecksFirst (idle_refusals ledger.now w) result }
     ensures lawful { IsLawful ledger.now.pool (limit ledger.now) ledger.now.events }
@@ -55,6 +58,7 @@ fn idle_worker(ledger: &Ledger, w: WorkerId) -> Result<(), Refusal>
 }
 
 /// The status of the task that a running task joins.
+#[inline(always)]
 fn joined(ledger: &Ledger, w: WorkerId, t: Serial) -> Result<Status, Refusal>
     ensures refusal { Checks ledger.now (Join w t 0) result }
     ensures status { IfOk result (λ s. status ledger.now.events t ≡ s) }
@@ -70,6 +74,7 @@ fn joined(ledger: &Ledger, w: WorkerId, t: Serial) -> Result<Status, Refusal>
 }
 
 /// A worker takes its choice, if it has one and the history has room for the event.
+#[inline(always)]
 fn take_choice(ledger: &mut Ledger, w: WorkerId, r: u32) -> Result<Said, Refusal>
     requires worker { w < ledger.old.pool.limits.workers }
     requires lawful { IsLawful ledger.old.pool (limit ledger.old) ledger.old.events }
@@ -84,6 +89,7 @@ fn take_choice(ledger: &mut Ledger, w: WorkerId, r: u32) -> Result<Said, Refusal
 }
 
 /// Whether a task at this place is held by the worker.
+#[inline(always)]
 fn is_held(place: Place, w: WorkerId) -> bool
     ensures { IsTrue result ↔ (place ≡ Held w) }
 {
