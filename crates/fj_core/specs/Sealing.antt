@@ -15,6 +15,12 @@ abbrev pub may_be_sealed : Past → Bool
 may_be_sealed past = is_half_full past && not (is_over past.events) && is_quiet past.pool.limits past.events
 
 module _ {B K O : Type 0} where
+  -- whether nothing is taken in before the next seal: the history is more than half full, the machine is open and not quiescent, and no Stop
+  -- is to be made
+  abbrev pub holds_back : CoreState B K O → Bool
+  holds_back core =
+      is_half_full core.store.past && not (is_over core.store.past.events) && not core.closing.stopping && not (is_quiet core.store.past.pool.limits core.store.past.events)
+
   -- the store hands its part out, which is kept behind those before it, and nothing else has changed
   pub record KeepsPart (old new : CoreState B K O) : Type 0 where
     pub part : Sealed

@@ -6,7 +6,7 @@ use Rattle.fj_core.specs.declared.taken_in.Intake.{Intake}
 use Rattle.fj_core.specs.declared.taken_in.Intake.TheVariants.{Took}
 use Rattle.fj_core.specs.Cores.{CoreState}
 use Rattle.fj_core.specs.Intakes.{Intakes}
-use Rattle.fj_core.specs.Sealing.{SealsCore, may_be_sealed}
+use Rattle.fj_core.specs.Sealing.{SealsCore, holds_back, may_be_sealed}
 use Rattle.fj_pool.specs.declared.guarded.outside.TakenIn.{TakenIn}
 use Rattle.fj_pool.specs.declared.guarded.outside.TakenIn.TheVariants.{Nothing, One, Several}
 
@@ -38,14 +38,21 @@ module _ {B K O : Type 0} where
   SealsWhere true old new = (answer : Result ⊤ Refusal) × SealsCore old answer new
   SealsWhere false old new = new ≡ old
 
-  -- a seal, where it is time for it, and then one intake for each submitter
+  -- one for each submitter, or none where nothing is taken in before the next seal
+  abbrev pub TakesUnless : Bool → (B → Option ℕ) → CoreState B K O → TakenIn → CoreState B K O → Type 0
+  TakesUnless true rooted_as old taken new = (taken ≡ Nothing) × (new ≡ old)
+  TakesUnless false rooted_as old taken new = TakesEach rooted_as old taken new
+
+  -- a seal, where it is time for it, and then one intake for each submitter, unless the core holds back
   pub record LooksAtLanes (rooted_as : B → Option ℕ) (old : CoreState B K O) (taken : TakenIn) (new : CoreState B K O) : Type 0 where
     pub mid : CoreState B K O
     pub seals : SealsWhere (may_be_sealed old.store.past) old mid
-    pub takes : TakesEach rooted_as mid taken new
+    pub takes : TakesUnless (holds_back mid) rooted_as mid taken new
 
-  -- the lanes were looked at, and then this is whether all is quiet
+  -- a seal, where it is time for it, one intake for each submitter, and then this is whether all is quiet
   pub record IsQuietBehind (rooted_as : B → Option ℕ) (old : CoreState B K O) (quiet : Bool) (new : CoreState B K O) : Type 0 where
+    pub mid : CoreState B K O
     pub taken : TakenIn
-    pub looks : LooksAtLanes rooted_as old taken new
+    pub seals : SealsWhere (may_be_sealed old.store.past) old mid
+    pub takes : TakesEach rooted_as mid taken new
     pub is : quiet ≡ is_quiet new.store.past.pool.limits new.store.past.events

@@ -1,6 +1,8 @@
-ghost use Rattle.std.specs.Prelude.{◌≡◌, [], ◌++◌};
+ghost use Rattle.std.specs.Prelude.{◌≡◌, [], ◌++◌, true, false};
+ghost use Rattle.fj_model.specs.Answers.{is_quiet};
+ghost use Rattle.fj_core.specs.Closings.{is_over};
 ghost use Rattle.fj_core.specs.Cores.{AreParts};
-ghost use Rattle.fj_core.specs.Sealing.{SealsCore, may_be_sealed};
+ghost use Rattle.fj_core.specs.Sealing.{SealsCore, holds_back, may_be_sealed};
 
 use crate::pool_core::Core;
 use fj_model::{Refusal, Sealed};
@@ -55,5 +57,20 @@ impl<B: Body> Core<B> {
         ensures same { self.new ≡ self.old }
     {
         self.store.is_half_full() && !self.store.is_shut() && self.store.is_quiescent()
+    }
+
+    /// Whether nothing is to be taken in before the next seal, so that what has begun finds room to end: the history since the last seal is
+    /// longer than half its limit, and the machine is open and not quiescent. Before a Stop everything is taken in.
+    pub fn holds_back(&mut self) -> bool
+        ensures holds { result ≡ holds_back self.old }
+        ensures quiescent { is_quiet self.old.store.past.pool.limits self.old.store.past.events ≡ true → result ≡ false }
+        ensures shut { is_over self.old.store.past.events ≡ true → result ≡ false }
+        ensures stopping { self.old.closing.stopping ≡ true → result ≡ false }
+        ensures same { self.new ≡ self.old }
+    {
+        self.store.is_half_full()
+            && !self.store.is_shut()
+            && !self.closing.stopping
+            && !self.store.is_quiescent()
     }
 }

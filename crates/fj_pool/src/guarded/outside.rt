@@ -23,12 +23,21 @@ pub enum TakenIn {
 }
 
 impl<B: Body, N: Naming> Guarded<B, N> {
-    /// Takes in what the lanes show, each submitter once by rising number, and tells how many tasks are queued by that. Before that the
-    /// history is sealed, where that is due; a refusal is ignored.
-    pub fn take_in(&mut self, alloc: Global) -> TakenIn
+    /// A worker's look at the lanes: seals the history where that is due, and then takes in what they show, unless the core holds back.
+    pub fn look_at_lanes(&mut self, alloc: Global) -> TakenIn
         ensures { LooksAtLanes B.rooted_as self.old result self.new }
     {
         self.seal_where_due(alloc);
+        if self.core.holds_back() {
+            return TakenIn::Nothing;
+        }
+        self.take_in()
+    }
+
+    /// Takes in what the lanes show, each submitter once by rising number, and tells how many tasks are queued by that.
+    fn take_in(&mut self) -> TakenIn
+        ensures { TakesEach B.rooted_as self.old result self.new }
+    {
         let taken = take_each(&mut self.core);
         match taken {
             // An intake that found no room for an event may have made the core stuck.
@@ -90,11 +99,12 @@ impl<B: Body, N: Naming> Guarded<B, N> {
         self.all_ended();
     }
 
-    /// Whether all queues, stacks and hands are empty, once what the lanes show was taken in.
+    /// Whether all queues, stacks and hands are empty, once the history was sealed, where that is due, and what the lanes show was taken in.
     pub fn is_quiescent(&mut self, alloc: Global) -> bool
         ensures { IsQuietBehind B.rooted_as self.old result self.new }
     {
-        if let TakenIn::One = self.take_in(alloc) {
+        self.seal_where_due(alloc);
+        if let TakenIn::One = self.take_in() {
             self.task_queued();
         }
         self.core.is_quiescent()

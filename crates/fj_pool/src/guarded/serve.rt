@@ -123,7 +123,7 @@ impl<B: Body, N: Naming> Guarded<B, N> {
         }
     }
 
-    /// An idle worker: it seals where that is due, takes in what the lanes show, and polls.
+    /// An idle worker: it looks at the lanes, and polls.
     fn look_for_work(
         &mut self,
         alloc: Global,
@@ -136,7 +136,7 @@ impl<B: Body, N: Naming> Guarded<B, N> {
         ensures right { NextRight B.right result }
         ensures leaves { LeavesWell self.new hand.new result }
     {
-        let _taken = self.take_in(alloc);
+        let _taken = self.look_at_lanes(alloc);
         // An intake leaves each hand as it is; the contract of a poll wants to know.
         if !self.core.fits(hand) {
             return Next::Leave(Err(Refusal::NoSuch));
@@ -199,7 +199,7 @@ impl<B: Body, N: Naming> Guarded<B, N> {
         ensures right { NextRight B.right result }
         ensures leaves { (hand : HandState B) → LeavesWell self.new hand result }
     {
-        match self.take_in(alloc) {
+        match self.look_at_lanes(alloc) {
             TakenIn::Nothing => self.sleep_until(t),
             TakenIn::One => {
                 self.task_queued();
