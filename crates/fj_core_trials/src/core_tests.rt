@@ -1,5 +1,6 @@
 use crate::rows;
 use crate::rows::wrong;
+use std::alloc::{AllocError, Global};
 use std::test::Fail;
 
 #[test]
@@ -26,6 +27,24 @@ fn submissions(rt: HostRuntime) -> Result<(), Fail> {
 #[test]
 fn stuck(rt: HostRuntime) -> Result<(), Fail> {
     let given = wrong(rt.alloc(), rows::stuck::scenarios())?;
+    assert_eq!(rt; given.as_str(), "");
+    Ok(())
+}
+
+/// A scenario of 2,000 seals, between which nothing happens.
+fn many_seals(alloc: Global) -> Result<String, AllocError> {
+    let mut scenario = "many seals\n1 1 4\n".to_string(alloc)?;
+    for _ in 0..2000 {
+        scenario.push_str("seal > done\n")?;
+    }
+    scenario.push_str("parts > 2000\ntake_parts > 2000")?;
+    Ok(scenario)
+}
+
+#[test]
+fn each_part_of_2000_seals_is_kept(rt: HostRuntime) -> Result<(), Fail> {
+    let scenario = many_seals(rt.alloc())?;
+    let given = wrong(rt.alloc(), &scenario)?;
     assert_eq!(rt; given.as_str(), "");
     Ok(())
 }

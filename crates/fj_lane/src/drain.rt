@@ -46,8 +46,9 @@ impl<B> Drain<B> {
     /// runs out of memory.
     ///
     /// Of the parcels pushed it is the one that follows those taken so far; where the ends meet that is seen. `None` only where the
-    /// lane was empty at one moment of the call, or the steal answered `Retry`. Then the count of misses has grown by one, and
-    /// nothing else has changed. It never gives more parcels than the capacity of the lane.
+    /// lane was empty at one moment of the call, or the steal answered `Retry`: the deque promises that, and it is tested, but no
+    /// clause here says it. Then the count of misses has grown by one, and nothing else has changed. It never gives more parcels than
+    /// the capacity of the lane.
     pub fn take(&mut self) -> Option<Parcel<B>>
         ensures within { length self.new.drained ≤ self.new.capacity }
         ensures taken { Takes self.old result self.new }

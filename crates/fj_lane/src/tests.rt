@@ -143,3 +143,18 @@ fn a_hundred_parcels_in_order(rt: HostRuntime) -> Result<(), Fail> {
     assert!(rt; drain.take().is_none());
     Ok(())
 }
+
+#[test]
+fn the_largest_lane_gives_all_that_it_took(rt: HostRuntime) -> Result<(), Fail> {
+    let (mut feed, mut drain) = lane::<u64>(rt.alloc(), 65_536)?;
+    for number in 0..65_536u64 {
+        assert!(rt; feed.push(numbered(number)).is_ok());
+    }
+    assert!(rt; feed.push(numbered(65_536)).is_err());
+    for number in 0..65_536u64 {
+        let parcel = drain.take().expect(&rt, "one is there");
+        assert_eq!(rt; (parcel.ticket, parcel.body), (Ticket(number), !number));
+    }
+    assert!(rt; drain.take().is_none());
+    Ok(())
+}

@@ -1,5 +1,9 @@
-use fj_machine::Machine;
-use fj_model::{Ending, Limits, Mode, Refusal, Serial, Step, SubId, SubmittedKind, WorkerId};
+use fj_machine::{Machine, run_epochs};
+use fj_model::{
+    Answer, Ending, Kind, Limits, Mode, Move, OutOfMemory, Refusal, Said, Serial, Step, SubId,
+    SubmittedKind, WorkerId, read_step,
+};
+use std::alloc::Global;
 use std::test::*;
 
 /// A machine with an open completer and a gone task, both kept: 7 events, 1 open, 1 gone.
@@ -57,5 +61,50 @@ fn a_seal_without_memory_changes_nothing(rt: HostRuntime) -> Result<(), Fail> {
     assert_eq!(rt; part.gone.as_slice(), [Serial(1)].as_slice());
     assert_eq!(rt; machine.history().len(), 0);
     assert_eq!(rt; machine.open(), [Serial(0)].as_slice());
+    Ok(())
+}
+
+/// The move that a line asks for; what is no step is a seal.
+fn move_of(line: &str) -> Move {
+    // The check wants each type inside a step to be named where one is moved.
+    let _inside: Option<(Kind, SubmittedKind, Ending, Serial, SubId, WorkerId)> = None;
+    match read_step(line.as_bytes()) {
+        Ok(step) => Move::Step(step),
+        Err(_) => Move::Seal,
+    }
+}
+
+/// Another task is submitted behind the seal.
+fn moves(alloc: Global) -> Result<Vec<Move>, OutOfMemory> {
+    // As in `move_of`.
+    let _inside: Option<(Step, Kind, SubmittedKind, Ending, Serial, SubId, WorkerId)> = None;
+    let mut moves = Vec::new(alloc);
+    for line in ["submit 0", "poll 0 0", "end 0 ok", "seal", "submit 0"] {
+        moves.push(move_of(line))?;
+    }
+    Ok(moves)
+}
+
+/// `tests/refused_memory/seal.sh` does the same with this one.
+#[test]
+fn a_list_goes_on_behind_a_seal_without_memory(rt: HostRuntime) -> Result<(), Fail> {
+    let alloc = rt.alloc();
+    let moves = moves(alloc)?;
+    let limits = Limits::new(1, 1, 2, 5)?;
+    let (machine, parts, mut answers) = run_epochs(alloc, Mode::Async, limits, moves.as_slice())?;
+    assert_eq!(rt; answers.len(), 5);
+    let last = answers.pop();
+    assert!(rt; matches!(last, Some(Answer::Said(Said::Task(Serial(1))))));
+    match answers.pop() {
+        Some(Answer::Sealed) => {
+            assert_eq!(rt; (parts.len(), machine.history().len()), (1, 1));
+        }
+        Some(Answer::Refused(refusal)) => {
+            assert_eq!(rt; refusal, Refusal::OutOfMemory);
+            assert_eq!(rt; (parts.len(), machine.history().len()), (0, 5));
+            println!(rt; "a seal was refused")?;
+        }
+        _ => panic!(&rt; "a seal has the reply to a step"),
+    }
     Ok(())
 }

@@ -1,6 +1,6 @@
 use fj_machine::{Machine, run};
 use fj_model::{Ending, Limits, Mode, Refusal, Said, Serial, Step, SubId, SubmittedKind, WorkerId};
-use std::alloc::Global;
+use std::alloc::{AllocError, Global};
 use std::test::Fail;
 
 const fn submit(s: u32) -> Step {
@@ -30,6 +30,53 @@ fn a_run_gives_the_replies_and_the_machine(rt: HostRuntime) -> Result<(), Fail> 
     let expected = [Said::Task(Serial(0)), Said::Run(Serial(0)), Said::Done];
     assert_eq!(rt; replies.as_slice(), expected.as_slice());
     assert_eq!(rt; gone, 1);
+    Ok(())
+}
+
+/// The lives of so many plain tasks, of four steps each, from the submission to the release.
+fn lives(alloc: Global, tasks: u64) -> Result<Vec<Step>, AllocError> {
+    let w = WorkerId(0);
+    let ending = Ending::Ok;
+    let mut steps = Vec::new(alloc);
+    for number in 0..tasks {
+        let t = Serial(number);
+        let life = [
+            submit(0),
+            poll(0, 0),
+            Step::End { w, ending },
+            Step::Release { t },
+        ];
+        steps.extend_from_slice(life.as_slice())?;
+    }
+    Ok(steps)
+}
+
+/// Whether these are the replies to such lives.
+fn are_lives(replies: &[Said]) -> bool {
+    let mut number = 0u64;
+    for told in replies.chunks(4) {
+        let t = Serial(number);
+        if told != [Said::Task(t), Said::Run(t), Said::Done, Said::Done].as_slice() {
+            return false;
+        }
+        number = number.saturating_add(1);
+    }
+    true
+}
+
+/// A life has five events, so 209,715 of them leave room for one event in the largest history.
+#[test]
+fn one_run_fills_the_largest_history(rt: HostRuntime) -> Result<(), Fail> {
+    let mut steps = lives(rt.alloc(), 209_715)?;
+    steps.push(submit(0))?;
+    steps.push(poll(0, 0))?;
+    let limits = Limits::new(1, 1, 1, 1_048_576)?;
+    let (machine, mut replies) = run(rt.alloc(), Mode::Async, limits, steps.as_slice())?;
+    assert_eq!(rt; machine.history().len(), 1_048_576);
+    assert_eq!(rt; replies.pop(), Some(Said::Refused(Refusal::LogFull)));
+    assert_eq!(rt; replies.pop(), Some(Said::Task(Serial(209_715))));
+    assert_eq!(rt; replies.len(), 838_860);
+    assert!(rt; are_lives(replies.as_slice()));
     Ok(())
 }
 
