@@ -1,5 +1,5 @@
 #!/usr/bin/env python3
-"""Counts what the documents count: samples, scripts, limits; the tests by threads beside their table, the crates of others beside what is
+"""Counts what the documents and the help count: samples, scripts, limits; the tests by threads beside their table, the crates of others beside what is
 trusted, our own in the tables that have one for each and in the scripts that copy some. Tells what differs; the exit status is 1 if anything does. Usage: tests/documents/counts.py
 """
 import glob
@@ -47,6 +47,8 @@ def differing_numbers():
         ("docs/MODEL.md", r"1 to (\S+) workers, 1 to (\S+) submitters, 1 to (\S+) kept tasks and 1 to (\S+) events", limits),
         ("docs/POOL.md", r"1 to (\S+) workers and submitters, 1 to (\S+) tasks, 1 to (\S+) events", limits[1:]),
         ("docs/MANUAL.md", r"More than (\S+) are a fault of the command line", [constant("MAX_BLOCKS")]),
+        ("crates/fj_cli/src/command_line/help.rt", r"at least 1 of each, at\s+most (\d+), (\d+), (\d+) and (\d+)", limits),
+        ("crates/fj_cli/src/command_line/help.rt", r"At most (\d+) blocks", [constant("MAX_BLOCKS")]),
     ]:
         given = re.search(said, text_of(page))
         numbers = [number(it) for it in given.groups()] if given else "nothing like"

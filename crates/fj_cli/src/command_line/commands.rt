@@ -11,6 +11,10 @@ use clap::Command;
 use fj_model::MAX_WORKERS;
 use std::alloc::{AllocError, Global};
 
+/// On two lines, since one would have more than 80 columns.
+const FIND_USAGE: &str = "fj find [OPTIONS] --from <N> --to <N>
+               --mul <N> --add <N> --mod <N> --want <N>";
+
 /// The options of a job over a range. Precondition: the command has no option that its subcommands share.
 fn over_range<'a>(alloc: Global, command: Command<'a>) -> Result<Command<'a>, AllocError>
     requires { (out-Command command).has_globals ≡ false }
@@ -23,7 +27,7 @@ fn over_range<'a>(alloc: Global, command: Command<'a>) -> Result<Command<'a>, Al
             alloc,
             "to",
             0,
-            "The last number, 0 to 4294967295; there are none where it is below the first",
+            "The last number, 0 to 4294967295; below --from: no numbers",
         ))?
         .arg(defaulted(
             alloc,
@@ -81,9 +85,7 @@ fn min<'a>(alloc: Global) -> Result<Command<'a>, AllocError>
     ensures local { IfOk result (λ c. (out-Command c).has_globals ≡ false) }
 {
     let min = Command::new(alloc, "min")
-        .about(
-            "Writes the least value of a function over a range, and the first number that has it",
-        )
+        .about("Writes the least value of a function over a range, and where it is")
         .after_help(help::MIN);
     of_function(alloc, over_range(alloc, min)?)
 }
@@ -94,6 +96,7 @@ fn find<'a>(alloc: Global) -> Result<Command<'a>, AllocError>
 {
     let find = Command::new(alloc, "find")
         .about("Writes the first number of a range at which a function has a value")
+        .override_usage(FIND_USAGE)
         .after_help(help::FIND);
     of_function(alloc, over_range(alloc, find)?)?.arg(required(
         alloc,
@@ -109,6 +112,7 @@ fn tree<'a>(alloc: Global) -> Result<Command<'a>, AllocError>
 {
     Command::new(alloc, "tree")
         .about("Writes the value of the tree on standard input")
+        .override_usage("fj tree [OPTIONS] < TREE")
         .after_help(help::TREE)
         .arg(defaulted(
             alloc,

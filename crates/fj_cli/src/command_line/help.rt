@@ -19,11 +19,21 @@ Exit status:
   5  a read or a write failed";
 
 /// Of `fj replay`.
-pub const REPLAY: &str =
-    "Input of fj replay: a script on standard input, a heading and then one step a line; each line ends with a line feed
-  async WORKERS SUBMITTERS TASKS EVENTS      or joining, with the same four limits
-  submit 0      poll 0 0      end 0 ok       among other steps, each with one reply line
+pub const REPLAY: &str = "Input of fj replay: a script, which is a heading and then one step a line
+  async WORKERS SUBMITTERS TASKS EVENTS    or joining; at least 1 of each, at
+                                           most 32, 32, 4096 and 1048576
+  submit 0      poll 0 0      end 0 ok     among other steps, one reply each
 With fj 2 as its first line, before the heading, tasks go by names.
+Faulty: an empty line, a comment, a trailing space, CR LF, no last line feed.
+
+A step that cannot be made has the reply refused N, and the script goes on:
+   1  a shutdown or stop came before     7  to join: it is on the own stack
+   2  TASKS tasks are kept already       8  not for a task of this kind
+   3  the history of EVENTS is full      9  to release: not gone, or a parent
+   4  no such worker or submitter       10  a pending count above 65535
+   5  no such task, or it is released   14  the worker, or pool, is not idle
+   6  the worker has no task, or hook   16  the name belongs to a task
+docs/SCRIPT.md says of each when it comes and what to do.
 
 Example:
   $ printf 'async 1 1 8 64\\nsubmit 0\\npoll 0 0\\nend 0 ok\\n' | fj replay
@@ -32,15 +42,16 @@ Example:
   done
 
 Exit status:
-  0  the whole script was replied to, or help or the version was written
+  0  the whole script was replied to, also with refused steps, or help written
   2  a fault of the command line
-  3  a faulty line, told by its number, or a limit out of its range
+  3  fault: line N, the first faulty line; or refused 13, a limit out of range
   4  out of memory
   5  a read or a write failed";
 
 /// Of `fj upgrade`.
 pub const UPGRADE: &str =
-    "Input of fj upgrade: a script as that of fj replay, whose first line is not fj 2; task number T becomes tT
+    "Input of fj upgrade: a script as that of fj replay, without fj 2 as its first
+line. Task number T becomes tT.
 
 Example:
   $ printf 'async 1 1 8 64\\nsubmit 0\\npoll 0 0\\nend 0 ok\\n' | fj upgrade
@@ -51,14 +62,14 @@ Example:
   end 0 ok
 
 Exit status:
-  0  the whole script was written, or help or the version was
+  0  the whole script was written, or help was
   2  a fault of the command line
-  3  a faulty line, told by its number, or a limit out of its range
+  3  fault: line N, the first faulty line; or refused 13, a limit out of range
   4  out of memory
   5  a read or a write failed";
 
 /// Of `fj sum`.
-pub const SUM: &str = "It reads no input. At most 200000 blocks.
+pub const SUM: &str = "It reads no input. At most 200000 blocks: a larger --grain gives fewer.
 
 Example:
   $ fj sum --from 1 --to 100000 --grain 1000 --workers 4
@@ -72,8 +83,9 @@ Exit status:
   5  a write failed";
 
 /// Of `fj min`.
-pub const MIN: &str =
-    "It reads no input. The function has the value (mul * x + add) mod m at x. At most 200000 blocks.
+pub const MIN: &str = "At x the function is (MUL * x + ADD) mod MOD. What is written is its least
+value, and the smallest x that has it.
+It reads no input. At most 200000 blocks: a larger --grain gives fewer.
 
 Example:
   $ fj min --from 0 --to 9 --mul 7 --add 3 --mod 10
@@ -87,8 +99,9 @@ Exit status:
   5  a write failed";
 
 /// Of `fj find`.
-pub const FIND: &str =
-    "It reads no input. The function has the value (mul * x + add) mod m at x. At most 200000 blocks.
+pub const FIND: &str = "At x the function is (MUL * x + ADD) mod MOD. All blocks are computed, also
+those behind the first x that has the value.
+It reads no input. At most 200000 blocks: a larger --grain gives fewer.
 
 Example:
   $ fj find --from 0 --to 9 --mul 7 --add 3 --mod 10 --want 9
@@ -102,12 +115,13 @@ Exit status:
   5  a write failed";
 
 /// Of `fj tree`.
-pub const TREE: &str =
-    "Input of fj tree: a tree on standard input, a line for each node, 1 to 4000 of them; each line ends with a line feed
+pub const TREE: &str = "Input of fj tree: a tree, which is a line for each of its 1 to 4000 nodes
   - VALUE         the first node, number 0
-  PARENT VALUE    each further one, with the number of an earlier node; values are 0 to 1000000006
+  PARENT VALUE    each further one; PARENT is the number of an earlier node
+A VALUE is 0 to 1000000006. Each line ends with a line feed, the last one too.
 
-The value of a node is its own and k times that of its k-th child, modulo 1000000007.
+The value of a node is its own and k times that of its k-th child, all of it
+modulo 1000000007.
 
 Example:
   $ printf -- '- 5\\n0 2\\n0 3\\n1 4\\n' | fj tree --workers 4
