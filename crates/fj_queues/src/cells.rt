@@ -25,7 +25,6 @@ pub struct Cells {
 
 impl Cell {
     /// A number in a queue of its own.
-    #[inline(always)]
     pub fn alone(serial: Serial) -> Cell
         ensures { result ≡ record { serial = serial; older = None; newer = None } }
     {
@@ -53,7 +52,6 @@ impl Cells {
     }
 
     /// Writes the first free cell, or where none is free a new one, and names it. No memory is taken.
-    #[inline(always)]
     pub fn fill(&mut self, cell: Cell) -> usize
         requires free { IfSome self.old.free (λ c. c < length self.old.table.items) }
         requires room { self.old.free ≡ None → length self.old.table.items < vec_capacity self.old.table }
@@ -72,7 +70,6 @@ impl Cells {
     }
 
     /// Makes a cell the first free one, and answers its number.
-    #[inline(always)]
     pub fn give_back(&mut self, number: usize) -> Serial
         requires { number < length self.old.table.items }
         ensures serial { result ≡ serial_at self.old.table.items number }
@@ -87,7 +84,6 @@ impl Cells {
     }
 
     /// Makes two cells neighbours. Where one of them is none, the other is at that end of its queue.
-    #[inline(always)]
     pub fn join(&mut self, older: Option<usize>, newer: Option<usize>)
         requires older { IfSome older (λ c. c < length self.old.table.items) }
         requires newer { IfSome newer (λ c. c < length self.old.table.items) }

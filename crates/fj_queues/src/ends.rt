@@ -22,7 +22,6 @@ impl Ends {
     };
 
     /// Links a cell at the new end. Precondition: the cell is in no queue, and has no newer neighbour.
-    #[inline(always)]
     pub fn append(&mut self, cells: &mut Cells, number: usize)
         requires queue { IsQueue cells.old.table.items self.old }
         requires cell { number < length cells.old.table.items }
@@ -42,7 +41,6 @@ impl Ends {
     }
 
     /// Unlinks the oldest cell, and names it. None, with nothing changed, if the queue is empty.
-    #[inline(always)]
     pub fn detach_oldest(&mut self, cells: &mut Cells) -> Option<usize>
         requires queue { IsQueue cells.old.table.items self.old }
         ensures taken { result ≡ self.old.oldest }
@@ -64,7 +62,6 @@ impl Ends {
     }
 
     /// Unlinks the newest cell, and names it. None, with nothing changed, if the queue is empty.
-    #[inline(always)]
     pub fn detach_newest(&mut self, cells: &mut Cells) -> Option<usize>
         requires queue { IsQueue cells.old.table.items self.old }
         ensures taken { result ≡ self.old.newest }

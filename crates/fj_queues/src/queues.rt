@@ -71,7 +71,6 @@ impl Queues {
     }
 
     /// How many numbers stand in an owner's queue.
-    #[inline(always)]
     pub fn len(&self, o: usize) -> usize
         requires { o < length self.now.lists }
         ensures { result ≡ length (queue_at self.now o) }
@@ -100,7 +99,6 @@ impl Queues {
     }
 
     /// Puts a number at the new end of an owner's queue. Precondition: there is room. No memory is taken.
-    #[inline(always)]
     pub fn push(&mut self, o: usize, serial: Serial)
         requires owner { o < length self.old.lists }
         requires room { total self.old < self.old.room }
@@ -115,7 +113,6 @@ impl Queues {
     }
 
     /// Takes the oldest number of an owner's queue. None, with nothing changed, if the queue is empty.
-    #[inline(always)]
     pub fn take_old(&mut self, o: usize) -> Option<Serial>
         requires { o < length self.old.lists }
         ensures taken { result ≡ first_of (queue_at self.old o) }
@@ -131,7 +128,6 @@ impl Queues {
     }
 
     /// Takes the newest number of an owner's queue. None, with nothing changed, if the queue is empty.
-    #[inline(always)]
     pub fn take_new(&mut self, o: usize) -> Option<Serial>
         requires { o < length self.old.lists }
         ensures taken { result ≡ last_of (queue_at self.old o) }
