@@ -6,6 +6,8 @@ pub mod Stretches
 pub mod Sums
 -- Least values and first hits.
 pub mod Residues
+-- Values that nothing on their right changes.
+pub mod Finals
 -- How many numbers in a row pass a test.
 pub mod Counts
 -- Bytes up to a separator.

@@ -1,4 +1,5 @@
 ghost use Rattle.std.specs.Prelude.{◌≡◌, ℕ, ◌<◌, IfOk, IfErr, true};
+ghost use Rattle.fj_jobs.specs.Finals.{IsFinal};
 
 /// A job that is a leaf, or is done by two smaller jobs: what `RecursiveTask` is mostly used for.
 ///
@@ -44,17 +45,29 @@ pub trait Divide: Drop {
     fn combine(left: Self::Out, right: Self::Out) -> Self::Out
         ensures { result ≡ combined left right };
 
+    /// Whether this value is final: combined with whatever follows it stays itself, and so does each value that ends in it. What stands right
+    /// of it is not begun then. It has to be so of each value that ends in a final one.
+    fn is_final(_value: &Self::Out) -> bool
+        ensures { result ≡ true → IsFinal combined _value.now }
+    {
+        false
+    }
+
     /// Jobs with equal keys have equal values.
     ghost same_value: { (a b : Self.Key) → Self.Key.eq a b ≡ true → value a ≡ value b };
 }
 
-/// The value of a job, on the calling thread. It takes no memory but the stack, as deep as the job splits.
+/// The value of a job, on the calling thread. It takes no memory but the stack, as deep as the job splits, and does not begin what stands
+/// right of a final value.
 pub fn compute<J: Divide>(job: J) -> J::Out
     ensures { result ≡ J.value (J.key_of job) }
 {
     match job.split() {
         Ok((left, right)) => {
             let left = compute(left);
+            if J::is_final(&left) {
+                return left;
+            }
             J::combine(left, compute(right))
         }
         Err(leaf) => leaf.leaf(),

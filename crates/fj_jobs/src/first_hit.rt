@@ -73,5 +73,9 @@ impl Divide for FirstHit {
         left.or(right)
     }
 
+    fn is_final(value: &Option<u64>) -> bool {
+        value.is_some()
+    }
+
     ghost same_value = { λ a b e. same_residues_hit a.0.from a.0.count a.1.mul a.1.add a.1.modulus a.2 b.0.from b.0.count b.1.mul b.1.add b.1.modulus b.2 e };
 }
