@@ -2,6 +2,7 @@ ghost use Rattle.std.specs.Prelude.{IfSome};
 ghost use Rattle.fj_store.specs.Turns.{HeardRight};
 ghost use Rattle.fj_pool.specs.Turning.{MayAsk, TakesTurn};
 
+use crate::turnstile::Turnstile;
 use fj_shelf::Hand;
 use fj_store::{Ask, Body, Heard};
 
@@ -24,4 +25,31 @@ pub fn take_turn<B: Body>(hand: &mut Hand<B>, heard: Heard<B>) -> Option<Ask<B>>
     let ask = body.turn(heard);
     hand.push(t, body);
     Some(ask)
+}
+
+/// The same, observed: where the body asks for its ending, the turnstile is asked after the turn.
+pub fn observed_turn<B: Body, T: Turnstile>(
+    hand: &mut Hand<B>,
+    heard: Heard<B>,
+    turnstile: &T,
+) -> Option<Ask<B>>
+    requires { HeardRight B.right heard }
+    ensures takes { TakesTurn B.key_of hand.old result hand.new }
+    ensures asks { IfSome result (λ ask. MayAsk B.right B.key_of hand.new ask) }
+{
+    let ask = take_turn(hand, heard);
+    if let (Some(asked), Some(t)) = (&ask, hand.running()) {
+        if is_ending(asked) && hand.hooked().is_none() {
+            turnstile.after(hand.worker(), t);
+        }
+    }
+    ask
+}
+
+/// Whether a body asks for its ending.
+fn is_ending<B: Body>(ask: &Ask<B>) -> bool {
+    matches!(
+        ask,
+        Ask::Ok(_) | Ask::Quiet | Ask::Try | Ask::Pass | Ask::Complete | Ask::Fail(_)
+    )
 }

@@ -6,9 +6,9 @@ use crate::guarded::Guarded;
 use crate::naming::Naming;
 use crate::next::{Next, Unneeded};
 use crate::pool::Pool;
-use crate::turns::take_turn;
+use crate::turns::observed_turn;
 use crate::turnstile::Turnstile;
-use fj_model::Refusal;
+use fj_model::{Refusal, WorkerId};
 use fj_shelf::Hand;
 use fj_store::{Ask, Body, Heard};
 use fj_waiting::{Contention, Idle, Wake};
@@ -18,6 +18,14 @@ use std::time::Duration;
 
 /// After so many seconds a worker that waits looks again, though nobody has woken it.
 const LONGEST_WAIT: u64 = 1;
+
+/// A thread that works: by what it waits, and who observes it.
+#[derive(Drop)]
+struct Working<'r, 't, R, T> {
+    rt: &'r R,
+    turnstile: &'t T,
+    worker: WorkerId,
+}
 
 impl<B: Body, N: Naming> Pool<B, N> {
     /// Works with a hand until the pool has terminated: takes tasks, runs their bodies outside the lock, and does what they ask. A body
@@ -31,24 +39,29 @@ impl<B: Body, N: Naming> Pool<B, N> {
         hand: &mut Hand<B>,
         turnstile: &T,
     ) -> Result<(), Refusal> {
+        let working = Working {
+            rt,
+            turnstile,
+            worker: hand.worker(),
+        };
         let mut ask: Option<Ask<B>> = None;
         let mut idle = Idle::new();
         let mut contention = Contention::new();
         let mut unneeded = Unneeded::none();
         for _ in rt.forever() {
             match self.serve(
-                rt,
+                &working,
                 hand,
                 ask.take(),
                 &mut idle,
                 &mut contention,
                 &mut unneeded,
             ) {
-                Next::Turn(heard) => ask = take_turn(hand, heard),
+                Next::Turn(heard) => ask = observed_turn(hand, heard, turnstile),
                 Next::Begin(t) => {
                     idle = Idle::new();
                     turnstile.before(hand.worker(), t);
-                    ask = take_turn(hand, Heard::Start(t));
+                    ask = observed_turn(hand, Heard::Start(t), turnstile);
                 }
                 Next::Leave(answer) => return answer,
                 Next::Again | Next::Wait | Next::Rest => {}
@@ -58,9 +71,9 @@ impl<B: Body, N: Naming> Pool<B, N> {
     }
 
     /// Takes the lock once, and lets it go again as what comes next wants it.
-    fn serve<R: Wait>(
+    fn serve<R: Wait, T: Turnstile>(
         &self,
-        rt: &R,
+        working: &Working<'_, '_, R, T>,
         hand: &mut Hand<B>,
         ask: Option<Ask<B>>,
         idle: &mut Idle,
@@ -70,7 +83,7 @@ impl<B: Body, N: Naming> Pool<B, N> {
         requires { IfSome ask (λ a. MayAsk B.right B.key_of hand.old a) }
         ensures { NextRight B.right result }
     {
-        let mut guard = self.lock_for_work(rt, contention);
+        let mut guard = self.lock_for_work(working.rt, contention);
         let core = &mut *guard;
         if idle.looks_again() {
             core.come_back();
@@ -78,8 +91,8 @@ impl<B: Body, N: Naming> Pool<B, N> {
         let next = core.serve(self.alloc, hand, ask, unneeded);
         let wake = core.take_wake();
         match next {
-            Next::Wait => self.wait_in_join(rt, guard, wake, unneeded),
-            Next::Rest => self.rest(rt, guard, wake, idle, unneeded),
+            Next::Wait => self.wait_in_join(working, guard, wake, unneeded),
+            Next::Rest => self.rest(working, guard, wake, idle, unneeded),
             _ => self.let_go(guard, wake, unneeded),
         }
         next
@@ -93,9 +106,9 @@ impl<B: Body, N: Naming> Pool<B, N> {
     }
 
     /// The same, and sleeps until what was joined may have changed.
-    fn wait_in_join<R: Wait>(
+    fn wait_in_join<R: Wait, T: Turnstile>(
         &self,
-        rt: &R,
+        working: &Working<'_, '_, R, T>,
         guard: MutexGuard<'_, Guarded<B, N>>,
         wake: Wake,
         unneeded: &mut Unneeded<B>,
@@ -105,14 +118,16 @@ impl<B: Body, N: Naming> Pool<B, N> {
         let seen = self.joining.notifications();
         drop(guard);
         unneeded.clear();
+        // What is queued because of this is a notification after those that were seen.
+        working.turnstile.idle(working.worker);
         self.joining
-            .sleep(rt, seen, Duration::from_secs(LONGEST_WAIT));
+            .sleep(working.rt, seen, Duration::from_secs(LONGEST_WAIT));
     }
 
     /// The same as letting it go, and sleeps or yields until it is time to look for work again.
-    fn rest<R: Wait>(
+    fn rest<R: Wait, T: Turnstile>(
         &self,
-        rt: &R,
+        working: &Working<'_, '_, R, T>,
         guard: MutexGuard<'_, Guarded<B, N>>,
         wake: Wake,
         idle: &mut Idle,
@@ -120,8 +135,9 @@ impl<B: Body, N: Naming> Pool<B, N> {
     ) {
         let seen = self.idle.notifications();
         self.let_go(guard, wake, unneeded);
+        working.turnstile.idle(working.worker);
         match idle.next_sleep() {
-            Some(sleep) => self.idle.sleep(rt, seen, sleep),
+            Some(sleep) => self.idle.sleep(working.rt, seen, sleep),
             None => thread::yield_now(),
         }
     }
