@@ -10,8 +10,10 @@ mod alone;
 mod closing;
 mod crew;
 mod results;
+mod settings;
 
 pub use alone::run_alone;
 pub use fj_model::{Kind, Limits, Mode, Refusal, Serial, WorkerId};
 pub use fj_pool::{Ask, Body, Heard, Kept, Open, Outcome, Turnstile};
 pub use results::{NoResult, result_in};
+pub use settings::Settings;

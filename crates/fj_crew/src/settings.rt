@@ -1,0 +1,77 @@
+ghost use Rattle.std.specs.Prelude.{◌≡◌, ◌↔◌, ◌≤◌, IsOk, IfOk, OnErr, Err};
+ghost use Rattle.fj_model.specs.declared.limits.TheConstants.{MAX_EVENTS, MAX_TASKS};
+ghost use Rattle.fj_model.specs.Bounds.{IsWithin, bounds};
+
+use fj_model::{Limits, MAX_EVENTS, MAX_TASKS, Mode, Refusal};
+
+/// With what a pool is made: so many workers, and for all else what suits most.
+///
+/// Of all else: workers take their newest tasks first (`Joining`), one submitter, 4,096 tasks and 1,048,576 events, which are the most that there
+/// may be, and scan words from 0 on.
+#[derive(Clone, Copy, Debug, PartialEq)]
+pub struct Settings {
+    mode: Mode,
+    limits: Limits,
+    start: u32,
+}
+
+impl Settings {
+    /// So many workers, 1 to 32; `BadLimits` for any other number. `new ForkJoinPool(parallelism)`.
+    pub fn workers(workers: u32) -> Result<Settings, Refusal>
+        ensures valid { IsOk result ↔ IsWithin workers 1 MAX_TASKS MAX_EVENTS }
+        ensures limits { IfOk result (λ s. s.limits ≡ bounds workers 1 MAX_TASKS MAX_EVENTS) }
+        ensures mode { IfOk result (λ s. (s.mode ≡ Mode.Joining) × (s.start ≡ 0)) }
+        ensures err { OnErr result (result ≡ Err Refusal.BadLimits) }
+    {
+        Ok(Settings::with_limits(Limits::new(workers, 1, MAX_TASKS, MAX_EVENTS)?))
+    }
+
+    /// These limits, and for all else what suits most.
+    pub fn with_limits(limits: Limits) -> Settings
+        ensures limits { result.limits ≡ limits }
+        ensures mode { (result.mode ≡ Mode.Joining) × (result.start ≡ 0) }
+    {
+        Settings {
+            mode: Mode::Joining,
+            limits,
+            start: 0,
+        }
+    }
+
+    /// The same in this mode: in `Async` workers take their oldest tasks first.
+    pub fn in_mode(self, mode: Mode) -> Settings
+        ensures mode { result.mode ≡ mode }
+        ensures others { (result.limits ≡ self.limits) × (result.start ≡ self.start) }
+    {
+        Settings { mode, ..self }
+    }
+
+    /// The same where the scan word of worker 0 is this one, and that of each further worker one more: where it looks for work first.
+    pub fn starting_at(self, start: u32) -> Settings
+        ensures start { result.start ≡ start }
+        ensures others { (result.limits ≡ self.limits) × (result.mode ≡ self.mode) }
+    {
+        Settings { start, ..self }
+    }
+
+    /// In which order workers take their own tasks.
+    pub fn mode(&self) -> Mode
+        ensures { result ≡ self.now.mode }
+    {
+        self.mode
+    }
+
+    /// How large the pool may grow.
+    pub fn limits(&self) -> Limits
+        ensures { result ≡ self.now.limits }
+    {
+        self.limits
+    }
+
+    /// The scan word of worker 0.
+    pub fn start(&self) -> u32
+        ensures { result ≡ self.now.start }
+    {
+        self.start
+    }
+}
