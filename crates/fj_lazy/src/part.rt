@@ -1,0 +1,53 @@
+use fj_jobs::Divide;
+use fj_model::Serial;
+
+/// A part of a job, beside the part that is computed.
+#[derive(Drop)]
+pub enum Inner<J: Divide> {
+    /// A right half that nobody has begun.
+    Pending(J),
+    /// The value of a left half.
+    Done(J::Out),
+}
+
+/// A part of a job, around all those that may be forked.
+#[derive(Drop)]
+pub enum Outer<J: Divide> {
+    /// A right half that was forked, as this task with this key.
+    Forked(Serial, J::Key),
+    /// The value of a left half.
+    Done(J::Out),
+}
+
+/// Where a descent stops.
+#[derive(Drop)]
+pub enum Stop<J: Divide> {
+    /// Before this leaf, since somebody called.
+    Leaf(J),
+    /// Before this job, which stands too deep for the thread's stack.
+    Deep(J),
+}
+
+/// What comes next once a value is known.
+#[derive(Drop)]
+pub enum Climb<J: Divide> {
+    /// This job is computed.
+    Next(J),
+    /// This task, a right half with this key, is joined; what stands left of it has this value.
+    Join(Serial, J::Key, J::Out),
+    /// It is the value of the whole.
+    Whole(J::Out),
+}
+
+/// What a lazy body does, beside the parts that it has put aside.
+#[derive(Drop)]
+pub enum Stage<J: Divide> {
+    /// It goes on with this job.
+    Going(J),
+    /// It forks a right half with this key, which stands between the outer and the inner parts, and goes on with this leaf within these.
+    Forking(J::Key, J),
+    /// It joins a right half with this key; what stands left of it has this value.
+    Waiting(J::Key, J::Out),
+    /// It has ended.
+    Over,
+}
