@@ -11,6 +11,10 @@ mod failing_tests;
 #[cfg(test)]
 mod folds;
 #[cfg(test)]
+mod hungry;
+#[cfg(test)]
+mod lazies;
+#[cfg(test)]
 mod making_tests;
 #[cfg(test)]
 mod stop_tests;

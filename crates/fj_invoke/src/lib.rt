@@ -7,15 +7,18 @@
 //! ```
 #![tactic(auto)]
 
+mod idle;
 mod invocation;
+mod lazily;
 mod lefts;
 mod recursive;
 mod stage;
 
-pub use fj_crew::{Open, Turnstile};
+pub use fj_crew::{Open, Settings, Turnstile};
 pub use fj_jobs::{
     BlockedRange, Divide, FirstHit, Interval, LinearMod, RangeMin, RangeSum, compute,
 };
 pub use fj_model::{Limits, Mode, Refusal, Serial, WorkerId};
 pub use invocation::invoke;
+pub use lazily::{invoke_lazily, invoke_lazily_observed};
 pub use recursive::Recursive;

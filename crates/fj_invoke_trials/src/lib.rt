@@ -4,7 +4,11 @@
 #[cfg(test)]
 mod drawn;
 #[cfg(test)]
+mod lazy_tests;
+#[cfg(test)]
 mod meeting;
+#[cfg(test)]
+mod one_by_one;
 #[cfg(test)]
 mod range_tests;
 #[cfg(test)]

@@ -1,0 +1,28 @@
+use fj_crew::Turnstile;
+use fj_lazy::Signals;
+use fj_model::{Serial, WorkerId};
+
+/// Tells the bodies of a job which workers have nothing to do.
+#[derive(Drop)]
+pub struct IdleWorkers<'s, 't, T> {
+    /// What the bodies of the job share.
+    pub signals: &'s Signals,
+    /// Who else observes the workers.
+    pub turnstile: &'t T,
+}
+
+impl<T: Turnstile> Turnstile for IdleWorkers<'_, '_, T> {
+    fn before(&self, w: WorkerId, t: Serial) {
+        self.signals.withdraw(w);
+        self.turnstile.before(w, t);
+    }
+
+    fn after(&self, w: WorkerId, t: Serial) {
+        self.turnstile.after(w, t);
+    }
+
+    fn idle(&self, w: WorkerId) {
+        self.signals.ask(w);
+        self.turnstile.idle(w);
+    }
+}

@@ -1,0 +1,100 @@
+ghost use Rattle.std.specs.Prelude.{◌≡◌, IfOk, IfErr};
+ghost use Rattle.fj_crew.specs.Runs.{RefusesRun};
+ghost use Rattle.fj_invoke.specs.Answers.{RefusesOutcome};
+
+use crate::idle::IdleWorkers;
+use fj_crew::{Open, Settings, Turnstile, result_in, run_alone};
+use fj_jobs::Divide;
+use fj_lazy::{Lazy, Signals};
+use fj_model::Refusal;
+use fj_store::Outcome;
+use std::alloc::Global;
+use std::sync::Wait;
+use std::thread::Threads;
+
+/// How many events a task has at most.
+const EVENTS_OF_A_TASK: u64 = 5;
+
+/// How many events are left for what is no task.
+const OTHER_EVENTS: u32 = 2;
+
+/// How many halves may be forked in a history of so many events, beside the task that is submitted.
+fn forks_in(events: u32) -> u64 {
+    (u64::from(events.saturating_sub(OTHER_EVENTS)) / EVENTS_OF_A_TASK).saturating_sub(1)
+}
+
+/// The value of a job, by workers in threads, in a pool of its own: that of `invoke`, at any grain. A half is forked only where a worker has nothing
+/// to do, so a job of short leaves is about as fast as `compute` by one worker, and faster by more. The halves right of a final value are not
+/// begun, and those that run there end after their present leaf.
+///
+/// `LogFull` where the history is full. `OutOfMemory` where memory is refused, a thread cannot be started, or the job has no result for any
+/// other reason.
+pub fn invoke_lazily<J: Divide + Send, R: Threads + Wait + Sync>(
+    rt: &R,
+    alloc: Global,
+    settings: Settings,
+    job: J,
+) -> Result<J::Out, Refusal>
+where
+    J::Key: Send,
+    J::Out: Send,
+    ensures ok { IfOk result (λ out. out ≡ J.value (J.key_of job)) }
+    ensures err { IfErr result RefusesRun }
+{
+    invoke_lazily_observed(rt, alloc, settings, job, &Open)
+}
+
+/// The same, while a turnstile observes the workers.
+pub fn invoke_lazily_observed<J: Divide + Send, T: Turnstile + Sync, R: Threads + Wait + Sync>(
+    rt: &R,
+    alloc: Global,
+    settings: Settings,
+    job: J,
+    turnstile: &T,
+) -> Result<J::Out, Refusal>
+where
+    J::Key: Send,
+    J::Out: Send,
+    ensures ok { IfOk result (λ out. out ≡ J.value (J.key_of job)) }
+    ensures err { IfErr result RefusesRun }
+{
+    let key = job.key();
+    let signals = Signals::new(forks_in(settings.limits().events()));
+    let idle = IdleWorkers {
+        signals: &signals,
+        turnstile,
+    };
+    let Ok(body) = Lazy::new(alloc, job, &signals) else {
+        return Err(Refusal::OutOfMemory);
+    };
+    match run_alone(
+        rt,
+        alloc,
+        settings.mode(),
+        settings.limits(),
+        settings.start(),
+        body,
+        &idle,
+    ) {
+        Ok(outcome) => answer_of(outcome, key),
+        Err(refusal) => Err(refusal),
+    }
+}
+
+/// The value that an outcome gives, if it stands under this key. A result under another key is told as none.
+fn answer_of<J: Divide>(outcome: Outcome<Lazy<'_, J>>, key: J::Key) -> Result<J::Out, Refusal>
+    ensures value { IfOk result (λ out. out ≡ J.value key) }
+    ensures refused { IfErr result (λ refusal. RefusesOutcome J.Key.eq key outcome.entry refusal) }
+    ensures err { IfErr result RefusesRun }
+{
+    match result_in(outcome) {
+        Ok((kept_key, out)) => {
+            if kept_key == key {
+                Ok(out)
+            } else {
+                Err(Refusal::OutOfMemory)
+            }
+        }
+        Err(none) => Err(none.refusal()),
+    }
+}
