@@ -34,6 +34,7 @@ done << 'EOF_COMMANDS'
 tree
 tree --workers 32
 sum --from 1 --to 100 --workers 4
+sum --from 1 --to 100 --workers 4 --eager
 min --from 0 --to 9 --mul 7 --add 3 --mod 10
 find --from 0 --to 9 --mul 7 --add 3 --mod 10 --want 9
 --help

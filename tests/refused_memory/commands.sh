@@ -29,9 +29,14 @@ try() {
     echo "$*: $((number - 1)) allocations, each refused in turn, $refused of them told"
 }
 
-try 5050 '' sum --from 1 --to 100 --workers 2
-try '0 1' '' min --from 0 --to 9 --mul 7 --add 3 --mod 10 --workers 2
-try 8 '' find --from 0 --to 9 --mul 7 --add 3 --mod 10 --want 9 --workers 2
+for way in '' --eager; do
+    # shellcheck disable=SC2086
+    {
+        try 5050 '' sum --from 1 --to 100 --workers 2 $way
+        try '0 1' '' min --from 0 --to 9 --mul 7 --add 3 --mod 10 --workers 2 $way
+        try 8 '' find --from 0 --to 9 --mul 7 --add 3 --mod 10 --want 9 --workers 2 $way
+    }
+done
 try 17 '- 5\n0 2\n0 3\n1 4\n' tree --workers 2
 
 # refuse_starts VALUE INPUT WORKERS ARGUMENT..: one command, which starts a thread for each worker and no other.
@@ -57,4 +62,5 @@ refuse_starts() {
 refuse_starts 5050 '' 1 sum --from 1 --to 100
 refuse_starts 5050 '' 4 sum --from 1 --to 100
 refuse_starts 5050 '' 32 sum --from 1 --to 100
+refuse_starts 5050 '' 4 sum --from 1 --to 100 --eager
 refuse_starts 17 '- 5\n0 2\n0 3\n1 4\n' 4 tree

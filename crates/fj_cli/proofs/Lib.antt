@@ -6,3 +6,5 @@ pub mod Ended
 pub mod ScriptEnds
 -- the number that was read for an option is that of its text
 pub mod Numbers
+-- a flag is given where its text is true
+pub mod Flags

@@ -1,5 +1,5 @@
 -- What the arguments give for the options of a command.
-use Rattle.std.specs.Prelude.{ℕ, ⊤, ◌≡◌, List, Option, Some}
+use Rattle.std.specs.Prelude.{ℕ, ⊤, ◌≡◌, ◌↔◌, Bool, true, List, Option, Some}
 use Rattle.std.specs.Prelude.{codes}
 use Rattle.std.specs.Str.Parse.{IsNumeral, digits_value, without_leading_plus}
 use Rattle.clap.specs.Words.{Row, Text, one_of}
@@ -13,11 +13,16 @@ abbrev pub Gives : List Row → Text → ℕ → Type 0
 Gives rows option n =
     (text : Text) × (one_of option rows ≡ Some text) × IsNumeral 10 (without_leading_plus text) × (n ≡ digits_value 10 (without_leading_plus text))
 
+-- this says whether a flag is given, by its text
+abbrev pub GivesFlag : List Row → Text → Bool → Type 0
+GivesFlag rows flag given = (given ≡ true) ↔ (one_of flag rows ≡ Some (codes "true"))
+
 pub record GivesRange (rows : List Row) (o : RangeOptions) : Type 0 where
   pub from : Gives rows (codes "from") o.from
   pub to : Gives rows (codes "to") o.to
   pub grain : Gives rows (codes "grain") o.grain
   pub workers : Gives rows (codes "workers") o.workers.count
+  pub eager : GivesFlag rows (codes "eager") o.eager
 
 pub record GivesFunction (rows : List Row) (f : FunctionOptions) : Type 0 where
   pub mul : Gives rows (codes "mul") f.mul

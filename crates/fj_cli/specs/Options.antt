@@ -1,7 +1,7 @@
 -- The options of the commands.
 use Rattle.std.specs.Prelude.{ℕ, Bool, true, false, [], ◌∷◌, codes, Some}
 use Rattle.clap.specs.Words.{App, Rule, Text, new_app, new_rule, with_rule}
-use Rattle.clap.specs.declared.builder.action.ArgAction.TheVariants.{Set}
+use Rattle.clap.specs.declared.builder.action.ArgAction.TheVariants.{Set, SetTrue}
 use Rattle.clap.specs.declared.builder.value_parser.ValueParser.TheVariants.{Unsigned}
 use Rattle.fj_model.specs.declared.limits.TheConstants.{MAX_WORKERS}
 
@@ -14,11 +14,19 @@ required_rule name least most required =
 abbrev pub defaulted_rule : Text → ℕ → Rule
 defaulted_rule name most = record (required_rule name 1 most false) { defaults = codes "1" ∷ [] }
 
+-- an option without a value: its text is true where it is given, and else false
+abbrev pub flag_rule : Text → Rule
+flag_rule name = record (new_rule name) { long = Some name; action = Some SetTrue }
+
+-- the options of a range
+abbrev pub with_numbers : App → App
+with_numbers a =
+    with_rule (with_rule (with_rule a (required_rule (codes "from") 0 4294967295 true)) (required_rule (codes "to") 0 4294967295 true))
+    (defaulted_rule (codes "grain") 4294967295)
+
 -- the options of a job over a range
 abbrev pub with_range : App → App
-with_range a =
-    with_rule (with_rule (with_rule (with_rule a (required_rule (codes "from") 0 4294967295 true)) (required_rule (codes "to") 0 4294967295 true))
-    (defaulted_rule (codes "grain") 4294967295)) (defaulted_rule (codes "workers") MAX_WORKERS)
+with_range a = with_rule (with_rule (with_numbers a) (defaulted_rule (codes "workers") MAX_WORKERS)) (flag_rule (codes "eager"))
 
 -- the options of a function
 abbrev pub with_function : App → App

@@ -7,7 +7,10 @@ ghost use Rattle.fj_cli.specs.Answers.{EndsRange, blocks_of, count_of, hit_line,
 
 use crate::answer::{answered, refused, told};
 use crate::command_line::{FunctionOptions, RangeOptions, Workers};
-use fj_invoke::{BlockedRange, Divide, FirstHit, LinearMod, Open, RangeMin, RangeSum, invoke};
+use fj_invoke::{
+    BlockedRange, Divide, FirstHit, LinearMod, Open, RangeMin, RangeSum, Settings, invoke,
+    invoke_lazily,
+};
 use fj_model::{Limits, MAX_EVENTS, MAX_TASKS, Mode, Refusal};
 use std::alloc::Global;
 use std::io::Write;
@@ -120,7 +123,11 @@ where
     ensures { IfOk result (λ out. out ≡ J.value (J.key_of job)) }
 {
     let limits = limits_of(options.workers);
-    invoke(rt, alloc, Mode::Joining, limits, 0, job, &Open)
+    if options.eager {
+        invoke(rt, alloc, Mode::Joining, limits, 0, job, &Open)
+    } else {
+        invoke_lazily(rt, alloc, Settings::with_limits(limits), job)
+    }
 }
 
 /// The limits of a pool with as many workers as are asked for, and as much room as may be.

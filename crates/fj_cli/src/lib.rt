@@ -2,7 +2,8 @@
 //!
 //! [`fj`] runs a command over any reader and writers. Who calls it has beside it what the commands stand on: of `fj_replay` [`replay`],
 //! [`upgrade`], both of a script in memory, and [`ReplayFault`]; of `fj_streams` the readers and writers of which contracts know the calls;
-//! of `fj_invoke` the jobs that divide, with [`compute`] and [`invoke`]; of `fj_fold` trees, with [`read_tree`] and [`fold_tree`].
+//! of `fj_invoke` the jobs that divide, with [`compute`], [`invoke`] and [`invoke_lazily`]; of `fj_fold` trees, with
+//! [`read_tree`] and [`fold_tree`].
 #![tactic(auto)]
 
 mod answer;
@@ -17,7 +18,7 @@ mod upgrade_command;
 pub use fj_fold::{Family, Node, Nodes, Tree, TreeFault, TreeFold, fold_tree, read_tree};
 pub use fj_invoke::{
     BlockedRange, Divide, FirstHit, Interval, Limits, LinearMod, Mode, Open, RangeMin, RangeSum,
-    Recursive, Refusal, Serial, Turnstile, WorkerId, compute, invoke,
+    Recursive, Refusal, Serial, Settings, Turnstile, WorkerId, compute, invoke, invoke_lazily,
 };
 pub use fj_replay::{ReplayFault, replay, replayed, upgrade, upgraded};
 pub use fj_streams::{Sink, Source, Watched};

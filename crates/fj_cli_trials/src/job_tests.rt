@@ -1,9 +1,13 @@
 //! The commands that do a job.
 use crate::test_rows::first_other_command;
+use std::alloc::Global;
+use std::sync::Wait;
 use std::test::Fail;
+use std::thread::Threads;
 
-/// Command lines without their workers, the input, and what is written; at a fault what is on standard error, and the status.
-const ROWS: [&str; 27] = [
+/// Command lines of jobs over ranges without their workers, the input, and what is written; at a fault what is on standard error, and the
+/// status.
+const RANGES: [&str; 16] = [
     "sum --from 5 --to 4 |  | 0;",
     "sum --from 7 --to 7 |  | 7;",
     "sum --from 0 --to 200000 |  |  | too many leaves; | 2",
@@ -20,6 +24,10 @@ const ROWS: [&str; 27] = [
     "min --from 1 --to 9 --mul 0 --add 3 --mod 1 |  | 0 1;",
     "find --from 0 --to 4294967295 --grain 100000 --mul 1 --add 0 --mod 5 --want 0 |  | 0;",
     "find --from 0 --to 4294967295 --mul 1 --add 0 --mod 5 --want 0 |  |  | too many leaves; | 2",
+];
+
+/// The same of trees.
+const TREES: [&str; 11] = [
     "tree | - 5;0 2;0 3;1 4; | 17;",
     "tree | - 1000000006;0 1; | 0;",
     "tree | - 5; | 5;",
@@ -34,15 +42,41 @@ const ROWS: [&str; 27] = [
 ];
 
 /// A hundred thousand leaves, and as many as may be.
-const LONG_ROWS: [&str; 2] = [
+const LONG_RANGES: [&str; 2] = [
     "sum --from 1 --to 100000 --grain 1 |  | 5000050000;",
     "sum --from 0 --to 199999 |  | 19999900000;",
 ];
 
+/// The first row that gave something else, lazily or with `--eager`, by so many workers.
+fn first_other_range<H: Threads + Wait + Sync>(
+    rt: &H,
+    alloc: Global,
+    rows: &[&str],
+    workers: &str,
+) -> Result<String, Fail> {
+    for way in ["", "--eager"] {
+        let more = format!(in alloc; "--workers {workers} {way}")?;
+        let other = first_other_command(rt, alloc, rows, &more)?;
+        if !other.is_empty() {
+            return Ok(format!(in alloc; "{more}: {other}")?);
+        }
+    }
+    Ok(String::new(alloc))
+}
+
 #[test]
-fn each_job_has_its_value_with_1_and_with_32_workers(rt: HostRuntime) -> Result<(), Fail> {
+fn each_range_has_its_value_with_1_and_with_32_workers(rt: HostRuntime) -> Result<(), Fail> {
+    for workers in ["1", "32"] {
+        let other = first_other_range(&rt, rt.alloc(), RANGES.as_slice(), workers)?;
+        assert_eq!(rt; other.as_str(), "");
+    }
+    Ok(())
+}
+
+#[test]
+fn each_tree_has_its_value_with_1_and_with_32_workers(rt: HostRuntime) -> Result<(), Fail> {
     for workers in ["--workers 1", "--workers 32"] {
-        let other = first_other_command(&rt, rt.alloc(), ROWS.as_slice(), workers)?;
+        let other = first_other_command(&rt, rt.alloc(), TREES.as_slice(), workers)?;
         assert_eq!(rt; other.as_str(), "", "{workers}");
     }
     Ok(())
@@ -50,21 +84,21 @@ fn each_job_has_its_value_with_1_and_with_32_workers(rt: HostRuntime) -> Result<
 
 #[test]
 fn as_many_leaves_as_may_be_with_1_worker(rt: HostRuntime) -> Result<(), Fail> {
-    let other = first_other_command(&rt, rt.alloc(), LONG_ROWS.as_slice(), "--workers 1")?;
+    let other = first_other_range(&rt, rt.alloc(), LONG_RANGES.as_slice(), "1")?;
     assert_eq!(rt; other.as_str(), "");
     Ok(())
 }
 
 #[test]
 fn as_many_leaves_as_may_be_with_4_workers(rt: HostRuntime) -> Result<(), Fail> {
-    let other = first_other_command(&rt, rt.alloc(), LONG_ROWS.as_slice(), "--workers 4")?;
+    let other = first_other_range(&rt, rt.alloc(), LONG_RANGES.as_slice(), "4")?;
     assert_eq!(rt; other.as_str(), "");
     Ok(())
 }
 
 #[test]
 fn as_many_leaves_as_may_be_with_32_workers(rt: HostRuntime) -> Result<(), Fail> {
-    let other = first_other_command(&rt, rt.alloc(), LONG_ROWS.as_slice(), "--workers 32")?;
+    let other = first_other_range(&rt, rt.alloc(), LONG_RANGES.as_slice(), "32")?;
     assert_eq!(rt; other.as_str(), "");
     Ok(())
 }

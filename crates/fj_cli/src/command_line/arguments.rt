@@ -1,7 +1,7 @@
-//! The options as the command line declares them: each has a number, in a range.
+//! The options as the command line declares them: each has a number, in a range, or is a flag.
 ghost use Rattle.std.specs.Prelude.{◌≡◌, true, false};
 ghost use Rattle.clap.specs.Walk.{rule_of};
-ghost use Rattle.fj_cli.specs.Options.{defaulted_rule, required_rule};
+ghost use Rattle.fj_cli.specs.Options.{defaulted_rule, flag_rule, required_rule};
 
 use clap::builder::ValueParser;
 use clap::{Arg, ArgAction};
@@ -34,4 +34,15 @@ pub fn defaulted<'a>(alloc: Global, name: &'a str, most: u32, help: &'a str) -> 
     ensures local { result.global ≡ false }
 {
     option(alloc, name, 1, most, help).default_value("1")
+}
+
+/// An option without a value.
+pub fn flag<'a>(alloc: Global, name: &'a str, help: &'a str) -> Arg<'a>
+    ensures rule { rule_of result ≡ flag_rule name.entry.now }
+    ensures local { result.global ≡ false }
+{
+    Arg::new(alloc, name)
+        .long(name)
+        .action(ArgAction::SetTrue)
+        .help(help)
 }

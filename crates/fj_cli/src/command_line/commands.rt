@@ -3,9 +3,9 @@ ghost use Rattle.std.specs.Prelude.{◌≡◌, IfOk, codes, false};
 ghost use Rattle.clap.specs.Words.{app_of, new_app, with_subcommand};
 ghost use Rattle.clap.specs.declared.builder.command.Command.TheViews.{out-Command};
 ghost use Rattle.fj_cli.specs.Commands.{replay_line, whole_line};
-ghost use Rattle.fj_cli.specs.Options.{find_line, min_line, sum_line, tree_line, with_range, with_function};
+ghost use Rattle.fj_cli.specs.Options.{find_line, min_line, sum_line, tree_line, with_function, with_numbers, with_range};
 
-use crate::command_line::arguments::{defaulted, required};
+use crate::command_line::arguments::{defaulted, flag, required};
 use crate::command_line::help;
 use clap::Command;
 use fj_model::MAX_WORKERS;
@@ -15,10 +15,10 @@ use std::alloc::{AllocError, Global};
 const FIND_USAGE: &str = "fj find [OPTIONS] --from <N> --to <N>
                --mul <N> --add <N> --mod <N> --want <N>";
 
-/// The options of a job over a range. Precondition: the command has no option that its subcommands share.
-fn over_range<'a>(alloc: Global, command: Command<'a>) -> Result<Command<'a>, AllocError>
+/// The options of a range. Precondition: the command has no option that its subcommands share.
+fn over_numbers<'a>(alloc: Global, command: Command<'a>) -> Result<Command<'a>, AllocError>
     requires { (out-Command command).has_globals ≡ false }
-    ensures app { IfOk result (λ c. app_of c ≡ with_range (app_of command.entry)) }
+    ensures app { IfOk result (λ c. app_of c ≡ with_numbers (app_of command.entry)) }
     ensures local { IfOk result (λ c. (out-Command c).has_globals ≡ false) }
 {
     command
@@ -34,12 +34,26 @@ fn over_range<'a>(alloc: Global, command: Command<'a>) -> Result<Command<'a>, Al
             "grain",
             u32::MAX,
             "How many numbers a block has, 1 to 4294967295",
-        ))?
+        ))
+}
+
+/// The options of a job over a range. Precondition: the command has no option that its subcommands share.
+fn over_range<'a>(alloc: Global, command: Command<'a>) -> Result<Command<'a>, AllocError>
+    requires { (out-Command command).has_globals ≡ false }
+    ensures app { IfOk result (λ c. app_of c ≡ with_range (app_of command.entry)) }
+    ensures local { IfOk result (λ c. (out-Command c).has_globals ≡ false) }
+{
+    over_numbers(alloc, command)?
         .arg(defaulted(
             alloc,
             "workers",
             MAX_WORKERS,
             "How many workers there are, 1 to 32",
+        ))?
+        .arg(flag(
+            alloc,
+            "eager",
+            "Forks at every split, not only while a worker is idle",
         ))
 }
 

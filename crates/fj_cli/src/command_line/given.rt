@@ -1,7 +1,7 @@
 //! The options as the arguments give them.
 ghost use Rattle.std.specs.Prelude.{◌≤◌, IfSome, codes};
 ghost use Rattle.clap.specs.Words.{found_of, rows_of};
-ghost use Rattle.fj_cli.specs.Given.{Gives, GivesFunction, GivesRange};
+ghost use Rattle.fj_cli.specs.Given.{Gives, GivesFlag, GivesFunction, GivesRange};
 
 use crate::command_line::options::{FunctionOptions, RangeOptions, Workers};
 use clap::ArgMatches;
@@ -17,6 +17,13 @@ fn number(matches: &ArgMatches, name: &str, least: u32, most: u32) -> Option<u32
         return None;
     }
     Some(number)
+}
+
+/// Whether a flag was given.
+fn flag(matches: &ArgMatches, name: &str) -> bool
+    ensures { GivesFlag (rows_of (found_of matches.now)) name.now result }
+{
+    matches.get_one(name).unwrap_or(false)
 }
 
 /// How many workers there are to be.
@@ -35,11 +42,13 @@ pub fn read_range(matches: &ArgMatches) -> Option<RangeOptions>
     let to = number(matches, "to", 0, u32::MAX)?;
     let grain = number(matches, "grain", 1, u32::MAX)?;
     let workers = read_workers(matches)?;
+    let eager = flag(matches, "eager");
     Some(RangeOptions {
         from,
         to,
         grain,
         workers,
+        eager,
     })
 }
 

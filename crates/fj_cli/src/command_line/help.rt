@@ -99,8 +99,9 @@ Exit status:
   5  a write failed";
 
 /// Of `fj find`.
-pub const FIND: &str = "At x the function is (MUL * x + ADD) mod MOD. All blocks are computed, also
-those behind the first x that has the value.
+pub const FIND: &str =
+    "At x the function is (MUL * x + ADD) mod MOD. Blocks behind an x that has the
+value are not begun once it is found; with --eager all blocks are computed.
 It reads no input. At most 200000 blocks: a larger --grain gives fewer.
 
 Example:

@@ -10,7 +10,7 @@ pub struct Workers {
     ghost few: { count ≤ MAX_WORKERS },
 }
 
-/// The numbers that a job goes over, from first to last, the blocks in which it does so, and by how many workers.
+/// The numbers that a job goes over, from first to last, the blocks in which it does so, by how many workers, and how it forks.
 #[derive(Clone, Copy)]
 pub struct RangeOptions {
     pub from: u32,
@@ -19,6 +19,8 @@ pub struct RangeOptions {
     pub grain: u32,
     ghost grained: { 1 ≤ grain },
     pub workers: Workers,
+    /// Whether it forks at every split, not only while a worker is idle.
+    pub eager: bool,
 }
 
 /// The function with the value `(mul * x + add) mod modulus` at x.
