@@ -1,15 +1,21 @@
 #!/usr/bin/env bash
-# Times the jobs beside programs that do the same: a plain one in C of the same design, one of the JDK's pool, one of rayon. Each is timed as
-# a whole process, by turns, and all must give the same answer.
+# Times jobs by workers in threads beside programs that do the same: ours lazily, by `invoke` and on one thread by `compute`; plain C on one
+# thread; a pool in plain C with one lock; those of the JDK, of rayon and of oneTBB. Each is timed as a whole process, by turns, and all must
+# give the same answer.
 # Usage: bench/jobs.sh [LOAD..]
-#   LOAD is leaves, blocks, primes, tree, submit or locks (default: all of them), or, where valgrind is there, profile
-# RUNS=N bench/jobs.sh ..   the least time of N runs of each program counts (default: 5)
+#   LOAD is leaves, blocks, primes, min, find, oversubscribed, tree, submit or locks (default: all of them), or, where valgrind is there, profile
+# RUNS=N bench/jobs.sh ..     the least time of N runs of each program counts (default: 5)
+# PROVED=1 bench/jobs.sh ..   ours is proved, which takes half an hour and more; else it is built as unproved.sh does
 set -euo pipefail
+export LC_ALL=C
 cd "$(dirname "${BASH_SOURCE[0]}")/.."
 
 runs=${RUNS:-5}
 limit=60
-crates=(fj_model fj_streams fj_queues fj_tree fj_ledger fj_machine fj_gate fj_lane fj_shelf fj_store fj_core fj_waiting fj_pool fj_jobs fj_primes fj_crew fj_invoke fj_fold)
+crates=(fj_model fj_streams fj_queues fj_tree fj_ledger fj_machine fj_gate fj_lane fj_shelf fj_store fj_core fj_waiting fj_pool fj_jobs fj_primes fj_crew fj_lazy fj_invoke fj_fold)
+# The compilers of C and C++: clang, if it is there, since ours and rayon come from LLVM too.
+cc=$(command -v clang || command -v cc || true)
+cxx=$(command -v clang++ || command -v c++ || true)
 declare -A program_of
 
 . bench/loader.sh
@@ -19,22 +25,36 @@ folder=$(dirname "$(dirname "$loader")")
 tree=$folder/tree
 awk 'BEGIN { print "- 1"; for (i = 1; i < 4000; i++) print int((i - 1) / 3), i * 7919 % 1000000007 }' > "$tree"
 
-# Ours, proved: sums and trees.
+# Ours, proved: all but submissions.
 build_proved() {
-    if ! (cd "$loader" && rt run -- sum 1 10 1 1) > "$loader.log" 2>&1; then
+    if ! (cd "$loader" && rt run -- compute sum 1 10 1 1) > "$loader.log" 2>&1; then
         cat "$loader.log" >&2
         exit 1
     fi
-    cp "$loader/out/jobs" "$folder/fj"
-    program_of[fj]=$folder/fj
+    cp "$loader/out/jobs" "$folder/proved"
 }
 
 # build_unproved NAME: ours as NAME, with submissions too, of which nothing is proved.
 build_unproved() {
     cp bench/jobs/counted/main.rt.in "$loader/src/main.rt"
-    rm -f "$loader/module.bc"
     optimise_loader
     cp "$program" "$folder/$1"
+}
+
+# Ours; proved, where that is asked for, in all but submissions.
+build_ours() {
+    local ours=$folder/unproved
+    if [[ ${PROVED:-} ]]; then
+        build_proved
+        ours=$folder/proved
+    fi
+    cp bench/jobs/counted/submit.rt.in "$loader/src/submit.rt"
+    build_unproved unproved
+    program_of[fj]=$ours
+    program_of[lazily]="$ours lazily"
+    program_of[invoke]="$ours invoke"
+    program_of[compute]="$ours compute"
+    program_of[submitting]=$folder/unproved
 }
 
 # The same with counts: after each run it writes how many locks its workers took, and for how many nanoseconds they held them.
@@ -47,11 +67,13 @@ build_counted() {
 
 # The other programs, as far as they can be built.
 build_others() {
-    if command -v cc > /dev/null; then
-        cc -std=c11 -O2 -Wall -Wextra -pthread -o "$folder/one_lock" bench/jobs/one_lock.c
+    if [[ $cc ]]; then
+        "$cc" -std=c11 -O2 -Wall -Wextra -o "$folder/plain" bench/jobs/plain_jobs.c
+        "$cc" -std=c11 -O2 -Wall -Wextra -pthread -o "$folder/one_lock" bench/jobs/one_lock.c
+        program_of[plain]=$folder/plain
         program_of[one_lock]=$folder/one_lock
     else
-        echo "no C compiler: one_lock is left out"
+        echo "no C compiler: plain and one_lock are left out"
     fi
     if command -v javac > /dev/null; then
         javac -d "$folder/java" bench/jobs/Jobs.java
@@ -63,6 +85,11 @@ build_others() {
         program_of[rayon]=$folder/rayon/release/jobs
     else
         echo "no rayon (Debian: librust-rayon-dev): it is left out"
+    fi
+    if [[ $cxx ]] && "$cxx" -std=c++17 -O2 -Wall -Wextra -o "$folder/tbb" bench/jobs/tbb_jobs.cpp -ltbb 2> "$loader.log"; then
+        program_of[tbb]=$folder/tbb
+    else
+        echo "no oneTBB (Debian: libtbb-dev): tbb is left out"
     fi
 }
 
@@ -77,36 +104,35 @@ build_rayon() {
         --config 'source.crates-io.replace-with="debian"' --config "source.debian.directory=\"$sources\"" > "$loader.log" 2>&1
 }
 
-# run_once NAME WORD..: the nanoseconds of a whole run of a program. Its answer must be the one that is noted.
+# run_once NAME WORD..: the microseconds of a whole run of a program. Its answer must be the one that is noted.
 run_once() {
-    local name=$1 began answer
+    local name=$1 began=${EPOCHREALTIME/./} answer
     shift
-    began=$(date +%s%N)
     answer=$(timeout "$limit" ${program_of[$name]} "$@" < "$tree")
-    echo $(($(date +%s%N) - began))
+    echo $((${EPOCHREALTIME/./} - began))
     if [[ $answer != "$due" ]]; then
         echo "$name $*: $answer, and not $due" >&2
         exit 1
     fi
 }
 
-# time_load LOAD DUE WORD..: a line with the least seconds of each program that has the load.
+# time_load LOAD NAMES DUE WORD..: a line with the least milliseconds of each program of NAMES that could be built.
 time_load() {
-    local load=$1 line name time
+    local load=$1 names=$2 line name time
     local -A least=()
-    due=$2
-    shift 2
+    due=$3
+    shift 3
     for ((run = 0; run < runs; run++)); do
-        for name in fj one_lock java rayon; do
+        for name in $names; do
             [[ ${program_of[$name]:-} ]] || continue
             time=$(run_once "$name" "$@")
             if [[ ! ${least[$name]:-} ]] || ((time < least[$name])); then least[$name]=$time; fi
         done
     done
-    line=$(printf '%-7s %-26s' "$load" "$*")
-    for name in fj one_lock java rayon; do
+    line=$(printf '%-14s %-30s' "$load" "$*")
+    for name in $names; do
         [[ ${least[$name]:-} ]] || continue
-        line+=$(awk -v name="$name" -v time="${least[$name]}" 'BEGIN { printf "  %s: %.3f s", name, time / 1e9 }')
+        line+=$(awk -v name="$name" -v time="${least[$name]}" 'BEGIN { printf "  %s: %.1f", name, time / 1e3 }')
     done
     echo "$line"
 }
@@ -117,7 +143,7 @@ count_load() {
     shift 2
     read -r locks held < <(timeout "$limit" "$folder/counted" "$@" < "$tree" 2>&1 > /dev/null)
     awk -v load="$load" -v words="$*" -v tasks="$tasks" -v locks="$locks" -v held="$held" 'BEGIN {
-        printf "%-7s %-26s  tasks: %d  locks/task: %.2f  microseconds under the lock/task: %.3f  in all: %.3f s\n", load, words, tasks, locks / tasks, held / tasks / 1e3, held / 1e9
+        printf "%-7s %-33s  tasks: %d  locks/task: %.2f  microseconds under the lock/task: %.3f  in all: %.3f s\n", load, words, tasks, locks / tasks, held / tasks / 1e3, held / 1e9
     }'
 }
 
@@ -128,42 +154,53 @@ profile() {
     callgrind_annotate --threshold=90 "$folder/instructions" | grep -E '^ *[0-9,]+ \(' | sed -E 's/ \[[^]]*\]$//'
 }
 
-# build_submitting: ours with submissions, of which nothing is proved.
-build_submitting() {
-    [[ ! ${program_of[submitting]:-} ]] || return 0
-    cp bench/jobs/counted/submit.rt.in "$loader/src/submit.rt"
-    build_unproved submitting
-    program_of[submitting]=$folder/submitting
-}
+one_thread="compute plain"
+ours="lazily invoke"
+peers="java rayon tbb"
+modulus=2147483647
 
-# The loads, and what is due: the sum of 1 to 200,000 and to 100,000,000, the primes up to 10,000, the value of the tree, the number of
-# submissions.
+# The loads, and what is due: sums of all numbers from 1 on, the primes up to 6,700 and to 10,000, the least value, the place of the hit, the value
+# of the tree, the number of submissions.
 run_load() {
-    local workers threads
+    local workers threads grain
     case $1 in
-    leaves) for workers in 1 2 4; do time_load leaves 20000100000 sum 1 200000 1 "$workers"; done ;;
-    blocks) for workers in 1 2 4; do time_load blocks 5000000050000000 sum 1 100000000 100000 "$workers"; done ;;
-    primes) for workers in 1 2 4; do time_load primes 1229 primes 1 10000 10 "$workers"; done ;;
-    tree) for workers in 1 2 4; do time_load tree "$("$folder/fj" tree 1 < "$tree")" tree "$workers"; done ;;
-    submit)
-        build_submitting
-        program_of[fj]=${program_of[submitting]}
-        for threads in 1 4; do time_load submit 200000 submit "$threads" 200000 4; done
-        program_of[fj]=$folder/fj
+    leaves)
+        for workers in 1 2 4; do time_load leaves "$ours $one_thread one_lock $peers" 20000100000 sum 1 200000 1 "$workers"; done
+        for workers in 1 2 4; do time_load leaves "lazily $one_thread $peers" 200000010000000 sum 1 20000000 1 "$workers"; done
         ;;
+    blocks) for workers in 1 2 4; do time_load blocks "$ours $one_thread one_lock $peers" 5000000050000000 sum 1 100000000 100000 "$workers"; done ;;
+    primes)
+        for workers in 1 2 4; do time_load primes "$ours $one_thread one_lock $peers" 863 primes 1 6700 1 "$workers"; done
+        for workers in 1 2 4; do time_load primes "$ours $one_thread one_lock $peers" 1229 primes 1 10000 7 "$workers"; done
+        ;;
+    min)
+        for grain in 100 1000 10000; do
+            for workers in 1 2 4; do time_load min "$ours $one_thread $peers" 26 min 1 20000000 "$grain" "$workers" "$modulus"; done
+        done
+        ;;
+    find)
+        for hit in 1 12000000; do
+            for workers in 1 2 4; do time_load find "lazily $one_thread java rayon" "$hit" find 1 20000000 1 "$workers" "$modulus" "$hit"; done
+        done
+        ;;
+    oversubscribed)
+        time_load oversubscribed "lazily $one_thread $peers" 200000010000000 sum 1 20000000 1 32
+        time_load oversubscribed "$ours $one_thread one_lock $peers" 863 primes 1 6700 1 32
+        ;;
+    tree) for workers in 1 2 4; do time_load tree "fj one_lock java rayon" "$(${program_of[fj]} tree 1 < "$tree")" tree "$workers"; done ;;
+    submit) for threads in 1 4; do time_load submit "submitting one_lock java rayon" 200000 submit "$threads" 200000 4; done ;;
     locks)
         build_counted
         for workers in 1 2 4; do
-            count_load leaves 200000 sum 1 200000 1 "$workers"
-            count_load blocks 1000 sum 1 100000000 100000 "$workers"
-            count_load primes 1000 primes 1 10000 10 "$workers"
+            count_load leaves 200000 invoke sum 1 200000 1 "$workers"
+            count_load blocks 1000 invoke sum 1 100000000 100000 "$workers"
+            count_load primes 1000 invoke primes 1 10000 10 "$workers"
             count_load tree 4000 tree "$workers"
         done
         for threads in 1 4; do count_load submit 200000 submit "$threads" 200000 4; done
         ;;
     profile)
-        build_submitting
-        profile sum 1 20000 1 1
+        profile invoke sum 1 20000 1 1
         profile tree 1
         profile submit 1 200000 4
         ;;
@@ -174,16 +211,14 @@ run_load() {
     esac
 }
 
-(($#)) || set -- leaves blocks primes tree submit locks
-proved= compared=
-for load; do
-    case $load in
-    leaves | blocks | primes | tree) proved=yes compared=yes ;;
-    submit) compared=yes ;;
-    esac
-done
-[[ -z $proved ]] || build_proved
-[[ -z $compared ]] || build_others
+(($#)) || set -- leaves blocks primes min find oversubscribed tree submit locks
 # The counts come last: for them the copies of the crates are changed.
-for load; do [[ $load == locks ]] || run_load "$load"; done
+compared=()
+for load; do [[ $load == locks ]] || compared+=("$load"); done
+if ((${#compared[@]})); then
+    build_ours "${compared[@]}"
+    [[ ${compared[*]} == profile ]] || build_others
+    echo "milliseconds, the least of $runs runs"
+    for load in "${compared[@]}"; do run_load "$load"; done
+fi
 for load; do [[ $load != locks ]] || run_load "$load"; done

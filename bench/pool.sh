@@ -3,7 +3,7 @@
 # Usage: bench/pool.sh [LOAD..]
 #   LOAD is submit, outside, forked, delay or idle (default: all of them), or, with OPTIMISED=1 and as the only one, days: the peak memory of
 #   a pool through which 131,072 and 2,097,152 submissions pass
-# OPTIMISED=1 bench/pool.sh ..   compiles the loader's module with -O3; else it is run as `rt try` runs it, which is far slower
+# OPTIMISED=1 bench/pool.sh ..   compiles the loader without checks and with optimisation; else it is run as `rt try` runs it, which is far slower
 # RUNS=N bench/pool.sh ..        the least time of N runs counts (default: 1, OPTIMISED 5); of delay and idle there is one run
 set -euo pipefail
 cd "$(dirname "${BASH_SOURCE[0]}")/.."

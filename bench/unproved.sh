@@ -1,4 +1,4 @@
-# Sourced by pool.sh, after loader.sh: how a loader of which nothing is proved is run.
+# Sourced by pool.sh and jobs.sh, after loader.sh: how a loader of which nothing is proved is built and run.
 
 # try_cases CASES: builds the loader in the folder `loader` as `rt try` does, with checks of each access and no optimisation, and runs it once for
 # each file NAME of the folder CASES, with the words of NAME.args. Prints for each a line with NAME and what the loader wrote.
@@ -11,10 +11,10 @@ try_cases() {
     awk '/^== / { name = $2; next } /^case=/ { if (!/ status=0 /) { print > "/dev/stderr"; exit 1 } next } name { print name, $0; name = "" }' "$loader.log"
 }
 
-# optimise_loader: has `rt try` make the loader's module, compiles that by the same clang with -O3 and without the checks of each access, and
-# names the program in `program`. It leaves the checks of sums and places in, which a proved build has not.
+# optimise_loader: has `rt try` make the loader's module, makes it like that of a proved build, compiles it as such a one, and names the program in
+# `program`.
 optimise_loader() {
-    local kit copy=$loader/kit file
+    local kit copy=$loader/kit file compile
     kit=$(dirname "$(rt doc)")
     # A kit whose clang keeps the module and stops, in the place of a compilation with checks.
     mkdir -p "$copy/bin" "$copy/toolchain/bin"
@@ -27,12 +27,27 @@ optimise_loader() {
         "*-fsanitize=address*) cp module.bc '$loader/module.bc'; exit 1 ;;" 'esac' \
         "exec '$kit/toolchain/bin/clang' \"\$@\"" > "$copy/toolchain/bin/clang"
     chmod +x "$copy/toolchain/bin/clang"
+    rm -f "$loader/module.bc"
     (cd "$loader" && "$copy/bin/rt" try) > "$loader.log" 2>&1 || [[ -e $loader/module.bc ]] || { cat "$loader.log" >&2; exit 1; }
-    "$kit/toolchain/bin/clang" --target=x86_64-unknown-linux-gnu --sysroot="$kit/toolchain" -march=x86-64 -ffunction-sections -fdata-sections \
-        --no-default-config -fPIE -O3 -c -x ir "$loader/module.bc" -o "$loader/module.o"
+    compile=("$kit/toolchain/bin/clang" --target=x86_64-unknown-linux-gnu --no-default-config -x ir)
+    "${compile[@]}" -S -emit-llvm -Xclang -disable-llvm-passes -o "$loader/module.ll" "$loader/module.bc"
+    as_proved "$loader/module.ll" > "$loader/as_proved.ll"
+    "${compile[@]}" --sysroot="$kit/toolchain" "${options_of_run[@]}" -c -o "$loader/module.o" "$loader/as_proved.ll"
     program=$loader/program
     "$kit/bin/rattle-link" --target x86_64-unknown-linux-gnu --toolchain "$kit/toolchain" -o "$program" "$loader/module.o" \
         "$kit/c/libos_c.a" "$kit/c/liblibc_c.a" > "$loader.log" 2>&1
+}
+
+# With what `rt run` compiles a module.
+options_of_run=(-march=x86-64 -fPIE -O3 -ffunction-sections -fdata-sections -Xclang -fmerge-functions -mllvm -mergefunc-use-aliases
+    -mllvm -disable-machine-licm -mllvm -disable-postra-machine-licm -mllvm -sink-common-insts=false -mllvm -no-x86-call-frame-opt
+    -mllvm -trap-unreachable -mllvm -no-trap-after-noreturn)
+
+# as_proved MODULE: the text of a module of `rt try`, without what one of `rt run` has not: the pattern with which each local is filled; the checks
+# of sums, places and the like, and what stops where one fails; the marks of functions for checks of each access, and for frame pointers.
+as_proved() {
+    sed -E '/^  call void @llvm\.memset\.p0\.i64\(ptr %[^,]*, i8 -86, /d; /^  call void @"rattle-llvm-checks::/d; /^  call void @llvm\.trap\(\)$/d
+        /^attributes /{ s/sanitize_address "frame-pointer"="all"/nounwind/; s/"target-cpu"="x86-64"/"target-cpu"="x86-64-v2"/ }' "$1"
 }
 
 # run_cases CASES: as try_cases, with the program `program`.
