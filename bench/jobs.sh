@@ -3,7 +3,7 @@
 # thread; a pool in plain C with one lock; those of the JDK, of rayon and of oneTBB. Each is timed as a whole process, by turns, and all must
 # give the same answer.
 # Usage: bench/jobs.sh [LOAD..]
-#   LOAD is leaves, blocks, primes, min, find, oversubscribed, tree, submit or locks (default: all of them), or, where valgrind is there, profile
+#   LOAD is leaves, blocks, primes, min, find, oversubscribed, started, tree, submit or locks (default: all of them), or, where valgrind is there, profile
 # RUNS=N bench/jobs.sh ..     the least time of N runs of each program counts (default: 5)
 # PROVED=1 bench/jobs.sh ..   ours is proved, which takes half an hour and more; else it is built as unproved.sh does
 set -euo pipefail
@@ -34,14 +34,15 @@ build_proved() {
     cp "$loader/out/jobs" "$folder/proved"
 }
 
-# build_unproved NAME: ours as NAME, with submissions too, of which nothing is proved.
+# build_unproved NAME: ours as NAME, with submissions and `started` too, of which nothing is proved.
 build_unproved() {
     cp bench/jobs/counted/main.rt.in "$loader/src/main.rt"
+    cp bench/jobs/counted/started.rt.in "$loader/src/started.rt"
     optimise_loader
     cp "$program" "$folder/$1"
 }
 
-# Ours; proved, where that is asked for, in all but submissions.
+# Ours; proved, where that is asked for, in all but submissions and `started`.
 build_ours() {
     local ours=$folder/unproved
     if [[ ${PROVED:-} ]]; then
@@ -147,6 +148,14 @@ count_load() {
     }'
 }
 
+# show_started WORKERS: after how many microseconds the last worker had begun a body of a lazy job, of all runs.
+show_started() {
+    local run
+    for ((run = 0; run < runs; run++)); do timeout "$limit" "${program_of[submitting]}" started "$1"; done | sort -n | awk -v workers="$1" '
+        { took[NR] = $1 }
+        END { printf "%-14s %-30s  microseconds until all have begun, least: %d  median: %d  greatest: %d\n", "started", workers, took[1], took[int((NR + 1) / 2)], took[NR] }'
+}
+
 # profile WORD..: the functions of ours in which most instructions of a run are counted, each with its part in a hundred.
 profile() {
     valgrind --tool=callgrind --callgrind-out-file="$folder/instructions" "${program_of[submitting]}" "$@" < "$tree" > "$loader.log" 2>&1
@@ -187,6 +196,7 @@ run_load() {
         time_load oversubscribed "lazily $one_thread $peers" 200000010000000 sum 1 20000000 1 32
         time_load oversubscribed "$ours $one_thread one_lock $peers" 863 primes 1 6700 1 32
         ;;
+    started) for workers in 4 32; do show_started "$workers"; done ;;
     tree) for workers in 1 2 4; do time_load tree "fj one_lock java rayon" "$(${program_of[fj]} tree 1 < "$tree")" tree "$workers"; done ;;
     submit) for threads in 1 4; do time_load submit "submitting one_lock java rayon" 200000 submit "$threads" 200000 4; done ;;
     locks)
@@ -211,7 +221,7 @@ run_load() {
     esac
 }
 
-(($#)) || set -- leaves blocks primes min find oversubscribed tree submit locks
+(($#)) || set -- leaves blocks primes min find oversubscribed started tree submit locks
 # The counts come last: for them the copies of the crates are changed.
 compared=()
 for load; do [[ $load == locks ]] || compared+=("$load"); done
