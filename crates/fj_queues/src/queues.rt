@@ -1,4 +1,4 @@
-ghost use Rattle.std.specs.Prelude.{◌≡◌, ◌+◌, ◌<◌, ◌∷◌, [], ◌++◌, length, replicate, IfOk, IfSome, IfNone, MatchOption};
+ghost use Rattle.std.specs.Prelude.{◌≡◌, ◌+◌, ◌%◌, ◌<◌, ◌∷◌, [], ◌++◌, length, replicate, IfOk, IfSome, IfNone, MatchOption};
 ghost use Rattle.fj_queues.specs.Queues.{queue_at, with_queue, total, without_first, without_last, first_filled, places_from};
 ghost use Rattle.fj_model.specs.Lists.{first_of, last_of};
 
@@ -36,6 +36,19 @@ impl Model for Queues {
       within : length q.cells.table.items ≤ q.room;
       reserved : q.room ≤ vec_capacity q.cells.table;
     } };
+}
+
+/// A place in a row of so many, on round past its last one. Precondition: it is below twice as many.
+fn round(place: usize, places: usize) -> usize
+    requires { place < places + places }
+    ensures { result ≡ place % places }
+{
+    // A division takes longer than all else that is done for a place.
+    if place < places {
+        place
+    } else {
+        place - places
+    }
 }
 
 impl Queues {
@@ -156,7 +169,7 @@ impl Queues {
         // `r` may be the largest number that there is, so it is brought below the number of owners before anything is added to it.
         let start = r % owners;
         for i in 0..owners {
-            let o = (start + i) % owners;
+            let o = round(start + i, owners);
             if self.ends[o].len > 0 {
                 return Some(o);
             }

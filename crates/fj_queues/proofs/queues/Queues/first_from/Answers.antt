@@ -9,14 +9,18 @@ use Rattle.std.proofs.lemmas.List.{get_or_read, length-map}
 use Rattle.fj_queues.proofs.queues.Queues.first_from.Goals as goal
 use Rattle.fj_queues.proofs.queues.Queues.first_from.Goals.{After-index}
 
--- how many numbers the queue has that is looked at
+-- the queue that is looked at
+place : (c : After-index) → c.round-o.result ≡ (c.args.r + c.loop-i.i) % c.len-owners.result
+place c = c.round-o.ensures ∙ mod-add-mod c.args.r c.len-owners.result c.loop-i.i
+
+-- how many numbers it has
 read : (c : After-index) → c.index.result.now.len ≡ length (get_or (lists_of c.self.inside.cells.table.items c.self.inside.ends.items) ((c.args.r + c.loop-i.i) % c.len-owners.result) [])
 read c =
     let q = c.self.inside in
     let owners = c.len-owners.result in
-    let within : (c.args.r % owners + c.loop-i.i) % owners < length q.ends.items = omega (arith, q.ends.ok.0) in
+    let within : c.round-o.result < length q.ends.items = rw c.round-o.ensures (omega (arith, q.ends.ok.0)) in
     len_seen q.cells.table.items q.cells.free q.ends.items [] c.self.invariant.table _ within _ (get_or_read q.ends.items _ _ within c.index.ensures no_ends)
-    ∙ ap (λ o. length (get_or (lists_of q.cells.table.items q.ends.items) o [])) (mod-add-mod c.args.r owners c.loop-i.i)
+    ∙ ap (λ o. length (get_or (lists_of q.cells.table.items q.ends.items) o [])) (place c)
 
 pub returns-then-index-gt0-clause-scan : goal.returns-then-index-gt0-clause-scan
 returns-then-index-gt0-clause-scan c =
@@ -27,11 +31,11 @@ returns-then-index-gt0-clause-scan c =
     let count : length lists ≡ owners = omega (arith, length-map q.ends.items (λ e. numbers_from q.cells.table.items e.len e.oldest), q.ends.ok.0) in
     let some : is_empty (get_or lists o []) ≡ false = is_empty_no (get_or lists o []) (omega (arith, read (goal.at.returns-then-index-gt0-clause-scan c).After-index)) in
     let step = rw some at (scan_step lists c.args.r owners c.loop-i.i c.loop-i-test.true) in
-    rw (← c.self.view_is, count, mod-add-mod c.args.r owners c.loop-i.i) (sym step ∙ c.loop-i.invariant)
+    rw (← c.self.view_is, count, place (goal.at.returns-then-index-gt0-clause-scan c).After-index) (sym step ∙ c.loop-i.invariant)
 
 pub returns-then-index-gt0-clause-filled : goal.returns-then-index-gt0-clause-filled
 returns-then-index-gt0-clause-filled c =
-    rw (← c.self.view_is, mod-add-mod c.args.r c.len-owners.result c.loop-i.i) (omega (arith, read (goal.at.returns-then-index-gt0-clause-filled c).After-index))
+    rw (← c.self.view_is, place (goal.at.returns-then-index-gt0-clause-filled c).After-index) (omega (arith, read (goal.at.returns-then-index-gt0-clause-filled c).After-index))
 
 pub loop-i-preserved : goal.loop-i-preserved
 loop-i-preserved c =
