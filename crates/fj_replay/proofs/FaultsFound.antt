@@ -1,10 +1,10 @@
 -- What a session has found when it stops.
 use Rattle.std.specs.Prelude.{◌==◌, if◌then◌else◌, true, false}
-use Rattle.std.proofs.Common.{ℕ, ◌≡◌, ◌≢◌, ◌+◌, ◌<◌, ◌≤◌, List, [], ◌∷◌, ◌++◌, refl, arith, ◌∙◌, sym, ap, take, drop, length, length-append, append_assoc, ◌⊎◌, inl, inr, Option, Some}
+use Rattle.std.proofs.Common.{ℕ, ◌≡◌, ◌≢◌, ◌+◌, ◌<◌, List, [], ◌∷◌, ◌++◌, refl, arith, ◌∙◌, sym, ap, take, drop, length, length-append, append_assoc, ◌⊎◌, inl, inr, Option, None, Some}
 use Rattle.std.proofs.lemmas.List.{append-nil, take-append-drop}
 use Rattle.std.proofs.Math.Seq.{take-append_seam}
-use Rattle.std.proofs.Math.ListN.{get_or}
 use Rattle.std.specs.Io.KnownBytes.{Appends, Consumes, IsAtEnd, Keeps}
+use Rattle.fj_model.specs.declared.read.TheConstants.{LINE_FEED}
 use Rattle.fj_model.specs.declared.read.line2.TheConstants.{MAX_LINE2}
 use Rattle.fj_replay.specs.declared.fault.ReplayFault.{ReplayFault}
 use Rattle.fj_replay.specs.declared.fault.ReplayFault.TheVariants.{Line, Limits, Memory, Read, Write}
@@ -13,11 +13,12 @@ use Rattle.fj_replay.specs.Cuts.{cut, left, lines, rest}
 use Rattle.fj_replay.specs.declared.stage.Stage.{Stage}
 use Rattle.fj_replay.specs.Scripts.{stage_after, stage_from, line_text, text_from, is_good}
 use Rattle.fj_replay.specs.Faults.{Stands, IsUnended, IsFaulty, IsHeadless, LacksHeading, IsOutOfLimits, EndsFrom, FaultOf, IsFinished}
-use Rattle.fj_replay.specs.Sessions.{Kept, IsAt, MayEnd, EndsEarly, FaultAtEnd, FaultWithin, FaultAt}
+use Rattle.fj_replay.specs.Sessions.{Kept, IsAt, MayEnd, EndsEarly, FaultAtEnd, FaultInLine, IsTooLong, continued}
 use Rattle.fj_streams.proofs.Bytes.{appends_keeps, appends_twice}
-use Rattle.fj_replay.proofs.Lines.{cut-append, left-append, left-uncut}
+use Rattle.memchr.specs.Find.{NoneBefore, Passes, is_byte}
+use Rattle.fj_replay.proofs.Lines.{before_end, cut-append, left-append, left-uncut, three_parts, uncut}
 use Rattle.fj_replay.proofs.Stages.{stage_there, some_stage, text-line, text-stops, faulty_after, headless_silent, too_long}
-use Rattle.fj_replay.proofs.Steps.{tens, no_ten, text_at, and_rest}
+use Rattle.fj_replay.proofs.Steps.{at_run, text_at}
 
 -- ---- parts of a text
 
@@ -37,16 +38,14 @@ wrote_all first b ys v s n m at none wrote =
     rw whole (appends_twice s n m (text_from first (lines b)) [] at.written wrote)
 
 -- the reply to a line was not written whole
-stopped : (first : Stage) (b more : List ℕ) (v : Kept) (x : ℕ) (s n m : Option (List ℕ)) → IsAt first b v s n → x ≡ 10 → MayEnd v → AppendsSome n m (line_text v.stage v.line) → AppendsSome s m (text_from first (lines (b ++ x ∷ more)))
-stopped first b more v x s n m at ends may some =
-    let e = tens x ends in
-    let one : cut (rest b) (x ∷ more) ≡ rest b ∷ cut [] more = rw e refl in
+stopped : (first : Stage) (b more : List ℕ) (v : Kept) (s n m : Option (List ℕ)) → IsAt first b v s n → MayEnd v → AppendsSome n m (line_text v.stage v.line) → AppendsSome s m (text_from first (lines (b ++ LINE_FEED ∷ more)))
+stopped first b more v s n m at may some =
     let there = stage_there (stage_after v.stage v.line) may in
     let there_too : stage_after v.stage (rest b) ≡ Some there.0 = rw (← at.line) there.1 in
     let said_line : line_text v.stage v.line ≡ line_text v.stage (rest b) = rw at.line refl in
     let later : List ℕ = text_from there.0 (cut [] more) in
-    let tail : text_from v.stage (cut (rest b) (x ∷ more)) ≡ line_text v.stage v.line ++ later = rw (one, said_line) (text-line v.stage there.0 (rest b) (cut [] more) there_too) in
-    let whole : text_from first (lines (b ++ x ∷ more)) ≡ text_from first (lines b) ++ (line_text v.stage v.line ++ later) = text_at first b (x ∷ more) v.stage at.stage ∙ ap (λ t. text_from first (lines b) ++ t) tail in
+    let tail : text_from v.stage (cut (rest b) (LINE_FEED ∷ more)) ≡ line_text v.stage v.line ++ later = rw said_line (text-line v.stage there.0 (rest b) (cut [] more) there_too) in
+    let whole : text_from first (lines (b ++ LINE_FEED ∷ more)) ≡ text_from first (lines b) ++ (line_text v.stage v.line ++ later) = text_at first b (LINE_FEED ∷ more) v.stage at.stage ∙ ap (λ t. text_from first (lines b) ++ t) tail in
     rw whole (some_twice s n m (text_from first (lines b)) (line_text v.stage v.line) later at.written some)
 
 -- ---- a line that stands whole
@@ -85,56 +84,62 @@ unended first b more k v s n m ahead at number none long wrote =
     } in
     (inr (open_line, inl (rw (left-append [] b more) long)), wrote_all first b more v s n m at quiet wrote)
 
-long_line : (first : Stage) (b more : List ℕ) (x k : ℕ) (v : Kept) (s n m ahead : Option (List ℕ)) → IsAt first b v s n → k ≡ v.count + 1 → x ≢ 10 → MAX_LINE2 ≤ length v.line → Appends n m [] → FaultOf first (Line k) (b ++ x ∷ more) ahead s m
-long_line first b more x k v s n m ahead at number goes full wrote =
-    let e = no_ten x goes in
+-- these bytes make the line too long, whatever follows them
+long_line : (first : Stage) (b xs more : List ℕ) (k : ℕ) (v : Kept) (s n m ahead : Option (List ℕ)) → IsAt first b v s n → k ≡ v.count + 1 → lines xs ≡ [] → MAX_LINE2 < length v.line + length xs → Appends n m [] → FaultOf first (Line k) (b ++ (xs ++ more)) ahead s m
+long_line first b xs more k v s n m ahead at number none much wrote =
+    let here : cut (rest b) xs ≡ [] = uncut [] (rest b) xs none in
+    let far : left (rest b) xs ≡ rest b ++ xs = left-uncut (rest b) xs here in
     let same : length v.line ≡ length (rest b) = ap length at.line in
-    let long : MAX_LINE2 < length (rest b ++ x ∷ []) = simp length-append (omega arith) in
-    let on : cut (rest b) (x ∷ more) ≡ cut (rest b ++ x ∷ []) more = rw e refl in
-    let on_left : left (rest b) (x ∷ more) ≡ left (rest b ++ x ∷ []) more = rw e refl in
-    elim (long_or (rest b ++ x ∷ []) more long) [
-      | inl none ↦
-          let far : MAX_LINE2 < length (left (rest b) (x ∷ more)) = rw (on_left, left-uncut (rest b ++ x ∷ []) more none, length-append) (omega arith) in
-          unended first b (x ∷ more) k v s n m ahead at number (on ∙ none) far wrote
-      | inr l ↦ stands first b (x ∷ more) l.0 l.1 k v s n m ahead at number (on ∙ l.2) (too_long v.stage l.0 l.3) wrote
+    let long : MAX_LINE2 < length (rest b ++ xs) = simp length-append (omega arith) in
+    let on : cut (rest b) (xs ++ more) ≡ cut (rest b ++ xs) more = cut-append (rest b) xs more ∙ rw (here, far) refl in
+    let on_left : left (rest b) (xs ++ more) ≡ left (rest b ++ xs) more = left-append (rest b) xs more ∙ rw far refl in
+    elim (long_or (rest b ++ xs) more long) [
+      | inl none_after ↦
+          let longer : MAX_LINE2 < length (left (rest b) (xs ++ more)) = rw (on_left, left-uncut (rest b ++ xs) more none_after, length-append) (omega arith) in
+          unended first b (xs ++ more) k v s n m ahead at number (on ∙ none_after) longer wrote
+      | inr l ↦ stands first b (xs ++ more) l.0 l.1 k v s n m ahead at number (on ∙ l.2) (too_long v.stage l.0 l.3) wrote
     ]
 
 -- ---- a heading out of its limits
 
-out_of_limits : (first : Stage) (b more : List ℕ) (x : ℕ) (v : Kept) (s n m ahead : Option (List ℕ)) → IsAt first b v s n → x ≡ 10 → IsHeadless v.stage → IsOutOfLimits v.line → Appends n m [] → FaultOf first Limits (b ++ x ∷ more) ahead s m
-out_of_limits first b more x v s n m ahead at ends headless out wrote =
-    let e = tens x ends in
-    let cuts : lines (b ++ x ∷ more) ≡ lines b ++ rest b ∷ cut [] more = cut-append [] b (x ∷ more) ∙ rw e refl in
+out_of_limits : (first : Stage) (b more : List ℕ) (v : Kept) (s n m ahead : Option (List ℕ)) → IsAt first b v s n → IsHeadless v.stage → IsOutOfLimits v.line → Appends n m [] → FaultOf first Limits (b ++ LINE_FEED ∷ more) ahead s m
+out_of_limits first b more v s n m ahead at headless out wrote =
+    let cuts : lines (b ++ LINE_FEED ∷ more) ≡ lines b ++ rest b ∷ cut [] more = cut-append [] b (LINE_FEED ∷ more) in
     let quiet : text_from first (lines b) ≡ [] = headless_silent first v.stage (lines b) at.stage headless in
     ((lines b, rest b, cut [] more, v.stage, cuts, at.stage, headless, rw at.line at out), appends_twice s n m [] [] (rw quiet at at.written) wrote)
 
 -- ---- all faults
 
-at_end_of_line : (first : Stage) (f : ReplayFault) (b more : List ℕ) (v : Kept) (x : ℕ) (s n m ahead : Option (List ℕ)) → IsAt first b v s n → x ≡ 10 → FaultAtEnd f (v.count + 1) v.stage v.line n m → FaultOf first f (b ++ x ∷ more) ahead s m
-at_end_of_line first (Line k) b more v x s n m ahead at ends p =
-    let e = tens x ends in
-    let one : cut (rest b) (x ∷ more) ≡ rest b ∷ cut [] more = rw e refl in
-    stands first b (x ∷ more) (rest b) (cut [] more) k v s n m ahead at p.0 one (rw at.line at p.1) p.2
-at_end_of_line first Limits b more v x s n m ahead at ends p = out_of_limits first b more x v s n m ahead at ends p.0 p.1 p.2
-at_end_of_line first Memory b more v x s n m ahead at ends p = stopped first b more v x s n m at ends p.0 p.1
-at_end_of_line first Read b more v x s n m ahead at ends p = absurd p
-at_end_of_line first Write b more v x s n m ahead at ends p = stopped first b more v x s n m at ends p.0 p.1
+at_end_of_line : (first : Stage) (f : ReplayFault) (b more : List ℕ) (v : Kept) (s n m ahead : Option (List ℕ)) → IsAt first b v s n → FaultAtEnd f (v.count + 1) v.stage v.line n m → FaultOf first f (b ++ LINE_FEED ∷ more) ahead s m
+at_end_of_line first (Line k) b more v s n m ahead at p = stands first b (LINE_FEED ∷ more) (rest b) (cut [] more) k v s n m ahead at p.0 refl (rw at.line at p.1) p.2
+at_end_of_line first Limits b more v s n m ahead at p = out_of_limits first b more v s n m ahead at p.0 p.1 p.2
+at_end_of_line first Memory b more v s n m ahead at p = stopped first b more v s n m at p.0 p.1
+at_end_of_line first Read b more v s n m ahead at p = absurd p
+at_end_of_line first Write b more v s n m ahead at p = stopped first b more v s n m at p.0 p.1
 
-within_line : (first : Stage) (f : ReplayFault) (b more : List ℕ) (v : Kept) (x : ℕ) (s n m ahead : Option (List ℕ)) → IsAt first b v s n → x ≢ 10 → FaultWithin f v n m → FaultOf first f (b ++ x ∷ more) ahead s m
-within_line first (Line k) b more v x s n m ahead at goes p = long_line first b more x k v s n m ahead at p.0 goes p.1 p.2
-within_line first Limits b more v x s n m ahead at goes p = absurd p
-within_line first Memory b more v x s n m ahead at goes p = absurd p
-within_line first Read b more v x s n m ahead at goes p = absurd p
-within_line first Write b more v x s n m ahead at goes p = absurd p
+-- a fault in a line that ends behind these bytes, whatever follows it
+pub fault_in_line : (first : Stage) (f : ReplayFault) (b xs more : List ℕ) (v : Kept) (s n m ahead : Option (List ℕ)) → IsAt first b v s n → lines xs ≡ [] → FaultInLine f v xs n m → FaultOf first f (b ++ (xs ++ LINE_FEED ∷ more)) ahead s m
+fault_in_line first f b xs more v s n m ahead at none (inl (long, wrote)) = rw long.0 (long_line first b xs (LINE_FEED ∷ more) (v.count + 1) v s n m ahead at refl none long.1 wrote)
+fault_in_line first f b xs more v s n m ahead at none (inr (few, p)) =
+    rw (← append_assoc b xs (LINE_FEED ∷ more)) (at_end_of_line first f (b ++ xs) more (continued v xs) s n m ahead (at_run first b xs v (continued v xs) s n at none few refl) p)
 
--- a fault at a byte, whatever follows it
-pub faulted : (first : Stage) (f : ReplayFault) (b more : List ℕ) (v : Kept) (x : ℕ) (s n m ahead : Option (List ℕ)) → IsAt first b v s n → FaultAt f v x n m → FaultOf first f (b ++ x ∷ more) ahead s m
-faulted first f b more v x s n m ahead at (inl ends) = at_end_of_line first f b more v x s n m ahead at ends.0 ends.1
-faulted first f b more v x s n m ahead at (inr goes) = within_line first f b more v x s n m ahead at goes.0 goes.1
+nothing_more : (n : Option (List ℕ)) → Appends n n []
+nothing_more None = tt
+nothing_more (Some x) = sym (append-nil x)
 
--- a fault at one byte of many
-pub fault_next : (first : Stage) (f : ReplayFault) (b xs : List ℕ) (i : ℕ) (v : Kept) (s n m ahead : Option (List ℕ)) → i < length xs → IsAt first (b ++ take i xs) v s n → FaultAt f v (get_or xs i 0) n m → FaultOf first f (b ++ xs) ahead s m
-fault_next first f b xs i v s n m ahead h at p = rw (and_rest b xs i h) (faulted first f (b ++ take i xs) (drop (i + 1) xs) v (get_or xs i 0) s n m ahead at p)
+-- a fault within a line
+pub fault_in_run : (first : Stage) (f : ReplayFault) (b xs : List ℕ) (v : Kept) (s n ahead : Option (List ℕ)) → IsAt first b v s n → lines xs ≡ [] → IsTooLong f v (length xs) → FaultOf first f (b ++ xs) ahead s n
+fault_in_run first f b xs v s n ahead at none long =
+    rw (long.0, ← append-nil xs) (long_line first b xs [] (v.count + 1) v s n n ahead at refl none long.1 (nothing_more n))
+
+-- the same behind bytes that are taken
+pub fault_next : (first : Stage) (f : ReplayFault) (b all taken xs : List ℕ) (k : ℕ) (v : Kept) (s n m ahead : Option (List ℕ)) → all ≡ taken ++ xs → NoneBefore (Passes (is_byte LINE_FEED) xs) 0 (length xs) k → Passes (is_byte LINE_FEED) xs k → IsAt first (b ++ taken) v s n → FaultInLine f v (take k xs) n m → FaultOf first f (b ++ all) ahead s m
+fault_next first f b all taken xs k v s n m ahead whole none ends at p =
+    let parts : b ++ all ≡ (b ++ taken) ++ (take k xs ++ LINE_FEED ∷ drop (k + 1) xs) = ap (λ t. b ++ t) (whole ∙ ap (λ t. taken ++ t) (three_parts xs k none.high ends)) ∙ sym (append_assoc b taken (take k xs ++ LINE_FEED ∷ drop (k + 1) xs)) in
+    rw parts (fault_in_line first f (b ++ taken) (take k xs) (drop (k + 1) xs) v s n m ahead at (before_end xs k none) p)
+
+pub fault_in_rest : (first : Stage) (f : ReplayFault) (b all taken xs : List ℕ) (v : Kept) (s n ahead : Option (List ℕ)) → all ≡ taken ++ xs → lines xs ≡ [] → IsAt first (b ++ taken) v s n → IsTooLong f v (length xs) → FaultOf first f (b ++ all) ahead s n
+fault_in_rest first f b all taken xs v s n ahead whole none at long = rw (whole, ← append_assoc b taken xs) (fault_in_run first f (b ++ taken) xs v s n ahead at none long)
 
 -- ---- the end of the input
 

@@ -1,7 +1,6 @@
--- What a session keeps, and what one byte does to it.
-use Rattle.std.specs.Prelude.{ℕ, ⊤, ◌≡◌, ◌≢◌, ◌+◌, ◌≤◌, ◌==◌, ◌⊎◌, if◌then◌else◌, List, [], ◌∷◌, ◌++◌, Option, Some, None, true, is_some, unwrap_or, length}
+-- What a session keeps, and what a line does to it.
+use Rattle.std.specs.Prelude.{ℕ, ⊤, ◌≡◌, ◌≢◌, ◌+◌, ◌<◌, ◌≤◌, ◌⊎◌, List, [], ◌++◌, Option, Some, None, true, is_some, unwrap_or, length}
 use Rattle.std.specs.Io.KnownBytes.{Appends}
-use Rattle.fj_model.specs.declared.read.TheConstants.{LINE_FEED}
 use Rattle.fj_model.specs.declared.read.line2.TheConstants.{MAX_LINE2}
 use Rattle.fj_model.specs.Lines.{head_in}
 use Rattle.fj_replay.specs.declared.fault.ReplayFault.{ReplayFault}
@@ -40,25 +39,23 @@ abbrev pub EndsInside : ReplayFault → List ℕ → Kept → Option (List ℕ) 
 EndsInside fault bytes old written now =
     (first : Stage) (b : List ℕ) (start ahead : Option (List ℕ)) → IsAt first b old start written → FaultOf first fault (b ++ bytes) ahead start now
 
--- ---- one byte
+-- ---- one line
 
 -- whether the line may stand where it does
 abbrev pub MayEnd : Kept → Type 0
 MayEnd v = is_some (stage_after v.stage v.line) ≡ true
 
--- the line may go on with the byte, or is good if the byte ends it
-abbrev pub Goes : Kept → ℕ → Type 0
-Goes v x = (x ≡ LINE_FEED × MayEnd v) ⊎ ((x ≢ LINE_FEED) × (length v.line + 1 ≤ MAX_LINE2))
+-- what is kept after more bytes of the line
+abbrev pub continued : Kept → List ℕ → Kept
+continued v bytes = record { count = v.count; line = v.line ++ bytes; stage = v.stage }
 
--- what is kept after one byte more
-abbrev pub next_kept : Kept → ℕ → Kept
-next_kept v x =
-    if x == LINE_FEED then record { count = v.count + 1; line = []; stage = unwrap_or (stage_after v.stage v.line) v.stage }
-    else record { count = v.count; line = v.line ++ x ∷ []; stage = v.stage }
+-- what is kept once the line has ended
+abbrev pub after_line : Kept → Kept
+after_line v = record { count = v.count + 1; line = []; stage = unwrap_or (stage_after v.stage v.line) v.stage }
 
--- what is written at the byte
-abbrev pub fed : Kept → ℕ → List ℕ
-fed v x = if x == LINE_FEED then line_text v.stage v.line else []
+-- with so many bytes more the line is at fault: it is too long
+abbrev pub IsTooLong : ReplayFault → Kept → ℕ → Type 0
+IsTooLong fault v more = (fault ≡ Line (v.count + 1)) × (MAX_LINE2 < length v.line + more)
 
 -- what a fault at the end of a line says, which has this number
 abbrev pub FaultAtEnd : ReplayFault → ℕ → Stage → List ℕ → Option (List ℕ) → Option (List ℕ) → Type 0
@@ -68,18 +65,11 @@ FaultAtEnd Memory number stage line old new = (is_some (stage_after stage line) 
 FaultAtEnd Read number stage line old new = ⊥
 FaultAtEnd Write number stage line old new = (is_some (stage_after stage line) ≡ true) × AppendsSome old new (line_text stage line)
 
--- what a fault at a byte within a line says: the line is too long
-abbrev pub FaultWithin : ReplayFault → Kept → Option (List ℕ) → Option (List ℕ) → Type 0
-FaultWithin (Line n) v old new = (n ≡ v.count + 1) × (MAX_LINE2 ≤ length v.line) × Appends old new []
-FaultWithin Limits v old new = ⊥
-FaultWithin Memory v old new = ⊥
-FaultWithin Read v old new = ⊥
-FaultWithin Write v old new = ⊥
-
--- what a fault at a byte says
-abbrev pub FaultAt : ReplayFault → Kept → ℕ → Option (List ℕ) → Option (List ℕ) → Type 0
-FaultAt fault v x old new =
-    ((x ≡ LINE_FEED) × FaultAtEnd fault (v.count + 1) v.stage v.line old new) ⊎ ((x ≢ LINE_FEED) × FaultWithin fault v old new)
+-- what a fault says in a line that ends behind these bytes
+abbrev pub FaultInLine : ReplayFault → Kept → List ℕ → Option (List ℕ) → Option (List ℕ) → Type 0
+FaultInLine fault v bytes old new =
+    (IsTooLong fault v (length bytes) × Appends old new [])
+    ⊎ ((length v.line + length bytes ≤ MAX_LINE2) × FaultAtEnd fault (v.count + 1) v.stage (v.line ++ bytes) old new)
 
 -- what a fault at a heading says, which stands at this line
 abbrev pub IsHeadFault : ReplayFault → ℕ → List ℕ → Type 0

@@ -1,15 +1,16 @@
-ghost use Rattle.std.specs.Prelude.{◌≡◌, ◌+◌, ◌-◌, ◌^◌, nat_le, ◌<◌, [], length, OnOk, IfOk, IfErr};
+ghost use Rattle.std.specs.Prelude.{◌≡◌, ◌+◌, ◌-◌, ◌^◌, nat_le, ◌<◌, ◌≤◌, ◌++◌, [], length, OnOk, IfOk, IfErr};
 ghost use Rattle.std.specs.Io.KnownBytes.{Appends};
 ghost use Rattle.fj_streams.specs.Calls.{IsFine};
 ghost use Rattle.fj_replay.specs.Tells.{WriterTells};
-ghost use Rattle.fj_replay.specs.Cuts.{lines};
 ghost use Rattle.fj_replay.specs.Faults.{IsHeadless};
-ghost use Rattle.fj_replay.specs.Sessions.{Kept, nothing_kept, next_kept, fed, Goes, GoesOnBy, FaultAt, EndsEarly, EndsInside};
+ghost use Rattle.fj_replay.specs.Sessions.{Kept, nothing_kept, continued, after_line, MayEnd, GoesOnBy, IsTooLong, FaultInLine, EndsEarly, EndsInside};
+ghost use Rattle.fj_replay.specs.Scripts.{line_text};
 
 use crate::fault::ReplayFault;
 use crate::stage::Stage;
 use fj_model::{LINE_FEED, MAX_LINE2};
 use fj_streams::Sink;
+use memchr::memchr;
 use std::alloc::{AllocError, Global};
 use std::marker::Model;
 
@@ -58,40 +59,66 @@ impl Session {
         self.count >= u64::MAX - CHUNK as u64
     }
 
-    /// Ends the line.
-    fn end_line<W: Sink>(&mut self, alloc: Global, w: &mut W) -> Result<(), ReplayFault>
-        requires { self.old.count + 1 < 2 ^ 64 }
-        ensures goes { OnOk result (Goes self.old LINE_FEED) }
-        ensures next { OnOk result (self.new ≡ next_kept self.old LINE_FEED) }
-        ensures wrote { OnOk result (Appends (W.contents w.old) (W.contents w.new) (fed self.old LINE_FEED)) }
-        ensures err { IfErr result (λ fault. FaultAt fault self.old LINE_FEED (W.contents w.old) (W.contents w.new)) }
-        ensures fine { OnOk result (IsFine (W.calls w.old) (W.calls w.new)) }
-        ensures told { IfErr result (λ fault. WriterTells fault (W.calls w.old) (W.calls w.new)) }
+    /// Whether so many bytes more have room in the line. `Line` where it gets too long.
+    fn fits(&self, more: usize) -> Result<(), ReplayFault>
+        requires { self.now.count + more < 2 ^ 64 }
+        ensures ok { OnOk result (length self.now.line + more ≤ MAX_LINE2) }
+        ensures err { IfErr result (λ fault. IsTooLong fault self.now more) }
     {
-        let number = self.count + 1;
-        self.stage.advance(alloc, self.line.as_slice(), number, w)?;
-        self.line.clear();
-        self.count += 1;
+        if more > MAX_LINE2 - self.line.len() {
+            return Err(ReplayFault::Line(self.count + 1));
+        }
         Ok(())
     }
 
-    /// Takes one byte. A line is ended by a line feed, and is at fault as soon as it has more than `MAX_LINE2` bytes.
-    fn feed<W: Sink>(&mut self, alloc: Global, byte: u8, w: &mut W) -> Result<(), ReplayFault>
-        requires { self.old.count + 1 < 2 ^ 64 }
-        ensures goes { OnOk result (Goes self.old byte) }
-        ensures next { OnOk result (self.new ≡ next_kept self.old byte) }
-        ensures wrote { OnOk result (Appends (W.contents w.old) (W.contents w.new) (fed self.old byte)) }
-        ensures err { IfErr result (λ fault. FaultAt fault self.old byte (W.contents w.old) (W.contents w.new)) }
+    /// Keeps bytes of the line. Precondition: they have room.
+    fn extend(&mut self, bytes: &[u8])
+        requires { length self.old.line + length bytes.now ≤ MAX_LINE2 }
+        ensures { self.new ≡ continued self.old bytes.now }
+    {
+        match self.line.extend_from_slice(bytes) {
+            Ok(()) => {}
+            Err(_) => unreachable!(),
+        }
+    }
+
+    /// Takes bytes within a line, which is at fault as soon as it has more than `MAX_LINE2`.
+    fn keep(&mut self, bytes: &[u8]) -> Result<(), ReplayFault>
+        requires { self.old.count + length bytes.now < 2 ^ 64 }
+        ensures ok { OnOk result ((length self.old.line + length bytes.now ≤ MAX_LINE2) × (self.new ≡ continued self.old bytes.now)) }
+        ensures err { IfErr result (λ fault. IsTooLong fault self.old (length bytes.now)) }
+    {
+        self.fits(bytes.len())?;
+        self.extend(bytes);
+        Ok(())
+    }
+
+    /// Takes the last bytes of a line, behind which it ends. A line that came whole is not copied.
+    fn take_line<W: Sink>(
+        &mut self,
+        alloc: Global,
+        bytes: &[u8],
+        w: &mut W,
+    ) -> Result<(), ReplayFault>
+        requires { self.old.count + length bytes.now + 1 < 2 ^ 64 }
+        ensures room { OnOk result (length self.old.line + length bytes.now ≤ MAX_LINE2) }
+        ensures may { OnOk result (MayEnd (continued self.old bytes.now)) }
+        ensures next { OnOk result (self.new ≡ after_line (continued self.old bytes.now)) }
+        ensures wrote { OnOk result (Appends (W.contents w.old) (W.contents w.new) (line_text self.old.stage (self.old.line ++ bytes.now))) }
+        ensures err { IfErr result (λ fault. FaultInLine fault self.old bytes.now (W.contents w.old) (W.contents w.new)) }
         ensures fine { OnOk result (IsFine (W.calls w.old) (W.calls w.new)) }
         ensures told { IfErr result (λ fault. WriterTells fault (W.calls w.old) (W.calls w.new)) }
     {
-        if byte == LINE_FEED {
-            return self.end_line(alloc, w);
+        self.fits(bytes.len())?;
+        let number = self.count + 1;
+        if self.line.is_empty() {
+            self.stage.advance(alloc, bytes, number, w)?;
+        } else {
+            self.extend(bytes);
+            self.stage.advance(alloc, self.line.as_slice(), number, w)?;
+            self.line.clear();
         }
-        if self.line.len() == MAX_LINE2 {
-            return Err(ReplayFault::Line(self.count + 1));
-        }
-        self.line.push_reserved(byte);
+        self.count = number;
         Ok(())
     }
 
@@ -108,10 +135,12 @@ impl Session {
         ensures fine { OnOk result (IsFine (W.calls w.old) (W.calls w.new)) }
         ensures told { IfErr result (λ fault. WriterTells fault (W.calls w.old) (W.calls w.new)) }
     {
-        for byte in bytes {
-            self.feed(alloc, *byte, w)?;
+        let mut rest = bytes;
+        while let Some(end) = memchr(LINE_FEED, rest) {
+            self.take_line(alloc, &rest[..end], w)?;
+            rest = &rest[end + 1..];
         }
-        Ok(())
+        self.keep(rest)
     }
 
     /// Ends the input. `Line` where it ends within a line, or before the heading.
