@@ -50,7 +50,7 @@ impl Serials {
     pub fn has(&self, t: Serial) -> bool
         ensures { result ≡ is_in t self.now.items }
     {
-        self.marks.has(t)
+        !self.numbers.is_empty() && self.marks.has(t)
     }
 
     /// Appends a number. Preconditions: it is not there, and there is room.

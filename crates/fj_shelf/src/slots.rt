@@ -4,13 +4,20 @@ ghost use Rattle.fj_shelf.specs.Slots.{in_slot};
 use fj_model::Serial;
 use std::alloc::{AllocError, Global};
 
+/// How many slots there are most often: as many as a pool may have tasks. Named, it is a mask, where any other takes a division.
+const MOST_SLOTS: usize = 4096;
+
 /// The slot in which an entry under this number is looked for first. Precondition: there is a slot.
 pub fn guess<T>(slots: &[Option<(Serial, T)>], number: Serial) -> usize
     requires { 0 < length slots.now }
     ensures guess { result ≡ number % length slots.now }
     ensures within { result < length slots.now }
 {
-    (number.0 % slots.len() as u64) as usize
+    if slots.len() == MOST_SLOTS {
+        (number.0 % MOST_SLOTS as u64) as usize
+    } else {
+        (number.0 % slots.len() as u64) as usize
+    }
 }
 
 /// Whether the slot is empty. Precondition: there is this slot.
