@@ -3,7 +3,7 @@ ghost use Rattle.fj_pool.specs.Lanes.{lanes_of};
 
 use fj_invoke::{BlockedRange, Limits, Mode, RangeSum, Recursive};
 use fj_pool::{Naming, Parts, Pool, Rest, Submitter};
-use std::alloc::Global;
+use std::alloc::{AllocError, Global};
 use std::marker::Brand;
 use std::test::Fail;
 
@@ -11,13 +11,18 @@ use std::test::Fail;
 type Sum = Recursive<RangeSum>;
 
 /// Hands three bodies to each submitter.
-fn hand_in<N: Naming>(alloc: Global, submitters: &mut [Submitter<Sum, N>]) {
+fn hand_in<N: Naming>(
+    alloc: Global,
+    submitters: &mut [Submitter<Sum, N>],
+) -> Result<(), AllocError> {
     for submitter in submitters {
         for number in 1..=3 {
             let range = BlockedRange::new(number, number, 1);
-            let _answer = submitter.submit(Recursive::new(alloc, RangeSum { range }));
+            let body = Recursive::new(alloc, RangeSum { range })?;
+            let _answer = submitter.submit(body);
         }
     }
+    Ok(())
 }
 
 /// How many bodies stand in the lanes, of which none has more than three.
@@ -41,7 +46,7 @@ fn handed_in<N: Naming>(alloc: Global, parts: Parts<Sum>) -> Result<(u64, u64), 
     requires pool { N.pool ≡ parts.core.store.past.pool }
 {
     let (pool, _hands, mut submitters, closer) = Pool::<Sum, N>::open(alloc, parts)?;
-    hand_in(alloc, &mut submitters);
+    hand_in(alloc, &mut submitters)?;
     if pool.are_all(submitters.as_slice()) {
         let record = pool.wind_up(submitters, closer);
         return Ok((record.admitted, count(record.lanes)));

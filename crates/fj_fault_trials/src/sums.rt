@@ -22,7 +22,7 @@ fn whole(
 ) -> Result<Failing<Recursive<RangeSum>>, Fail> {
     let range = BlockedRange::new(1, 4, 1);
     let owners = owners.clone()?;
-    let body = Recursive::new(alloc, RangeSum { range });
+    let body = Recursive::new(alloc, RangeSum { range })?;
     Ok(Failing::new(body, Common { fault, owners }))
 }
 

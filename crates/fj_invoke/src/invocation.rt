@@ -34,7 +34,9 @@ where
     ensures err { IfErr result RefusesRun }
 {
     let key = job.key();
-    let body = Recursive::new(alloc, job);
+    let Ok(body) = Recursive::new(alloc, job) else {
+        return Err(Refusal::OutOfMemory);
+    };
     match run_alone(rt, alloc, mode, limits, start, body, turnstile) {
         Ok(outcome) => answer_of(outcome, key),
         Err(refusal) => Err(refusal),

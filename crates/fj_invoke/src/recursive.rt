@@ -10,13 +10,19 @@ use crate::stage::{Left, Stage};
 use fj_jobs::{Divide, compute};
 use fj_model::{Kind, Refusal};
 use fj_store::{Ask, Body, Heard};
-use std::alloc::Global;
+use std::alloc::{AllocError, Global};
 use std::mem;
 
 /// A job as a body: it forks the left half, goes on with the right one in the same way, and then joins what it forked, the last one first.
-/// It is submitted as a plain task, with the key of its job: `RecursiveTask`.
+/// It is submitted as a plain task, with the key of its job: `RecursiveTask`. It stands in a box, since a pool moves a body several times.
 #[derive(Drop)]
 pub struct Recursive<J: Divide> {
+    inside: Box<Inside<J>>,
+}
+
+/// What a recursive body has.
+#[derive(Drop)]
+pub struct Inside<J: Divide> {
     key: J::Key,
     /// What it forked, or had to compute in place, from left to right.
     lefts: Vec<Left<J>>,
@@ -35,7 +41,7 @@ fn is_want_of_room(refusal: Refusal) -> bool
 fn in_place<J: Divide>(body: Recursive<J>, refusal: Refusal, key: J::Key) -> Option<J::Out>
     ensures value { IfSome result (λ v. v ≡ J.value key) }
     ensures room { IfSome result (λ v. is_want_of_room refusal ≡ true) }
-    ensures none { IfNone result ((is_want_of_room refusal ≡ false) ⊎ NotUnder J.key_of J.Key.eq body.stage key) }
+    ensures none { IfNone result ((is_want_of_room refusal ≡ false) ⊎ NotUnder J.key_of J.Key.eq body.inside.value.stage key) }
 {
     if is_want_of_room(refusal) {
         body.value_at(key)
@@ -45,27 +51,32 @@ fn in_place<J: Divide>(body: Recursive<J>, refusal: Refusal, key: J::Key) -> Opt
 }
 
 impl<J: Divide> Recursive<J> {
-    /// The job, before its first turn. It takes no memory.
-    pub fn new(alloc: Global, job: J) -> Recursive<J>
-        ensures { result.key ≡ J.key_of job }
+    /// The job, before its first turn. An error where memory is refused.
+    pub fn new(alloc: Global, job: J) -> Result<Recursive<J>, AllocError>
+        ensures { IfOk result (λ body. body.inside.value.key ≡ J.key_of job) }
     {
-        Recursive {
+        let inside = Inside {
             key: job.key(),
             lefts: Vec::new(alloc),
             stage: Stage::Going(job),
+        };
+        match Box::new(alloc, inside) {
+            Ok(inside) => Ok(Recursive { inside }),
+            Err(_) => Err(AllocError),
         }
     }
 
     /// The value of the job with which it begins, if its key is this one.
     fn value_at(self, key: J::Key) -> Option<J::Out>
         ensures value { IfSome result (λ v. v ≡ J.value key) }
-        ensures none { IfNone result (NotUnder J.key_of J.Key.eq self.stage key) }
+        ensures none { IfNone result (NotUnder J.key_of J.Key.eq self.inside.value.stage key) }
     {
-        let Recursive {
+        let Recursive { inside } = self;
+        let Inside {
             key: _,
             lefts: _,
             stage,
-        } = self;
+        } = Box::into_inner(inside);
         let Stage::Going(job) = stage else {
             return None;
         };
@@ -74,7 +85,9 @@ impl<J: Divide> Recursive<J> {
         }
         Some(compute(job))
     }
+}
 
+impl<J: Divide> Inside<J> {
     /// Ends with this code.
     fn fail(&mut self, code: u32) -> Ask<Recursive<J>>
         ensures key { self.new.key ≡ self.old.key }
@@ -93,7 +106,7 @@ impl<J: Divide> Recursive<J> {
     }
 }
 
-impl<J: Divide> Recursive<J> {
+impl<J: Divide> Inside<J> {
     /// What stands right of the left halves has this value. Precondition: with theirs it gives the value of the whole.
     fn finish(&mut self, tail: J::Out) -> Ask<Recursive<J>>
         requires { tail_value J.combined (map (left_value J.value) self.old.lefts.items) tail ≡ J.value self.old.key }
@@ -126,9 +139,13 @@ impl<J: Divide> Recursive<J> {
         match job.split() {
             Ok((left, right)) => {
                 let key = left.key();
-                let body = Recursive::new(*self.lefts.allocator(), left);
-                self.stage = Stage::Forking(right, key);
-                Ask::Fork(body, Kind::Plain)
+                match Recursive::new(*self.lefts.allocator(), left) {
+                    Ok(body) => {
+                        self.stage = Stage::Forking(right, key);
+                        Ask::Fork(body, Kind::Plain)
+                    }
+                    Err(_) => self.give_up(),
+                }
             }
             Err(leaf) => {
                 let tail = leaf.leaf();
@@ -155,40 +172,11 @@ impl<J: Divide> Recursive<J> {
     }
 }
 
-impl<J: Divide> Body for Recursive<J> {
-    type Key = J::Key;
-
-    type Out = J::Out;
-
-    ghost key_of = { λ b. b.key };
-
-    ghost rooted_as = { λ b. None };
-
-    ghost right = { λ k o. o ≡ J.value k };
-
-    ghost turns = { λ b. turns_of J.size (vec_len b.lefts) b.stage };
-
-    fn key(&self) -> &J::Key {
-        &self.key
-    }
-
-    fn into_key(self) -> J::Key {
-        let Recursive {
-            key,
-            lefts: _,
-            stage: _,
-        } = self;
-        key
-    }
-
-    fn rooted(&self) -> Option<u16> {
-        None
-    }
-
+impl<J: Divide> Inside<J> {
+    /// Takes a turn.
     fn turn(&mut self, heard: Heard<Recursive<J>>) -> Ask<Recursive<J>>
         requires { HeardRight (λ k o. o ≡ J.value k) heard }
         ensures key { self.new.key ≡ self.old.key }
-        ensures rooted { ◌≡◌ {A = Option ℕ} None None }
         ensures right { AskRight (λ k o. o ≡ J.value k) self.old.key result }
         ensures nearer { Nearer (turns_of J.size (vec_len self.new.lefts) self.new.stage) (turns_of J.size (vec_len self.old.lefts) self.old.stage) result }
         ensures failing { AsksFailing J.Key.eq self.old.stage heard result }
@@ -231,5 +219,50 @@ impl<J: Divide> Body for Recursive<J> {
             Heard::Refused(refusal) => self.fail(refusal.number()),
             _ => self.give_up(),
         }
+    }
+}
+
+impl<J: Divide> Body for Recursive<J> {
+    type Key = J::Key;
+
+    type Out = J::Out;
+
+    ghost key_of = { λ b. b.inside.value.key };
+
+    ghost rooted_as = { λ b. None };
+
+    ghost right = { λ k o. o ≡ J.value k };
+
+    ghost turns = { λ b. turns_of J.size (vec_len b.inside.value.lefts) b.inside.value.stage };
+
+    fn key(&self) -> &J::Key {
+        &self.inside.key
+    }
+
+    fn into_key(self) -> J::Key {
+        let Recursive { inside } = self;
+        let Inside {
+            key,
+            lefts: _,
+            stage: _,
+        } = Box::into_inner(inside);
+        key
+    }
+
+    fn rooted(&self) -> Option<u16> {
+        None
+    }
+
+    fn turn(&mut self, heard: Heard<Recursive<J>>) -> Ask<Recursive<J>>
+        requires { HeardRight (λ k o. o ≡ J.value k) heard }
+        ensures key { self.new.inside.value.key ≡ self.old.inside.value.key }
+        ensures rooted { ◌≡◌ {A = Option ℕ} None None }
+        ensures right { AskRight (λ k o. o ≡ J.value k) self.old.inside.value.key result }
+        ensures nearer { Nearer (turns_of J.size (vec_len self.new.inside.value.lefts) self.new.inside.value.stage) (turns_of J.size (vec_len self.old.inside.value.lefts) self.old.inside.value.stage) result }
+        ensures failing { AsksFailing J.Key.eq self.old.inside.value.stage heard result }
+        ensures asks { AsksAsJob result }
+        ensures joins { JoinsLast (forked_by self.old.inside.value.lefts.items heard) result }
+    {
+        self.inside.turn(heard)
     }
 }

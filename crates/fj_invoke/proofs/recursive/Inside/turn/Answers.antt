@@ -4,7 +4,7 @@ use base.Stored.{Coded-set}
 use Rattle.fj_invoke.specs.Recursions.{rest_value, left_value, tail_value}
 use Rattle.fj_invoke.proofs.Tails.{rest_gives, not_false}
 use Rattle.fj_invoke.proofs.Joins.{joins_done, joins_forked}
-use Rattle.fj_invoke.proofs.recursive.RecursiveBody.turn.Goals as goal
+use Rattle.fj_invoke.proofs.recursive.Inside.turn.Goals as goal
 
 pub go_on-requires : goal.go_on-requires
 go_on-requires g c =

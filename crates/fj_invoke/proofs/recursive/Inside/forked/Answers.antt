@@ -1,7 +1,7 @@
 use Rattle.std.proofs.Common.{◌∙◌}
 use Rattle.fj_invoke.specs.Recursions.{left_value}
 use Rattle.fj_invoke.proofs.Tails.{tail_more}
-use Rattle.fj_invoke.proofs.recursive.Recursive.forked.Goals as goal
+use Rattle.fj_invoke.proofs.recursive.Inside.forked.Goals as goal
 
 pub go_on-requires : goal.go_on-requires
 go_on-requires g c =
