@@ -108,6 +108,7 @@ impl<J: Divide> Inside<J> {
 
 impl<J: Divide> Inside<J> {
     /// What stands right of the left halves has this value. Precondition: with theirs it gives the value of the whole.
+    #[inline(always)]
     fn finish(&mut self, tail: J::Out) -> Ask<Recursive<J>>
         requires { tail_value J.combined (map (left_value J.value) self.old.lefts.items) tail ≡ J.value self.old.key }
         ensures key { self.new.key ≡ self.old.key }
@@ -127,6 +128,7 @@ impl<J: Divide> Inside<J> {
     }
 
     /// Splits a job, or takes it as a leaf. Precondition: with the left halves it gives the value of the whole.
+    #[inline(always)]
     fn go_on(&mut self, job: J) -> Ask<Recursive<J>>
         requires { tail_value J.combined (map (left_value J.value) self.old.lefts.items) (J.value (J.key_of job)) ≡ J.value self.old.key }
         ensures key { self.new.key ≡ self.old.key }
@@ -156,6 +158,7 @@ impl<J: Divide> Inside<J> {
 
     /// Puts a left half aside, and goes on with the right one. Precondition: with the left halves before them they give the value of the
     /// whole.
+    #[inline(always)]
     fn forked(&mut self, job: J, left: Left<J>) -> Ask<Recursive<J>>
         requires { tail_value J.combined (map (left_value J.value) self.old.lefts.items) (J.combined (left_value J.value left) (J.value (J.key_of job))) ≡ J.value self.old.key }
         ensures key { self.new.key ≡ self.old.key }
@@ -174,6 +177,7 @@ impl<J: Divide> Inside<J> {
 
 impl<J: Divide> Inside<J> {
     /// Takes a turn.
+    #[inline(always)]
     fn turn(&mut self, heard: Heard<Recursive<J>>) -> Ask<Recursive<J>>
         requires { HeardRight (λ k o. o ≡ J.value k) heard }
         ensures key { self.new.key ≡ self.old.key }
@@ -253,6 +257,7 @@ impl<J: Divide> Body for Recursive<J> {
         None
     }
 
+    #[inline(always)]
     fn turn(&mut self, heard: Heard<Recursive<J>>) -> Ask<Recursive<J>>
         requires { HeardRight (λ k o. o ≡ J.value k) heard }
         ensures key { self.new.inside.value.key ≡ self.old.inside.value.key }

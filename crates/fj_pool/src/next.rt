@@ -31,6 +31,7 @@ pub struct Unneeded<B: Body> {
 
 impl<B: Body> Unneeded<B> {
     /// There is none.
+    #[inline(always)]
     pub fn none() -> Unneeded<B> {
         Unneeded {
             asked: None,
@@ -40,6 +41,7 @@ impl<B: Body> Unneeded<B> {
     }
 
     /// A body has ended, where there is one. Where there is none, one that ended before in the same holding of the lock stays.
+    #[inline(always)]
     pub fn add_ended(&mut self, body: Option<B>) {
         if body.is_some() {
             self.ended = body;
@@ -47,6 +49,7 @@ impl<B: Body> Unneeded<B> {
     }
 
     /// Drops it.
+    #[inline(always)]
     pub fn clear(&mut self) {
         self.asked = None;
         self.ended = None;

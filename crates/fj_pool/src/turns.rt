@@ -7,6 +7,7 @@ use fj_shelf::Hand;
 use fj_store::{Ask, Body, Heard};
 
 /// The hook of a hand, or else its running body, takes a turn. None of an empty hand.
+#[inline(always)]
 pub fn take_turn<B: Body>(hand: &mut Hand<B>, heard: Heard<B>) -> Option<Ask<B>>
     requires { HeardRight B.right heard }
     ensures takes { TakesTurn B.key_of hand.old result hand.new }

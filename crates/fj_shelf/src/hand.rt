@@ -62,6 +62,7 @@ impl<B: Drop> Hand<B> {
     }
 
     /// Whose hand it is.
+    #[inline(always)]
     pub fn worker(&self) -> WorkerId
         ensures { result ≡ self.now.worker }
     {
@@ -69,6 +70,7 @@ impl<B: Drop> Hand<B> {
     }
 
     /// The scan word for one use. The next one is one more, and wraps in 32 bits.
+    #[inline(always)]
     pub fn take_word(&mut self) -> u32
         ensures word { result ≡ self.old.word }
         ensures next { self.new ≡ with_next_word self.old }
@@ -80,6 +82,7 @@ impl<B: Drop> Hand<B> {
 
     /// Puts a body on top, which runs from now on and has joined nothing. Precondition: it has fewer than 4,096 bodies, the most tasks that a
     /// pool keeps.
+    #[inline(always)]
     pub fn push(&mut self, t: Serial, body: B)
         requires { length self.old.stack < 4096 }
         ensures { self.new ≡ with_body self.old t body }
@@ -92,6 +95,7 @@ impl<B: Drop> Hand<B> {
     }
 
     /// Takes the running body off, with its number. What it joined is told no more. Precondition: there is one.
+    #[inline(always)]
     pub fn pop(&mut self) -> (Serial, B)
         requires { 0 < length self.old.stack }
         ensures popped { HasOnTop self.old self.new result.0 result.1 }
@@ -106,6 +110,7 @@ impl<B: Drop> Hand<B> {
     }
 
     /// Notes the task that the running body joined, if it did, where there is a body.
+    #[inline(always)]
     pub fn note_join(&mut self, joined: Option<Serial>)
         ensures { self.new ≡ with_note self.old joined }
     {
@@ -115,6 +120,7 @@ impl<B: Drop> Hand<B> {
     }
 
     /// The task that the running body joined, as it was noted last. None where none was noted, and where there is no body.
+    #[inline(always)]
     pub fn joined(&self) -> Option<Serial>
         ensures { result ≡ newest_note self.now.joined }
     {
@@ -125,6 +131,7 @@ impl<B: Drop> Hand<B> {
     }
 
     /// The task of the running body, where there is one.
+    #[inline(always)]
     pub fn running(&self) -> Option<Serial>
         ensures { result ≡ hook_number (newest_body self.now.stack) }
     {
@@ -135,6 +142,7 @@ impl<B: Drop> Hand<B> {
     }
 
     /// Whether there is no body and no hook.
+    #[inline(always)]
     pub fn is_empty(&self) -> bool
         ensures { IsTrue result ↔ (self.now.stack ≡ []) × (self.now.hook ≡ None) }
     {
@@ -142,6 +150,7 @@ impl<B: Drop> Hand<B> {
     }
 
     /// Puts a hook in, with its body.
+    #[inline(always)]
     pub fn give_hook(&mut self, c: Serial, body: B)
         ensures { self.new ≡ with_hook self.old c body }
     {
@@ -149,6 +158,7 @@ impl<B: Drop> Hand<B> {
     }
 
     /// Takes the hook out, with its body. Precondition: there is one.
+    #[inline(always)]
     pub fn take_hook(&mut self) -> (Serial, B)
         requires { IsSome self.old.hook }
         ensures hook { self.old.hook ≡ Some (result.0, result.1) }
@@ -158,6 +168,7 @@ impl<B: Drop> Hand<B> {
     }
 
     /// The completer whose hook it has.
+    #[inline(always)]
     pub fn hooked(&self) -> Option<Serial>
         ensures { result ≡ hook_number self.now.hook }
     {
@@ -168,6 +179,7 @@ impl<B: Drop> Hand<B> {
     }
 
     /// Whether the bodies stand under these numbers, the oldest first.
+    #[inline(always)]
     pub fn holds(&self, serials: &[Serial]) -> bool
         ensures { IsTrue result ↔ (numbers self.now.stack ≡ serials.now) }
     {

@@ -43,6 +43,7 @@ impl<T: Drop> Shelf<T> {
     }
 
     /// Whether something stands under a number.
+    #[inline(always)]
     pub fn has(&self, number: Serial) -> bool
         ensures { result ≡ is_there (entries self.now) number }
     {
@@ -54,6 +55,7 @@ impl<T: Drop> Shelf<T> {
     }
 
     /// Puts an entry under a number. Precondition: nothing stands there, and there is room.
+    #[inline(always)]
     pub fn put(&mut self, number: Serial, item: T)
         requires free { entries self.old number ≡ None }
         requires room { AreFewer (entries self.old) self.old.room }
@@ -69,6 +71,7 @@ impl<T: Drop> Shelf<T> {
     }
 
     /// Takes out what stands under a number.
+    #[inline(always)]
     pub fn take(&mut self, number: Serial) -> Option<T>
         ensures taken { result ≡ entries self.old number }
         ensures entries { entries self.new ≡ without_entry (entries self.old) number }

@@ -8,6 +8,7 @@ use std::alloc::{AllocError, Global};
 const MOST_SLOTS: usize = 4096;
 
 /// The slot in which an entry under this number is looked for first. Precondition: there is a slot.
+#[inline(always)]
 pub fn guess<T>(slots: &[Option<(Serial, T)>], number: Serial) -> usize
     requires { 0 < length slots.now }
     ensures guess { result ≡ number % length slots.now }
@@ -21,6 +22,7 @@ pub fn guess<T>(slots: &[Option<(Serial, T)>], number: Serial) -> usize
 }
 
 /// Whether the slot is empty. Precondition: there is this slot.
+#[inline(always)]
 pub fn is_free<T>(slots: &[Option<(Serial, T)>], at: usize) -> bool
     requires { at < length slots.now }
     ensures { IsTrue result ↔ (slice_get slots.now at ≡ Some None) }
@@ -29,6 +31,7 @@ pub fn is_free<T>(slots: &[Option<(Serial, T)>], at: usize) -> bool
 }
 
 /// Whether the slot has the entry of this number. Precondition: there is this slot.
+#[inline(always)]
 pub fn has_number<T>(slots: &[Option<(Serial, T)>], at: usize, number: Serial) -> bool
     requires { at < length slots.now }
     ensures { result ≡ is_some (in_slot (slice_get slots.now at) number) }
@@ -40,6 +43,7 @@ pub fn has_number<T>(slots: &[Option<(Serial, T)>], at: usize, number: Serial) -
 }
 
 /// Puts this into the slot. Precondition: there is this slot.
+#[inline(always)]
 pub fn fill<T: Drop>(slots: &mut Vec<Option<(Serial, T)>>, at: usize, number: Serial, item: T)
     requires { at < length slots.old.items }
     ensures { slots.new.items ≡ set slots.old.items at (Some (number, item)) }
@@ -48,6 +52,7 @@ pub fn fill<T: Drop>(slots: &mut Vec<Option<(Serial, T)>>, at: usize, number: Se
 }
 
 /// Takes out what the slot has. Precondition: there is this slot.
+#[inline(always)]
 pub fn clear<T: Drop>(slots: &mut Vec<Option<(Serial, T)>>, at: usize) -> Option<T>
     requires { at < length slots.old.items }
     ensures taken { result ≡ option_map (λ x. x.1) (get_or slots.old.items at None) }

@@ -17,6 +17,7 @@ impl<B: Body> Core<B> {
     /// A stuck core answers `Stuck`, with the body that came, and nothing changes. In a hook only `Take` and `HookDone` are served; any
     /// other ask hears `NotIdle`, with the body that came, and nothing changes. `HookDone` without a hook is refused by the machine.
     /// Preconditions: the hand fits and has a body or a hook, and a result that is given is right for the key of the body that asks.
+    #[inline(always)]
     pub fn act(&mut self, hand: &mut Hand<B>, ask: Ask<B>) -> Told<B>
         requires fits { Fits self.old.store.past hand.old }
         requires busy { IsSome (asker hand.old) }
@@ -74,6 +75,7 @@ fn hand_back<B: Body>(stuck: bool, body: Option<B>) -> Told<B>
 }
 
 /// What a running body asks.
+#[inline(always)]
 fn serve_body<B: Body>(store: &mut Store<B>, hand: &mut Hand<B>, ask: Ask<B>) -> Told<B>
     requires fits { Fits store.old.past hand.old }
     requires bare { hand.old.hook ≡ None }

@@ -77,6 +77,7 @@ impl<B: Body, N: Naming> Guarded<B, N> {
     }
 
     /// No body runs: the one that waits goes on, or the worker looks for work.
+    #[inline(always)]
     fn resume(&mut self, alloc: Global, hand: &mut Hand<B>, unneeded: &mut Unneeded<B>) -> Next<B>
         requires { Fits self.old.store.past hand.old }
         ensures resumes { Resumes B.key_of B.rooted_as self.old hand.old result self.new hand.new }
@@ -218,6 +219,7 @@ impl<B: Body, N: Naming> Guarded<B, N> {
     }
 
     /// Who waits for what this may have changed is to be woken, once it is known whether a result was taken.
+    #[inline(always)]
     fn tell_waiting(&mut self, effect: Effect, taken: bool)
         ensures { self.new ≡ self.old }
     {

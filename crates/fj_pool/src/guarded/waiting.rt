@@ -44,6 +44,7 @@ impl<B: Body, N: Naming> Guarded<B, N> {
     }
 
     /// This task may be done now: who sleeps for it is to be woken. All are where its release made the core stuck.
+    #[inline(always)]
     pub fn task_ended(&mut self, t: Serial)
         ensures { self.new ≡ self.old }
     {
@@ -61,6 +62,7 @@ impl<B: Body, N: Naming> Guarded<B, N> {
 
     /// The result of this task is taken: who awaits its outcome is to be woken, and who joined it, or a task that was released with
     /// it. All are where a release made the core stuck.
+    #[inline(always)]
     pub fn result_taken(&mut self, t: Serial)
         ensures { self.new ≡ self.old }
     {
@@ -101,6 +103,7 @@ impl<B: Body, N: Naming> Guarded<B, N> {
     }
 
     /// Whether somebody may await the outcome of this task.
+    #[inline(always)]
     fn may_be_awaited(&self, t: Serial) -> bool {
         match self.waits.awaited {
             Wanted::Nothing => false,

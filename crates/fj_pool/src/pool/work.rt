@@ -99,6 +99,7 @@ impl<B: Body, N: Naming> Pool<B, N> {
     }
 
     /// Lets the lock go, wakes those whose wait has ended, and drops what is needed no more.
+    #[inline(always)]
     fn let_go(&self, guard: MutexGuard<'_, Guarded<B, N>>, wake: Wake, unneeded: &mut Unneeded<B>) {
         drop(guard);
         self.wake(wake);

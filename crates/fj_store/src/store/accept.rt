@@ -14,6 +14,7 @@ use fj_model::{
 
 impl<B: Body> Store<B> {
     /// The running task of a worker forks: `ForkJoinTask.fork`. The body hears its number, or is handed back with the refusal.
+    #[inline(always)]
     pub fn fork(&mut self, w: WorkerId, kind: &Kind, body: B) -> Told<B>
         ensures { Accepts self.old (Fork w kind.now) body result self.new }
     {

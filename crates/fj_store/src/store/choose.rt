@@ -14,6 +14,7 @@ use fj_shelf::Hand;
 
 impl<B: Body> Store<B> {
     /// Makes a step that takes the worker's choice, and moves the body that belongs to it.
+    #[inline(always)]
     fn choose(&mut self, hand: &mut Hand<B>, asked: &Step) -> Chosen<B>
         requires fits { Fits self.old.past hand.old }
         requires takes { TakesChoice hand.old.worker (answer self.old.past asked.now).0 (answer self.old.past asked.now).1 }
@@ -101,6 +102,7 @@ impl<B: Body> Store<B> {
     ///
     /// Of a done task it tells how it ended; a result is taken out, and its task released as soon as it can be. Of an undone one it takes the
     /// worker's choice.
+    #[inline(always)]
     pub fn join(&mut self, hand: &mut Hand<B>, t: Serial) -> Told<B>
         requires fits { Fits self.old.past hand.old }
         ensures joins { Joins self.old hand.old t result self.new hand.new }

@@ -17,6 +17,7 @@ use fj_model::{Owner, Place, Refusal, Said, Serial, Status, Step, SubId, WorkerI
 impl<B: Body> Store<B> {
     /// Keeps the one result of a task under its number, or drops it where the task's result was taken. Preconditions: the task is kept, has no
     /// result, and gives no other.
+    #[inline(always)]
     pub(crate) fn keep(&mut self, t: Serial, kept: Kept<B>)
         requires kept { is_kept self.old.past.events t ≡ true }
         requires first { entries self.old.results t ≡ None }

@@ -17,6 +17,7 @@ impl<B: Body> Store<B> {
     /// The body of the running plain task ends, with its result. Preconditions: the hand fits, and the result is right for its body's key.
     ///
     /// The body of a completer hears `NotCompleter`. Where the history has no room the store is stuck, here and in the next two.
+    #[inline(always)]
     pub fn ok(&mut self, hand: &mut Hand<B>, out: B::Out) -> Told<B>
         requires fits { Fits self.old.past hand.old }
         requires right { IfSome (asker hand.old) (λ b. ∥ B.right (B.key_of b.1) out ∥₁) }
