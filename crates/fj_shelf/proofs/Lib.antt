@@ -8,3 +8,5 @@ pub mod Standing
 pub mod Looking
 -- The marks of the numbers in a list.
 pub mod Marking
+-- Numbers and bodies side by side, as a hand has them.
+pub mod Beside

@@ -9,15 +9,6 @@ use std::marker::Model;
 /// The most tasks that a pool may keep, and so the most bodies that a worker may hold.
 const MOST_TASKS: usize = 4096;
 
-/// A body that a worker has begun, under its task's number.
-#[derive(Drop)]
-struct Begun<B> {
-    serial: Serial,
-    body: B,
-    /// The task that it joined, while another body runs above it.
-    joined: Option<Serial>,
-}
-
 /// What a worker holds: the bodies that it has begun, each under its task's number, and the hook that it runs, with its body.
 ///
 /// The last body on the stack is the running one; the others wait for tasks that they joined. No call after `new` takes memory. In Java it is
@@ -26,26 +17,30 @@ struct Begun<B> {
 pub struct Hand<B> {
     worker: WorkerId,
     word: u32,
-    stack: Vec<Begun<B>>,
+    /// The numbers of the tasks by themselves: they are compared each time that a worker gets the lock.
+    serials: Vec<Serial>,
+    bodies: Vec<B>,
+    /// The task that each body joined, while another one runs above it.
+    joined: Vec<Option<Serial>>,
     hook: Option<(Serial, B)>,
 }
 
 impl<B> Model for Hand<B> {
-    ghost use Rattle.std.specs.Prelude.{◌≤◌, length, map, vec_capacity};
+    ghost use Rattle.std.specs.Prelude.{◌≡◌, ◌≤◌, length, vec_capacity, zip};
     ghost use Rattle.fj_shelf.specs.Hands.{HandState};
 
     ghost Value = { HandState B };
 
-    // What the bodies joined stands beside them, in the same order.
     ghost view = { λ h. record {
       worker = h.worker;
       word = h.word;
-      stack = map (λ b. (b.serial, b.body)) h.stack.items;
-      joined = map (λ b. b.joined) h.stack.items;
+      stack = zip h.serials.items h.bodies.items;
+      joined = h.joined.items;
       hook = h.hook;
     } };
 
-    ghost invariant = { λ h. (4096 ≤ vec_capacity h.stack) × (length h.stack.items ≤ 4096) };
+    ghost invariant = { λ h. (4096 ≤ vec_capacity h.serials) × (4096 ≤ vec_capacity h.bodies) × (4096 ≤ vec_capacity h.joined)
+      × (length h.serials.items ≤ 4096) × (length h.bodies.items ≡ length h.serials.items) × (length h.joined.items ≡ length h.serials.items) };
 }
 
 impl<B: Drop> Hand<B> {
@@ -56,7 +51,9 @@ impl<B: Drop> Hand<B> {
         Ok(Hand {
             worker,
             word,
-            stack: Vec::with_capacity(alloc, MOST_TASKS)?,
+            serials: Vec::with_capacity(alloc, MOST_TASKS)?,
+            bodies: Vec::with_capacity(alloc, MOST_TASKS)?,
+            joined: Vec::with_capacity(alloc, MOST_TASKS)?,
             hook: None,
         })
     }
@@ -87,11 +84,9 @@ impl<B: Drop> Hand<B> {
         requires { length self.old.stack < 4096 }
         ensures { self.new ≡ with_body self.old t body }
     {
-        self.stack.push_reserved(Begun {
-            serial: t,
-            body,
-            joined: None,
-        });
+        self.serials.push_reserved(t);
+        self.bodies.push_reserved(body);
+        self.joined.push_reserved(None);
     }
 
     /// Takes the running body off, with its number. What it joined is told no more. Precondition: there is one.
@@ -101,11 +96,9 @@ impl<B: Drop> Hand<B> {
         ensures popped { HasOnTop self.old self.new result.0 result.1 }
         ensures room { length self.new.stack < 4096 }
     {
-        let Begun {
-            serial,
-            body,
-            joined: _,
-        } = self.stack.pop().unwrap();
+        let serial = self.serials.pop().unwrap();
+        let body = self.bodies.pop().unwrap();
+        let _note = self.joined.pop().unwrap();
         (serial, body)
     }
 
@@ -114,8 +107,8 @@ impl<B: Drop> Hand<B> {
     pub fn note_join(&mut self, joined: Option<Serial>)
         ensures { self.new ≡ with_note self.old joined }
     {
-        if let Some(begun) = self.stack.pop() {
-            self.stack.push_reserved(Begun { joined, ..begun });
+        if let Some(note) = self.joined.last_mut() {
+            *note = joined;
         }
     }
 
@@ -124,8 +117,8 @@ impl<B: Drop> Hand<B> {
     pub fn joined(&self) -> Option<Serial>
         ensures { result ≡ newest_note self.now.joined }
     {
-        match self.stack.last() {
-            Some(begun) => begun.joined,
+        match self.joined.last() {
+            Some(note) => *note,
             None => None,
         }
     }
@@ -135,10 +128,7 @@ impl<B: Drop> Hand<B> {
     pub fn running(&self) -> Option<Serial>
         ensures { result ≡ hook_number (newest_body self.now.stack) }
     {
-        match self.stack.last() {
-            Some(begun) => Some(begun.serial),
-            None => None,
-        }
+        self.serials.last().copied()
     }
 
     /// Whether there is no body and no hook.
@@ -146,7 +136,7 @@ impl<B: Drop> Hand<B> {
     pub fn is_empty(&self) -> bool
         ensures { IsTrue result ↔ (self.now.stack ≡ []) × (self.now.hook ≡ None) }
     {
-        self.stack.is_empty() && self.hook.is_none()
+        self.serials.is_empty() && self.hook.is_none()
     }
 
     /// Puts a hook in, with its body.
@@ -183,14 +173,14 @@ impl<B: Drop> Hand<B> {
     pub fn holds(&self, serials: &[Serial]) -> bool
         ensures { IsTrue result ↔ (numbers self.now.stack ≡ serials.now) }
     {
-        if self.stack.len() != serials.len() {
+        if self.serials.len() != serials.len() {
             return false;
         }
+        let mut same = true;
         for i in 0..serials.len() {
-            if self.stack[i].serial != serials[i] {
-                return false;
-            }
+            // Without a branch, so that the compiler compares several at once.
+            same &= self.serials[i] == serials[i];
         }
-        true
+        same
     }
 }

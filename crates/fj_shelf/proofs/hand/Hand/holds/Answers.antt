@@ -1,50 +1,57 @@
-use Rattle.std.proofs.Common.{ℕ, ◌≡◌, ◌+◌, ◌<◌, List, [], ◌∷◌, map, length, get_or, inl, inr, not, refl, sym, ap, ◌∙◌, subst, arith}
-use Rattle.std.proofs.lemmas.Bool.{cases_lt, eq-eqb, eqb-true, not-false, true≢false}
-use Rattle.std.proofs.lemmas.List.{get_or-map, get_or_default, length-map}
+use Rattle.std.specs.Prelude.{Bool, ◌&&◌}
+use Rattle.std.proofs.Common.{ℕ, ◌≡◌, ◌+◌, ◌<◌, List, length, get_or, true, false, inl, inr, refl, sym, ap, ◌∙◌, subst, arith}
+use Rattle.std.proofs.lemmas.Bool.{cases_lt, eq-eqb, eqb-true, true≢false}
+use Rattle.std.proofs.lemmas.List.{get_or_default}
 use Rattle.std.proofs.lemmas.Grind.{same_number_lists}
 use Rattle.fj_shelf.specs.Aside.{numbers}
-use Rattle.fj_shelf.specs.declared.hand.Begun.{Begun}
+use Rattle.fj_shelf.proofs.Beside.{numbers_zip}
+use Rattle.fj_shelf.proofs.hand.Hand.holds.Invariants.{AreSame}
 use Rattle.fj_shelf.proofs.hand.Hand.holds.Goals as goal
 
 -- one number more is the same
-same_on : (xs ys : List ℕ) (i : ℕ) → ((k : ℕ) → k < i → get_or xs k 0 ≡ get_or ys k 0) → get_or xs i 0 ≡ get_or ys i 0 → (k : ℕ) → k < i + 1 → get_or xs k 0 ≡ get_or ys k 0
+same_on : (xs ys : List ℕ) (i : ℕ) → AreSame i xs ys → get_or xs i 0 ≡ get_or ys i 0 → AreSame (i + 1) xs ys
 same_on xs ys i before here k low = elim (cases_lt k i) [
   | inl lower ↦ before k lower
   | inr high ↦ let is : i ≡ k = omega (arith, low, high) in subst (λ n. get_or xs n 0 ≡ get_or ys n 0) is here
 ]
 
--- the numbers of the bodies
-same_numbers : {B : Type 0} (items : List (Begun B)) → numbers (map (λ b. (b.serial, b.body)) items) ≡ map (λ b. b.serial) items
-same_numbers [] = refl
-same_numbers (b ∷ items) = ap (λ ns. b.serial ∷ ns) (same_numbers items)
+both_true : (a b : Bool) → (a && b) ≡ true → (a ≡ true) × (b ≡ true)
+both_true true b e = (refl, e)
+both_true false b e = absurd (true≢false (sym e))
 
 pub loop-i-preserved : goal.loop-i-preserved
 loop-i-preserved g c =
-    let items = c.self.inside.stack.items in
-    let serials = c.args.serials.now in
-    same_on (map (λ b. b.serial) items) serials c.loop-i.i c.loop-i.invariant
-    (get_or-map (λ b. b.serial) items c.loop-i.i c.index.result.now 0 (omega (arith, c.loop-i-test.true, c.if-len-serials.false, c.len.ensures, c.self.inside.stack.ok.0)) ∙ ap (λ b. b.serial) (sym c.index.ensures)
-    ∙ eqb-true c.index.result.now.serial c.index-serials-i.result (not-false _ (sym c.ne.ensures ∙ c.if-ne.false)) ∙ c.index-serials-i.is ∙ get_or_default serials c.loop-i.i c.index-serials-i.result 0 c.loop-i-test.true)
+    let xs = c.self.inside.serials.items in
+    let ys = c.args.serials.now in
+    let i = c.loop-i.i in
+    let left : c.index.result.now ≡ get_or xs i 0 =
+    c.index.ensures ∙ get_or_default xs i c.index.result.now 0 (omega (arith, c.loop-i-test.true, c.if-len-serials.false, c.len.ensures, c.self.inside.serials.ok.0)) in
+    let right : c.index-serials-i.result ≡ get_or ys i 0 = c.index-serials-i.is ∙ get_or_default ys i c.index-serials-i.result 0 c.loop-i-test.true in (
+      λ is.
+          let both = both_true c.loop-i.same c.eq-same.result is in
+          same_on xs ys i (c.loop-i.invariant.0 both.0) (sym left ∙ eqb-true c.index.result.now c.index-serials-i.result (sym c.eq-same.ensures ∙ both.1) ∙ right),
+      λ all.
+          let before : c.loop-i.same ≡ true = c.loop-i.invariant.1 (λ k low. all k (omega (arith, low))) in
+          let here : c.eq-same.result ≡ true = c.eq-same.ensures ∙ eq-eqb _ _ (left ∙ all i (omega arith) ∙ sym right) in
+          rw (before, here) refl,
+    )
 
-pub returns-then-ne : goal.returns-then-ne
-returns-then-ne g c =
-    let items = c.self.inside.stack.items in
-    let serials = c.args.serials.now in
-    let left : get_or (map (λ b. b.serial) items) c.loop-i.i 0 ≡ c.index.result.now.serial =
-    get_or-map (λ b. b.serial) items c.loop-i.i c.index.result.now 0 (omega (arith, c.loop-i-test.true, c.if-len-serials.false, c.len.ensures, c.self.inside.stack.ok.0)) ∙ ap (λ b. b.serial) (sym c.index.ensures) in
-    let right : c.index-serials-i.result ≡ get_or serials c.loop-i.i 0 = c.index-serials-i.is ∙ get_or_default serials c.loop-i.i c.index-serials-i.result 0 c.loop-i-test.true in
-    rw (← c.self.view_is) (
+pub returns-then-len-serials : goal.returns-then-len-serials
+returns-then-len-serials g c =
+    let q = c.self.inside in (
       λ is. absurd (true≢false (sym is)),
       λ all.
-          let same : c.index.result.now.serial ≡ c.index-serials-i.result = sym left ∙ ap (λ ns. get_or ns c.loop-i.i 0) (sym (same_numbers items) ∙ all) ∙ sym right in
-          absurd (true≢false (sym c.if-ne.true ∙ c.ne.ensures ∙ ap not (eq-eqb _ _ same))),
+          let same = sym (numbers_zip q.serials.items q.bodies.items c.self.invariant.4) ∙ ap (λ h. numbers h.stack) c.self.view_is ∙ all in
+          absurd (c.if-len-serials.true (omega (arith, c.len.ensures, q.serials.ok.0, ap length same))),
     )
 
 pub returns : goal.returns
 returns g c =
-    let items = c.self.inside.stack.items in
-    let serials = c.args.serials.now in
-    let long : length (map (λ b. b.serial) items) ≡ length items = length-map items (λ b. b.serial) in
-    let all : map (λ b. b.serial) items ≡ serials = same_number_lists (map (λ b. b.serial) items) serials (omega (arith, long, c.if-len-serials.false, c.len.ensures, c.self.inside.stack.ok.0))
-    (λ k low. c.loop-i.invariant k (omega (arith, low, long, c.loop-i-test.false, c.if-len-serials.false, c.len.ensures, c.self.inside.stack.ok.0))) in
-    rw (← c.self.view_is) (λ _. same_numbers items ∙ all, λ _. refl)
+    let xs = c.self.inside.serials.items in
+    let ys = c.args.serials.now in
+    let long : length xs ≡ length ys = omega (arith, c.len.ensures, c.self.inside.serials.ok.0, c.if-len-serials.false) in
+    let are = numbers_zip xs c.self.inside.bodies.items c.self.invariant.4 in
+    rw (← c.self.view_is, are) (
+      λ is. same_number_lists xs ys long (λ k low. c.loop-i.invariant.0 is k (omega (arith, low, long, c.loop-i-test.false))),
+      λ all. c.loop-i.invariant.1 (λ k low. ap (λ ns. get_or ns k 0) all),
+    )
