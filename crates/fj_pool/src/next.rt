@@ -48,11 +48,17 @@ impl<B: Body> Unneeded<B> {
         }
     }
 
-    /// Drops it.
+    /// Drops it. Mostly there is none, and then nothing is written.
     #[inline(always)]
     pub fn clear(&mut self) {
-        self.asked = None;
-        self.ended = None;
-        self.skipped = None;
+        if self.asked.is_some() {
+            self.asked = None;
+        }
+        if self.ended.is_some() {
+            self.ended = None;
+        }
+        if self.skipped.is_some() {
+            self.skipped = None;
+        }
     }
 }

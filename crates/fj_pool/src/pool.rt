@@ -68,6 +68,7 @@ impl<B: Body, N: Naming> Pool<B, N> {
     }
 
     /// Wakes those whose wait may have ended.
+    #[inline(always)]
     fn wake(&self, wake: Wake) {
         notify(&self.idle, wake.idle);
         notify(&self.joining, wake.joining);

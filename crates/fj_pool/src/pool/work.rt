@@ -49,23 +49,24 @@ impl<B: Body, N: Naming> Pool<B, N> {
         let mut contention = Contention::new();
         let mut unneeded = Unneeded::none();
         for _ in rt.forever() {
-            match self.serve(
+            let next = self.serve(
                 &working,
                 hand,
-                ask.take(),
+                ask,
                 &mut idle,
                 &mut contention,
                 &mut unneeded,
-            ) {
-                Next::Turn(heard) => ask = observed_turn(hand, heard, turnstile),
+            );
+            ask = match next {
+                Next::Turn(heard) => observed_turn(hand, heard, turnstile),
                 Next::Begin(t) => {
                     idle = Idle::new();
                     turnstile.before(hand.worker(), t);
-                    ask = observed_turn(hand, Heard::Start(t), turnstile);
+                    observed_turn(hand, Heard::Start(t), turnstile)
                 }
                 Next::Leave(answer) => return answer,
-                Next::Again | Next::Wait | Next::Rest => {}
-            }
+                Next::Again | Next::Wait | Next::Rest => None,
+            };
         }
         unreachable!()
     }
