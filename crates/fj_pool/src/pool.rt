@@ -34,8 +34,6 @@ pub struct Pool<B: Body, N: Naming> {
     pub(crate) idle: Condvar,
     /// Whoever awaits an outcome.
     pub(crate) awaiting: Condvar,
-    /// Workers that leave the lock to others for a while. Nobody notifies them.
-    pub(crate) giving_way: Condvar,
 }
 
 /// A pool that was opened, with what its users need: a hand for each worker, what each submitter hands in with, and what shuts it down.
@@ -107,7 +105,6 @@ fn put_together<B: Body, N: Naming>(
         joining: Condvar::new(),
         idle: Condvar::new(),
         awaiting: Condvar::new(),
-        giving_way: Condvar::new(),
     };
     Ok((pool, submitters))
 }

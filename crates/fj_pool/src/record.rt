@@ -106,7 +106,6 @@ impl<B: Body, N: Naming> Pool<B, N> {
             joining: _,
             idle: _,
             awaiting: _,
-            giving_way: _,
         } = self;
         core.into_inner()
     }

@@ -1,63 +1,49 @@
-ghost use Rattle.std.specs.Prelude.{◌≡◌, ◌≤◌, ◌*◌};
-ghost use Rattle.std.specs.Duration.{as_nanos};
-ghost use Rattle.fj_waiting.specs.declared.contention.TheConstants.{LONGEST_SLEEP};
+ghost use Rattle.std.specs.Prelude.{◌≤◌};
+ghost use Rattle.fj_waiting.specs.declared.contention.TheConstants.{MOST_PAUSES};
 
-use crate::sleeps::Sleeps;
-use std::time::Duration;
+/// Of so many looks it is counted how many found the lock held.
+const LOOKS: u32 = 4_096;
 
-/// How often in a row a worker may find the lock held before it gives way.
-const MOST_IN_A_ROW: u32 = 8;
+/// The shortest wait before another look, in pauses of the processor.
+const FEWEST_PAUSES: u32 = 16;
 
-/// A lock that stays held as long as a worker looks counts as so many more that came free meanwhile.
-const WEIGHT_OF_A_WAIT: u32 = 4;
+/// The longest one.
+const MOST_PAUSES: u32 = 32_768;
 
-/// The first sleep, in microseconds.
-const FIRST_SLEEP: u64 = 64;
+/// How often the wait doubles, from a lock that was always free to one that was always held.
+const DOUBLINGS: u32 = 9;
 
-/// The longest sleep, in microseconds.
-const LONGEST_SLEEP: u64 = 256;
+/// How often it doubles on top of that, while one thread looks again and again.
+const MORE_DOUBLINGS: u32 = 2;
 
-/// How often a worker has found the lock held of late.
+/// How often a thread has found the lock held of late.
 ///
 /// All that a lock guards goes to another processor each time that the lock changes hands, which takes longer than a short action does. So
-/// where workers contend for it all the time they are slower together than one alone, and one that finds it held again and again gives way.
+/// where workers contend for it all the time they are slower together than one alone, and one that mostly finds it held looks less often.
 #[derive(Drop)]
 pub struct Contention {
-    in_a_row: u32,
-    sleeps: Sleeps,
-    ghost longest: { sleeps.longest ≡ LONGEST_SLEEP },
+    /// How many of `LOOKS` looks found it held, those of late counting most.
+    held: u32,
+    ghost part: { held ≤ 4096 },
 }
 
 impl Contention {
     /// There is none.
     pub fn new() -> Contention {
-        Contention {
-            in_a_row: 0,
-            sleeps: Sleeps::new(FIRST_SLEEP, LONGEST_SLEEP),
-        }
+        Contention { held: 0 }
     }
 
     /// The lock was free.
-    pub fn end(&mut self) {
-        self.in_a_row = 0;
-        self.sleeps = Sleeps::new(FIRST_SLEEP, LONGEST_SLEEP);
+    pub fn find_free(&mut self) {
+        self.held -= self.held / 8;
     }
 
-    /// The lock was held. Whether the worker is to give way.
-    pub fn find_held(&mut self) -> bool {
-        self.in_a_row = self.in_a_row.saturating_add(1);
-        self.in_a_row > MOST_IN_A_ROW
-    }
-
-    /// The lock stayed held as long as the worker looked.
-    pub fn find_lasting(&mut self) {
-        self.in_a_row = self.in_a_row.saturating_add(WEIGHT_OF_A_WAIT);
-    }
-
-    /// For how long the worker gives way.
-    pub fn next_sleep(&mut self) -> Duration
-        ensures { as_nanos result ≤ LONGEST_SLEEP * 1_000 }
+    /// The lock was held, as it was so many times before in a row. For how many pauses of the processor to wait before the next look.
+    pub fn find_held(&mut self, before: u32) -> u32
+        ensures { result ≤ MOST_PAUSES }
     {
-        self.sleeps.next_sleep()
+        self.held += (LOOKS - self.held) / 8;
+        let doublings = self.held * DOUBLINGS / LOOKS + before.min(MORE_DOUBLINGS);
+        (FEWEST_PAUSES << doublings).min(MOST_PAUSES)
     }
 }

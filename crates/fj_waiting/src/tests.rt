@@ -15,25 +15,23 @@ fn an_idle_worker_yields_and_then_sleeps(rt: HostRuntime) {
     }
 }
 
-/// A worker gives way to others that finds the lock held more than eight times in a row, or where it stays held, more than twice.
+/// A thread looks again soon where the lock was mostly free, and seldom where it was mostly held.
 #[test]
-fn a_worker_gives_way_to_others(rt: HostRuntime) {
-    for (stays_held, rounds) in [(false, 8), (true, 2)] {
-        let mut contention = Contention::new();
-        for round in 0..rounds {
-            assert!(rt; !contention.find_held(), "{stays_held}, {round}");
-            if stays_held {
-                contention.find_lasting();
-            }
-        }
-        assert!(rt; contention.find_held(), "{stays_held}");
-        for micros in [64, 128, 256, 256] {
-            assert_eq!(rt; contention.next_sleep(), Duration::from_micros(micros));
-        }
-        contention.end();
-        assert!(rt; !contention.find_held(), "{stays_held}");
-        assert_eq!(rt; contention.next_sleep(), Duration::from_micros(64));
+fn a_thread_looks_less_often_for_a_lock_that_is_held(rt: HostRuntime) {
+    let mut contention = Contention::new();
+    for (before, pauses) in [(0, 32), (1, 128), (2, 256), (3, 512)] {
+        assert_eq!(rt; contention.find_held(before), pauses);
     }
+    for _ in 0..64 {
+        let _pauses = contention.find_held(2);
+    }
+    for (before, pauses) in [(0, 4_096), (1, 8_192), (2, 16_384), (64, 16_384)] {
+        assert_eq!(rt; contention.find_held(before), pauses);
+    }
+    for _ in 0..64 {
+        contention.find_free();
+    }
+    assert_eq!(rt; contention.find_held(0), 32);
 }
 
 /// What is slept for, and then for what somebody may sleep.
