@@ -1,6 +1,6 @@
 -- Numbers and bodies side by side.
 use Rattle.std.specs.Prelude.{zip, slice_get, option_map}
-use Rattle.std.proofs.Common.{ℕ, zero, suc, ◌≡◌, ◌-◌, List, [], ◌∷◌, ◌++◌, Option, None, Some, length, refl, sym, ap, ◌∙◌, arith}
+use Rattle.std.proofs.Common.{ℕ, zero, suc, ◌≡◌, List, [], ◌∷◌, ◌++◌, length, refl, ap, arith}
 use Rattle.fj_shelf.specs.Aside.{numbers}
 
 module _ {B : Type 0} where

@@ -10,3 +10,5 @@ pub mod Looking
 pub mod Marking
 -- Numbers and bodies side by side, as a hand has them.
 pub mod Beside
+-- A list that goes on with one value up to a length, as the slots do.
+pub mod Padded

@@ -8,10 +8,9 @@ use Rattle.fj_shelf.specs.Slots.{in_slot, guessed, entry_of}
 
 module _ {T : Type 0} where
   -- what was read of the slot is what the guess gives
-  pub is_guessed : (slots now then : List (Option (ℕ × T))) (n at : ℕ) (told : Bool) → now ≡ slots → at ≡ n % length now → then ≡ slots → told ≡ is_some (in_slot (slice_get then at) n) → told ≡ is_some (guessed slots n)
+  pub is_guessed : (slots : List (Option (ℕ × T))) (n at : ℕ) (told : Bool) → at ≡ n % length slots → told ≡ is_some (in_slot (slice_get slots at) n) → told ≡ is_some (guessed slots n)
   unfolding guessed
-  is_guessed slots now then n at told first place second is =
-      is ∙ ap (λ (s : List (Option (ℕ × T))). is_some (in_slot (slice_get s at) n)) second ∙ ap (λ (k : ℕ). is_some (in_slot (slice_get slots k) n)) (place ∙ ap (λ (s : List (Option (ℕ × T))). n % length s) first)
+  is_guessed slots n at told place is = is ∙ ap (λ (k : ℕ). is_some (in_slot (slice_get slots k) n)) place
 
   pub stands_guessed : (slots : List (Option (ℕ × T))) (aside : List (ℕ × T)) (n : ℕ) → is_some (guessed slots n) ≡ true → is_some (entry_of slots aside n) ≡ true
   unfolding entry_of

@@ -334,12 +334,6 @@ nothing_stands {T} room some =
 -- ---- what was read
 
 -- an entry is put into the slot of its guess, which was read empty
-pub put_read : {T : Type 0} (slots shown again new : List (Option (ℕ × T))) (aside : List (ℕ × T)) (n i : ℕ) (x : T) → IsShelf slots aside → 0 < length slots
-    → shown ≡ slots → i ≡ n % length shown → again ≡ slots → slice_get again i ≡ Some None → entry_of slots aside n ≡ None → new ≡ set slots i (Some (n, x))
-    → ((0 < length new) × IsShelf new aside) × (entry_of new aside ≡ with_entry (entry_of slots aside) n x)
-put_read {T} slots shown again new aside n i x was some same is same' empty free made =
-    put_in_slot slots new aside n x i was some (rw same at is) (rw same' at empty) free made
-
 -- what a slot has under a number is its entry
 in_slot_is : {T : Type 0} (o : Option (Option (ℕ × T))) (n : ℕ) → is_some (in_slot o n) ≡ true → (x : T) × (o ≡ Some (Some (n, x)))
 in_slot_is None n is = absurd cc
@@ -351,22 +345,21 @@ in_slot_is {T} (Some (Some y)) n is = go (y.0 == n) refl is
     go false at there = absurd cc
 
 -- it is taken out of that slot
-pub take_read : {T : Type 0} (slots shown again new : List (Option (ℕ × T))) (aside : List (ℕ × T)) (n i : ℕ) (result : Option T) (b : Bool) → IsShelf slots aside → 0 < length slots
-    → shown ≡ slots → i ≡ n % length shown → again ≡ slots → b ≡ is_some (in_slot (slice_get again i) n) → b ≡ true → result ≡ option_map (λ x. x.1) (get_or slots i None) → new ≡ set slots i None
+pub take_read : {T : Type 0} (slots new : List (Option (ℕ × T))) (aside : List (ℕ × T)) (n i : ℕ) (result : Option T) (b : Bool) → IsShelf slots aside → 0 < length slots
+    → i ≡ n % length slots → b ≡ is_some (in_slot (slice_get slots i) n) → b ≡ true → result ≡ option_map (λ x. x.1) (get_or slots i None) → new ≡ set slots i None
     → ((0 < length new) × IsShelf new aside) × (entry_of new aside ≡ without_entry (entry_of slots aside) n) × (result ≡ entry_of slots aside n)
-take_read {T} slots shown again new aside n i result b was some same is same' test held gives made =
-    let has : is_some (in_slot (slice_get slots i) n) ≡ true = rw (same', held) at (sym test) in
+take_read {T} slots new aside n i result b was some at test held gives made =
+    let has : is_some (in_slot (slice_get slots i) n) ≡ true = sym test ∙ held in
     let there = in_slot_is (slice_get slots i) n has in
     let read : get_or slots i None ≡ Some (n, there.0) = get_or_from_slice_get slots i (Some (n, there.0)) None there.1 in
-    let done = take_from_slot slots new aside n there.0 i was some (rw same at is) there.1 made in
+    let done = take_from_slot slots new aside n there.0 i was some at there.1 made in
     (done.0, done.1, gives ∙ ap (option_map (λ x. x.1)) read ∙ done.2)
 
 -- where the slot has it not, it is not the guess
-pub not_guessed : {T : Type 0} (slots shown again : List (Option (ℕ × T))) (n i : ℕ) (b : Bool) → shown ≡ slots → i ≡ n % length shown → again ≡ slots → b ≡ is_some (in_slot (slice_get again i) n) → b ≡ false → guessed slots n ≡ None
+pub not_guessed : {T : Type 0} (slots : List (Option (ℕ × T))) (n i : ℕ) (b : Bool) → i ≡ n % length slots → b ≡ is_some (in_slot (slice_get slots i) n) → b ≡ false → guessed slots n ≡ None
 unfolding guessed
-not_guessed {T} slots shown again n i b same is same' test not_held =
-    let none : is_some (in_slot (slice_get slots i) n) ≡ false = rw (same', not_held) at (sym test) in
-    let at : i ≡ n % length slots = rw same at is in
+not_guessed {T} slots n i b at test not_held =
+    let none : is_some (in_slot (slice_get slots i) n) ≡ false = sym test ∙ not_held in
     nothing (in_slot (slice_get slots (n % length slots)) n) (rw at at none)
   where
     nothing : (o : Option T) → is_some o ≡ false → o ≡ None
@@ -390,10 +383,10 @@ nothing_changes {T} slots old new n None shelf took was = ap (λ (l : Listed T).
 nothing_changes slots old new n (Some x) shelf took was = tt
 
 -- what the slot of the guess has came out
-pub came_out : {T : Type 0} (P : Type 0) (slots again : List (Option (ℕ × T))) (n i : ℕ) (result : Option T) (b : Bool) → again ≡ slots → b ≡ is_some (in_slot (slice_get again i) n) → b ≡ true
+pub came_out : {T : Type 0} (P : Type 0) (slots : List (Option (ℕ × T))) (n i : ℕ) (result : Option T) (b : Bool) → b ≡ is_some (in_slot (slice_get slots i) n) → b ≡ true
     → result ≡ option_map (λ x. x.1) (get_or slots i None) → IfNone result P
-came_out {T} P slots again n i result b same test held gives =
-    let has : is_some (in_slot (slice_get slots i) n) ≡ true = rw (same, held) at (sym test) in
+came_out {T} P slots n i result b test held gives =
+    let has : is_some (in_slot (slice_get slots i) n) ≡ true = sym test ∙ held in
     let there = in_slot_is (slice_get slots i) n has in
     some_out result there.0 (gives ∙ ap (option_map (λ x. x.1)) (get_or_from_slice_get slots i (Some (n, there.0)) None there.1))
   where

@@ -1,8 +1,11 @@
--- A shelf as it is kept: a table of slots, each of which is the guess for some numbers, and the entries whose slot was filled by another.
-use Rattle.std.specs.Prelude.{ℕ, ◌≡◌, ◌==◌, ◌%◌, true, if◌then◌else◌, List, length, Option, Some, None, slice_get}
+-- A shelf as it is kept: a row of slots, each of which is the guess for some numbers, and the entries whose slot was filled by another.
+use Rattle.std.specs.Prelude.{ℕ, ◌≡◌, ◌==◌, ◌-◌, ◌≤◌, ◌%◌, ◌++◌, true, if◌then◌else◌, List, length, Option, Some, None, replicate, slice_get}
 use Rattle.fj_model.specs.Lists.{is_in, or_else, times_in}
 use Rattle.fj_shelf.specs.Aside.{numbers, entry_in}
-use Rattle.std.specs.Prelude.{◌≤◌}
+
+-- a list that goes on with one value up to a length
+abbrev pub padded : {X : Type 0} → List X → ℕ → X → List X
+padded xs count x = xs ++ replicate (count - length xs) x
 
 module _ {T : Type 0} where
   -- what a slot has under a number: its entry confirms the guess

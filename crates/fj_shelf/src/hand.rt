@@ -40,7 +40,7 @@ impl<B> Model for Hand<B> {
     } };
 
     ghost invariant = { λ h. (4096 ≤ vec_capacity h.serials) × (4096 ≤ vec_capacity h.bodies) × (4096 ≤ vec_capacity h.joined)
-      × (length h.serials.items ≤ 4096) × (length h.bodies.items ≡ length h.serials.items) × (length h.joined.items ≡ length h.serials.items) };
+        × (length h.serials.items ≤ 4096) × (length h.bodies.items ≡ length h.serials.items) × (length h.joined.items ≡ length h.serials.items) };
 }
 
 impl<B: Drop> Hand<B> {

@@ -2,7 +2,7 @@ ghost use Rattle.std.specs.Prelude.{[], ℕ, ◌≡◌, ◌<◌, IfOk, IfNone, N
 ghost use Rattle.fj_shelf.specs.Shelves.{AreFewer, entries, is_there, no_entries, with_entry, without_entry, without_entries};
 
 use crate::aside::Aside;
-use crate::slots::{clear, empty_slots, fill, guess, has_number, is_free};
+use crate::slots::Slots;
 use fj_model::Serial;
 use std::alloc::{AllocError, Global};
 use std::marker::Model;
@@ -13,7 +13,7 @@ use std::marker::Model;
 /// which is empty as long as no two numbers are as far apart as there is room.
 #[derive(Drop)]
 pub struct Shelf<T> {
-    slots: Vec<Option<(Serial, T)>>,
+    slots: Slots<T>,
     aside: Aside<T>,
 }
 
@@ -24,9 +24,9 @@ impl<T> Model for Shelf<T> {
 
     ghost Value = { Shelved T };
 
-    ghost view = { λ s. record { slots = s.slots.items; aside = s.aside.items; room = s.aside.room } };
+    ghost view = { λ s. record { slots = s.slots; aside = s.aside.items; room = s.aside.room } };
 
-    ghost invariant = { λ s. (0 < length s.slots.items) × IsShelf s.slots.items s.aside.items };
+    ghost invariant = { λ s. (0 < length s.slots) × IsShelf s.slots s.aside.items };
 }
 
 impl<T: Drop> Shelf<T> {
@@ -37,7 +37,7 @@ impl<T: Drop> Shelf<T> {
         ensures room { IfOk result (λ s. s.room ≡ room) }
     {
         Ok(Shelf {
-            slots: empty_slots(alloc, room)?,
+            slots: Slots::new(alloc, room)?,
             aside: Aside::new(alloc, room)?,
         })
     }
@@ -47,8 +47,8 @@ impl<T: Drop> Shelf<T> {
     pub fn has(&self, number: Serial) -> bool
         ensures { result ≡ is_there (entries self.now) number }
     {
-        let at = guess(&self.slots, number);
-        if has_number(&self.slots, at, number) {
+        let at = self.slots.guess(number);
+        if self.slots.has_number(at, number) {
             return true;
         }
         self.aside.has(number)
@@ -62,9 +62,9 @@ impl<T: Drop> Shelf<T> {
         ensures entries { entries self.new ≡ with_entry (entries self.old) number item }
         ensures room { self.new.room ≡ self.old.room }
     {
-        let at = guess(&self.slots, number);
-        if is_free(&self.slots, at) {
-            fill(&mut self.slots, at, number, item);
+        let at = self.slots.guess(number);
+        if self.slots.is_free(at) {
+            self.slots.fill(at, number, item);
         } else {
             self.aside.put(number, item);
         }
@@ -78,9 +78,9 @@ impl<T: Drop> Shelf<T> {
         ensures room { self.new.room ≡ self.old.room }
         ensures stays { IfNone result (self.new ≡ self.old) }
     {
-        let at = guess(&self.slots, number);
-        if has_number(&self.slots, at, number) {
-            clear(&mut self.slots, at)
+        let at = self.slots.guess(number);
+        if self.slots.has_number(at, number) {
+            self.slots.clear(at)
         } else {
             self.aside.take(number)
         }

@@ -1,4 +1,4 @@
-use Rattle.std.proofs.Common.{◌≡◌, ◌+◌, ◌<◌, ◌∷◌, [], None, length, length-append, arith, refl, ap}
+use Rattle.std.proofs.Common.{◌+◌, ◌<◌, ◌∷◌, [], None, length, length-append, arith, refl, ap}
 use Rattle.fj_shelf.proofs.Beside.{length_zip, zip_append}
 use Rattle.fj_shelf.proofs.hand.Hand.push.Goals as goal
 
@@ -21,8 +21,17 @@ pub invariant_of-self : goal.invariant_of-self
 invariant_of-self g c =
     let q = c.self.inside in
     let long : length q.serials.items < 4096 = omega (arith, length_zip q.serials.items q.bodies.items c.self.invariant.4, ap (λ h. length h.stack) c.self.view_is, c.requires) in
-    rw (c.push_reserved.ensures.capacity, c.push_reserved-2.ensures.capacity, c.push_reserved-3.ensures.capacity, c.push_reserved.ensures.items, c.push_reserved-2.ensures.items, c.push_reserved-3.ensures.items,
-        length-append q.serials.items (c.args.t ∷ []), length-append q.bodies.items (c.args.body ∷ []), length-append q.joined.items (None ∷ []))
+    rw (
+      c.push_reserved.ensures.capacity,
+      c.push_reserved-2.ensures.capacity,
+      c.push_reserved-3.ensures.capacity,
+      c.push_reserved.ensures.items,
+      c.push_reserved-2.ensures.items,
+      c.push_reserved-3.ensures.items,
+      length-append q.serials.items (c.args.t ∷ []),
+      length-append q.bodies.items (c.args.body ∷ []),
+      length-append q.joined.items (None ∷ []),
+    )
     (c.self.invariant.0, c.self.invariant.1, c.self.invariant.2, omega (arith, long), ap (λ n. n + 1) c.self.invariant.4, ap (λ n. n + 1) c.self.invariant.5)
 
 pub returns : goal.returns

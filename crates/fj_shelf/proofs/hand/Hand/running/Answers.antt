@@ -1,4 +1,4 @@
-use Rattle.std.proofs.Common.{◌≡◌, ◌-◌, length, refl, sym, ap, ◌∙◌}
+use Rattle.std.proofs.Common.{◌-◌, length, refl, ◌∙◌}
 use Rattle.fj_shelf.proofs.Beside.{length_zip, number_at}
 use Rattle.fj_shelf.proofs.hand.Hand.running.Goals as goal
 

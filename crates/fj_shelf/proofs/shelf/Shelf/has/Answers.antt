@@ -5,10 +5,10 @@ use Rattle.fj_shelf.proofs.shelf.Shelf.has.Goals as goal
 
 pub returns-then-has_number : goal.returns-then-has_number
 returns-then-has_number g c =
-    let told = is_guessed c.self.inside.slots.items c.deref.result.now c.deref-2.result.now c.args.number c.guess-at.result c.has_number.result c.deref.ensures.value c.guess-at.ensures.guess c.deref-2.ensures.value c.has_number.ensures in
-    sym (stands_guessed c.self.inside.slots.items c.self.inside.aside.items c.args.number (sym told ∙ c.if-has_number.true)) ∙ ap (λ s. is_there (entries s) c.args.number) c.self.view_is
+    let told = is_guessed c.self.inside.slots c.args.number c.guess-at.result c.has_number.result c.guess-at.ensures.guess c.has_number.ensures in
+    sym (stands_guessed c.self.inside.slots c.self.inside.aside.items c.args.number (sym told ∙ c.if-has_number.true)) ∙ ap (λ s. is_there (entries s) c.args.number) c.self.view_is
 
 pub returns : goal.returns
 returns g c =
-    let told = is_guessed c.self.inside.slots.items c.deref.result.now c.deref-2.result.now c.args.number c.guess-at.result c.has_number.result c.deref.ensures.value c.guess-at.ensures.guess c.deref-2.ensures.value c.has_number.ensures in
-    c.has.ensures ∙ sym (stands_aside c.self.inside.slots.items c.self.inside.aside.items c.args.number (sym told ∙ c.if-has_number.false)) ∙ ap (λ s. is_there (entries s) c.args.number) c.self.view_is
+    let told = is_guessed c.self.inside.slots c.args.number c.guess-at.result c.has_number.result c.guess-at.ensures.guess c.has_number.ensures in
+    c.has.ensures ∙ sym (stands_aside c.self.inside.slots c.self.inside.aside.items c.args.number (sym told ∙ c.if-has_number.false)) ∙ ap (λ s. is_there (entries s) c.args.number) c.self.view_is

@@ -3,4 +3,4 @@ use Rattle.fj_shelf.proofs.shelf.Shelf.new.Goals as goal
 
 pub returns-clause-entries : goal.returns-clause-entries
 returns-clause-entries g c =
-    rw (c.in_ok-empty_slots.ensures, c.in_ok-new.ensures) (nothing_stands {T = g.row.T.Denot} c.args.room c.requires).1
+    rw (c.in_ok-new.ensures, c.in_ok-new-2.ensures) (nothing_stands {T = g.row.T.Denot} c.args.room c.requires).1
