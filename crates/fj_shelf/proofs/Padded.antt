@@ -1,29 +1,13 @@
 -- A list that goes on with one value up to a length.
-use Rattle.std.specs.Prelude.{replicate, slice_get}
-use Rattle.std.proofs.Common.{ℕ, suc, ◌≡◌, ◌+◌, ◌-◌, ◌<◌, ◌≤◌, List, [], ◌∷◌, ◌++◌, Some, length, length-append, append_assoc, get_or, set, refl, sym, ap, ◌∙◌, arith}
+use Rattle.std.specs.Prelude.{replicate}
+use Rattle.std.proofs.Common.{ℕ, suc, ◌≡◌, ◌+◌, ◌-◌, ◌<◌, ◌≤◌, List, [], ◌∷◌, ◌++◌, length, length-append, append_assoc, set, sym, ap, ◌∙◌, arith}
 use Rattle.std.proofs.Math.Seq.{set-append_seam}
-use Rattle.std.proofs.lemmas.List.{get_or_append_left, get_or-append_right, get_or-replicate, length-replicate, length-set, replicate-append-replicate, set-append_left}
-use Rattle.std.proofs.lemmas.Option.{slice_get-get_or}
+use Rattle.std.proofs.lemmas.List.{length-replicate, length-set, replicate-append-replicate, set-append_left}
 use Rattle.fj_shelf.specs.Slots.{padded}
 
 module _ {X : Type 0} where
   pub length_padded : (xs : List X) (count : ℕ) (x : X) → length xs ≤ count → length (padded xs count x) ≡ count
   length_padded xs count x low = omega (arith, length-append xs (replicate (count - length xs) x), length-replicate (count - length xs) x)
-
-  pub get_or_low : (xs : List X) (count : ℕ) (x d : X) (at : ℕ) → at < length xs → get_or (padded xs count x) at d ≡ get_or xs at d
-  get_or_low xs count x d at low = get_or_append_left xs (replicate (count - length xs) x) d at low
-
-  pub get_or_high : (xs : List X) (count : ℕ) (x d : X) (at : ℕ) → length xs ≤ at → at < count → get_or (padded xs count x) at d ≡ x
-  get_or_high xs count x d at high within =
-      get_or-append_right xs (replicate (count - length xs) x) (length xs) at d refl high ∙ get_or-replicate (count - length xs) (at - length xs) x d (omega (arith, high, within))
-
-  pub read_low : (xs : List X) (count : ℕ) (x : X) (at : ℕ) → length xs ≤ count → at < length xs → slice_get (padded xs count x) at ≡ slice_get xs at
-  read_low xs count x at few low =
-      slice_get-get_or (padded xs count x) at x (omega (arith, length_padded xs count x few, few, low)) ∙ ap Some (get_or_low xs count x x at low) ∙ sym (slice_get-get_or xs at x low)
-
-  pub read_high : (xs : List X) (count : ℕ) (x : X) (at : ℕ) → length xs ≤ at → at < count → slice_get (padded xs count x) at ≡ Some x
-  read_high xs count x at high within =
-      slice_get-get_or (padded xs count x) at x (omega (arith, length_padded xs count x (omega (arith, high, within)), within)) ∙ ap Some (get_or_high xs count x x at high within)
 
   pub write_low : (xs : List X) (count : ℕ) (x y : X) (at : ℕ) → at < length xs → padded (set xs at y) count x ≡ set (padded xs count x) at y
   write_low xs count x y at low =
