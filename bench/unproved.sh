@@ -31,7 +31,7 @@ optimise_loader() {
     (cd "$loader" && "$copy/bin/rt" try) > "$loader.log" 2>&1 || [[ -e $loader/module.bc ]] || { cat "$loader.log" >&2; exit 1; }
     compile=("$kit/toolchain/bin/clang" --target=x86_64-unknown-linux-gnu --no-default-config -x ir)
     "${compile[@]}" -S -emit-llvm -Xclang -disable-llvm-passes -o "$loader/module.ll" "$loader/module.bc"
-    as_proved "$loader/module.ll" > "$loader/as_proved.ll"
+    bench/as_proved.py "$loader/.." "$loader/module.ll" > "$loader/as_proved.ll"
     "${compile[@]}" --sysroot="$kit/toolchain" "${options_of_run[@]}" -c -o "$loader/module.o" "$loader/as_proved.ll"
     program=$loader/program
     "$kit/bin/rattle-link" --target x86_64-unknown-linux-gnu --toolchain "$kit/toolchain" -o "$program" "$loader/module.o" \
@@ -42,18 +42,6 @@ optimise_loader() {
 options_of_run=(-march=x86-64 -fPIE -O3 -ffunction-sections -fdata-sections -Xclang -fmerge-functions -mllvm -mergefunc-use-aliases
     -mllvm -disable-machine-licm -mllvm -disable-postra-machine-licm -mllvm -sink-common-insts=false -mllvm -no-x86-call-frame-opt
     -mllvm -trap-unreachable -mllvm -no-trap-after-noreturn)
-
-# as_proved MODULE: the text of a module of `rt try`, without what one of `rt run` has not: the pattern with which each local is filled; the checks
-# of sums, places and the like, and what stops where one fails; the marks of functions for checks of each access, and for frame pointers. And with
-# the instruction by which a thread that spins pauses, which `rt try` leaves out.
-as_proved() {
-    sed -E '/^  call void @llvm\.memset\.p0\.i64\(ptr %[^,]*, i8 -86, /d; /^  call void @"rattle-llvm-checks::/d; /^  call void @llvm\.trap\(\)$/d
-        /^attributes /{ s/sanitize_address "frame-pointer"="all"/nounwind/; s/"target-cpu"="x86-64"/"target-cpu"="x86-64-v2"/ }' "$1" | awk '
-        /^define .*@"core::hint::spin_loop"\(/ { spins = 1 }
-        spins && /^  ret void/ { print "  call void @llvm.x86.sse2.pause()"; spins = 0; pauses = 1 }
-        { print }
-        END { if (pauses) print "declare void @llvm.x86.sse2.pause()" }'
-}
 
 # run_cases CASES: as try_cases, with the program `program`.
 run_cases() {

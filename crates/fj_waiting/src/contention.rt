@@ -8,7 +8,7 @@ const LOOKS: u32 = 4_096;
 const FEWEST_PAUSES: u32 = 16;
 
 /// The longest one.
-const MOST_PAUSES: u32 = 32_768;
+const MOST_PAUSES: u32 = 8_192;
 
 /// How often the wait doubles, from a lock that was always free to one that was always held.
 const DOUBLINGS: u32 = 9;
@@ -43,7 +43,9 @@ impl Contention {
         ensures { result ≤ MOST_PAUSES }
     {
         self.held += (LOOKS - self.held) / 8;
-        let doublings = self.held * DOUBLINGS / LOOKS + before.min(MORE_DOUBLINGS);
+        // Squared, since a lock that is held half of the time is free soon.
+        let often = self.held * self.held / LOOKS;
+        let doublings = often * DOUBLINGS / LOOKS + before.min(MORE_DOUBLINGS);
         (FEWEST_PAUSES << doublings).min(MOST_PAUSES)
     }
 }

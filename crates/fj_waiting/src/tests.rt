@@ -19,19 +19,19 @@ fn an_idle_worker_yields_and_then_sleeps(rt: HostRuntime) {
 #[test]
 fn a_thread_looks_less_often_for_a_lock_that_is_held(rt: HostRuntime) {
     let mut contention = Contention::new();
-    for (before, pauses) in [(0, 32), (1, 128), (2, 256), (3, 512)] {
+    for (before, pauses) in [(0, 16), (1, 32), (2, 64), (3, 128)] {
         assert_eq!(rt; contention.find_held(before), pauses);
     }
     for _ in 0..64 {
         let _pauses = contention.find_held(2);
     }
-    for (before, pauses) in [(0, 4_096), (1, 8_192), (2, 16_384), (64, 16_384)] {
+    for (before, pauses) in [(0, 4_096), (1, 8_192), (2, 8_192), (63, 8_192)] {
         assert_eq!(rt; contention.find_held(before), pauses);
     }
     for _ in 0..64 {
         contention.find_free();
     }
-    assert_eq!(rt; contention.find_held(0), 32);
+    assert_eq!(rt; contention.find_held(0), 16);
 }
 
 /// What is slept for, and then for what somebody may sleep.
