@@ -4,9 +4,8 @@ use crate::naming::Naming;
 use crate::pool::Pool;
 use fj_store::Body;
 use fj_waiting::Contention;
-use std::hint;
 use std::sync::{MutexGuard, Wait};
-use std::thread;
+use std::{hint, thread};
 
 /// How often a thread looks for the lock before it sleeps until it gets it.
 const LOOKS: u32 = 64;
