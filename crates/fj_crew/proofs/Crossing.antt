@@ -136,7 +136,7 @@ module _ (B N K O : RattleType) (g : Body.Ghosts B.Denot K.Denot O.Denot) (e : P
       search (sendable, as_row_sync) depth 20,
       (
         search (sendable, crosses, as_row_sync, guarded_send) depth 20,
-        (search (sendable, crosses, as_row_sync) depth 20, (search (sendable, crosses, as_row_sync) depth 20, (search (sendable, crosses, as_row_sync) depth 20, (search (sendable, crosses, as_row_sync) depth 20, tt)))),
+        (search (sendable, crosses, as_row_sync) depth 20, (search (sendable, crosses, as_row_sync) depth 20, (search (sendable, crosses, as_row_sync) depth 20, tt))),
       ),
     ),
   )
