@@ -1,7 +1,8 @@
-ghost use Rattle.std.specs.Prelude.{◌≡◌, Some};
+ghost use Rattle.std.specs.Prelude.{◌≡◌, ◌∷◌, [], Some, IfSome, IfNone, decimal};
 ghost use Rattle.std.specs.Fmt.{WritesOnOk};
 ghost use Rattle.fj_model.specs.Words.{joined};
-ghost use Rattle.fj_model.specs.Replies.{place_words, reply_words};
+ghost use Rattle.fj_model.specs.Bounds.{Bounds};
+ghost use Rattle.fj_model.specs.Replies.{place_words, reply_words, words_of_state};
 ghost use Rattle.fj_model.specs.Shown.{shown_limits, shown_said};
 
 use crate::limits::Limits;
@@ -26,35 +27,49 @@ impl Said {
     {
         Reply { said: self, limits }
     }
+
+    /// Its first word, and the number behind that, if there is one.
+    pub(crate) fn parts(&self) -> (&'static str, Option<u64>)
+        ensures some { IfSome result.1 (λ n. (limits : Bounds) → reply_words limits self.now ≡ result.0.now ∷ decimal n ∷ []) }
+        ensures none { IfNone result.1 ((limits : Bounds) → reply_words limits self.now ≡ result.0.now ∷ words_of_state limits self.now) }
+    {
+        match *self {
+            Said::Task(t) => ("task", Some(t.0)),
+            Said::None => ("none", None),
+            Said::Run(t) => ("run", Some(t.0)),
+            Said::Skip(t) => ("skip", Some(t.0)),
+            Said::Done => ("done", None),
+            Said::Counted(t) => ("counted", Some(t.0)),
+            Said::Hook(t) => ("hook", Some(t.0)),
+            Said::Spent(t) => ("spent", Some(t.0)),
+            Said::Early(t) => ("early", Some(t.0)),
+            Said::Root(t) => ("root", Some(t.0)),
+            Said::Count(n) => ("count", Some(n.into())),
+            Said::Yes => ("yes", None),
+            Said::No => ("no", None),
+            Said::Normal => ("normal", None),
+            Said::Exceptional(code) => ("exceptional", Some(code.into())),
+            Said::Cancelled => ("cancelled", None),
+            Said::Refused(refusal) => ("refused", Some(refusal.number().into())),
+            Said::State(_, _) => ("state", None),
+        }
+    }
 }
 
 impl fmt::Display for Reply<'_> {
     ghost output = { λ r. Some (joined (reply_words (shown_limits r) (shown_said r))) };
 
     fn fmt<W: fmt::Write>(&self, f: &mut fmt::Formatter<W>) -> fmt::Result {
-        match self.said {
-            Said::Task(t) => write!(f, "task {}", t.0),
-            Said::None => f.write_str("none"),
-            Said::Run(t) => write!(f, "run {}", t.0),
-            Said::Skip(t) => write!(f, "skip {}", t.0),
-            Said::Done => f.write_str("done"),
-            Said::Counted(t) => write!(f, "counted {}", t.0),
-            Said::Hook(t) => write!(f, "hook {}", t.0),
-            Said::Spent(t) => write!(f, "spent {}", t.0),
-            Said::Early(t) => write!(f, "early {}", t.0),
-            Said::Root(t) => write!(f, "root {}", t.0),
-            Said::Count(n) => write!(f, "count {n}"),
-            Said::Yes => f.write_str("yes"),
-            Said::No => f.write_str("no"),
-            Said::Normal => f.write_str("normal"),
-            Said::Exceptional(code) => write!(f, "exceptional {code}"),
-            Said::Cancelled => f.write_str("cancelled"),
-            Said::Refused(refusal) => write!(f, "refused {}", refusal.number()),
-            Said::State(place, status) => {
-                f.write_str("state ")?;
-                write_place(f, self.limits, place)?;
-                write!(f, " {status}")
-            }
+        match self.said.parts() {
+            (word, Some(number)) => write!(f, "{word} {number}"),
+            (word, None) => match self.said {
+                Said::State(place, status) => {
+                    write!(f, "{word} ")?;
+                    write_place(f, self.limits, place)?;
+                    write!(f, " {status}")
+                }
+                _ => f.write_str(word),
+            },
         }
     }
 }

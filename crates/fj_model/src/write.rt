@@ -1,9 +1,12 @@
 //! The line of a reply.
-ghost use Rattle.std.specs.Prelude.{◌≡◌, ◌++◌, OnOk, string_bytes};
+ghost use Rattle.std.specs.Prelude.{◌≡◌, ◌++◌, ◌∷◌, [], OnOk, string_bytes, decimal};
+ghost use Rattle.fj_model.specs.declared.read.TheConstants.{LINE_FEED};
+ghost use Rattle.fj_model.specs.declared.read.words.TheConstants.{SPACE};
 ghost use Rattle.fj_model.specs.Lines.{reply_line};
 
 use crate::limits::Limits;
 use crate::said::Said;
+use itoa::Buffer;
 use std::alloc::AllocError;
 
 impl Said {
@@ -14,6 +17,30 @@ impl Said {
     pub fn push_line(self, limits: &Limits, text: &mut String) -> Result<(), AllocError>
         ensures { OnOk result (string_bytes text.new ≡ string_bytes text.old ++ reply_line limits.now self) }
     {
-        writeln!(text, "{}", self.display(limits))
+        match self.parts() {
+            (word, Some(number)) => push_number(text, word, number),
+            (word, None) => match self {
+                Said::State(_, _) => writeln!(text, "{}", self.display(limits)),
+                _ => push_word(text, word),
+            },
+        }
     }
+}
+
+/// Appends a line of one word. Not by a formatter, which takes as long as the step that it tells of.
+fn push_word(text: &mut String, word: &str) -> Result<(), AllocError>
+    ensures { OnOk result (string_bytes text.new ≡ string_bytes text.old ++ (word.now ++ LINE_FEED ∷ [])) }
+{
+    text.push_str(word)?;
+    text.push('\n')
+}
+
+/// The same of a word and a number.
+fn push_number(text: &mut String, word: &str, number: u64) -> Result<(), AllocError>
+    ensures { OnOk result (string_bytes text.new ≡ string_bytes text.old ++ (word.now ++ SPACE ∷ (decimal number ++ LINE_FEED ∷ []))) }
+{
+    text.push_str(word)?;
+    text.push(' ')?;
+    text.push_str(Buffer::new().format(number))?;
+    text.push('\n')
 }
