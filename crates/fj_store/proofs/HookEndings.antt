@@ -391,7 +391,7 @@ hook_last past new hand w c d body rest run fits same held at made grew =
 
 -- ---- the hand
 
-still_hooks : (h es : List Event) → list_all is_rest es ≡ true → (hooks h).just_ended ≡ None → hooks (h ++ es) ≡ hooks h
+pub still_hooks : (h es : List Event) → list_all is_rest es ≡ true → (hooks h).just_ended ≡ None → hooks (h ++ es) ≡ hooks h
 still_hooks h [] all none = ap hooks (append-nil h)
 still_hooks h (e ∷ es) all none =
     let parts = and_parts (is_rest e) (list_all is_rest es) all in

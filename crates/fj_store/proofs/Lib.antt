@@ -44,3 +44,5 @@ pub mod Shutting
 pub mod Sealing
 -- A hook ends.
 pub mod HookEndings
+-- What the step of one worker leaves of the hands of the others.
+pub mod Others
