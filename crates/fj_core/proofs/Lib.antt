@@ -18,3 +18,5 @@ mod Bare
 mod Acts
 -- the parts that are kept
 mod Parts
+-- what an action leaves of the hands of the other workers
+pub mod Others

@@ -14,3 +14,5 @@ pub mod Intakes
 pub mod Acting
 -- the history is sealed, and the part kept
 pub mod Sealing
+-- the hand of one worker
+pub mod Hands
