@@ -1,0 +1,26 @@
+ghost use Rattle.std.specs.Prelude.{◌≡◌, IfOk};
+
+use crate::agreed::Known;
+use crate::end::End;
+use crate::word::{Half, Word};
+use fj_model::OutOfMemory;
+use std::alloc::Global;
+use std::sync::Arc;
+
+/// A new pair.
+pub fn pair<V: Known>(alloc: Global) -> Result<(End<V>, End<V>), OutOfMemory>
+    ensures pair { IfOk result (λ r. r.0.pair ≡ r.1.pair) }
+    ensures first { IfOk result (λ r. (r.0.value ≡ V.first) × (r.1.value ≡ V.first)) }
+{
+    let (word, mut token) = Word::<V>::of_words(alloc, &[0], &())?;
+    let table = Arc::new(alloc, word)?;
+    let other_table = Arc::try_clone(&table)?;
+    let other_token = table.shared.split_seat::<Half>(&mut token);
+    Ok((
+        End { table, token },
+        End {
+            table: other_table,
+            token: other_token,
+        },
+    ))
+}
