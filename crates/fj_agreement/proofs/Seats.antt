@@ -52,15 +52,15 @@ module _ {V : Type 0} where
       let part = set views seat left in (
         value,
         (λ j u is.
-        ⊎_elim
+            ⊎_elim
             (λ (old : get_elem? part j ≡ some u).
             ⊎_elim
-                (λ (t : (j ≡ seat) × (left ≡ u)). subst (λ (x : List V). KnowsOnly value x) t.1 here)
-                (λ (t : (j ≢ seat) × (get_elem? views j ≡ some u)). others j u t.0 t.1)
-                (at_set views seat j left u old))
+            (λ (t : (j ≡ seat) × (left ≡ u)). subst (λ (x : List V). KnowsOnly value x) t.1 here)
+            (λ (t : (j ≢ seat) × (get_elem? views j ≡ some u)). others j u t.0 t.1)
+            (at_set views seat j left u old))
             (λ (new : right ≡ u). subst (λ (x : List V). KnowsOnly value x) new there)
             (at_snoc part right u j is)),
         (
-          let a = sum_set views seat v left at in
-          let b = sum_by_push count part right in omega arith),
+            let a = sum_set views seat v left at in
+            let b = sum_by_push count part right in omega arith),
       )

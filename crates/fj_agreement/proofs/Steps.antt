@@ -1,5 +1,5 @@
 -- Each step keeps the rule.
-use Rattle.std.proofs.Common.{◌≡◌, ◌≢◌, ⊎_elim, ℕ, zero, suc, List, [], ◌∷◌, ◌++◌, All, length, set, get_or, take, drop, sym, refl, ◌∙◌, subst, arith, length-append, sum_by}
+use Rattle.std.proofs.Common.{◌≡◌, ◌≢◌, ⊎_elim, ℕ, zero, suc, List, [], ◌∷◌, ◌++◌, length, set, get_or, take, drop, sym, refl, ◌∙◌, subst, arith, length-append, sum_by}
 use Rattle.std.proofs.lemmas.List.Elements.{All-nil, All-cons, All-append}
 use mathlib.Core.Option.{some, none, some-injective, some-ne-none}
 use lib.ListN.{get_elem?}
@@ -50,19 +50,19 @@ module _ {V : Type 0} where
       let both = All-append (Only value) v w (r.1 seat v at) (r.1 other w was) in (
         value,
         (λ j u is.
-        ⊎_elim
+            ⊎_elim
             (λ (t : (j ≡ other) × ([] ≡ u)). subst (λ (x : List V). KnowsOnly value x) t.1 (All-nil (Only value)))
             (λ (t : (j ≢ other) × (get_elem? mid j ≡ some u)).
             ⊎_elim
-                (λ (z : (j ≡ seat) × (v ++ w ≡ u)). subst (λ (x : List V). KnowsOnly value x) z.1 both)
-                (λ (z : (j ≢ seat) × (get_elem? s.views j ≡ some u)). r.1 j u z.1)
-                (at_set s.views seat j (v ++ w) u t.1))
+            (λ (z : (j ≡ seat) × (v ++ w ≡ u)). subst (λ (x : List V). KnowsOnly value x) z.1 both)
+            (λ (z : (j ≢ seat) × (get_elem? s.views j ≡ some u)). r.1 j u z.1)
+            (at_set s.views seat j (v ++ w) u t.1))
             (at_set mid other j [] u is)),
         (
-          let all = r.2 in
-          let a = sum_set s.views seat v (v ++ w) at in
-          let b = sum_set mid other w [] there in
-          let c = length-append v w in omega arith),
+            let all = r.2 in
+            let a = sum_set s.views seat v (v ++ w) at in
+            let b = sum_set mid other w [] there in
+            let c = length-append v w in omega arith),
       )
 
   -- a load, which changes nothing

@@ -1,13 +1,15 @@
-ghost use Rattle.std.specs.Prelude.{◌≡◌, [], ◌++◌};
+ghost use Rattle.std.specs.Prelude.{◌≡◌, Some, [], ◌++◌};
 ghost use Rattle.std.specs.Arc.{arc_value};
 
-use crate::agreed::{Agreed, Known};
-use crate::word::{Anew, Both, Half, Meet, Spare, Token, Word};
-use std::marker::Model;
+use crate::chosen::{Chosen, TheChosen};
+use crate::values::{Agreed, Known, Tells};
+use crate::word::{Anew, Half, Meet, Spare, Together, Token, Word};
+use std::marker::{Brand, Model};
 use std::mem;
 use std::sync::Arc;
 
-/// One of the two ends of a pair.
+/// One of the two ends of a pair. It knows a value, the same as the other one does. It may go to another thread. Java has no
+/// counterpart.
 pub struct End<V: Known> {
     pub(crate) table: Arc<Word<V>>,
     pub(crate) token: Token<V>,
@@ -20,6 +22,7 @@ impl<V: Known> Model for End<V> {
 
     ghost Value = { EndState V };
 
+    // There is always one value, so the default is never read.
     ghost view = { λ e. record { pair = e.token.table_id; value = slice_index_or e.token.me.0 0 V.first } };
 
     ghost invariant = { λ e. record {
@@ -30,6 +33,7 @@ impl<V: Known> Model for End<V> {
     } };
 }
 
+// By hand, since a derive would ask it of V too.
 impl<V: Known> Drop for End<V> {
     fn drop(self) {
         let End { table: _, token: _ } = self;
@@ -37,9 +41,12 @@ impl<V: Known> Drop for End<V> {
 }
 
 impl<V: Known> End<V> {
-    /// Meets.
+    /// The two ends meet: what they know is the same value. Nothing changes. It costs four loads.
+    ///
+    /// Precondition: they are the ends of one pair.
+    #[inline(always)]
     pub fn meet(&mut self, other: &mut End<V>)
-        requires { self.old.pair ≡ other.old.pair }
+        requires pair { self.old.pair ≡ other.old.pair }
         ensures same { self.old.value ≡ other.old.value }
         ensures stays { (self.new ≡ self.old) × (other.new ≡ other.old) }
     {
@@ -48,25 +55,54 @@ impl<V: Known> End<V> {
         other.token = self.table.shared.split_seat::<Half>(&mut self.token);
     }
 
-    /// Both know another value from now on.
+    /// Both ends know another value from now on, which the caller picks. It costs three loads.
+    ///
+    /// Precondition: they are the ends of one pair.
+    #[inline(always)]
     pub fn agree<A: Agreed<V>>(&mut self, other: &mut End<V>)
-        requires { self.old.pair ≡ other.old.pair }
-        ensures pair { (self.new.pair ≡ self.old.pair) × (other.new.pair ≡ other.old.pair) }
+        requires pair { self.old.pair ≡ other.old.pair }
         ensures value { (self.new.value ≡ A.value) × (other.new.value ≡ A.value) }
+        ensures stays { (self.new.pair ≡ self.old.pair) × (other.new.pair ≡ other.old.pair) }
     {
         gather(&self.table, &mut self.token, &mut other.token);
         other.token = self.table.shared.split_seat::<Anew<A>>(&mut self.token);
     }
+
+    /// Both ends know from now on what `teller` tells, which is not read. It costs three loads.
+    ///
+    /// Precondition: they are the ends of one pair.
+    #[inline(always)]
+    pub fn agree_on<T: Tells<V>>(&mut self, other: &mut End<V>, teller: &T)
+        requires pair { self.old.pair ≡ other.old.pair }
+        ensures value { (self.new.value ≡ T.told teller.now) × (other.new.value ≡ T.told teller.now) }
+        ensures stays { (self.new.pair ≡ self.old.pair) × (other.new.pair ≡ other.old.pair) }
+    {
+        agree_as::<V, Brand, T>(self, other, teller);
+    }
 }
 
+/// Both ends know what was chosen, which is what `teller` tells. Preconditions: it is; they are the ends of one pair.
+#[inline(always)]
+fn agree_as<V: Known, C: Chosen<V>, T: Tells<V>>(one: &mut End<V>, other: &mut End<V>, _teller: &T)
+    requires chosen { C.chosen ≡ Some (T.told _teller.now) }
+    requires pair { one.old.pair ≡ other.old.pair }
+    ensures value { (one.new.value ≡ T.told _teller.now) × (other.new.value ≡ T.told _teller.now) }
+    ensures stays { (one.new.pair ≡ one.old.pair) × (other.new.pair ≡ other.old.pair) }
+{
+    one.agree::<TheChosen<C>>(other);
+}
+
+/// A token takes in what another one knows, which then knows nothing. Preconditions: both are of this word, and hold no slot.
+#[inline(always)]
 fn gather<V: Known>(table: &Arc<Word<V>>, token: &mut Token<V>, other: &mut Token<V>)
     requires table { ((arc_value table.now).shared.table_id ≡ token.old.table_id) × (token.old.table_id.words ≡ 1) × (other.old.table_id ≡ token.old.table_id) }
     requires no_slot { (token.old.me.1 ≡ []) × (other.old.me.1 ≡ []) }
-    ensures tables { (token.new.table_id ≡ token.old.table_id) × (other.new.table_id ≡ other.old.table_id) }
+    ensures table { (token.new.table_id ≡ token.old.table_id) × (other.new.table_id ≡ other.old.table_id) }
     ensures token { token.new.me ≡ (token.old.me.0 ++ other.old.me.0, []) }
     ensures other { other.new.me ≡ ([], []) }
 {
+    // A join takes the other token by value, so something has to be left in its place.
     let spare = table.shared.split_seat::<Spare>(token);
     let taken = mem::replace(other, spare);
-    table.shared.join_seat::<Both>(token, taken);
+    table.shared.join_seat::<Together>(token, taken);
 }

@@ -1,13 +1,15 @@
 ghost use Rattle.std.specs.Prelude.{◌≡◌, IfOk};
 
-use crate::agreed::Known;
 use crate::end::End;
+use crate::values::Known;
 use crate::word::{Half, Word};
 use fj_model::OutOfMemory;
 use std::alloc::Global;
 use std::sync::Arc;
 
-/// A new pair.
+/// The two ends of a new pair. Both know the first value of their type. Java has no counterpart.
+///
+/// `OutOfMemory` where memory is refused, and no other error. No other call of this crate takes memory.
 pub fn pair<V: Known>(alloc: Global) -> Result<(End<V>, End<V>), OutOfMemory>
     ensures pair { IfOk result (λ r. r.0.pair ≡ r.1.pair) }
     ensures first { IfOk result (λ r. (r.0.value ≡ V.first) × (r.1.value ≡ V.first)) }

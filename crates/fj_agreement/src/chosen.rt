@@ -1,0 +1,27 @@
+//! How a value to agree on is picked by a call whose caller passes something that tells it.
+use crate::values::{Agreed, Known};
+use std::marker::{Brand, PhantomData};
+
+/// A value to agree on, or none. A pick needs an impl without bounds, and so a trait that has a value of any type.
+pub trait Chosen<V> {
+    ghost use Rattle.std.specs.Prelude.{Option};
+
+    ghost chosen: { Option V };
+}
+
+impl<V> Chosen<V> for Brand {
+    ghost use Rattle.std.specs.Prelude.{None};
+
+    ghost chosen = { None };
+}
+
+/// The value that was chosen.
+pub struct TheChosen<C> {
+    of: PhantomData<C>,
+}
+
+impl<V: Known, C: Chosen<V>> Agreed<V> for TheChosen<C> {
+    ghost use Rattle.std.specs.Option.{unwrap_or};
+
+    ghost value = { unwrap_or C.chosen V.first };
+}
