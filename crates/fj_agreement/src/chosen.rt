@@ -2,7 +2,7 @@
 use crate::values::{Agreed, Known};
 use std::marker::{Brand, PhantomData};
 
-/// A value to agree on, or none. A pick needs an impl without bounds, and so a trait that has a value of any type.
+/// A value to agree on, or none: a call can pick only over an impl without bounds, which has no value of each type.
 pub trait Chosen<V> {
     ghost use Rattle.std.specs.Prelude.{Option};
 

@@ -1,9 +1,8 @@
 ghost use Rattle.std.specs.Prelude.{◌≡◌, Some, [], ◌++◌};
-ghost use Rattle.std.specs.Arc.{arc_value};
 
 use crate::chosen::{Chosen, TheChosen};
 use crate::values::{Agreed, Known, Tells};
-use crate::word::{Anew, Half, Meet, Spare, Together, Token, Word};
+use crate::word::{Anew, Half, Loads, Meet, Spare, Together, Token, Word};
 use std::marker::{Brand, Model};
 use std::mem;
 use std::sync::Arc;
@@ -50,9 +49,10 @@ impl<V: Known> End<V> {
         ensures same { self.old.value ≡ other.old.value }
         ensures stays { (self.new ≡ self.old) × (other.new ≡ other.old) }
     {
-        gather(&self.table, &mut self.token, &mut other.token);
-        self.table.shared.load::<Meet>(&mut self.token, 0);
-        other.token = self.table.shared.split_seat::<Half>(&mut self.token);
+        let loads = &self.table.shared;
+        gather(loads, &mut self.token, &mut other.token);
+        loads.load::<Meet>(&mut self.token, 0);
+        other.token = loads.split_seat::<Half>(&mut self.token);
     }
 
     /// Both ends know another value from now on, which the caller picks. It costs three loads.
@@ -64,8 +64,9 @@ impl<V: Known> End<V> {
         ensures value { (self.new.value ≡ A.value) × (other.new.value ≡ A.value) }
         ensures stays { (self.new.pair ≡ self.old.pair) × (other.new.pair ≡ other.old.pair) }
     {
-        gather(&self.table, &mut self.token, &mut other.token);
-        other.token = self.table.shared.split_seat::<Anew<A>>(&mut self.token);
+        let loads = &self.table.shared;
+        gather(loads, &mut self.token, &mut other.token);
+        other.token = loads.split_seat::<Anew<A>>(&mut self.token);
     }
 
     /// Both ends know from now on what `teller` tells, which is not read. It costs three loads.
@@ -94,15 +95,15 @@ fn agree_as<V: Known, C: Chosen<V>, T: Tells<V>>(one: &mut End<V>, other: &mut E
 
 /// A token takes in what another one knows, which then knows nothing. Preconditions: both are of this word, and hold no slot.
 #[inline(always)]
-fn gather<V: Known>(table: &Arc<Word<V>>, token: &mut Token<V>, other: &mut Token<V>)
-    requires table { ((arc_value table.now).shared.table_id ≡ token.old.table_id) × (token.old.table_id.words ≡ 1) × (other.old.table_id ≡ token.old.table_id) }
+fn gather<V: Known>(loads: &Loads<V>, token: &mut Token<V>, other: &mut Token<V>)
+    requires table { (token.old.table_id ≡ loads.now.table_id) × (other.old.table_id ≡ loads.now.table_id) × (loads.now.table_id.words ≡ 1) }
     requires no_slot { (token.old.me.1 ≡ []) × (other.old.me.1 ≡ []) }
     ensures table { (token.new.table_id ≡ token.old.table_id) × (other.new.table_id ≡ other.old.table_id) }
     ensures token { token.new.me ≡ (token.old.me.0 ++ other.old.me.0, []) }
     ensures other { other.new.me ≡ ([], []) }
 {
     // A join takes the other token by value, so something has to be left in its place.
-    let spare = table.shared.split_seat::<Spare>(token);
+    let spare = loads.split_seat::<Spare>(token);
     let taken = mem::replace(other, spare);
-    table.shared.join_seat::<Together>(token, taken);
+    loads.join_seat::<Together>(token, taken);
 }

@@ -1,13 +1,13 @@
 //! Two ends that know the same value, which exists in proofs alone. One end may lie under a lock, while a thread has the other.
 //!
 //! ```
-//! // Both know what `Holding` begins with. One goes under a lock, the other to a worker.
+//! // Both know `Holding::first`. One goes under a lock, the other to a worker.
 //! let (kept, own) = pair::<Holding>(alloc)?;
 //! // With the lock: what lies under it and what the worker has in hand say the same, whatever was done since.
-//! own.meet(&mut kept.end);
-//! hand.push(body);
+//! own.meet(&mut guard.end);
+//! hand.push(t, body);
 //! // Both know what the hand holds now.
-//! own.agree_on(&mut kept.end, &hand);
+//! own.agree_on(&mut guard.end, &hand);
 //! ```
 //!
 //! A contract sees an [`End`] as the pair that it is of, and the value that it knows. A value changes only where somebody has both

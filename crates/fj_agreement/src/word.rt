@@ -15,7 +15,7 @@
 //! | `Half`: cut in two again | v | w | |
 //! | `Anew`, where they agree: both get another value | a | a | the one seat had both values, so nobody else knows any |
 use crate::values::{Agreed, Known};
-use atomic_table::{Join, Play, Seat, Split, Table, TableRule};
+use atomic_table::{Join, Play, Seat, Shared, Split, Table, TableRule};
 use std::alloc::Global;
 use std::collections::LinkedList;
 use std::marker::PhantomData;
@@ -38,6 +38,9 @@ impl<V: Known> TableRule<(), Knowledge<V>, ()> for AgreementRule {
 
 /// The word. It needs no slots beside it.
 pub type Word<V> = Table<(), Knowledge<V>, (), AgreementRule, Global>;
+
+/// What of the word has the loads.
+pub type Loads<V> = Shared<(), Knowledge<V>, (), AgreementRule>;
 
 /// The right to step on the word, with what its holder knows. It has no bytes.
 pub type Token<V> = Seat<(), Knowledge<V>>;
