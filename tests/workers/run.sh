@@ -5,7 +5,7 @@
 #   tests/workers/run.sh
 set -euo pipefail
 cd "$(dirname "${BASH_SOURCE[0]}")/../.."
-crates=(fj_model fj_streams fj_queues fj_tree fj_ledger fj_machine fj_gate fj_lane fj_shelf fj_store fj_core fj_waiting fj_pool fj_jobs fj_crew fj_lazy fj_invoke fj_fold)
+crates=(fj_model fj_streams fj_queues fj_tree fj_ledger fj_machine fj_gate fj_lane fj_shelf fj_store fj_core fj_waiting fj_agreement fj_pool fj_jobs fj_crew fj_lazy fj_invoke fj_fold)
 build_limit=900
 
 folder=$(mktemp -d)

@@ -1,6 +1,7 @@
 ghost use Rattle.std.specs.Prelude.{◌≡◌, ◌≤◌, ◌&&◌, [], None, All, IfOk, vec_len};
 ghost use Rattle.fj_lane.specs.declared.new_lane.TheConstants.{MAX_CAPACITY};
 ghost use Rattle.fj_model.specs.Bounds.{IsWithin};
+ghost use Rattle.fj_model.specs.Epochs.{IsPast};
 ghost use Rattle.fj_model.specs.Statuses.{status, is_undone};
 ghost use Rattle.fj_model.specs.Tasks.{is_kept};
 ghost use Rattle.fj_store.specs.Choosing.{Polls};
@@ -90,6 +91,7 @@ impl<B: Body> Core<B> {
     pub fn limits(&self) -> Limits
         ensures limits { result ≡ self.now.store.past.pool.limits }
         ensures within { IsWithin result.workers result.submitters result.tasks result.events }
+        ensures run { IsPast self.now.store.past }
     {
         self.store.limits()
     }

@@ -37,6 +37,8 @@ use Rattle.fj_lane.specs.contracts.rest.Rest as Rest
 use Rattle.fj_core.specs.contracts.pool_core.Core.TheInside as CoreInside
 use Rattle.fj_pool.specs.contracts.guarded.Guarded as Guarded
 use Rattle.fj_pool.specs.contracts.guarded.Guarded.TheInside as GuardedInside
+use Rattle.fj_pool.specs.contracts.locked.Locked as Locked
+use Rattle.fj_pool.specs.contracts.locked.Locked.TheInside as LockedInside
 use Rattle.fj_pool.specs.contracts.pool.Pool as Pool
 use Rattle.fj_crew.specs.contracts.closing.Closing as Closing
 use Rattle.fj_gate.proofs.entrant.Entrant.TheSendSync.{the_send as entrant_send}
@@ -49,6 +51,7 @@ use Rattle.fj_store.proofs.kept.Kept.TheSendSync.{the_send as kept_send}
 use Rattle.fj_store.proofs.due.Due.TheSendSync.{the_send as due_send}
 use Rattle.fj_core.proofs.bookings.Bookings.TheSendSync.{the_send as bookings_send}
 use Rattle.fj_core.proofs.closing.Closing.TheSendSync.{the_send as closing_send}
+use Rattle.fj_agreement.proofs.end.End.TheSendSync.{the_send as end_send}
 use Rattle.fj_pool.proofs.closer.Closer.TheSendSync.{the_send as closer_send}
 use Rattle.fj_pool.proofs.waits.Waits.TheSendSync.{the_send as waits_send}
 
@@ -129,13 +132,22 @@ module _ (B N K O : RattleType) (g : Body.Ghosts B.Denot K.Denot O.Denot) (e : P
   guarded_send : IsSend (Guarded.the_row B N K O g e n)
   guarded_send = record { owned = λ d vs x. (guarded_inner.owned x.0 vs, tt); leaving = λ k d w. tt }
 
+  locked_inner : IsSend (LockedInside.the_row B N K O g e n)
+  locked_inner = declared_send (LockedInside.the_type B N K O g e n) (
+    as_row_send (Guarded.the_field B N K O g e n) guarded_send,
+    (search (sendable, crosses, as_row_send, end_send), tt),
+  )
+
+  locked_send : IsSend (Locked.the_row B N K O g e n)
+  locked_send = record { owned = λ d vs x. (locked_inner.owned x.0 vs, tt); leaving = λ k d w. tt }
+
   pool_sync : IsSync (Pool.the_row B N K O g e n)
   pool_sync = declared_sync (Pool.the_type B N K O g e n) (
     search (sendable, crosses, as_row_sync, sync) depth 20,
     (
       search (sendable, as_row_sync) depth 20,
       (
-        search (sendable, crosses, as_row_sync, guarded_send) depth 20,
+        search (sendable, crosses, as_row_sync, locked_send) depth 20,
         (search (sendable, crosses, as_row_sync) depth 20, (search (sendable, crosses, as_row_sync) depth 20, (search (sendable, crosses, as_row_sync) depth 20, tt))),
       ),
     ),

@@ -55,6 +55,7 @@ where
     requires gate { N.gate ≡ parts.closer.gate }
     requires lanes { N.lanes ≡ lanes_of parts.core.lanes }
     requires pool { N.pool ≡ parts.core.store.past.pool }
+    requires hands { N.hands ≡ parts.pairs }
     ensures { IfErr result RefusesRun }
 {
     match Pool::<B, N>::open(alloc, parts) {

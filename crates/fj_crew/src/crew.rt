@@ -29,10 +29,9 @@ pub struct Ran<B: Body, N: Naming> {
 
 impl<B: Body, N: Naming, T: Turnstile, R: Wait> Crew<'_, '_, '_, '_, B, N, T, R> {
     /// What one worker does, until the pool has terminated.
-    fn work(&self, hand: &mut Hand<B>) {
-        if let Err(Refusal::NoSuch) = self.pool.work(self.rt, hand, self.turnstile) {
-            self.give_up();
-        }
+    fn work(&self, hand: &mut Hand<B, N>) {
+        // Where the core is stuck, whoever awaits the outcome is told so.
+        let _left = self.pool.work(self.rt, hand, self.turnstile);
     }
 
     /// Stops the pool. What was submitted is taken in, though no worker may be left, so that whoever awaits its outcome is told.
@@ -88,7 +87,7 @@ pub fn run_all<
     R: Threads + Wait + Sync,
 >(
     crew: &Crew<B, N, T, R>,
-    mut hands: Vec<Hand<B>>,
+    mut hands: Vec<Hand<B, N>>,
     submitters: Vec<Submitter<B, N>>,
     body: B,
 ) -> Ran<B, N>

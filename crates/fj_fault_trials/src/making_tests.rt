@@ -44,6 +44,7 @@ fn handed_in<N: Naming>(alloc: Global, parts: Parts<Sum>) -> Result<(u64, u64), 
     requires gate { N.gate ≡ parts.closer.gate }
     requires lanes { N.lanes ≡ lanes_of parts.core.lanes }
     requires pool { N.pool ≡ parts.core.store.past.pool }
+    requires hands { N.hands ≡ parts.pairs }
 {
     let (pool, _hands, mut submitters, closer) = Pool::<Sum, N>::open(alloc, parts)?;
     hand_in(alloc, &mut submitters)?;

@@ -14,3 +14,7 @@ mod Emptied
 mod Asking
 -- what a look at the lanes leaves
 mod Looking
+-- an action leaves a hand with its worker
+mod Workers
+-- what calls leave of what the workers hold, and what their ends know of it
+mod Holdings

@@ -24,7 +24,7 @@ module _ {B K O : Type 0} where
   shuts_same true old new asked drops = ap pool_of drops.releases.were ∙ ap (λ (p : Past). p.pool) drops.step.1
   shuts_same false old new asked is = ap pool_of is.1
 
-  dues_same : (due stopping : Bool) (old new : StoreState B K O) → Dues due stopping old new → pool_of new ≡ pool_of old
+  pub dues_same : (due stopping : Bool) (old new : StoreState B K O) → Dues due stopping old new → pool_of new ≡ pool_of old
   dues_same false stopping old new is = ap pool_of is
   dues_same true stopping old new (inl was) = ap pool_of was.1
   dues_same true stopping old new (inr is) = shuts_same is.1.0 old new (shut_step stopping) is.1.1

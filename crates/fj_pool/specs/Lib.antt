@@ -14,3 +14,5 @@ pub mod Winding
 pub mod Looking
 -- what a worker does in one holding of the lock
 pub mod Working
+-- what a worker holds
+pub mod Holdings

@@ -1,5 +1,6 @@
 -- The parts of a pool, before it is opened.
 use Rattle.std.specs.Prelude.{ℕ, ◌≡◌, ◌<◌, ◌≤◌, ◌⊎◌, List, Some, length, map, slice_get}
+use Rattle.atomic_table.specs.Seated.{TableId}
 use Rattle.fj_model.specs.declared.mode.Mode.{Mode}
 use Rattle.fj_model.specs.declared.refusal.Refusal.{Refusal}
 use Rattle.fj_model.specs.declared.refusal.Refusal.TheVariants.{BadLimits, OutOfMemory}
@@ -11,10 +12,11 @@ use Rattle.fj_shelf.specs.Hands.{HandState}
 use Rattle.fj_core.specs.Cores.{CoreState, IsNew, first_hands}
 use Rattle.fj_pool.specs.Seats.{SeatState, seats_for, seats_from}
 
--- the core, the hand of each worker, the ends of each submitter, and the end that closes the gate
+-- the core, the hand of each worker, the pair of its ends, the ends of each submitter, and the end that closes the gate
 pub record PartsState (B K O : Type 0) : Type 0 where
   pub core : CoreState B K O
   pub hands : List (HandState B)
+  pub pairs : List TableId
   pub seats : List (SeatState B)
   pub closer : CloserState
 

@@ -1,10 +1,9 @@
 -- What a body asks and hears, and why a worker leaves.
 use Rattle.std.specs.Prelude.{ℕ, ◌≡◌, ◌⊎◌, ⊤, true, [], IfSome, IsSome, Option, Some, None, Result, Ok, Err}
 use Rattle.fj_model.specs.declared.refusal.Refusal.{Refusal}
-use Rattle.fj_model.specs.declared.refusal.Refusal.TheVariants.{LogFull, NoSuch}
+use Rattle.fj_model.specs.declared.refusal.Refusal.TheVariants.{LogFull}
 use Rattle.fj_shelf.specs.Hands.{HandState, HasOnTop, asker, with_body, with_hook}
 use Rattle.fj_store.specs.declared.body.Ask.{Ask}
-use Rattle.fj_store.specs.Fitting.{Fits}
 use Rattle.fj_store.specs.Turns.{AskRight, HeardRight}
 use Rattle.fj_core.specs.Closes.{is_finished}
 use Rattle.fj_core.specs.Cores.{CoreState}
@@ -47,14 +46,13 @@ module _ {B K O : Type 0} where
   TakesTurn key_of old (Some ask) new = TurnsHook key_of old new ⊎ TurnsBody key_of old new
   TakesTurn key_of old None new = (old.stack ≡ []) × (old.hook ≡ None) × (new ≡ old)
 
-  -- why a worker leaves: all has terminated, the core is stuck, or the hand does not fit it
-  abbrev pub MayLeave : CoreState B K O → HandState B → Result ⊤ Refusal → Type 0
-  MayLeave core hand (Ok done) = is_finished core ≡ true
-  MayLeave core hand (Err LogFull) = core.store.stuck ≡ true
-  MayLeave core hand (Err NoSuch) = Fits core.store.past hand → ⊥
-  MayLeave core hand (Err r) = ⊥
+  -- why a worker leaves: all has terminated, or the core is stuck
+  abbrev pub MayLeave : CoreState B K O → Result ⊤ Refusal → Type 0
+  MayLeave core (Ok done) = is_finished core ≡ true
+  MayLeave core (Err LogFull) = core.store.stuck ≡ true
+  MayLeave core (Err r) = ⊥
 
   -- where it leaves, it may
-  abbrev pub LeavesWell : CoreState B K O → HandState B → Next B K O → Type 0
-  LeavesWell core hand (Leave answer) = MayLeave core hand answer
-  LeavesWell core hand _ = ⊤
+  abbrev pub LeavesWell : CoreState B K O → Next B K O → Type 0
+  LeavesWell core (Leave answer) = MayLeave core answer
+  LeavesWell core _ = ⊤

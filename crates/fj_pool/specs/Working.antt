@@ -8,7 +8,6 @@ use Rattle.fj_store.specs.declared.body.Heard.TheVariants as hears
 use Rattle.fj_store.specs.declared.body.Told.{Told}
 use Rattle.fj_store.specs.declared.body.Told.TheVariants as told
 use Rattle.fj_store.specs.Choosing.{Polls}
-use Rattle.fj_store.specs.Fitting.{Fits}
 use Rattle.fj_core.specs.Acting.{Acts}
 use Rattle.fj_core.specs.Closes.{is_finished}
 use Rattle.fj_core.specs.Cores.{ChangesStore, CoreState}
@@ -61,12 +60,12 @@ module _ {B K O : Type 0} where
     pub others : ChangesStore old new
     pub next_is : NextOfPoll new told next
 
-  -- a look at the lanes, and then one poll, where the hand fits yet
+  -- a look at the lanes, and then one poll
   pub record LooksForWork (rooted_as : B → Option ℕ) (old : CoreState B K O) (hand : HandState B) (next : Next B K O) (new : CoreState B K O) (hand' : HandState B) : Type 0 where
     pub taken : TakenIn
     pub mid : CoreState B K O
     pub looks : LooksAtLanes rooted_as old taken mid
-    pub polls : Fits mid.store.past hand → PollsOnce mid hand next new hand'
+    pub polls : PollsOnce mid hand next new hand'
 
   -- ---- a worker goes on with a body
 

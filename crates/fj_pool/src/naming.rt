@@ -1,8 +1,8 @@
 use std::marker::Brand;
 
-/// Names a pool: its gate, the lane of each submitter, in order, and its mode and limits. So a submitter that comes back from a thread is
-/// known to be of its pool, by its type, and so is the machine behind the lock. Each call that opens a pool picks a name. Java has no
-/// counterpart.
+/// Names a pool: its gate, the lane of each submitter, in order, its mode and limits, and the pair of ends of each worker. So a submitter
+/// or a hand that comes back from a thread is known to be of its pool, by its type, and so is the machine behind the lock. Each call that
+/// opens a pool picks a name. Java has no counterpart.
 pub trait Naming {
     ghost use Rattle.std.specs.Prelude.{List};
     ghost use Rattle.atomic_table.specs.Seated.{TableId};
@@ -14,6 +14,8 @@ pub trait Naming {
     ghost lanes: { List LaneId };
 
     ghost pool: { Pool };
+
+    ghost hands: { List TableId };
 }
 
 impl Naming for Brand {
@@ -25,4 +27,6 @@ impl Naming for Brand {
     ghost lanes = { [] };
 
     ghost pool = { no_pool };
+
+    ghost hands = { [] };
 }

@@ -1,5 +1,5 @@
 use fj_model::{Refusal, Serial};
-use fj_store::{Ask, Body, Heard};
+use fj_store::{Body, Heard};
 
 /// What a worker does once it has let the lock go.
 #[derive(Drop)]
@@ -21,8 +21,6 @@ pub enum Next<B: Body> {
 /// What is needed no more. It is dropped once the lock is free.
 #[derive(Drop)]
 pub struct Unneeded<B: Body> {
-    /// What was asked by a hand that does not fit.
-    pub asked: Option<Ask<B>>,
     /// One that has ended.
     pub ended: Option<B>,
     /// One that was skipped.
@@ -34,7 +32,6 @@ impl<B: Body> Unneeded<B> {
     #[inline(always)]
     pub fn none() -> Unneeded<B> {
         Unneeded {
-            asked: None,
             ended: None,
             skipped: None,
         }
@@ -51,9 +48,6 @@ impl<B: Body> Unneeded<B> {
     /// Drops it. Mostly there is none, and then nothing is written.
     #[inline(always)]
     pub fn clear(&mut self) {
-        if self.asked.is_some() {
-            self.asked = None;
-        }
         if self.ended.is_some() {
             self.ended = None;
         }

@@ -4,12 +4,14 @@ ghost use Rattle.fj_lane.specs.declared.new_lane.TheConstants.{MAX_CAPACITY};
 ghost use Rattle.fj_gate.specs.Ends.{new_entrant};
 ghost use Rattle.fj_pool.specs.Parts.{AreNew, AreSeated, RefusesPool};
 
+use crate::holding::Holding;
 use crate::seat::Seat;
+use crate::tied::{Tied, tie_all};
+use fj_agreement::End;
 use fj_core::Core;
 use fj_gate::{Entrant, gate};
 use fj_lane::{Drain, MAX_CAPACITY, lane};
 use fj_model::{Limits, Mode, OutOfMemory, Refusal, SubId};
-use fj_shelf::Hand;
 use fj_store::Body;
 use std::alloc::Global;
 use std::marker::Model;
@@ -19,24 +21,29 @@ use std::marker::Model;
 #[derive(Drop)]
 pub struct Parts<B: Body> {
     pub(crate) core: Core<B>,
-    pub(crate) hands: Vec<Hand<B>>,
+    pub(crate) hands: Vec<Tied<B>>,
+    pub(crate) ends: Vec<End<Holding>>,
     pub(crate) seats: Vec<Seat<B>>,
     pub(crate) closer: fj_gate::Closer,
 }
 
 impl<B: Body> Model for Parts<B> {
+    ghost use Rattle.fj_pool.specs.Holdings.{HaveEnds, hands_of, pairs_of};
     ghost use Rattle.fj_pool.specs.Lanes.{lanes_of};
     ghost use Rattle.fj_pool.specs.Parts.{ArePaired, PartsState};
 
     ghost Value = { PartsState B B.Key B.Out };
 
-    ghost view = { λ p. record { core = p.core; hands = p.hands.items; seats = p.seats.items; closer = p.closer } };
+    ghost view = { λ p. record { core = p.core; hands = hands_of p.hands.items; pairs = pairs_of p.hands.items; seats = p.seats.items; closer = p.closer } };
 
-    ghost invariant = { λ p. ArePaired p.closer (lanes_of p.core.lanes) p.seats.items };
+    ghost invariant = { λ p. record {
+      paired : ArePaired p.closer (lanes_of p.core.lanes) p.seats.items;
+      held : HaveEnds p.core.store.past p.hands.items p.ends.items;
+    } };
 }
 
 impl<B: Body> Parts<B> {
-    /// The parts of a new pool. All memory is taken here, but that of its lock, of the list of its submitters and of what
+    /// The parts of a new pool. All memory is taken here, but that of its lock, of the lists of its hands and submitters and of what
     /// the winding up needs, which `Pool::open` takes, and that of seals.
     ///
     /// `BadLimits` where the capacity of a lane, the number of bodies that each submitter may hand in over its life, is not from 1 to
@@ -74,10 +81,12 @@ fn make<B: Body>(
 {
     let (entrants, closer) = gate(alloc, limits.submitters(), lane_capacity)?;
     let (seats, drains) = seat_all(alloc, entrants, lane_capacity)?;
-    let (core, hands) = Core::new(alloc, mode, limits, lane_capacity, drains, start)?;
+    let (core, untied) = Core::new(alloc, mode, limits, lane_capacity, drains, start)?;
+    let (hands, ends) = tie_all(alloc, untied)?;
     Ok(Parts {
         core,
         hands,
+        ends,
         seats,
         closer,
     })

@@ -1,4 +1,5 @@
 ghost use Rattle.std.specs.Prelude.{◌≡◌, All, IfOk, length, vec_len};
+ghost use Rattle.fj_pool.specs.Holdings.{AreKept, IsTied, hands_of};
 ghost use Rattle.fj_pool.specs.Lanes.{lanes_of};
 ghost use Rattle.fj_pool.specs.Seats.{IsNamed};
 
@@ -8,13 +9,17 @@ mod work;
 
 use crate::closer::Closer;
 use crate::guarded::Guarded;
+use crate::hand::Hand;
+use crate::holding::Holding;
+use crate::locked::Locked;
 use crate::naming::Naming;
 use crate::parts::Parts;
 use crate::seat::Seat;
 use crate::submitter::Submitter;
+use crate::tied::Tied;
+use fj_agreement::End;
 use fj_core::Core;
 use fj_model::OutOfMemory;
-use fj_shelf::Hand;
 use fj_store::Body;
 use fj_waiting::{Wake, Woken};
 use std::alloc::{AllocError, Global};
@@ -27,7 +32,7 @@ pub struct Pool<B: Body, N: Naming> {
     pub(crate) alloc: Global,
     pub(crate) lanes: usize,
     ghost counted: { lanes ≡ length N.lanes },
-    pub(crate) core: Mutex<Guarded<B, N>>,
+    pub(crate) core: Mutex<Locked<B, N>>,
     /// Workers that joined a task which is not done.
     pub(crate) joining: Condvar,
     /// Workers that found nothing to do.
@@ -37,7 +42,7 @@ pub struct Pool<B: Body, N: Naming> {
 }
 
 /// A pool that was opened, with what its users need: a hand for each worker, what each submitter hands in with, and what shuts it down.
-pub type Opened<B, N> = (Pool<B, N>, Vec<Hand<B>>, Vec<Submitter<B, N>>, Closer<N>);
+pub type Opened<B, N> = (Pool<B, N>, Vec<Hand<B, N>>, Vec<Submitter<B, N>>, Closer<N>);
 
 impl<B: Body, N: Naming> Pool<B, N> {
     /// Opens a pool under a name: a hand for each worker, a submitter for each submitter, in order, and the end that shuts it down.
@@ -47,6 +52,7 @@ impl<B: Body, N: Naming> Pool<B, N> {
         requires gate { N.gate ≡ parts.closer.gate }
         requires lanes { N.lanes ≡ lanes_of parts.core.lanes }
         requires pool { N.pool ≡ parts.core.store.past.pool }
+        requires hands { N.hands ≡ parts.pairs }
         ensures hands { IfOk result (λ r. r.1.items ≡ parts.hands) }
         ensures submitters { IfOk result (λ r. r.2.items ≡ parts.seats) }
         ensures closer { IfOk result (λ r. r.3 ≡ parts.closer) }
@@ -54,10 +60,12 @@ impl<B: Body, N: Naming> Pool<B, N> {
         let Parts {
             core,
             hands,
+            ends,
             seats,
             closer,
         } = parts;
-        let (pool, submitters) = put_together(alloc, core, seats)?;
+        let hands = name_hands(alloc, hands)?;
+        let (pool, submitters) = put_together(alloc, core, ends, seats)?;
         let closer = Closer {
             end: closer,
             of: PhantomData,
@@ -87,17 +95,19 @@ fn notify(sleepers: &Condvar, woken: Woken) {
 fn put_together<B: Body, N: Naming>(
     alloc: Global,
     core: Core<B>,
+    ends: Vec<End<Holding>>,
     seats: Vec<Seat<B>>,
 ) -> Result<(Pool<B, N>, Vec<Submitter<B, N>>), AllocError>
     requires lanes { lanes_of core.lanes ≡ N.lanes }
     requires pool { core.store.past.pool ≡ N.pool }
+    requires kept { AreKept N.hands core.store.past ends.items }
     requires count { vec_len seats ≡ length N.lanes }
     requires named { All (λ s. IsNamed N.gate N.lanes s) seats.items }
     ensures { IfOk result (λ r. r.1.items ≡ seats.items) }
 {
     let lanes = seats.len();
     let submitters = name_all(alloc, seats)?;
-    let core = Guarded::new(alloc, core, lanes)?;
+    let core = Locked::new(Guarded::new(alloc, core, lanes)?, ends);
     let pool = Pool {
         alloc,
         lanes,
@@ -107,6 +117,26 @@ fn put_together<B: Body, N: Naming>(
         awaiting: Condvar::new(),
     };
     Ok((pool, submitters))
+}
+
+/// The hands, by name. Precondition: the name is that of their ends.
+fn name_hands<B: Drop, N: Naming>(
+    alloc: Global,
+    tied: Vec<Tied<B>>,
+) -> Result<Vec<Hand<B, N>>, AllocError>
+    requires { All (λ h. IsTied N.hands h) tied.items }
+    ensures { IfOk result (λ v. v.items ≡ hands_of tied.items) }
+{
+    let mut hands = Vec::with_capacity(alloc, tied.len())?;
+    for hand in tied {
+        let Tied { held, end } = hand;
+        hands.push(Hand {
+            held,
+            end,
+            of: PhantomData,
+        })?;
+    }
+    Ok(hands)
 }
 
 /// The submitters, by name. Precondition: the name is that of these ends.

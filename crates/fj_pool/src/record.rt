@@ -8,6 +8,7 @@ ghost use Rattle.fj_pool.specs.Winding.{AreAll, AreEmpty, AreSettled, HaveMet, h
 
 use crate::closer::Closer;
 use crate::guarded::Guarded;
+use crate::locked::Locked;
 use crate::naming::Naming;
 use crate::pool::Pool;
 use crate::seat::Seat;
@@ -107,7 +108,8 @@ impl<B: Body, N: Naming> Pool<B, N> {
             idle: _,
             awaiting: _,
         } = self;
-        core.into_inner()
+        let Locked { guarded, ends: _ } = core.into_inner();
+        guarded
     }
 
     /// Whether these are all submitters of the pool, by their numbers.

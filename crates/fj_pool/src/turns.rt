@@ -2,13 +2,14 @@ ghost use Rattle.std.specs.Prelude.{IfSome};
 ghost use Rattle.fj_store.specs.Turns.{HeardRight};
 ghost use Rattle.fj_pool.specs.Turning.{MayAsk, TakesTurn};
 
+use crate::hand::Hand;
+use crate::naming::Naming;
 use crate::turnstile::Turnstile;
-use fj_shelf::Hand;
 use fj_store::{Ask, Body, Heard};
 
 /// The hook of a hand, or else its running body, takes a turn. None of an empty hand.
 #[inline(always)]
-pub fn take_turn<B: Body>(hand: &mut Hand<B>, heard: Heard<B>) -> Option<Ask<B>>
+pub fn take_turn<B: Body>(hand: &mut fj_shelf::Hand<B>, heard: Heard<B>) -> Option<Ask<B>>
     requires { HeardRight B.right heard }
     ensures takes { TakesTurn B.key_of hand.old result hand.new }
     ensures asks { IfSome result (λ ask. MayAsk B.right B.key_of hand.new ask) }
@@ -28,9 +29,9 @@ pub fn take_turn<B: Body>(hand: &mut Hand<B>, heard: Heard<B>) -> Option<Ask<B>>
     Some(ask)
 }
 
-/// The same, observed: where the body asks for its ending, the turnstile is asked after the turn.
-pub fn observed_turn<B: Body, T: Turnstile>(
-    hand: &mut Hand<B>,
+/// The same in the hand of a pool, observed: where the body asks for its ending, the turnstile is asked after the turn.
+pub fn observed_turn<B: Body, N: Naming, T: Turnstile>(
+    hand: &mut Hand<B, N>,
     heard: Heard<B>,
     turnstile: &T,
 ) -> Option<Ask<B>>
@@ -38,10 +39,10 @@ pub fn observed_turn<B: Body, T: Turnstile>(
     ensures takes { TakesTurn B.key_of hand.old result hand.new }
     ensures asks { IfSome result (λ ask. MayAsk B.right B.key_of hand.new ask) }
 {
-    let ask = take_turn(hand, heard);
-    if let (Some(asked), Some(t)) = (&ask, hand.running()) {
-        if is_ending(asked) && hand.hooked().is_none() {
-            turnstile.after(hand.worker(), t);
+    let ask = take_turn(&mut hand.held, heard);
+    if let (Some(asked), Some(t)) = (&ask, hand.held.running()) {
+        if is_ending(asked) && hand.held.hooked().is_none() {
+            turnstile.after(hand.held.worker(), t);
         }
     }
     ask

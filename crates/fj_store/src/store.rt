@@ -1,5 +1,6 @@
 ghost use Rattle.std.specs.Prelude.{◌≡◌, IfOk, [], true, false};
 ghost use Rattle.fj_model.specs.Bounds.{IsWithin};
+ghost use Rattle.fj_model.specs.Epochs.{IsPast};
 ghost use Rattle.fj_model.specs.Pasts.{fresh};
 ghost use Rattle.fj_shelf.specs.Shelves.{entries, no_entries};
 
@@ -96,6 +97,7 @@ impl<B: Body> Store<B> {
     pub fn limits(&self) -> Limits
         ensures limits { result ≡ self.now.past.pool.limits }
         ensures within { IsWithin result.workers result.submitters result.tasks result.events }
+        ensures run { IsPast self.now.past }
     {
         self.machine.limits()
     }

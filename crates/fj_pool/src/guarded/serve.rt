@@ -1,8 +1,13 @@
 //! What a worker does in one holding of the lock: what needs no turn of a body is done at once.
-ghost use Rattle.std.specs.Prelude.{◌≡◌, [], None, IfSome, IfNone, Err, true, false};
-ghost use Rattle.fj_shelf.specs.Hands.{HandState};
+ghost use Rattle.std.specs.Prelude.{◌≡◌, [], None, IfSome, IfNone, IsSome, Err, true, false};
+ghost use Rattle.fj_shelf.specs.Hands.{asker};
+ghost use Rattle.fj_store.specs.Choosing.{Polls};
 ghost use Rattle.fj_store.specs.Fitting.{Fits};
+ghost use Rattle.fj_store.specs.Turns.{AskRight, ToldRight};
+ghost use Rattle.fj_core.specs.Acting.{Acts};
 ghost use Rattle.fj_core.specs.Closes.{is_finished};
+ghost use Rattle.fj_core.specs.Cores.{ChangesStore};
+ghost use Rattle.fj_pool.specs.Holdings.{KeepsOthers};
 ghost use Rattle.fj_pool.specs.Turning.{LeavesWell, MayAsk, NextRight};
 ghost use Rattle.fj_pool.specs.Working.{JoinsOnce, LooksForWork, Resumes, Serves, Then, Waits, next_idle, noted};
 
@@ -17,8 +22,8 @@ use fj_store::{Ask, Body, Heard, Told};
 use std::alloc::Global;
 
 impl<B: Body, N: Naming> Guarded<B, N> {
-    /// What the hook or the running body asks is done; without an ask the worker goes on with what it left. A hand that does not fit is
-    /// told `NoSuch`, and nothing is done. Precondition: what is asked may be asked by this hand.
+    /// What the hook or the running body asks is done; without an ask the worker goes on with what it left. Preconditions: the hand fits, and
+    /// what is asked may be asked by it.
     pub fn serve(
         &mut self,
         alloc: Global,
@@ -26,17 +31,16 @@ impl<B: Body, N: Naming> Guarded<B, N> {
         ask: Option<Ask<B>>,
         unneeded: &mut Unneeded<B>,
     ) -> Next<B>
-        requires { IfSome ask (λ a. MayAsk B.right B.key_of hand.old a) }
-        ensures serves { IfSome ask (λ a. Fits self.old.store.past hand.old → Serves B.key_of B.rooted_as self.old hand.old a result self.new hand.new) }
-        ensures resumes { IfNone ask (Fits self.old.store.past hand.old → Resumes B.key_of B.rooted_as self.old hand.old result self.new hand.new) }
-        ensures unfit { (Fits self.old.store.past hand.old → ⊥) → Then (Next.Leave (Err Refusal.NoSuch)) self.old result self.new × (hand.new ≡ hand.old) }
+        requires fits { Fits self.old.store.past hand.old }
+        requires asks { IfSome ask (λ a. MayAsk B.right B.key_of hand.old a) }
+        ensures serves { IfSome ask (λ a. Serves B.key_of B.rooted_as self.old hand.old a result self.new hand.new) }
+        ensures resumes { IfNone ask (Resumes B.key_of B.rooted_as self.old hand.old result self.new hand.new) }
         ensures right { NextRight B.right result }
-        ensures leaves { LeavesWell self.new hand.new result }
+        ensures leaves { LeavesWell self.new result }
+        ensures fits { Fits self.new.store.past hand.new }
+        ensures others { KeepsOthers hand.old.worker self.old.store.past self.new.store.past }
+        ensures worker { hand.new.worker ≡ hand.old.worker }
     {
-        if !self.core.fits(hand) {
-            unneeded.asked = ask;
-            return Next::Leave(Err(Refusal::NoSuch));
-        }
         match ask {
             Some(ask) => self.serve_ask(alloc, hand, ask, unneeded),
             None => self.resume(alloc, hand, unneeded),
@@ -55,12 +59,14 @@ impl<B: Body, N: Naming> Guarded<B, N> {
         requires asks { MayAsk B.right B.key_of hand.old ask }
         ensures serves { Serves B.key_of B.rooted_as self.old hand.old ask result self.new hand.new }
         ensures right { NextRight B.right result }
-        ensures leaves { LeavesWell self.new hand.new result }
+        ensures leaves { LeavesWell self.new result }
+        ensures fits { Fits self.new.store.past hand.new }
+        ensures others { KeepsOthers hand.old.worker self.old.store.past self.new.store.past }
+        ensures worker { hand.new.worker ≡ hand.old.worker }
     {
         let helps = matches!(ask, Ask::Help);
         let effect = effect_of(hand, &ask);
-        note(hand, &ask);
-        let told = self.core.act(hand, ask);
+        let told = self.note_and_act(hand, ask);
         self.tell_waiting(effect, is_result(&told));
         match told {
             Told::Hear(heard) => Next::Turn(heard),
@@ -76,13 +82,64 @@ impl<B: Body, N: Naming> Guarded<B, N> {
         }
     }
 
+    /// One action on the core, which leaves what the other workers hold. Preconditions: the hand fits and has a body or a hook, and a result
+    /// that is given is right for the key of the body that asks.
+    #[inline(always)]
+    fn act(&mut self, hand: &mut Hand<B>, ask: Ask<B>) -> Told<B>
+        requires fits { Fits self.old.store.past hand.old }
+        requires busy { IsSome (asker hand.old) }
+        requires right { IfSome (asker hand.old) (λ b. AskRight B.right (B.key_of b.1) ask) }
+        ensures acts { Acts B.key_of self.old.store hand.old ask result self.new.store hand.new }
+        ensures others { ChangesStore self.old self.new }
+        ensures right { ToldRight B.right result }
+        ensures fits { Fits self.new.store.past hand.new }
+        ensures keeps { KeepsOthers hand.old.worker self.old.store.past self.new.store.past }
+        ensures worker { hand.new.worker ≡ hand.old.worker }
+    {
+        // Tells that the past is that of a run.
+        let _run = self.core.limits();
+        self.core.act(hand, ask)
+    }
+
+    /// The same, once it was noted of a running body what it joins, or that it helps.
+    fn note_and_act(&mut self, hand: &mut Hand<B>, ask: Ask<B>) -> Told<B>
+        requires fits { Fits self.old.store.past hand.old }
+        requires asks { MayAsk B.right B.key_of hand.old ask }
+        ensures acts { Acts B.key_of self.old.store (noted hand.old ask) ask result self.new.store hand.new }
+        ensures others { ChangesStore self.old self.new }
+        ensures right { ToldRight B.right result }
+        ensures fits { Fits self.new.store.past hand.new }
+        ensures keeps { KeepsOthers hand.old.worker self.old.store.past self.new.store.past }
+        ensures worker { hand.new.worker ≡ hand.old.worker }
+    {
+        note(hand, &ask);
+        self.act(hand, ask)
+    }
+
+    /// One poll, which leaves what the other workers hold. Preconditions: the hand fits, and has no body and no hook.
+    #[inline(always)]
+    fn poll(&mut self, hand: &mut Hand<B>) -> Told<B>
+        requires fits { Fits self.old.store.past hand.old }
+        requires idle { (hand.old.stack ≡ []) × (hand.old.hook ≡ None) }
+        ensures polls { Polls self.old.store hand.old result self.new.store hand.new }
+        ensures others { ChangesStore self.old self.new }
+        ensures fits { Fits self.new.store.past hand.new }
+        ensures keeps { KeepsOthers hand.old.worker self.old.store.past self.new.store.past }
+        ensures worker { hand.new.worker ≡ hand.old.worker }
+    {
+        self.core.poll(hand)
+    }
+
     /// No body runs: the one that waits goes on, or the worker looks for work.
     #[inline(always)]
     fn resume(&mut self, alloc: Global, hand: &mut Hand<B>, unneeded: &mut Unneeded<B>) -> Next<B>
         requires { Fits self.old.store.past hand.old }
         ensures resumes { Resumes B.key_of B.rooted_as self.old hand.old result self.new hand.new }
         ensures right { NextRight B.right result }
-        ensures leaves { LeavesWell self.new hand.new result }
+        ensures leaves { LeavesWell self.new result }
+        ensures fits { Fits self.new.store.past hand.new }
+        ensures others { KeepsOthers hand.old.worker self.old.store.past self.new.store.past }
+        ensures worker { hand.new.worker ≡ hand.old.worker }
     {
         if hand.is_empty() {
             return self.look_for_work(alloc, hand, unneeded);
@@ -106,9 +163,12 @@ impl<B: Body, N: Naming> Guarded<B, N> {
         requires asks { MayAsk B.right B.key_of hand.old (Ask.Join t) }
         ensures joins { JoinsOnce B.key_of B.rooted_as self.old hand.old t result self.new hand.new }
         ensures right { NextRight B.right result }
-        ensures leaves { LeavesWell self.new hand.new result }
+        ensures leaves { LeavesWell self.new result }
+        ensures fits { Fits self.new.store.past hand.new }
+        ensures others { KeepsOthers hand.old.worker self.old.store.past self.new.store.past }
+        ensures worker { hand.new.worker ≡ hand.old.worker }
     {
-        match self.core.act(hand, Ask::Join(t)) {
+        match self.act(hand, Ask::Join(t)) {
             Told::Hear(heard) => {
                 if matches!(heard, Heard::Got(_, _)) {
                     self.result_taken(t);
@@ -135,14 +195,13 @@ impl<B: Body, N: Naming> Guarded<B, N> {
         requires idle { (hand.old.stack ≡ []) × (hand.old.hook ≡ None) }
         ensures looks { LooksForWork B.rooted_as self.old hand.old result self.new hand.new }
         ensures right { NextRight B.right result }
-        ensures leaves { LeavesWell self.new hand.new result }
+        ensures leaves { LeavesWell self.new result }
+        ensures fits { Fits self.new.store.past hand.new }
+        ensures others { KeepsOthers hand.old.worker self.old.store.past self.new.store.past }
+        ensures worker { hand.new.worker ≡ hand.old.worker }
     {
         let _taken = self.look_at_lanes(alloc);
-        // An intake leaves each hand as it is; the contract of a poll wants to know.
-        if !self.core.fits(hand) {
-            return Next::Leave(Err(Refusal::NoSuch));
-        }
-        match self.core.poll(hand) {
+        match self.poll(hand) {
             Told::Run(t) => Next::Begin(t),
             Told::Skip(_, body) => skip(body, unneeded),
             Told::None => self.after_no_task(),
@@ -155,7 +214,7 @@ impl<B: Body, N: Naming> Guarded<B, N> {
     fn after_no_task(&mut self) -> Next<B>
         ensures next { Then (next_idle (is_finished self.old)) self.old result self.new }
         ensures right { NextRight B.right result }
-        ensures leaves { (hand : HandState B) → LeavesWell self.new hand result }
+        ensures leaves { LeavesWell self.new result }
     {
         if self.core.is_terminated() {
             Next::Leave(Ok(()))
@@ -170,7 +229,7 @@ impl<B: Body, N: Naming> Guarded<B, N> {
         ensures helped { helps ≡ true → Then (Next.Turn (Heard.Helped false)) self.old result self.new }
         ensures waits { helps ≡ false → Waits B.rooted_as self.old result self.new }
         ensures right { NextRight B.right result }
-        ensures leaves { LeavesWell self.new hand.now result }
+        ensures leaves { LeavesWell self.new result }
     {
         if helps {
             return Next::Turn(Heard::Helped(false));
@@ -186,7 +245,7 @@ impl<B: Body, N: Naming> Guarded<B, N> {
     fn wait_for(&mut self, alloc: Global, t: Serial) -> Next<B>
         ensures waits { Waits B.rooted_as self.old result self.new }
         ensures right { NextRight B.right result }
-        ensures leaves { (hand : HandState B) → LeavesWell self.new hand result }
+        ensures leaves { LeavesWell self.new result }
     {
         if self.waits.closing && !self.core.is_shut() {
             return self.look_and_wait(alloc, t);
@@ -198,7 +257,7 @@ impl<B: Body, N: Naming> Guarded<B, N> {
     fn look_and_wait(&mut self, alloc: Global, t: Serial) -> Next<B>
         ensures waits { Waits B.rooted_as self.old result self.new }
         ensures right { NextRight B.right result }
-        ensures leaves { (hand : HandState B) → LeavesWell self.new hand result }
+        ensures leaves { LeavesWell self.new result }
     {
         match self.look_at_lanes(alloc) {
             TakenIn::Nothing => self.sleep_until(t),
@@ -255,7 +314,8 @@ fn skip<B: Body>(body: B, unneeded: &mut Unneeded<B>) -> Next<B>
 
 /// Notes which task the running body joins, or that it helps, if it asks that. A hook does neither.
 fn note<B: Body>(hand: &mut Hand<B>, ask: &Ask<B>)
-    ensures { hand.new ≡ noted hand.old ask.now }
+    ensures notes { hand.new ≡ noted hand.old ask.now }
+    ensures worker { hand.new.worker ≡ hand.old.worker }
 {
     if hand.hooked().is_some() {
         return;

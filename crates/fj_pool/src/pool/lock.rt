@@ -1,5 +1,5 @@
 //! How the lock is taken.
-use crate::guarded::Guarded;
+use crate::locked::Locked;
 use crate::naming::Naming;
 use crate::pool::Pool;
 use fj_store::Body;
@@ -19,7 +19,7 @@ impl<B: Body, N: Naming> Pool<B, N> {
         &self,
         rt: &R,
         contention: &mut Contention,
-    ) -> MutexGuard<'_, Guarded<B, N>> {
+    ) -> MutexGuard<'_, Locked<B, N>> {
         for before in 0..LOOKS {
             if let Some(guard) = self.core.try_lock() {
                 contention.find_free();
@@ -31,7 +31,7 @@ impl<B: Body, N: Naming> Pool<B, N> {
     }
 
     /// Takes the lock for somebody from outside, who remembers nothing of it.
-    pub(crate) fn lock<R: Wait>(&self, rt: &R) -> MutexGuard<'_, Guarded<B, N>> {
+    pub(crate) fn lock<R: Wait>(&self, rt: &R) -> MutexGuard<'_, Locked<B, N>> {
         self.lock_for_work(rt, &mut Contention::new())
     }
 }

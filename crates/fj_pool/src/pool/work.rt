@@ -2,14 +2,14 @@
 ghost use Rattle.std.specs.Prelude.{IfSome};
 ghost use Rattle.fj_pool.specs.Turning.{MayAsk, NextRight};
 
-use crate::guarded::Guarded;
+use crate::hand::Hand;
+use crate::locked::Locked;
 use crate::naming::Naming;
 use crate::next::{Next, Unneeded};
 use crate::pool::Pool;
 use crate::turns::observed_turn;
 use crate::turnstile::Turnstile;
 use fj_model::{Refusal, WorkerId};
-use fj_shelf::Hand;
 use fj_store::{Ask, Body, Heard};
 use fj_waiting::{Contention, Idle, Wake};
 use std::sync::{MutexGuard, Wait};
@@ -31,18 +31,17 @@ impl<B: Body, N: Naming> Pool<B, N> {
     /// Works with a hand until the pool has terminated: takes tasks, runs their bodies outside the lock, and does what they ask. A body
     /// that joins or helps stands on the explicit stack of the hand while another one runs. It follows what a `ForkJoinWorkerThread` runs.
     ///
-    /// `NoSuch` where the hand does not fit the pool: there is no such worker, or it holds other bodies than the pool has for that. `LogFull`
-    /// where the core is stuck. Both are tested each time that it gets the lock.
+    /// `LogFull` where the core is stuck, and no other refusal.
     pub fn work<R: Wait, T: Turnstile>(
         &self,
         rt: &R,
-        hand: &mut Hand<B>,
+        hand: &mut Hand<B, N>,
         turnstile: &T,
     ) -> Result<(), Refusal> {
         let working = Working {
             rt,
             turnstile,
-            worker: hand.worker(),
+            worker: hand.held.worker(),
         };
         let mut ask: Option<Ask<B>> = None;
         let mut idle = Idle::new();
@@ -61,7 +60,7 @@ impl<B: Body, N: Naming> Pool<B, N> {
                 Next::Turn(heard) => observed_turn(hand, heard, turnstile),
                 Next::Begin(t) => {
                     idle = Idle::new();
-                    turnstile.before(hand.worker(), t);
+                    turnstile.before(working.worker, t);
                     observed_turn(hand, Heard::Start(t), turnstile)
                 }
                 Next::Leave(answer) => return answer,
@@ -75,7 +74,7 @@ impl<B: Body, N: Naming> Pool<B, N> {
     fn serve<R: Wait, T: Turnstile>(
         &self,
         working: &Working<'_, '_, R, T>,
-        hand: &mut Hand<B>,
+        hand: &mut Hand<B, N>,
         ask: Option<Ask<B>>,
         idle: &mut Idle,
         contention: &mut Contention,
@@ -101,7 +100,7 @@ impl<B: Body, N: Naming> Pool<B, N> {
 
     /// Lets the lock go, wakes those whose wait has ended, and drops what is needed no more.
     #[inline(always)]
-    fn let_go(&self, guard: MutexGuard<'_, Guarded<B, N>>, wake: Wake, unneeded: &mut Unneeded<B>) {
+    fn let_go(&self, guard: MutexGuard<'_, Locked<B, N>>, wake: Wake, unneeded: &mut Unneeded<B>) {
         drop(guard);
         self.wake(wake);
         unneeded.clear();
@@ -111,7 +110,7 @@ impl<B: Body, N: Naming> Pool<B, N> {
     fn wait_in_join<R: Wait, T: Turnstile>(
         &self,
         working: &Working<'_, '_, R, T>,
-        guard: MutexGuard<'_, Guarded<B, N>>,
+        guard: MutexGuard<'_, Locked<B, N>>,
         wake: Wake,
         unneeded: &mut Unneeded<B>,
     ) {
@@ -130,7 +129,7 @@ impl<B: Body, N: Naming> Pool<B, N> {
     fn rest<R: Wait, T: Turnstile>(
         &self,
         working: &Working<'_, '_, R, T>,
-        guard: MutexGuard<'_, Guarded<B, N>>,
+        guard: MutexGuard<'_, Locked<B, N>>,
         wake: Wake,
         idle: &mut Idle,
         unneeded: &mut Unneeded<B>,

@@ -1,16 +1,33 @@
-use Rattle.std.proofs.Common.{◌≡◌, List, sym, ap, ◌∙◌}
+use Rattle.std.proofs.Common.{◌≡◌, List, All, sym, ap, ◌∙◌, subst}
+use Rattle.atomic_table.specs.Seated.{TableId}
 use Rattle.fj_lane.specs.Ends.{LaneId}
+use Rattle.fj_pool.specs.Holdings.{AreKept, IsTied}
 use Rattle.fj_pool.specs.Lanes.{lanes_of}
 use Rattle.fj_pool.specs.Parts.{PartsState}
 use Rattle.fj_pool.proofs.Seating.{all_named}
 use Rattle.fj_pool.proofs.pool.Pool.open.Goals as goal
 
--- the name has the lanes of the parts
-lanes_named : {B K O : Type 0} (named : List LaneId) (made parts : PartsState B K O) → named ≡ lanes_of parts.core.lanes → made ≡ parts → named ≡ lanes_of made.core.lanes
-lanes_named named made parts lanes is = lanes ∙ sym (ap (λ (p : PartsState _ _ _). lanes_of p.core.lanes) is)
+module _ {B K O : Type 0} where
+  -- the name has the lanes of the parts
+  lanes_named : (named : List LaneId) (made parts : PartsState B K O) → named ≡ lanes_of parts.core.lanes → made ≡ parts → named ≡ lanes_of made.core.lanes
+  lanes_named named made parts lanes is = lanes ∙ sym (ap (λ (p : PartsState B K O). lanes_of p.core.lanes) is)
+
+  -- and their pairs
+  pairs_named : (named : List TableId) (made parts : PartsState B K O) → named ≡ parts.pairs → made ≡ parts → named ≡ made.pairs
+  pairs_named named made parts pairs is = pairs ∙ sym (ap (λ (p : PartsState B K O). p.pairs) is)
+
+pub name_hands-requires : goal.name_hands-requires
+name_hands-requires g c =
+    let inside = c.parts.inside in
+    subst (λ ps. All (λ t. IsTied ps t) inside.hands.items) (sym (pairs_named g.N.Naming.hands _ c.args.parts c.requires.hands c.parts.view_is)) c.parts.invariant.held.each
+
+pub put_together-requires-clause-kept : goal.put_together-requires-clause-kept
+put_together-requires-clause-kept g c =
+    let inside = c.parts.inside in
+    subst (λ ps. AreKept ps inside.core.store.past inside.ends.items) (sym (pairs_named g.N.Naming.hands _ c.args.parts c.requires.hands c.parts.view_is)) c.parts.invariant.held.kept
 
 pub put_together-requires-clause-named : goal.put_together-requires-clause-named
 put_together-requires-clause-named g c =
     let inside = c.parts.inside in
-    all_named inside.closer g.N.Naming.gate (lanes_of inside.core.lanes) g.N.Naming.lanes inside.seats.items c.parts.invariant
+    all_named inside.closer g.N.Naming.gate (lanes_of inside.core.lanes) g.N.Naming.lanes inside.seats.items c.parts.invariant.paired
     (c.requires.gate ∙ sym (ap (λ (p : PartsState g.row.B.Denot g.row.B-Key.Denot g.row.B-Out.Denot). p.closer.gate) c.parts.view_is)) (lanes_named g.N.Naming.lanes _ c.args.parts c.requires.lanes c.parts.view_is)

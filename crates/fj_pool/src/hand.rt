@@ -1,0 +1,28 @@
+use crate::holding::Holding;
+use crate::naming::Naming;
+use fj_agreement::End;
+use std::marker::{Model, PhantomData};
+
+/// What a worker has in hand: the bodies that it has begun, and its scan word. A pool makes one for each worker. In Java it is the stack of a
+/// `ForkJoinWorkerThread`.
+///
+/// It is of its pool by its type, and what it holds is what that pool has for its worker, by an end of a pair of which the other one lies
+/// under the lock. So nothing is compared when its worker gets the lock.
+#[derive(Drop)]
+pub struct Hand<B, N: Naming> {
+    pub(crate) held: fj_shelf::Hand<B>,
+    pub(crate) end: End<Holding>,
+    pub(crate) of: PhantomData<N>,
+}
+
+impl<B, N: Naming> Model for Hand<B, N> {
+    ghost use Rattle.std.specs.Prelude.{◌≡◌, Some, slice_get};
+    ghost use Rattle.fj_shelf.specs.Hands.{HandState};
+    ghost use Rattle.fj_pool.specs.Holdings.{holding_of};
+
+    ghost Value = { HandState B };
+
+    ghost view = { λ h. h.held };
+
+    ghost invariant = { λ h. (slice_get N.hands h.held.worker ≡ Some h.end.pair) × (h.end.value ≡ holding_of h.held) };
+}

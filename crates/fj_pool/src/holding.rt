@@ -1,0 +1,25 @@
+//! What is agreed on of a worker's hand.
+use fj_agreement::{Known, Tells};
+use fj_model::Serial;
+use fj_shelf::Hand;
+use std::collections::LinkedList;
+
+/// What a worker holds: the numbers of its bodies, the oldest first, and that of its hook. It exists in proofs alone.
+pub struct Holding {
+    /// Of the bodies.
+    pub stack: LinkedList<Serial>,
+    /// Of the hook.
+    pub hook: Option<Serial>,
+}
+
+impl Known for Holding {
+    ghost use Rattle.fj_pool.specs.Holdings.{nothing};
+
+    ghost first = { nothing };
+}
+
+impl<B> Tells<Holding> for Hand<B> {
+    ghost use Rattle.fj_pool.specs.Holdings.{holding_of};
+
+    ghost told = { holding_of };
+}

@@ -1,0 +1,140 @@
+//! What lies under the lock of a pool.
+ghost use Rattle.std.specs.Prelude.{◌≡◌, ◌++◌, [], IfNone, IfSome};
+ghost use Rattle.fj_core.specs.Closes.{ShutsAt, closed_at, is_finished, stopped_at};
+ghost use Rattle.fj_core.specs.Cores.{CollectsTicket};
+ghost use Rattle.fj_store.specs.Fitting.{Fits};
+ghost use Rattle.fj_pool.specs.Holdings.{AreKept};
+ghost use Rattle.fj_pool.specs.Looking.{IsQuietBehind};
+ghost use Rattle.fj_pool.specs.Turning.{LeavesWell, MayAsk, NextRight};
+ghost use Rattle.fj_pool.specs.Working.{Resumes, Serves};
+
+use crate::guarded::Guarded;
+use crate::hand::Hand;
+use crate::holding::Holding;
+use crate::naming::Naming;
+use crate::next::{Next, Unneeded};
+use fj_agreement::End;
+use fj_gate::Ticket;
+use fj_model::{Refusal, Sealed};
+use fj_store::{Ask, Body, Outcome};
+use fj_waiting::Wake;
+use std::alloc::Global;
+use std::marker::Model;
+
+/// The core of a pool with what is noted of those who wait, and for each worker an end that knows what it holds. Its calls are those of
+/// `Guarded`: a worker comes with its hand, whose end meets that of the worker.
+#[derive(Drop)]
+pub struct Locked<B: Body, N: Naming> {
+    pub(crate) guarded: Guarded<B, N>,
+    pub(crate) ends: Vec<End<Holding>>,
+}
+
+impl<B: Body, N: Naming> Model for Locked<B, N> {
+    ghost use Rattle.fj_core.specs.Cores.{CoreState};
+    ghost use Rattle.fj_pool.specs.Holdings.{AreKept};
+
+    ghost Value = { CoreState B B.Key B.Out };
+
+    ghost view = { λ l. l.guarded };
+
+    ghost invariant = { λ l. AreKept N.hands l.guarded.store.past l.ends.items };
+}
+
+impl<B: Body, N: Naming> Locked<B, N> {
+    /// Precondition: each worker has an end, which knows what it holds.
+    pub fn new(guarded: Guarded<B, N>, ends: Vec<End<Holding>>) -> Locked<B, N>
+        requires { AreKept N.hands guarded.store.past ends.items }
+        ensures { result ≡ guarded }
+    {
+        Locked { guarded, ends }
+    }
+
+    /// What the hook or the running body asks is done; without an ask the worker goes on with what it left. Precondition: what is asked may be
+    /// asked by this hand.
+    pub fn serve(
+        &mut self,
+        alloc: Global,
+        hand: &mut Hand<B, N>,
+        ask: Option<Ask<B>>,
+        unneeded: &mut Unneeded<B>,
+    ) -> Next<B>
+        requires { IfSome ask (λ a. MayAsk B.right B.key_of hand.old a) }
+        ensures fits { Fits self.old.store.past hand.old }
+        ensures serves { IfSome ask (λ a. Serves B.key_of B.rooted_as self.old hand.old a result self.new hand.new) }
+        ensures resumes { IfNone ask (Resumes B.key_of B.rooted_as self.old hand.old result self.new hand.new) }
+        ensures right { NextRight B.right result }
+        ensures leaves { LeavesWell self.new result }
+    {
+        let end = &mut self.ends[place_of(&hand.held)];
+        end.meet(&mut hand.end);
+        let next = self.guarded.serve(alloc, &mut hand.held, ask, unneeded);
+        end.agree_on(&mut hand.end, &hand.held);
+        next
+    }
+
+    /// A worker that found nothing to do looks again.
+    pub fn come_back(&mut self)
+        ensures { self.new ≡ self.old }
+    {
+        self.guarded.come_back();
+    }
+
+    /// Whose wait may have ended since this was asked last.
+    #[inline(always)]
+    pub fn take_wake(&mut self) -> Wake
+        ensures { self.new ≡ self.old }
+    {
+        self.guarded.take_wake()
+    }
+
+    /// The outcome under a ticket, if it is told. If not, somebody sleeps for it from now on.
+    pub fn collect(&mut self, ticket: Ticket) -> Option<Result<Outcome<B>, Refusal>>
+        ensures { CollectsTicket self.old ticket result self.new }
+    {
+        self.guarded.collect(ticket)
+    }
+
+    /// The sealed parts that are kept, which count as handed out from then on.
+    pub fn take_parts(&mut self, alloc: Global) -> Vec<Sealed>
+        ensures parts { result.items ≡ self.old.parts }
+        ensures handed { self.new ≡ record self.old { handed = self.old.handed ++ self.old.parts; parts = [] } }
+    {
+        self.guarded.take_parts(alloc)
+    }
+
+    /// The closing number, at which the Shutdown is made.
+    pub fn close_at(&mut self, number: u64)
+        ensures { ShutsAt self.old (closed_at self.old.closing number) self.new }
+    {
+        self.guarded.close_at(number);
+    }
+
+    /// The closing number, at which the Stop is made.
+    pub fn stop_at(&mut self, number: u64)
+        ensures { ShutsAt self.old (stopped_at self.old.closing number) self.new }
+    {
+        self.guarded.stop_at(number);
+    }
+
+    /// Whether all queues, stacks and hands are empty, once the history was sealed, where that is due, and what the lanes show was taken in.
+    pub fn is_quiescent(&mut self, alloc: Global) -> bool
+        ensures { IsQuietBehind B.rooted_as self.old result self.new }
+    {
+        self.guarded.is_quiescent(alloc)
+    }
+
+    /// Whether the pool has terminated.
+    pub fn is_terminated(&mut self) -> bool
+        ensures terminated { result ≡ is_finished self.old }
+        ensures same { self.new ≡ self.old }
+    {
+        self.guarded.is_terminated()
+    }
+}
+
+/// Where the end of the worker of a hand stands.
+fn place_of<B: Drop>(hand: &fj_shelf::Hand<B>) -> usize
+    ensures { result ≡ hand.now.worker }
+{
+    hand.worker().0 as usize
+}
