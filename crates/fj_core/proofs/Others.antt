@@ -1,7 +1,6 @@
 -- What an action on the core leaves of the hands of the other workers.
 use Rattle.std.proofs.Common.{ℕ, ◌≡◌, ◌≢◌, ◌+◌, ◌<◌, Bool, true, false, inl, inr, List, length, Option, Some, None, refl, ap, sym, ◌∙◌, subst}
 use Rattle.std.specs.Prelude.{◌⊎◌, ⊤, is_some, Result, Ok, Err}
-use Rattle.fj_model.specs.declared.epoch.Sealed.{Sealed}
 use Rattle.fj_model.specs.declared.refusal.Refusal.{Refusal}
 use Rattle.fj_model.specs.declared.step.Ending.{Ending}
 use Rattle.fj_model.specs.declared.step.Ending.TheVariants as ending
@@ -277,11 +276,3 @@ module _ {B K O : Type 0} where
       go true booked is = same_past v old.store.past new.store.past (ap (λ (c : CoreState B K O). c.store.past) is.1)
       go false (Some t) is = collects_keep v old.store new.store t answer is.0
       go false None is = same_past v old.store.past new.store.past (ap (λ (c : CoreState B K O). c.store.past) is.1)
-
-  -- the parts are taken
-  pub parts_hands : (old new : CoreState B K O) (handed parts : List Sealed) → new ≡ record old { handed = handed; parts = parts } → (v : ℕ) → KeepsHand v old.store.past new.store.past
-  parts_hands old new handed parts is v = same_past v old.store.past new.store.past (ap (λ (c : CoreState B K O). c.store.past) is)
-
-  -- nothing has changed
-  pub same_hands : (old new : CoreState B K O) → new ≡ old → (v : ℕ) → KeepsHand v old.store.past new.store.past
-  same_hands old new is v = same_past v old.store.past new.store.past (ap (λ (c : CoreState B K O). c.store.past) is)
