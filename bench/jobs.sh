@@ -3,7 +3,7 @@
 # thread; a pool in plain C with one lock; those of the JDK, of rayon and of oneTBB. Each is timed as a whole process, by turns, and all must
 # give the same answer.
 # Usage: bench/jobs.sh [LOAD..]
-#   LOAD is leaves, blocks, primes, min, find, oversubscribed, started, tree, submit or locks (default: all of them), or, where valgrind is there, profile
+#   LOAD is leaves, blocks, primes, min, find, oversubscribed, started, chain, tree, submit or locks (default: all of them), or, where valgrind is there, profile
 # RUNS=N bench/jobs.sh ..     the least time of N runs of each program counts (default: 5)
 # PROVED=1 bench/jobs.sh ..   ours is proved, which takes half an hour and more; else it is built as unproved.sh does
 set -euo pipefail
@@ -38,6 +38,7 @@ build_proved() {
 build_unproved() {
     cp bench/jobs/counted/main.rt.in "$loader/src/main.rt"
     cp bench/jobs/counted/started.rt.in "$loader/src/started.rt"
+    cp bench/jobs/counted/chain.rt.in "$loader/src/chain.rt"
     optimise_loader
     cp "$program" "$folder/$1"
 }
@@ -156,6 +157,16 @@ show_started() {
         END { printf "%-14s %-30s  microseconds until all have begun, least: %d  median: %d  greatest: %d\n", "started", workers, took[1], took[int((NR + 1) / 2)], took[NR] }'
 }
 
+# show_chain LEAVES: the least microseconds of all runs in which one worker splits so many leaves off one by one, and in halves.
+show_chain() {
+    local run
+    for ((run = 0; run < runs; run++)); do
+        echo "$(timeout "$limit" "${program_of[submitting]}" chain "$1" 0) $(timeout "$limit" "${program_of[submitting]}" chain "$1" 1)"
+    done | awk -v leaves="$1" '
+        { if (NR == 1 || $1 < chain) chain = $1; if (NR == 1 || $2 < halves) halves = $2 }
+        END { printf "%-14s %-30s  microseconds, one by one: %d  in halves: %d\n", "chain", leaves, chain, halves }'
+}
+
 # profile WORD..: the functions of ours in which most instructions of a run are counted, each with its part in a hundred.
 profile() {
     valgrind --tool=callgrind --callgrind-out-file="$folder/instructions" "${program_of[submitting]}" "$@" < "$tree" > "$loader.log" 2>&1
@@ -171,7 +182,7 @@ modulus=2147483647
 # The loads, and what is due: sums of all numbers from 1 on, the primes up to 6,700 and to 10,000, the least value, the place of the hit, the value
 # of the tree, the number of submissions.
 run_load() {
-    local workers threads grain
+    local workers threads grain leaves
     case $1 in
     leaves)
         for workers in 1 2 4; do time_load leaves "$ours $one_thread one_lock $peers" 20000100000 sum 1 200000 1 "$workers"; done
@@ -196,6 +207,7 @@ run_load() {
         time_load oversubscribed "lazily $one_thread $peers" 200000010000000 sum 1 20000000 1 32
         time_load oversubscribed "$ours $one_thread one_lock $peers" 863 primes 1 6700 1 32
         ;;
+    chain) for leaves in 1000 4000; do show_chain "$leaves"; done ;;
     started) for workers in 4 32; do show_started "$workers"; done ;;
     tree) for workers in 1 2 4; do time_load tree "fj one_lock java rayon" "$(${program_of[fj]} tree 1 < "$tree")" tree "$workers"; done ;;
     submit) for threads in 1 4; do time_load submit "submitting one_lock java rayon" 200000 submit "$threads" 200000 4; done ;;
@@ -221,7 +233,7 @@ run_load() {
     esac
 }
 
-(($#)) || set -- leaves blocks primes min find oversubscribed started tree submit locks
+(($#)) || set -- leaves blocks primes min find oversubscribed started chain tree submit locks
 # The counts come last: for them the copies of the crates are changed.
 compared=()
 for load; do [[ $load == locks ]] || compared+=("$load"); done
