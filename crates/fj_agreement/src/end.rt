@@ -102,7 +102,7 @@ fn gather<V: Known>(loads: &Loads<V>, token: &mut Token<V>, other: &mut Token<V>
     ensures token { token.new.me ≡ (token.old.me.0 ++ other.old.me.0, []) }
     ensures other { other.new.me ≡ ([], []) }
 {
-    // A join takes the other token by value, so something has to be left in its place.
+    // A join takes the other token by value, so a placeholder is left in `self`.
     let spare = loads.split_seat::<Spare>(token);
     let taken = mem::replace(other, spare);
     loads.join_seat::<Together>(token, taken);

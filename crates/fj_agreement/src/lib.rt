@@ -11,7 +11,7 @@
 //! ```
 //!
 //! A contract sees an [`End`] as the pair that it is of, and the value that it knows. A value changes only where somebody has both
-//! ends, and then for both: so whoever has one of them keeps what it knows, whatever other threads do.
+//! ends, and then for both: so what the owner of a token knows stays true, whatever other threads do.
 //!
 //! No value is made or moved: a call makes three or four loads of a word that never changes, and writes nothing.
 #![tactic(auto)]

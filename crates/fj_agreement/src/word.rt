@@ -4,12 +4,12 @@
 //! so each change, and each look at what two views have in common, is one load.
 //!
 //! A view is a list: the value, once for each end that the seat stands for. The rule says that all entries of all views are one value,
-//! and that there are two of them. Whoever meets or agrees puts both into one seat:
+//! and that there are two of them. To meet or to agree puts both into one seat:
 //!
 //! | Load | The one seat | The other seat | What is learnt, or why it keeps the rule |
 //! |---|---|---|---|
 //! | | v | w | |
-//! | `Spare`: a new seat without a value is cut off, and put in the place of the other one | v | | |
+//! | `Spare`: a new seat without a value is cut off, and put in place of the other one | v | | |
 //! | `Together`: the other seat, which was taken out, is joined to the one | v w | | |
 //! | `Meet`, where they meet | v w | | v and w are the same, by the rule |
 //! | `Half`: cut in two again | v | w | |

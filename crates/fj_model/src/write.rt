@@ -27,7 +27,7 @@ impl Said {
     }
 }
 
-/// Appends a line of one word. Not by a formatter, which takes as long as the step that it tells of.
+/// Appends a line of one word. Not by a formatter, which takes as long as the step itself.
 fn push_word(text: &mut String, word: &str) -> Result<(), AllocError>
     ensures { OnOk result (string_bytes text.new ≡ string_bytes text.old ++ (word.now ++ LINE_FEED ∷ [])) }
 {

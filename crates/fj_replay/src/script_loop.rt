@@ -54,7 +54,7 @@ fn run_in<R: Source, W: Sink>(
             Ok(0) => return session.finish(),
             Ok(n) => {
                 session.feed_all(alloc, &chunk[..n], w)?;
-                // Whoever waits for these lines has them before the next read waits for more.
+                // A reader of these lines has them before the next read waits for more.
                 if flush_whole(w).is_err() {
                     return Err(ReplayFault::Write);
                 }

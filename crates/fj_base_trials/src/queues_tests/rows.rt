@@ -23,7 +23,7 @@ pub fn wrong(alloc: Global, table: &str) -> Result<String, Fail> {
     Ok(all)
 }
 
-/// The first call that did not give what stands behind it, and what it gave.
+/// The first call that did not give what follows it, and what it gave.
 fn first_other(alloc: Global, script: &str) -> Result<String, Fail> {
     let (head, calls) = script.split_once(';').unwrap_or((script, ""));
     let (owners, room) = head.split_once(' ').unwrap_or((head, ""));

@@ -33,7 +33,7 @@ pub fn wrong(alloc: Global, table: &str) -> Result<String, Fail> {
     Ok(all)
 }
 
-/// The first call that did not give what stands behind it, and what it gave.
+/// The first call that did not give what follows it, and what it gave.
 pub fn first_other(alloc: Global, script: &str) -> Result<String, Fail> {
     let (room, calls) = script.split_once(';').unwrap_or((script, ""));
     let mut trial = Trial::new(alloc, room.parse()?)?;

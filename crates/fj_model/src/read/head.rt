@@ -25,7 +25,7 @@ pub fn read_head(line: &[u8]) -> Result<(Mode, [u32; 4]), LineFault>
     head_said(verb, behind)
 }
 
-/// The heading that a first word and what stands behind it say.
+/// The heading that a first word and what follows it say.
 #[tactic(auto, unfolding(crate::specs::Readings::head_said))]
 fn head_said(verb: &[u8], behind: &[u8]) -> Result<(Mode, [u32; 4]), LineFault>
     ensures { Reads (head_said verb.now (words_behind behind.now)) result }

@@ -33,7 +33,7 @@ pub fn read_line2(line: &[u8]) -> Result<Line2, LineFault>
     line2_said(verb, behind)
 }
 
-/// What a first word and what stands behind it ask for. What most lines say comes first: one each of accept, take and end.
+/// What a first word and what follows it ask for. What most lines say comes first: one each of accept, take and end.
 #[tactic(auto, unfolding(crate::specs::Readings2::line2_said))]
 fn line2_said(verb: &[u8], behind: &[u8]) -> Result<Line2, LineFault>
     ensures { Reads (line2_said verb.now (words_behind behind.now)) result }

@@ -34,7 +34,7 @@ pub fn read_step(line: &[u8]) -> Result<Step, LineFault>
     step_said(verb, behind)
 }
 
-/// The step that a first word and what stands behind it say. What most lines say comes first: one each of accept, take and end.
+/// The step that a first word and what follows it say. What most lines say comes first: one each of accept, take and end.
 #[tactic(auto, unfolding(crate::specs::Readings::step_said))]
 fn step_said(verb: &[u8], behind: &[u8]) -> Result<Step, LineFault>
     ensures { Reads (step_said verb.now (words_behind behind.now)) result }

@@ -18,14 +18,14 @@ fn word_len(line: &[u8]) -> usize
         .unwrap_or(line.len())
 }
 
-/// The first word of a line, and what stands behind it.
+/// The first word of a line, and what follows it.
 pub fn first_word(line: &[u8]) -> (&[u8], &[u8])
     ensures { words line.now ≡ result.0.now ∷ words_behind result.1.now }
 {
     line.split_at(word_len(line))
 }
 
-/// The next word of what stands behind a word. A fault where there is none.
+/// The next word of what follows a word. A fault where there is none.
 pub fn next_word(behind: &[u8]) -> Result<(&[u8], &[u8]), LineFault>
     ensures { ReadsAs (λ p. (p.0.now, words_behind p.1.now)) (word_first (words_behind behind.now)) result }
 {

@@ -11,7 +11,7 @@ use crate::read::numbers::two_numbers;
 use crate::read::step::accept::{count_and_relay, submitted_kind};
 use crate::read::words::{at_end, next_number, next_word};
 
-/// Reads what stands behind `submit`: the name, the submitter, and of a completer its count and relay word.
+/// Reads what follows `submit`: the name, the submitter, and of a completer its count and relay word.
 #[tactic(auto, unfolding(crate::specs::Readings2::submit2_in))]
 pub fn submit(behind: &[u8]) -> Result<Line2, LineFault>
     ensures { Reads (submit2_in (words_behind behind.now)) result }
@@ -27,7 +27,7 @@ pub fn submit(behind: &[u8]) -> Result<Line2, LineFault>
     })
 }
 
-/// Reads what stands behind `fork`: the name, the worker, and of a completer its parent or `-`, its count and its relay word.
+/// Reads what follows `fork`: the name, the worker, and of a completer its parent or `-`, its count and its relay word.
 #[tactic(auto, unfolding(crate::specs::Readings2::fork2_in))]
 pub fn fork(behind: &[u8]) -> Result<Line2, LineFault>
     ensures { Reads (fork2_in (words_behind behind.now)) result }
@@ -43,7 +43,7 @@ pub fn fork(behind: &[u8]) -> Result<Line2, LineFault>
     })
 }
 
-/// Reads what stands behind `trigger`: the name, the worker and the count.
+/// Reads what follows `trigger`: the name, the worker and the count.
 #[tactic(auto, unfolding(crate::specs::Readings2::trigger2_in))]
 pub fn trigger(behind: &[u8]) -> Result<Line2, LineFault>
     ensures { Reads (trigger2_in (words_behind behind.now)) result }

@@ -9,7 +9,7 @@ use crate::read::numbers::one_number;
 use crate::read::step::end::ending;
 use crate::read::words::next_number;
 
-/// Reads what stands behind `end`: the worker and the ending.
+/// Reads what follows `end`: the worker and the ending.
 #[tactic(auto, unfolding(crate::specs::Readings2::end2_in))]
 pub fn end(behind: &[u8]) -> Result<Line2, LineFault>
     ensures { Reads (end2_in (words_behind behind.now)) result }
@@ -22,7 +22,7 @@ pub fn end(behind: &[u8]) -> Result<Line2, LineFault>
     })
 }
 
-/// Reads what stands behind `hook`: the worker.
+/// Reads what follows `hook`: the worker.
 #[tactic(auto, unfolding(crate::specs::Readings2::hook2_in))]
 pub fn hook(behind: &[u8]) -> Result<Line2, LineFault>
     ensures { Reads (hook2_in (words_behind behind.now)) result }

@@ -8,7 +8,7 @@ use crate::read::line2::name::{one_name, read_name};
 use crate::read::numbers::one_number;
 use crate::read::words::next_word;
 
-/// Reads what stands behind `fault`: the task and the code.
+/// Reads what follows `fault`: the task and the code.
 #[tactic(auto, unfolding(crate::specs::Readings2::fault2_in))]
 pub fn fault(behind: &[u8]) -> Result<Line2, LineFault>
     ensures { Reads (fault2_in (words_behind behind.now)) result }
@@ -19,7 +19,7 @@ pub fn fault(behind: &[u8]) -> Result<Line2, LineFault>
     Ok(Line2::Fault { t, code })
 }
 
-/// Reads what stands behind `cancel`: the task.
+/// Reads what follows `cancel`: the task.
 #[tactic(auto, unfolding(crate::specs::Readings2::cancel2_in))]
 pub fn cancel(behind: &[u8]) -> Result<Line2, LineFault>
     ensures { Reads (cancel2_in (words_behind behind.now)) result }
@@ -28,7 +28,7 @@ pub fn cancel(behind: &[u8]) -> Result<Line2, LineFault>
     Ok(Line2::Cancel { t })
 }
 
-/// Reads what stands behind `state`: the task.
+/// Reads what follows `state`: the task.
 #[tactic(auto, unfolding(crate::specs::Readings2::state2_in))]
 pub fn state(behind: &[u8]) -> Result<Line2, LineFault>
     ensures { Reads (state2_in (words_behind behind.now)) result }
@@ -37,7 +37,7 @@ pub fn state(behind: &[u8]) -> Result<Line2, LineFault>
     Ok(Line2::State { t })
 }
 
-/// Reads what stands behind `release`: the task.
+/// Reads what follows `release`: the task.
 #[tactic(auto, unfolding(crate::specs::Readings2::release2_in))]
 pub fn release(behind: &[u8]) -> Result<Line2, LineFault>
     ensures { Reads (release2_in (words_behind behind.now)) result }

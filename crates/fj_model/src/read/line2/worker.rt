@@ -10,7 +10,7 @@ use crate::read::line2::name::{one_name, read_name};
 use crate::read::numbers::{one_number, two_numbers};
 use crate::read::words::{next_number, next_word};
 
-/// Reads what stands behind `poll`: the worker and the scan word.
+/// Reads what follows `poll`: the worker and the scan word.
 #[tactic(auto, unfolding(crate::specs::Readings2::poll2_in))]
 pub fn poll(behind: &[u8]) -> Result<Line2, LineFault>
     ensures { Reads (poll2_in (words_behind behind.now)) result }
@@ -19,7 +19,7 @@ pub fn poll(behind: &[u8]) -> Result<Line2, LineFault>
     Ok(Line2::Poll { w: WorkerId(w), r })
 }
 
-/// Reads what stands behind `help`: the worker and the scan word.
+/// Reads what follows `help`: the worker and the scan word.
 #[tactic(auto, unfolding(crate::specs::Readings2::help2_in))]
 pub fn help(behind: &[u8]) -> Result<Line2, LineFault>
     ensures { Reads (help2_in (words_behind behind.now)) result }
@@ -28,7 +28,7 @@ pub fn help(behind: &[u8]) -> Result<Line2, LineFault>
     Ok(Line2::Help { w: WorkerId(w), r })
 }
 
-/// Reads what stands behind `join`: the worker, the task and the scan word.
+/// Reads what follows `join`: the worker, the task and the scan word.
 #[tactic(auto, unfolding(crate::specs::Readings2::join2_in))]
 pub fn join(behind: &[u8]) -> Result<Line2, LineFault>
     ensures { Reads (join2_in (words_behind behind.now)) result }
@@ -41,7 +41,7 @@ pub fn join(behind: &[u8]) -> Result<Line2, LineFault>
     })
 }
 
-/// Reads what stands behind `add`: the worker, the completer and what is added.
+/// Reads what follows `add`: the worker, the completer and what is added.
 #[tactic(auto, unfolding(crate::specs::Readings2::add2_in))]
 pub fn add(behind: &[u8]) -> Result<Line2, LineFault>
     ensures { Reads (add2_in (words_behind behind.now)) result }
@@ -54,7 +54,7 @@ pub fn add(behind: &[u8]) -> Result<Line2, LineFault>
     })
 }
 
-/// Reads what stands behind `root`: the worker and the task.
+/// Reads what follows `root`: the worker and the task.
 #[tactic(auto, unfolding(crate::specs::Readings2::root2_in))]
 pub fn root(behind: &[u8]) -> Result<Line2, LineFault>
     ensures { Reads (root2_in (words_behind behind.now)) result }

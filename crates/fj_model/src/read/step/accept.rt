@@ -10,7 +10,7 @@ use crate::read::numbers::two_numbers;
 use crate::read::words::{at_end, next_number, next_word, no_more};
 use crate::step::Step;
 
-/// Reads what stands behind `submit`: the submitter, and of a completer its count and relay word.
+/// Reads what follows `submit`: the submitter, and of a completer its count and relay word.
 #[tactic(auto, unfolding(crate::specs::Readings::Accept::submit_in))]
 pub fn submit(behind: &[u8]) -> Result<Step, LineFault>
     ensures { Reads (submit_in (words_behind behind.now)) result }
@@ -20,7 +20,7 @@ pub fn submit(behind: &[u8]) -> Result<Step, LineFault>
     Ok(Step::Submit { s: SubId(s), kind })
 }
 
-/// Reads what stands behind `fork`: the worker, and of a completer its parent or `-`, its count and its relay word.
+/// Reads what follows `fork`: the worker, and of a completer its parent or `-`, its count and its relay word.
 #[tactic(auto, unfolding(crate::specs::Readings::Accept::fork_in))]
 pub fn fork(behind: &[u8]) -> Result<Step, LineFault>
     ensures { Reads (fork_in (words_behind behind.now)) result }
@@ -33,7 +33,7 @@ pub fn fork(behind: &[u8]) -> Result<Step, LineFault>
     })
 }
 
-/// Reads what stands behind `trigger`: the worker and the count.
+/// Reads what follows `trigger`: the worker and the count.
 #[tactic(auto, unfolding(crate::specs::Readings::Accept::trigger_in))]
 pub fn trigger(behind: &[u8]) -> Result<Step, LineFault>
     ensures { Reads (trigger_in (words_behind behind.now)) result }
@@ -45,7 +45,7 @@ pub fn trigger(behind: &[u8]) -> Result<Step, LineFault>
     })
 }
 
-/// Reads what stands behind the submitter: nothing, or of a completer its count and its relay word.
+/// Reads what follows the submitter: nothing, or of a completer its count and its relay word.
 #[tactic(auto, unfolding(crate::specs::Readings::Accept::submitted_said))]
 pub fn submitted_kind(behind: &[u8]) -> Result<SubmittedKind, LineFault>
     ensures { Reads (submitted_said (words_behind behind.now)) result }

@@ -7,7 +7,7 @@ use crate::read::fault::LineFault;
 use crate::read::numbers::{three_numbers, two_numbers};
 use crate::step::Step;
 
-/// Reads what stands behind `add`: the worker, the completer and what is added.
+/// Reads what follows `add`: the worker, the completer and what is added.
 #[tactic(auto, unfolding(crate::specs::Readings::Completer::add_in))]
 pub fn add(behind: &[u8]) -> Result<Step, LineFault>
     ensures { Reads (add_in (words_behind behind.now)) result }
@@ -20,7 +20,7 @@ pub fn add(behind: &[u8]) -> Result<Step, LineFault>
     })
 }
 
-/// Reads what stands behind `root`: the worker and the task.
+/// Reads what follows `root`: the worker and the task.
 #[tactic(auto, unfolding(crate::specs::Readings::Completer::root_in))]
 pub fn root(behind: &[u8]) -> Result<Step, LineFault>
     ensures { Reads (root_in (words_behind behind.now)) result }

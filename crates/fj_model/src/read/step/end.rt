@@ -8,7 +8,7 @@ use crate::read::numbers::one_number;
 use crate::read::words::{next_number, next_word, no_more};
 use crate::step::{Ending, Step};
 
-/// Reads what stands behind `end`: the worker and the ending, which is one word or `fail` and a code.
+/// Reads what follows `end`: the worker and the ending, which is one word or `fail` and a code.
 #[tactic(auto, unfolding(crate::specs::Readings::End::end_in))]
 pub fn end(behind: &[u8]) -> Result<Step, LineFault>
     ensures { Reads (end_in (words_behind behind.now)) result }
@@ -69,7 +69,7 @@ fn ending_word(word: &[u8]) -> Result<Ending, LineFault>
     }
 }
 
-/// Reads what stands behind `hook`: the worker.
+/// Reads what follows `hook`: the worker.
 #[tactic(auto, unfolding(crate::specs::Readings::End::hook_in))]
 pub fn hook(behind: &[u8]) -> Result<Step, LineFault>
     ensures { Reads (hook_in (words_behind behind.now)) result }

@@ -8,7 +8,7 @@ use crate::read::numbers::one_number;
 use crate::read::words::no_more;
 use crate::step::Step;
 
-/// Reads what stands behind `quiet`: nothing.
+/// Reads what follows `quiet`: nothing.
 pub fn quiet(behind: &[u8]) -> Result<Step, LineFault>
     ensures { Reads (quiet_in (words_behind behind.now)) result }
 {
@@ -16,7 +16,7 @@ pub fn quiet(behind: &[u8]) -> Result<Step, LineFault>
     Ok(Step::IsQuiescent)
 }
 
-/// Reads what stands behind `state`: the task.
+/// Reads what follows `state`: the task.
 #[tactic(auto, unfolding(crate::specs::Readings::Query::state_in))]
 pub fn state(behind: &[u8]) -> Result<Step, LineFault>
     ensures { Reads (state_in (words_behind behind.now)) result }

@@ -7,7 +7,7 @@ use crate::read::fault::LineFault;
 use crate::read::numbers::one_number;
 use crate::step::Step;
 
-/// Reads what stands behind `release`: the task.
+/// Reads what follows `release`: the task.
 #[tactic(auto, unfolding(crate::specs::Readings::Release::release_in))]
 pub fn release(behind: &[u8]) -> Result<Step, LineFault>
     ensures { Reads (release_in (words_behind behind.now)) result }

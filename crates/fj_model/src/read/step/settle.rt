@@ -7,7 +7,7 @@ use crate::read::fault::LineFault;
 use crate::read::numbers::{one_number, two_numbers};
 use crate::step::Step;
 
-/// Reads what stands behind `fault`: the task and the code.
+/// Reads what follows `fault`: the task and the code.
 #[tactic(auto, unfolding(crate::specs::Readings::Settle::fault_in))]
 pub fn fault(behind: &[u8]) -> Result<Step, LineFault>
     ensures { Reads (fault_in (words_behind behind.now)) result }
@@ -19,7 +19,7 @@ pub fn fault(behind: &[u8]) -> Result<Step, LineFault>
     })
 }
 
-/// Reads what stands behind `cancel`: the task.
+/// Reads what follows `cancel`: the task.
 #[tactic(auto, unfolding(crate::specs::Readings::Settle::cancel_in))]
 pub fn cancel(behind: &[u8]) -> Result<Step, LineFault>
     ensures { Reads (cancel_in (words_behind behind.now)) result }

@@ -6,7 +6,7 @@ use crate::read::fault::LineFault;
 use crate::read::words::no_more;
 use crate::step::Step;
 
-/// Reads what stands behind `shutdown`: nothing.
+/// Reads what follows `shutdown`: nothing.
 pub fn shutdown(behind: &[u8]) -> Result<Step, LineFault>
     ensures { Reads (shutdown_in (words_behind behind.now)) result }
 {
@@ -14,7 +14,7 @@ pub fn shutdown(behind: &[u8]) -> Result<Step, LineFault>
     Ok(Step::Shutdown)
 }
 
-/// Reads what stands behind `stop`: nothing.
+/// Reads what follows `stop`: nothing.
 pub fn stop(behind: &[u8]) -> Result<Step, LineFault>
     ensures { Reads (stop_in (words_behind behind.now)) result }
 {

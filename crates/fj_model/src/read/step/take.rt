@@ -7,7 +7,7 @@ use crate::read::fault::LineFault;
 use crate::read::numbers::{three_numbers, two_numbers};
 use crate::step::Step;
 
-/// Reads what stands behind `poll`: the worker and the scan word.
+/// Reads what follows `poll`: the worker and the scan word.
 #[tactic(auto, unfolding(crate::specs::Readings::Take::poll_in))]
 pub fn poll(behind: &[u8]) -> Result<Step, LineFault>
     ensures { Reads (poll_in (words_behind behind.now)) result }
@@ -16,7 +16,7 @@ pub fn poll(behind: &[u8]) -> Result<Step, LineFault>
     Ok(Step::Poll { w: WorkerId(w), r })
 }
 
-/// Reads what stands behind `help`: the worker and the scan word.
+/// Reads what follows `help`: the worker and the scan word.
 #[tactic(auto, unfolding(crate::specs::Readings::Take::help_in))]
 pub fn help(behind: &[u8]) -> Result<Step, LineFault>
     ensures { Reads (help_in (words_behind behind.now)) result }
@@ -25,7 +25,7 @@ pub fn help(behind: &[u8]) -> Result<Step, LineFault>
     Ok(Step::Help { w: WorkerId(w), r })
 }
 
-/// Reads what stands behind `join`: the worker, the task and the scan word.
+/// Reads what follows `join`: the worker, the task and the scan word.
 #[tactic(auto, unfolding(crate::specs::Readings::Take::join_in))]
 pub fn join(behind: &[u8]) -> Result<Step, LineFault>
     ensures { Reads (join_in (words_behind behind.now)) result }
