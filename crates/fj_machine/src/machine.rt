@@ -1,9 +1,9 @@
-ghost use Rattle.std.specs.Prelude.{◌≡◌, ◌<◌, IfOk, OnOk, IfErr, OnErr, ◌∷◌, [], ◌++◌, None, List, true};
+ghost use Rattle.std.specs.Prelude.{◌≡◌, ◌<◌, ◌&&◌, not, IfOk, OnOk, IfErr, OnErr, ◌∷◌, [], ◌++◌, None, List, true};
 ghost use Rattle.fj_model.specs.Queues.{queue};
 ghost use Rattle.fj_model.specs.Stacks.{stack};
 ghost use Rattle.fj_model.specs.Bounds.{IsWithin};
 ghost use Rattle.fj_model.specs.Hooks.{hand};
-ghost use Rattle.fj_model.specs.Tasks.{is_kept, parent};
+ghost use Rattle.fj_model.specs.Tasks.{is_kept, is_completer, parent};
 ghost use Rattle.fj_model.specs.Places.{open_tasks};
 ghost use Rattle.fj_model.specs.Allowed.{AllowedFrom};
 ghost use Rattle.fj_model.specs.Answers.{answer, refusal_of};
@@ -121,6 +121,18 @@ impl Machine {
         ensures { is_kept self.now.events t ≡ true → result ≡ parent self.now.events t }
     {
         self.ledger.find(t)?.kind.parent()
+    }
+
+    /// Whether a kept task is plain, so that it has no completion action and no parent: one that is no `CountedCompleter`. False for a task
+    /// that is not kept.
+    #[inline(always)]
+    pub fn is_plain(&self, t: Serial) -> bool
+        ensures { result ≡ (is_kept self.now.events t && not (is_completer self.now.events t)) }
+    {
+        match self.ledger.find(t) {
+            Some(record) => !record.kind.is_completer(),
+            None => false,
+        }
     }
 
     /// How large the pool may grow.

@@ -17,7 +17,7 @@ use Rattle.fj_store.specs.declared.due.Due.{Due}
 use Rattle.fj_store.specs.declared.due.Due.TheVariants as due
 use Rattle.fj_store.specs.Stores.{IsStored}
 use Rattle.fj_model.specs.Releasable.{can_go}
-use Rattle.fj_store.specs.DueTasks.{AreDue, OnlyGoes, only, is_all, after, after_step}
+use Rattle.fj_store.specs.DueTasks.{AreDue, OnlyGoes, only, is_all, is_nothing, after, after_step}
 use Rattle.fj_store.specs.Asking.{is_calm}
 use Rattle.fj_model.proofs.Events.Releasable.{is_on_way, OnlyAbout, only_it_goes, none_goes}
 use Rattle.fj_model.proofs.Steps.AboutTasks.{quiet_root_about, fault_about, cancel_about}
@@ -36,6 +36,16 @@ pub none_due : (h : List Event) (ts : List ℕ) (d : Due) → AreDue h ts d → 
 none_due h ts due.Nothing none some one u there = none u there
 none_due h ts (due.One t) those some one u there = absurd (one t refl)
 none_due h ts due.All all some one u there = absurd cc
+
+pub nothing_due : (h : List Event) (ts : List ℕ) (d : Due) → AreDue h ts d → is_nothing d ≡ true → (u : ℕ) → is_in u ts ≡ true → can_go h u ≡ false
+nothing_due h ts due.Nothing none is u there = none u there
+nothing_due h ts (due.One t) one is u there = absurd cc
+nothing_due h ts due.All all is u there = absurd cc
+
+pub none_is_due : (h : List Event) (ts : List ℕ) (d : Due) → is_nothing d ≡ true → ((u : ℕ) → is_in u ts ≡ true → can_go h u ≡ false) → AreDue h ts d
+none_is_due h ts due.Nothing is none = none
+none_is_due h ts (due.One t) is none = absurd cc
+none_is_due h ts due.All is none = absurd cc
 
 -- where one is due, only it can go
 pub one_due : (h : List Event) (ts : List ℕ) (d : Due) (t : ℕ) → AreDue h ts d → only d ≡ Some t → OnlyGoes h ts t

@@ -98,7 +98,7 @@ one_released e es none = go (released_by e) refl none
     go None is none = (is, none)
     go (Some t) is none = absurd cc
 
-climbed_fire : (c : ℕ) (how : How) → climbed (event.Fire c how ∷ []) ≡ c ∷ []
+pub climbed_fire : (c : ℕ) (how : How) → climbed (event.Fire c how ∷ []) ≡ c ∷ []
 unfolding climbed
 climbed_fire c how = refl
 

@@ -67,31 +67,41 @@ pub in_one_more : (u t : ℕ) (ts : List ℕ) → is_in u (ts ++ t ∷ []) ≡ t
 in_one_more u t ts there =
     ⊎_elim (λ old. inl old) (λ new. inr (eqb-true t u (⊎_elim (λ here. here) (λ none. absurd cc) (or_cases (t == u) false new)))) (or_cases (is_in u ts) (is_in u (t ∷ [])) (rw is_in_append at there))
 
--- a task is marked, with its result taken out if it has one
-pub marked_stored : {B R : Type 0} (past : Past) (bodies : Entries B) (results results' : Entries R) (ts : List ℕ) (t : ℕ) → IsStored past bodies results ts → is_kept past.events t ≡ true → is_in t ts ≡ false
-    → results' ≡ without_entry results t → IsStored past bodies results' (ts ++ t ∷ [])
-marked_stored {B} {R} past bodies results results' ts t is kept free less = rw less (record {
+-- there is none any more, and the others stand as before
+pub none_left : {R : Type 0} (results results' : Entries R) (t : ℕ) → results' ≡ without_entry results t → results' t ≡ None
+none_left results results' t less = rw (less, eq-eqb t t refl) refl
+
+pub less_stored : {B R : Type 0} (past : Past) (bodies : Entries B) (results results' : Entries R) (ts : List ℕ) (t : ℕ) → IsStored past bodies results ts → results' ≡ without_entry results t → IsStored past bodies results' ts
+less_stored {B} {R} past bodies results results' ts t is less = rw less (record {
   run = is.run;
   bodies_held = is.bodies_held;
-  results_kept = λ u there. known u (t == u) there;
-  results_given = λ u there. last u (t == u) there;
-  taken_kept = one_more_kept past.events ts t is.taken_kept kept free;
-  apart = λ u there. none u (t == u) refl (in_one_more u t ts there);
+  results_kept = λ u there. is.results_kept u (before u (t == u) there);
+  results_given = λ u there. is.results_given u (before u (t == u) there);
+  taken_kept = is.taken_kept;
+  apart = λ u there. none u (t == u) (is.apart u there);
   hooks_kept = is.hooks_kept;
 })
   where
-    known : (u : ℕ) (b : Bool) → is_some (if b then None else results u) ≡ true → is_kept past.events u ≡ true
-    known u true there = absurd cc
-    known u false there = is.results_kept u there
+    before : (u : ℕ) (b : Bool) → is_some (if b then None else results u) ≡ true → is_some (results u) ≡ true
+    before u true there = absurd cc
+    before u false there = there
 
-    last : (u : ℕ) (b : Bool) → is_some (if b then None else results u) ≡ true → GivesNoMore past.events u
-    last u true there = absurd cc
-    last u false there = is.results_given u there
+    none : (u : ℕ) (b : Bool) → results u ≡ None → (if b then None else results u) ≡ None
+    none u true at = refl
+    none u false at = at
 
-    none : (u : ℕ) (b : Bool) → (t == u) ≡ b → (is_in u ts ≡ true) ⊎ (t ≡ u) → (if b then None else results u) ≡ None
-    none u true same there = refl
-    none u false same (inl old) = is.apart u old
-    none u false same (inr at) = absurd (true≢false (sym (eq-eqb t u at) ∙ same))
+-- a task that has no result is marked
+pub marked_stored : {B R : Type 0} (past : Past) (bodies : Entries B) (results : Entries R) (ts : List ℕ) (t : ℕ) → IsStored past bodies results ts → is_kept past.events t ≡ true → is_in t ts ≡ false → results t ≡ None
+    → IsStored past bodies results (ts ++ t ∷ [])
+marked_stored past bodies results ts t is kept free none = record {
+  run = is.run;
+  bodies_held = is.bodies_held;
+  results_kept = is.results_kept;
+  results_given = is.results_given;
+  taken_kept = one_more_kept past.events ts t is.taken_kept kept free;
+  apart = λ u there. ⊎_elim (is.apart u) (λ same. ap results (sym same) ∙ none) (in_one_more u t ts there);
+  hooks_kept = is.hooks_kept;
+}
 
 -- it was not marked, where it has a result
 pub result_free : {B R : Type 0} (past : Past) (bodies : Entries B) (results : Entries R) (ts : List ℕ) (t : ℕ) (x : R) → IsStored past bodies results ts → results t ≡ Some x → (is_kept past.events t ≡ true) × (is_in t ts ≡ false)

@@ -34,7 +34,7 @@ gone_is (Queued o) is = absurd cc
 gone_is (Held w) is = absurd cc
 gone_is Open is = absurd cc
 
-may_release : (pool : Pool) (h : List Event) (t : ℕ) → can_go h t ≡ true → Allowed pool h (Rel t)
+pub may_release : (pool : Pool) (h : List Event) (t : ℕ) → can_go h t ≡ true → Allowed pool h (Rel t)
 may_release pool h t can = let now = can_parts h t can in (now.kept, gone_is (place h t) now.gone, now.alone)
 
 -- how often it may go on
@@ -46,6 +46,14 @@ module _ {B K O : Type 0} where
   -- none can be released
   pub rests_so : (s : StoreState B K O) → ((u : ℕ) → is_in u s.taken ≡ true → can_go s.past.events u ≡ false) → Releases s s
   rests_so s none = all_went s s (none_went s, none)
+
+  -- none was taken
+  pub none_taken : (s : StoreState B K O) → (length s.taken == 0) ≡ true → Releases s s
+  none_taken s none = rests_so s (λ u there. absurd (true≢false (sym there ∙ ap (is_in u) (empty s.taken none))))
+    where
+      empty : (ts : List ℕ) → (length ts == 0) ≡ true → ts ≡ []
+      empty [] none = refl
+      empty (t ∷ ts) none = absurd (omega (arith, eqb-true (length (t ∷ ts)) 0 none))
 
   -- the only one that could be was not taken
   pub untaken_rests : (s : StoreState B K O) (t : ℕ) → is_in t s.taken ≡ false → ReleasesUp t s (Ok tt) s

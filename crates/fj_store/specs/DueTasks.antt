@@ -33,6 +33,12 @@ is_all due.Nothing = false
 is_all (due.One t) = false
 is_all due.All = true
 
+-- whether none is due
+abbrev pub is_nothing : Due → Bool
+is_nothing due.Nothing = true
+is_nothing (due.One t) = false
+is_nothing due.All = false
+
 -- what is due once something has happened to the task
 abbrev pub after : Due → ℕ → Due
 after due.Nothing t = due.One t

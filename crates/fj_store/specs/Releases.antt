@@ -1,8 +1,12 @@
 -- Tasks whose result or outcome was taken are released as soon as they can be.
-use Rattle.std.specs.Prelude.{ℕ, ◌≡◌, ◌≤◌, ◌⊎◌, Bool, true, false, map, length, drop, List, [], ◌∷◌, Result, Ok, Err, ⊤}
+use Rattle.std.specs.Prelude.{ℕ, ◌≡◌, ◌≤◌, ◌⊎◌, Bool, true, false, map, length, drop, List, [], ◌∷◌, ◌++◌, Result, Ok, Err, ⊤}
 use Rattle.fj_model.specs.declared.event.Event.TheVariants.{Rel}
+use Rattle.fj_model.specs.declared.said.Said.TheVariants.{Done}
+use Rattle.fj_model.specs.declared.step.Step.TheVariants.{Release}
 use Rattle.fj_model.specs.Lists.{is_in, without}
-use Rattle.fj_model.specs.Pasts.{grown, limit}
+use Rattle.fj_model.specs.Tasks.{is_completer}
+use Rattle.fj_model.specs.Pasts.{Past, grown, limit}
+use Rattle.fj_model.specs.Runs.{Steps}
 use Rattle.fj_store.specs.declared.tries.HistoryFull.{HistoryFull}
 use Rattle.fj_store.specs.declared.tries.Tried.{Tried}
 use Rattle.fj_store.specs.declared.tries.Tried.TheVariants as tried
@@ -12,6 +16,11 @@ use Rattle.fj_store.specs.Stores.{StoreState}
 -- each of these is one of those
 abbrev pub AreAmong : List ℕ → List ℕ → Type 0
 AreAmong ts us = (t : ℕ) → is_in t ts ≡ true → is_in t us ≡ true
+
+-- a plain task was released; or nothing has changed
+abbrev pub ReleasesPlain : Past → ℕ → Bool → Past → Type 0
+ReleasesPlain old t true new = (is_completer old.events t ≡ false) × Steps old (Release t) Done new
+ReleasesPlain old t false new = new ≡ old
 
 module _ {B K O : Type 0} where
   -- no task that was taken can be released any more; or one could be, and the store is stuck, since the history is full
@@ -31,6 +40,10 @@ module _ {B K O : Type 0} where
     pub could : CanAllGo old.past.events tasks
     pub were : new ≡ record (released_of old tasks) { stuck = new.stuck }
     pub rests : Rests old.stuck new
+
+  -- the task is marked as taken; then what can be is released
+  abbrev pub ReleasesTaken : StoreState B K O → ℕ → StoreState B K O → Type 0
+  ReleasesTaken old t new = Releases (record old { taken = old.taken ++ t ∷ [] }) new
 
   -- the try to release a task
   abbrev pub Tries : StoreState B K O → ℕ → Tried → StoreState B K O → Type 0

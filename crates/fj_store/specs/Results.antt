@@ -35,6 +35,11 @@ module _ {B K O : Type 0} where
   TakesOut old t None new = (entries old.results t ≡ None) × (new ≡ old)
   TakesOut old t (Some kept) new = (entries old.results t ≡ Some kept) × Marks old t new
 
+  -- a result is taken out, and then what can be is released, its task too; or there is none, and nothing has changed
+  abbrev pub TakesAndReleases : StoreState B K O → ℕ → Option (K × O) → StoreState B K O → Type 0
+  TakesAndReleases old t None new = TakesOut old t None new
+  TakesAndReleases old t (Some kept) new = (mid : StoreState B K O) × TakesOut old t (Some kept) mid × Releases mid new
+
   -- the result of a task that has one and is gone
   pub record Takes (old : StoreState B K O) (t : ℕ) (kept : K × O) (new : StoreState B K O) : Type 0 where
     pub free : old.stuck ≡ false

@@ -1,5 +1,5 @@
 ghost use Rattle.std.specs.Prelude.{◌≡◌};
-ghost use Rattle.fj_store.specs.DueTasks.{after as after_in, after_step as after_step_in, only as only_in, is_all as is_all_in};
+ghost use Rattle.fj_store.specs.DueTasks.{after as after_in, after_step as after_step_in, only as only_in, is_all as is_all_in, is_nothing as is_nothing_in};
 
 use fj_model::{Serial, Step};
 
@@ -31,6 +31,17 @@ pub fn is_all(due: Due) -> bool
     match due {
         Due::All => true,
         Due::Nothing | Due::One(_) => false,
+    }
+}
+
+/// Whether none is due.
+#[inline(always)]
+pub fn is_nothing(due: Due) -> bool
+    ensures { result ≡ is_nothing_in due }
+{
+    match due {
+        Due::Nothing => true,
+        Due::One(_) | Due::All => false,
     }
 }
 

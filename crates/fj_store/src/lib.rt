@@ -10,6 +10,7 @@ mod kept;
 mod moves;
 mod outcomes;
 mod places;
+mod plain;
 mod store;
 mod tries;
 

@@ -49,6 +49,7 @@ impl<B: Body> Store<B> {
     }
 
     /// An idle worker asks for its next task. It is stuck where the history is full. Precondition: the hand fits and is empty.
+    #[inline(always)]
     pub fn poll(&mut self, hand: &mut Hand<B>) -> Told<B>
         requires fits { Fits self.old.past hand.old }
         requires idle { (hand.old.stack ≡ []) × (hand.old.hook ≡ None) }
@@ -122,9 +123,8 @@ impl<B: Body> Store<B> {
             Chosen::Run(u) => Told::Run(u),
             Chosen::Skip(u, body) => Told::Skip(u, body),
             Chosen::Idle => Told::None,
-            Chosen::Normal => match self.take_result(t) {
+            Chosen::Normal => match self.take_and_release(t) {
                 Some(kept) => {
-                    self.release_due();
                     let (key, out) = kept.into_parts();
                     Told::Hear(Heard::Got(key, out))
                 }

@@ -1,13 +1,11 @@
-ghost use Rattle.std.specs.Prelude.{◌≡◌, true, false, None};
-ghost use Rattle.fj_model.specs.Lists.{is_in};
+ghost use Rattle.std.specs.Prelude.{◌≡◌, true, None};
 ghost use Rattle.fj_model.specs.Tasks.{is_kept};
 ghost use Rattle.fj_store.specs.Stores.{GivesNoMore};
 ghost use Rattle.fj_store.specs.Turns.{ToldRight};
-ghost use Rattle.fj_store.specs.Results.{Keeps, Marks, TakesOut, TakesResult, Collects};
+ghost use Rattle.fj_store.specs.Results.{Keeps, TakesAndReleases, TakesResult, Collects};
 ghost use Rattle.fj_shelf.specs.Shelves.{entries};
 
 use crate::body::{Body, Heard, Told};
-use crate::due::after;
 use crate::kept::Kept;
 use crate::outcomes::{Outcome, told_outcome};
 use crate::places::is_gone;
@@ -31,31 +29,18 @@ impl<B: Body> Store<B> {
         self.results.put(t, kept);
     }
 
-    /// Takes a result out, and marks its task for its release.
-    pub(crate) fn take_result(&mut self, t: Serial) -> Option<Kept<B>>
-        ensures { TakesOut self.old t result self.new }
+    /// Takes a result out, and releases its task as soon as it can be.
+    #[inline(always)]
+    pub(crate) fn take_and_release(&mut self, t: Serial) -> Option<Kept<B>>
+        ensures { TakesAndReleases self.old t result self.new }
     {
         match self.results.take(t) {
             Some(kept) => {
-                self.taken.push(t);
-                self.due = after(self.due, t);
+                self.release_taken(t);
                 Some(kept)
             }
             None => None,
         }
-    }
-
-    /// Takes the result of a kept task out, if there is one, and marks the task for its release.
-    fn take_away(&mut self, t: Serial) -> Option<Kept<B>>
-        requires kept { is_kept self.old.past.events t ≡ true }
-        requires free { is_in t self.old.taken ≡ false }
-        ensures kept { result ≡ entries self.old.results t }
-        ensures marks { Marks self.old t self.new }
-    {
-        let kept = self.results.take(t);
-        self.taken.push(t);
-        self.due = after(self.due, t);
-        kept
     }
 
     /// A body takes the result of a task that is gone. `Unknown` of a task that is not kept, `NotDone` where it is not gone or has no result.
@@ -75,9 +60,8 @@ impl<B: Body> Store<B> {
                 if !is_gone(place) {
                     return Told::Hear(Heard::Refused(Refusal::NotDone));
                 }
-                match self.take_result(t) {
+                match self.take_and_release(t) {
                     Some(kept) => {
-                        self.release_due();
                         let (key, out) = kept.into_parts();
                         Told::Hear(Heard::Got(key, out))
                     }
@@ -105,8 +89,8 @@ impl<B: Body> Store<B> {
                 if status.is_undone() {
                     return None;
                 }
-                let kept = self.take_away(t);
-                self.release_due();
+                let kept = self.results.take(t);
+                self.release_taken(t);
                 Some(Ok(told_outcome(status, kept)))
             }
             Said::Refused(_) => Some(Err(Refusal::Unknown)),

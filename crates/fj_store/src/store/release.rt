@@ -1,21 +1,56 @@
-ghost use Rattle.std.specs.Prelude.{◌≡◌, ◌+◌, true};
+ghost use Rattle.std.specs.Prelude.{◌≡◌, ◌+◌, true, false, None};
 ghost use Rattle.fj_model.specs.Lists.{is_in};
-ghost use Rattle.fj_store.specs.Releases.{NoneGoesFrom, Releases, ReleasesFrom, Tries};
+ghost use Rattle.fj_model.specs.Tasks.{is_kept};
+ghost use Rattle.fj_shelf.specs.Shelves.{entries};
+ghost use Rattle.fj_store.specs.Releases.{NoneGoesFrom, Releases, ReleasesFrom, ReleasesTaken, Tries};
 ghost use Rattle.fj_store.specs.DueTasks.{ReleasesHere, ReleasesUp};
 
 use crate::body::Body;
-use crate::due::{Due, is_all, only};
+use crate::due::{Due, after, is_all, is_nothing, only};
 use crate::hooked::is_hooked;
+use crate::plain::release_plain;
 use crate::store::Store;
 use crate::tries::{HistoryFull, Tried};
 use fj_model::{Owner, Place, Refusal, Said, Serial, Status, Step, SubId, WorkerId};
 
 impl<B: Body> Store<B> {
+    /// Releases a task whose outcome or result was taken as soon as it can be: a plain one mostly at once, without a mark. Preconditions: the
+    /// task is kept, was not taken before, and has no result.
+    #[inline(always)]
+    pub(crate) fn release_taken(&mut self, t: Serial)
+        requires kept { is_kept self.old.past.events t ≡ true }
+        requires free { is_in t self.old.taken ≡ false }
+        requires none { entries self.old.results t ≡ None }
+        ensures { ReleasesTaken self.old t self.new }
+    {
+        if !self.stuck && is_nothing(self.due) && release_plain(&mut self.machine, t) {
+            return;
+        }
+        self.release_marked(t);
+    }
+
+    /// Marks a task for its release, and releases what can be. Preconditions: as above.
+    fn release_marked(&mut self, t: Serial)
+        requires kept { is_kept self.old.past.events t ≡ true }
+        requires free { is_in t self.old.taken ≡ false }
+        requires none { entries self.old.results t ≡ None }
+        ensures { ReleasesTaken self.old t self.new }
+    {
+        self.taken.push(t);
+        self.due = after(self.due, t);
+        self.release_due();
+    }
+
     /// Releases what can be released of the tasks whose outcome or result was taken: the one that the last step was about, then its parent,
     /// and so on. All of them are tried only after a stop, and where the store is stuck.
+    #[inline(always)]
     pub(crate) fn release_due(&mut self)
         ensures { Releases self.old self.new }
     {
+        if self.taken.as_slice().is_empty() {
+            self.due = Due::Nothing;
+            return;
+        }
         // Where the history is full, the store is stuck from now on.
         let _full = self.release_found();
         self.due = Due::Nothing;

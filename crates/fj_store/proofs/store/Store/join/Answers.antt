@@ -16,5 +16,6 @@ choose-requires-clause-takes g c =
 
 pub returns-in-Some-clause-fits : goal.returns-in-Some-clause-fits
 returns-in-Some-clause-fits g c =
-    released_fits c.choose.new.self.past c.release_due.new.self.past c.choose.new.hand c.release_due.ensures.tasks c.choose.ensures.fits
-    (ap (λ s. s.past) c.release_due.ensures.were ∙ ap (λ s. grown s.past (map Rel c.release_due.ensures.tasks)) c.in-Some.ensures.1.1)
+    let took = c.in-Some.ensures in
+    released_fits c.choose.new.self.past c.take_and_release.new.self.past c.choose.new.hand took.2.tasks c.choose.ensures.fits
+    (ap (λ s. s.past) took.2.were ∙ ap (λ s. grown s.past (map Rel took.2.tasks)) took.1.1.1)

@@ -30,10 +30,10 @@ returns-in-Some-clause-takes g c =
       free = c.if-self.false;
       is = shown.0;
       gone = ap is_gone (sym shown.1) ∙ sym c.is_gone.ensures ∙ c.if-not-is_gone.false;
-      has = took.0 ∙ ap Some (sym c.into_parts-key.ensures.parts);
-      mid = c.take_result.new.self;
-      marks = took.1;
-      releases = c.release_due.ensures;
+      has = took.1.0 ∙ ap Some (sym c.into_parts-key.ensures.parts);
+      mid = took.0;
+      marks = took.1.1;
+      releases = took.2;
     })
 
 pub returns-in-None-clause-takes : goal.returns-in-None-clause-takes
