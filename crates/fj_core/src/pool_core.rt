@@ -98,6 +98,7 @@ impl<B: Body> Core<B> {
 
     /// An idle worker asks for its next task. `Stuck` where the core is stuck, and where the history is full, by which it gets stuck.
     /// Preconditions: the hand fits, and has no body and no hook.
+    #[inline(always)]
     pub fn poll(&mut self, hand: &mut Hand<B>) -> Told<B>
         requires fits { Fits self.old.store.past hand.old }
         requires idle { (hand.old.stack ≡ []) × (hand.old.hook ≡ None) }

@@ -53,6 +53,7 @@ use Rattle.fj_core.proofs.bookings.Bookings.TheSendSync.{the_send as bookings_se
 use Rattle.fj_core.proofs.closing.Closing.TheSendSync.{the_send as closing_send}
 use Rattle.fj_agreement.proofs.end.End.TheSendSync.{the_send as end_send}
 use Rattle.fj_pool.proofs.closer.Closer.TheSendSync.{the_send as closer_send}
+use Rattle.fj_pool.proofs.condvars.Condvars.TheSendSync.{the_sync as condvars_sync}
 use Rattle.fj_pool.proofs.waits.Waits.TheSendSync.{the_send as waits_send}
 
 layer : (p : Parts knot.frame) → IsSend (knot.view-Log p)
@@ -148,7 +149,7 @@ module _ (B N K O : RattleType) (g : Body.Ghosts B.Denot K.Denot O.Denot) (e : P
       search (sendable, as_row_sync) depth 20,
       (
         search (sendable, crosses, as_row_sync, locked_send) depth 20,
-        (search (sendable, crosses, as_row_sync) depth 20, (search (sendable, crosses, as_row_sync) depth 20, (search (sendable, crosses, as_row_sync) depth 20, tt))),
+        (search (sendable, crosses, as_row_sync, condvars_sync) depth 20, tt),
       ),
     ),
   )

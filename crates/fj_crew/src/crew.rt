@@ -10,7 +10,7 @@ use std::thread::Threads;
 pub struct Crew<'p, 'c, 'r, 't, B: Body, N: Naming, T, R> {
     /// The pool.
     pub pool: &'p Pool<B, N>,
-    /// What shuts it down: by whoever submitted, or a worker that cannot go on.
+    /// What shuts it down: the thread that submitted, or a worker that cannot go on.
     pub closing: &'c Mutex<Closing<N>>,
     /// What waits.
     pub rt: &'r R,
@@ -30,11 +30,11 @@ pub struct Ran<B: Body, N: Naming> {
 impl<B: Body, N: Naming, T: Turnstile, R: Wait> Crew<'_, '_, '_, '_, B, N, T, R> {
     /// What one worker does, until the pool has terminated.
     fn work(&self, hand: &mut Hand<B, N>) {
-        // Where the core is stuck, whoever awaits the outcome is told so.
+        // Where the core is stuck, each thread that awaits an outcome hears so.
         let _left = self.pool.work(self.rt, hand, self.turnstile);
     }
 
-    /// Stops the pool. What was submitted is taken in, though no worker may be left, so that whoever awaits its outcome is told.
+    /// Stops the pool. What was submitted is taken in, though no worker may be left, so that each thread that awaits its outcome hears it.
     fn give_up(&self) {
         let mut guard = self.closing.lock(self.rt);
         let closing = &mut *guard;

@@ -1,5 +1,5 @@
 -- What a worker does in one holding of the lock, and what it does next.
-use Rattle.std.specs.Prelude.{ℕ, ◌≡◌, Bool, true, false, Option, Some, None, is_some, [], Ok, Err}
+use Rattle.std.specs.Prelude.{ℕ, ◌≡◌, ⊤, zero, suc, Bool, true, false, Option, Some, None, is_some, [], Ok, Err}
 use Rattle.fj_model.specs.declared.refusal.Refusal.TheVariants.{LogFull}
 use Rattle.fj_shelf.specs.Hands.{HandState, newest_note, with_note}
 use Rattle.fj_store.specs.declared.body.Ask.{Ask}
@@ -8,6 +8,7 @@ use Rattle.fj_store.specs.declared.body.Heard.TheVariants as hears
 use Rattle.fj_store.specs.declared.body.Told.{Told}
 use Rattle.fj_store.specs.declared.body.Told.TheVariants as told
 use Rattle.fj_store.specs.Choosing.{Polls}
+use Rattle.fj_store.specs.Stores.{StoreState}
 use Rattle.fj_core.specs.Acting.{Acts}
 use Rattle.fj_core.specs.Closes.{is_finished}
 use Rattle.fj_core.specs.Cores.{ChangesStore, CoreState}
@@ -60,12 +61,40 @@ module _ {B K O : Type 0} where
     pub others : ChangesStore old new
     pub next_is : NextOfPoll new told next
 
-  -- a look at the lanes, and then one poll
+  -- a poll that skips a task
+  pub record SkipsOnce (old : CoreState B K O) (hand : HandState B) (new : CoreState B K O) (hand' : HandState B) : Type 0 where
+    pub task : ℕ
+    pub body : B
+    pub polls : Polls old.store hand (told.Skip task body) new.store hand'
+    pub others : ChangesStore old new
+
+  -- so many of them
+  abbrev pub Skips : ℕ → CoreState B K O → HandState B → CoreState B K O → HandState B → Type 0
+  Skips zero old hand new hand' = (new ≡ old) × (hand' ≡ hand)
+  Skips (suc n) old hand new hand' = (mid : CoreState B K O) × (between : HandState B) × Skips n old hand mid between × SkipsOnce mid between new hand'
+
+  -- some polls that skip a task, and then one
+  pub record PollsOn (old : CoreState B K O) (hand : HandState B) (next : Next B K O) (new : CoreState B K O) (hand' : HandState B) : Type 0 where
+    pub skipped : ℕ
+    pub mid : CoreState B K O
+    pub between : HandState B
+    pub skips : Skips skipped old hand mid between
+    pub polls : PollsOnce mid between next new hand'
+
+  -- this a poll can tell; that it is stuck only where the store is
+  abbrev pub IsPolled : StoreState B K O → Told B K O → Type 0
+  IsPolled store (told.Run t) = ⊤
+  IsPolled store (told.Skip t body) = ⊤
+  IsPolled store told.None = ⊤
+  IsPolled store (told.Stuck body) = store.stuck ≡ true
+  IsPolled store _ = ⊥
+
+  -- a look at the lanes, and then polls
   pub record LooksForWork (rooted_as : B → Option ℕ) (old : CoreState B K O) (hand : HandState B) (next : Next B K O) (new : CoreState B K O) (hand' : HandState B) : Type 0 where
     pub taken : TakenIn
     pub mid : CoreState B K O
     pub looks : LooksAtLanes rooted_as old taken mid
-    pub polls : PollsOnce mid hand next new hand'
+    pub polls : PollsOn mid hand next new hand'
 
   -- ---- a worker goes on with a body
 

@@ -14,7 +14,7 @@ use fj_store::Body;
 use std::alloc::{AllocError, Global};
 use std::marker::{Model, PhantomData};
 
-/// What stands behind the lock of a pool: its core, what those sleep for who wait, and room for what is left of the lanes when it is wound
+/// What a pool keeps under its lock: its core, what those sleep for who wait, and room for what is left of the lanes when it is wound
 /// up.
 #[derive(Drop)]
 pub struct Guarded<B: Body, N: Naming> {
@@ -51,9 +51,10 @@ impl<B: Body, N: Naming> Guarded<B, N> {
         requires count { lanes ≡ length N.lanes }
         ensures { IfOk result (λ g. g ≡ core) }
     {
+        let waits = Waits::new(alloc, core.limits().workers() as usize)?;
         Ok(Guarded {
             core,
-            waits: Waits::new(),
+            waits,
             entrants: Vec::with_capacity(alloc, lanes)?,
             rests: Vec::with_capacity(alloc, lanes)?,
             of: PhantomData,

@@ -1,5 +1,6 @@
 use crate::holding::Holding;
 use crate::naming::Naming;
+use crate::next::Unneeded;
 use fj_agreement::End;
 use std::marker::{Model, PhantomData};
 
@@ -12,6 +13,7 @@ use std::marker::{Model, PhantomData};
 pub struct Hand<B, N: Naming> {
     pub(crate) held: fj_shelf::Hand<B>,
     pub(crate) end: End<Holding>,
+    pub(crate) unneeded: Unneeded<B>,
     pub(crate) of: PhantomData<N>,
 }
 

@@ -12,6 +12,7 @@
 #![tactic(auto)]
 
 mod closer;
+mod condvars;
 mod effect;
 mod guarded;
 mod hand;

@@ -12,12 +12,12 @@ use crate::guarded::Guarded;
 use crate::hand::Hand;
 use crate::holding::Holding;
 use crate::naming::Naming;
-use crate::next::{Next, Unneeded};
+use crate::next::Next;
+use crate::waits::{Due, place_of};
 use fj_agreement::End;
 use fj_gate::Ticket;
-use fj_model::{Refusal, Sealed};
+use fj_model::{Refusal, Sealed, WorkerId};
 use fj_store::{Ask, Body, Outcome};
-use fj_waiting::Wake;
 use std::alloc::Global;
 use std::marker::Model;
 
@@ -51,13 +51,7 @@ impl<B: Body, N: Naming> Locked<B, N> {
 
     /// What the hook or the running body asks is done; without an ask the worker goes on with what it left. Precondition: what is asked may be
     /// asked by this hand.
-    pub fn serve(
-        &mut self,
-        alloc: Global,
-        hand: &mut Hand<B, N>,
-        ask: Option<Ask<B>>,
-        unneeded: &mut Unneeded<B>,
-    ) -> Next<B>
+    pub fn serve(&mut self, alloc: Global, hand: &mut Hand<B, N>, ask: Option<Ask<B>>) -> Next<B>
         requires { IfSome ask (λ a. MayAsk B.right B.key_of hand.old a) }
         ensures fits { Fits self.old.store.past hand.old }
         ensures serves { IfSome ask (λ a. Serves B.key_of B.rooted_as self.old hand.old a result self.new hand.new) }
@@ -65,29 +59,57 @@ impl<B: Body, N: Naming> Locked<B, N> {
         ensures right { NextRight B.right result }
         ensures leaves { LeavesWell self.new result }
     {
-        let end = &mut self.ends[place_of(&hand.held)];
+        let end = &mut self.ends[end_of(&hand.held)];
         end.meet(&mut hand.end);
-        let next = self.guarded.serve(alloc, &mut hand.held, ask, unneeded);
+        let next = self
+            .guarded
+            .serve(alloc, &mut hand.held, ask, &mut hand.unneeded);
         end.agree_on(&mut hand.end, &hand.held);
         next
     }
 
-    /// A worker that found nothing to do looks again.
-    pub fn come_back(&mut self)
+    /// A worker that slept has the lock.
+    pub fn come_back(&mut self, worker: WorkerId)
         ensures { self.new ≡ self.old }
     {
-        self.guarded.come_back();
+        self.guarded.come_back(worker);
     }
 
-    /// Whose wait may have ended since this was asked last.
+    /// A worker that slept has something to do.
+    pub fn begin(&mut self, worker: WorkerId)
+        ensures { self.new ≡ self.old }
+    {
+        self.guarded.begin(worker);
+    }
+
+    /// Puts into `due` whose wait may have ended since this was asked last, if that is anybody.
     #[inline(always)]
-    pub fn take_wake(&mut self) -> Wake
+    pub fn take_due(&mut self, due: &mut Due)
         ensures { self.new ≡ self.old }
     {
-        self.guarded.take_wake()
+        self.guarded.take_due(due);
     }
 
-    /// The outcome under a ticket, if it is told. If not, somebody sleeps for it from now on.
+    /// Whether this worker, which has nothing to do, looks for work now and then.
+    pub fn is_lookout(&self, worker: WorkerId) -> bool {
+        self.guarded.waits.workers.is_lookout(place_of(worker))
+    }
+
+    /// Somebody awaits this outcome from now on: at which seat, or among those without one.
+    pub fn sit(&mut self, ticket: Ticket) -> Option<usize>
+        ensures { self.new ≡ self.old }
+    {
+        self.guarded.sit(ticket)
+    }
+
+    /// Who sat there is back.
+    pub fn stand_up(&mut self, seat: Option<usize>)
+        ensures { self.new ≡ self.old }
+    {
+        self.guarded.stand_up(seat);
+    }
+
+    /// The outcome under a ticket, if it is told.
     pub fn collect(&mut self, ticket: Ticket) -> Option<Result<Outcome<B>, Refusal>>
         ensures { CollectsTicket self.old ticket result self.new }
     {
@@ -133,7 +155,7 @@ impl<B: Body, N: Naming> Locked<B, N> {
 }
 
 /// Where the end of the worker of a hand stands.
-fn place_of<B: Drop>(hand: &fj_shelf::Hand<B>) -> usize
+fn end_of<B: Drop>(hand: &fj_shelf::Hand<B>) -> usize
     ensures { result ≡ hand.now.worker }
 {
     hand.worker().0 as usize

@@ -1,5 +1,6 @@
 use fj_model::{Refusal, Serial};
 use fj_store::{Body, Heard};
+use std::alloc::{AllocError, Global};
 
 /// What a worker does once it has let the lock go.
 #[derive(Drop)]
@@ -18,23 +19,25 @@ pub enum Next<B: Body> {
     Leave(Result<(), Refusal>),
 }
 
+/// So many tasks at most are skipped in one holding of the lock.
+pub const MOST_SKIPPED: usize = 16;
+
 /// What is needed no more. It is dropped once the lock is free.
 #[derive(Drop)]
-pub struct Unneeded<B: Body> {
-    /// One that has ended.
-    pub ended: Option<B>,
-    /// One that was skipped.
-    pub skipped: Option<B>,
+pub struct Unneeded<B> {
+    /// A body that has ended.
+    ended: Option<B>,
+    /// Bodies that were skipped.
+    skipped: Vec<B>,
 }
 
-impl<B: Body> Unneeded<B> {
-    /// There is none.
-    #[inline(always)]
-    pub fn none() -> Unneeded<B> {
-        Unneeded {
+impl<B: Drop> Unneeded<B> {
+    /// There is nothing.
+    pub fn new(alloc: Global) -> Result<Unneeded<B>, AllocError> {
+        Ok(Unneeded {
             ended: None,
-            skipped: None,
-        }
+            skipped: Vec::with_capacity(alloc, MOST_SKIPPED)?,
+        })
     }
 
     /// A body has ended, where there is one. Where there is none, one that ended before in the same holding of the lock stays.
@@ -45,14 +48,22 @@ impl<B: Body> Unneeded<B> {
         }
     }
 
-    /// Drops it. Mostly there is none, and then nothing is written.
+    /// A body was skipped.
+    pub fn add_skipped(&mut self, body: B) {
+        // There is room, since no more are skipped before this is cleared.
+        if self.skipped.len() < self.skipped.capacity() {
+            self.skipped.push_reserved(body);
+        }
+    }
+
+    /// Drops it. Mostly there is nothing, and then nothing is written.
     #[inline(always)]
     pub fn clear(&mut self) {
         if self.ended.is_some() {
             self.ended = None;
         }
-        if self.skipped.is_some() {
-            self.skipped = None;
+        if !self.skipped.is_empty() {
+            self.skipped.clear();
         }
     }
 }

@@ -8,23 +8,25 @@ mod outside;
 mod work;
 
 use crate::closer::Closer;
+use crate::condvars::Condvars;
 use crate::guarded::Guarded;
 use crate::hand::Hand;
 use crate::holding::Holding;
 use crate::locked::Locked;
 use crate::naming::Naming;
+use crate::next::Unneeded;
 use crate::parts::Parts;
 use crate::seat::Seat;
 use crate::submitter::Submitter;
 use crate::tied::Tied;
+use crate::waits::Due;
 use fj_agreement::End;
 use fj_core::Core;
 use fj_model::OutOfMemory;
 use fj_store::Body;
-use fj_waiting::{Wake, Woken};
 use std::alloc::{AllocError, Global};
 use std::marker::PhantomData;
-use std::sync::{Condvar, Mutex};
+use std::sync::Mutex;
 
 /// A pool: its core under one lock, and those who wait. Threads share it; each worker brings its own hand. It follows `ForkJoinPool`.
 #[derive(Drop)]
@@ -33,12 +35,8 @@ pub struct Pool<B: Body, N: Naming> {
     pub(crate) lanes: usize,
     ghost counted: { lanes ≡ length N.lanes },
     pub(crate) core: Mutex<Locked<B, N>>,
-    /// Workers that joined a task which is not done.
-    pub(crate) joining: Condvar,
-    /// Workers that found nothing to do.
-    pub(crate) idle: Condvar,
-    /// Whoever awaits an outcome.
-    pub(crate) awaiting: Condvar,
+    pub(crate) condvars: Condvars,
+    ghost as_many: { vec_len condvars.workers ≡ length N.hands },
 }
 
 /// A pool that was opened, with what its users need: a hand for each worker, what each submitter hands in with, and what shuts it down.
@@ -57,6 +55,7 @@ impl<B: Body, N: Naming> Pool<B, N> {
         ensures submitters { IfOk result (λ r. r.2.items ≡ parts.seats) }
         ensures closer { IfOk result (λ r. r.3 ≡ parts.closer) }
     {
+        let condvars = Condvars::new(alloc, parts.ends.len())?;
         let Parts {
             core,
             hands,
@@ -65,7 +64,7 @@ impl<B: Body, N: Naming> Pool<B, N> {
             closer,
         } = parts;
         let hands = name_hands(alloc, hands)?;
-        let (pool, submitters) = put_together(alloc, core, ends, seats)?;
+        let (pool, submitters) = put_together(alloc, core, ends, seats, condvars)?;
         let closer = Closer {
             end: closer,
             of: PhantomData,
@@ -73,21 +72,13 @@ impl<B: Body, N: Naming> Pool<B, N> {
         Ok((pool, hands, submitters, closer))
     }
 
-    /// Wakes those whose wait may have ended.
+    /// Wakes those, if there are any. From then on it is nobody.
     #[inline(always)]
-    fn wake(&self, wake: Wake) {
-        notify(&self.idle, wake.idle);
-        notify(&self.joining, wake.joining);
-        notify(&self.awaiting, wake.awaiting);
-    }
-}
-
-/// Wakes so many of those who sleep on a condition variable.
-fn notify(sleepers: &Condvar, woken: Woken) {
-    match woken {
-        Woken::Nobody => {}
-        Woken::One => sleepers.notify_one(),
-        Woken::Everybody => sleepers.notify_all(),
+    fn wake_due(&self, due: &mut Due) {
+        if !due.is_nobody() {
+            self.condvars.wake(due);
+            *due = Due::nobody();
+        }
     }
 }
 
@@ -97,12 +88,14 @@ fn put_together<B: Body, N: Naming>(
     core: Core<B>,
     ends: Vec<End<Holding>>,
     seats: Vec<Seat<B>>,
+    condvars: Condvars,
 ) -> Result<(Pool<B, N>, Vec<Submitter<B, N>>), AllocError>
     requires lanes { lanes_of core.lanes ≡ N.lanes }
     requires pool { core.store.past.pool ≡ N.pool }
     requires kept { AreKept N.hands core.store.past ends.items }
     requires count { vec_len seats ≡ length N.lanes }
     requires named { All (λ s. IsNamed N.gate N.lanes s) seats.items }
+    requires as_many { vec_len condvars.workers ≡ length N.hands }
     ensures { IfOk result (λ r. r.1.items ≡ seats.items) }
 {
     let lanes = seats.len();
@@ -112,9 +105,7 @@ fn put_together<B: Body, N: Naming>(
         alloc,
         lanes,
         core: Mutex::new(core),
-        joining: Condvar::new(),
-        idle: Condvar::new(),
-        awaiting: Condvar::new(),
+        condvars,
     };
     Ok((pool, submitters))
 }
@@ -133,6 +124,7 @@ fn name_hands<B: Drop, N: Naming>(
         hands.push(Hand {
             held,
             end,
+            unneeded: Unneeded::new(alloc)?,
             of: PhantomData,
         })?;
     }

@@ -104,9 +104,7 @@ impl<B: Body, N: Naming> Pool<B, N> {
             alloc: _,
             lanes: _,
             core,
-            joining: _,
-            idle: _,
-            awaiting: _,
+            condvars: _,
         } = self;
         let Locked { guarded, ends: _ } = core.into_inner();
         guarded

@@ -2,7 +2,7 @@ ghost use Rattle.std.specs.Prelude.{◌≤◌};
 ghost use Rattle.fj_waiting.specs.declared.contention.TheConstants.{MOST_PAUSES};
 
 /// Of so many looks it is counted how many found the lock held.
-const LOOKS: u32 = 4_096;
+const COUNTED: u32 = 4_096;
 
 /// The shortest wait before another look, in pauses of the processor.
 const FEWEST_PAUSES: u32 = 16;
@@ -22,7 +22,7 @@ const MORE_DOUBLINGS: u32 = 2;
 /// where workers contend for it all the time they are slower together than one alone, and one that mostly finds it held looks less often.
 #[derive(Drop)]
 pub struct Contention {
-    /// How many of `LOOKS` looks found it held, those of late counting most.
+    /// How many of `COUNTED` looks found it held, those of late counting most.
     held: u32,
     ghost part: { held ≤ 4096 },
 }
@@ -42,10 +42,10 @@ impl Contention {
     pub fn find_held(&mut self, before: u32) -> u32
         ensures { result ≤ MOST_PAUSES }
     {
-        self.held += (LOOKS - self.held) / 8;
+        self.held += (COUNTED - self.held) / 8;
         // Squared, since a lock that is held half of the time is free soon.
-        let often = self.held * self.held / LOOKS;
-        let doublings = often * DOUBLINGS / LOOKS + before.min(MORE_DOUBLINGS);
+        let often = self.held * self.held / COUNTED;
+        let doublings = often * DOUBLINGS / COUNTED + before.min(MORE_DOUBLINGS);
         (FEWEST_PAUSES << doublings).min(MOST_PAUSES)
     }
 }

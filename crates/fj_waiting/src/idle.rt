@@ -12,7 +12,7 @@ const YIELDS: u32 = 16;
 const FIRST_SLEEP: u64 = 16;
 
 /// The longest sleep, in microseconds.
-const LONGEST_SLEEP: u64 = 1_000;
+const LONGEST_SLEEP: u64 = 800;
 
 /// How a worker waits that finds nothing to do: it yields, and after some rounds it sleeps, longer and longer, since a push into a lane
 /// wakes nobody.
@@ -20,7 +20,6 @@ const LONGEST_SLEEP: u64 = 1_000;
 pub struct Idle {
     rounds: u32,
     sleeps: Sleeps,
-    resting: bool,
     ghost longest: { sleeps.longest ≡ LONGEST_SLEEP },
 }
 
@@ -30,22 +29,13 @@ impl Idle {
         Idle {
             rounds: 0,
             sleeps: Sleeps::new(FIRST_SLEEP, LONGEST_SLEEP),
-            resting: false,
         }
-    }
-
-    /// It looks again: whether it has rested since it looked last.
-    pub fn looks_again(&mut self) -> bool {
-        let rested = self.resting;
-        self.resting = false;
-        rested
     }
 
     /// It rests. How long to sleep before the next look; none where a yield is enough.
     pub fn next_sleep(&mut self) -> Option<Duration>
         ensures { IfSome result (λ sleep. as_nanos sleep ≤ LONGEST_SLEEP * 1_000) }
     {
-        self.resting = true;
         if self.rounds < YIELDS {
             self.rounds += 1;
             return None;

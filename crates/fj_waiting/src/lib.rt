@@ -1,4 +1,4 @@
-//! How long a thread waits that looks again and again, and whom it wakes by what it has done.
+//! Who sleeps, who is woken, and how long a thread sleeps that looks again and again.
 //!
 //! ```
 //! let seen = condvar.notifications();
@@ -11,14 +11,19 @@
 
 mod contention;
 mod idle;
+mod places;
+mod sleeper;
+mod sleepers;
 mod sleeps;
-mod wake;
 mod wanted;
+mod whom;
 
 pub use contention::Contention;
 pub use idle::Idle;
+pub use places::{MAX_PLACES, Places};
+pub use sleeper::Sleeper;
+pub use sleepers::Sleepers;
 pub use sleeps::Sleeps;
-pub use wake::{Wake, Woken};
 pub use wanted::Wanted;
 
 #[cfg(test)]

@@ -1,16 +1,16 @@
 use super::*;
+use std::alloc::{AllocError, Global};
+use std::test::Fail;
 use std::time::Duration;
 
-/// After sixteen rounds a worker that finds nothing sleeps, twice as long each time, up to a millisecond.
+/// After sixteen rounds a worker that finds nothing sleeps, twice as long each time, up to 0.8 milliseconds.
 #[test]
 fn an_idle_worker_yields_and_then_sleeps(rt: HostRuntime) {
     let mut idle = Idle::new();
-    assert!(rt; !idle.looks_again());
     for round in 0..16 {
         assert_eq!(rt; idle.next_sleep(), None, "{round}");
-        assert!(rt; idle.looks_again(), "{round}");
     }
-    for micros in [16, 32, 64, 128, 256, 512, 1000, 1000] {
+    for micros in [16, 32, 64, 128, 256, 512, 800, 800] {
         assert_eq!(rt; idle.next_sleep(), Some(Duration::from_micros(micros)));
     }
 }
@@ -55,10 +55,164 @@ fn what_is_slept_for_is_remembered(rt: HostRuntime) {
     assert!(rt; !nothing.may_be(1));
 }
 
-/// Whom to wake, and then one more.
+/// A call of those who sleep.
+#[derive(Clone, Copy, Debug)]
+enum Call {
+    Rest(usize),
+    Wait(usize, u8),
+    ComeBack(usize),
+    Begin(usize),
+    Wake(usize),
+    WakeFor(u8),
+    WakeWaiting,
+    WakeAll,
+    WakeOne,
+    TakeDue,
+}
+
+/// Makes a call. The places that it tells.
+fn make(sleepers: &mut Sleepers<u8>, call: Call) -> Option<Places> {
+    match call {
+        Call::Rest(place) => sleepers.rest(place),
+        Call::Wait(place, t) => sleepers.wait(place, t),
+        Call::ComeBack(place) => sleepers.come_back(place),
+        Call::Begin(place) => sleepers.begin(place),
+        Call::Wake(place) => sleepers.wake(place),
+        Call::WakeFor(t) => sleepers.wake_for(t),
+        Call::WakeWaiting => sleepers.wake_waiting(),
+        Call::WakeAll => sleepers.wake_all(),
+        Call::WakeOne => sleepers.wake_one(),
+        Call::TakeDue => return sleepers.take_due(),
+    }
+    None
+}
+
+/// A letter for what is at a place, or what is waited for there.
+fn letter(sleeper: &Sleeper<u8>) -> u8 {
+    match sleeper {
+        Sleeper::Awake => b'-',
+        Sleeper::Resting => b'r',
+        Sleeper::Waiting(t) => *t,
+        Sleeper::Due => b'd',
+        Sleeper::Woken => b'w',
+    }
+}
+
+/// What is at each of four places, which one is the lookout's, and which are told.
+fn shown(
+    alloc: Global,
+    sleepers: &Sleepers<u8>,
+    told: Option<Places>,
+) -> Result<Vec<u8>, AllocError> {
+    let mut text: Vec<u8> = sleepers.places.iter().map(letter).collect(alloc)?;
+    text.push(b' ')?;
+    for place in 0..4 {
+        text.push(if sleepers.is_lookout(place) {
+            b'*'
+        } else {
+            b'-'
+        })?;
+    }
+    if let Some(told) = told {
+        text.push(b' ')?;
+        for place in 0..4 {
+            text.push(if told.has(place) { b'x' } else { b'-' })?;
+        }
+    }
+    Ok(text)
+}
+
+/// Calls in a row, and what is shown after each.
+fn rows() -> [(Call, &'static str); 34] {
+    [
+        (Call::WakeOne, "---- ----"),
+        (Call::TakeDue, "---- ----"),
+        (Call::Rest(2), "--r- --*-"),
+        (Call::Rest(0), "r-r- --*-"),
+        (Call::Wait(1, b'7'), "r7r- --*-"),
+        (Call::WakeOne, "d7r- --*-"),
+        (Call::TakeDue, "w7r- --*- x---"),
+        (Call::WakeOne, "w7d- --*-"),
+        (Call::WakeOne, "wdd- --*-"),
+        (Call::WakeOne, "wdd- --*-"),
+        (Call::TakeDue, "www- --*- -xx-"),
+        (Call::TakeDue, "www- --*-"),
+        (Call::ComeBack(0), "-ww- --*-"),
+        (Call::Begin(0), "-ww- --*-"),
+        (Call::ComeBack(2), "-w-- --*-"),
+        (Call::Rest(0), "rw-- --*-"),
+        (Call::Begin(2), "dw-- *---"),
+        (Call::ComeBack(0), "-w-- *---"),
+        (Call::Begin(0), "-w-- ----"),
+        (Call::Rest(3), "-w-r ---*"),
+        (Call::Wait(0, b'7'), "7w-r ---*"),
+        (Call::Wait(1, b'8'), "78-r ---*"),
+        (Call::Wait(2, b'7'), "787r ---*"),
+        (Call::WakeFor(b'9'), "787r ---*"),
+        (Call::WakeFor(b'7'), "d8dr ---*"),
+        (Call::Wake(0), "d8dr ---*"),
+        (Call::WakeWaiting, "dddr ---*"),
+        (Call::ComeBack(2), "dd-r ---*"),
+        (Call::Wake(2), "dd-r ---*"),
+        (Call::Wait(0, b'7'), "7d-r ---*"),
+        (Call::WakeAll, "dd-d ---*"),
+        (Call::Wait(4, b'7'), "dd-d ---*"),
+        (Call::Rest(4), "dd-d ---*"),
+        (Call::TakeDue, "ww-w ---* xx-x"),
+    ]
+}
+
 #[test]
-fn one_more_is_woken(rt: HostRuntime) {
-    assert!(rt; matches!(Wake::nobody().idle.and_one(), Woken::One));
-    assert!(rt; matches!(Wake::nobody().idle.and_one().and_one(), Woken::One));
-    assert!(rt; matches!(Wake::everybody().awaiting.and_one(), Woken::Everybody));
+fn sleepers_are_told_apart(rt: HostRuntime) -> Result<(), Fail> {
+    let mut sleepers = Sleepers::new(rt.alloc(), 4)?;
+    for (call, text) in rows() {
+        let told = make(&mut sleepers, call);
+        let text_now = shown(rt.alloc(), &sleepers, told)?;
+        assert_eq!(rt; text_now.as_slice(), text.as_bytes(), "{call:?}");
+    }
+    Ok(())
+}
+
+/// Of 32 who rest, the lookout is woken last.
+#[test]
+fn the_lookout_is_woken_last(rt: HostRuntime) -> Result<(), Fail> {
+    let mut sleepers: Sleepers<u8> = Sleepers::new(rt.alloc(), MAX_PLACES)?;
+    for place in 0..MAX_PLACES {
+        sleepers.rest(place);
+        assert_eq!(rt; sleepers.is_lookout(place), place == 0, "{place}");
+    }
+    for (calls, from, to) in [(31, 1, 32), (1, 0, 1)] {
+        for _ in 0..calls {
+            sleepers.wake_one();
+        }
+        let due = sleepers.take_due().ok_or("nobody is told")?;
+        for place in 0..40 {
+            assert_eq!(rt; due.has(place), from <= place && place < to, "{place}");
+        }
+    }
+    Ok(())
+}
+
+/// Who finds a free place waits there, and leaves it when it is back.
+#[test]
+fn places_are_taken_and_left(rt: HostRuntime) -> Result<(), Fail> {
+    let mut sleepers = Sleepers::new(rt.alloc(), 2)?;
+    assert!(rt; !sleepers.waits());
+    for t in [7_u8, 8] {
+        let place = sleepers.free_place().ok_or("no place is free")?;
+        sleepers.wait(place, t);
+        assert!(rt; sleepers.waits());
+        assert_eq!(rt; sleepers.waited_for(place), Some(t));
+    }
+    for place in [0, 1] {
+        assert_eq!(rt; sleepers.free_place(), None);
+        sleepers.come_back(place);
+        assert_eq!(rt; sleepers.waited_for(place), None);
+        assert_eq!(rt; sleepers.free_place(), Some(place));
+        sleepers.wake(place);
+        assert!(rt; sleepers.take_due().is_none());
+        sleepers.rest(place);
+    }
+    assert_eq!(rt; sleepers.waited_for(2), None);
+    Ok(())
 }

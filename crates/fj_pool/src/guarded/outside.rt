@@ -45,7 +45,7 @@ impl<B: Body, N: Naming> Guarded<B, N> {
             // With the last submission a stop may have been made.
             TakenIn::One => self.tasks_ended(),
             TakenIn::Several => {
-                self.waits.tasks_queued();
+                self.tasks_queued();
                 self.tasks_ended();
             }
         }
@@ -61,14 +61,13 @@ impl<B: Body, N: Naming> Guarded<B, N> {
         }
     }
 
-    /// The outcome under a ticket, as `Core::collect` tells it. Where it tells none, somebody sleeps for it from now on.
+    /// The outcome under a ticket, as `Core::collect` tells it.
     pub fn collect(&mut self, ticket: Ticket) -> Option<Result<Outcome<B>, Refusal>>
         ensures { CollectsTicket self.old ticket result self.new }
     {
         let answer = self.core.collect(ticket);
-        match answer {
-            Some(_) => self.outcome_told(),
-            None => self.waits.awaited = self.waits.awaited.and(ticket),
+        if answer.is_some() {
+            self.outcome_told();
         }
         answer
     }

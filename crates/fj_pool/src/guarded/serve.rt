@@ -9,14 +9,14 @@ ghost use Rattle.fj_core.specs.Closes.{is_finished};
 ghost use Rattle.fj_core.specs.Cores.{ChangesStore};
 ghost use Rattle.fj_pool.specs.Holdings.{KeepsOthers};
 ghost use Rattle.fj_pool.specs.Turning.{LeavesWell, MayAsk, NextRight};
-ghost use Rattle.fj_pool.specs.Working.{JoinsOnce, LooksForWork, Resumes, Serves, Then, Waits, next_idle, noted};
+ghost use Rattle.fj_pool.specs.Working.{JoinsOnce, IsPolled, LooksForWork, NextOfPoll, PollsOn, Resumes, Serves, Then, Waits, next_idle, noted};
 
 use crate::effect::{Effect, effect_of, is_result};
 use crate::guarded::Guarded;
 use crate::guarded::outside::TakenIn;
 use crate::naming::Naming;
-use crate::next::{Next, Unneeded};
-use fj_model::{Refusal, Serial};
+use crate::next::{MOST_SKIPPED, Next, Unneeded};
+use fj_model::{Refusal, Serial, WorkerId};
 use fj_shelf::Hand;
 use fj_store::{Ask, Body, Heard, Told};
 use std::alloc::Global;
@@ -177,7 +177,7 @@ impl<B: Body, N: Naming> Guarded<B, N> {
             }
             Told::Run(u) => Next::Begin(u),
             Told::Skip(_, body) => skip(body, unneeded),
-            Told::None => self.wait_for(alloc, t),
+            Told::None => self.wait_for(alloc, hand.worker(), t),
             Told::Stuck(body) => self.leave_stuck(body, unneeded),
             // Endings alone are answered otherwise.
             _ => unreachable!(),
@@ -201,25 +201,83 @@ impl<B: Body, N: Naming> Guarded<B, N> {
         ensures worker { hand.new.worker ≡ hand.old.worker }
     {
         let _taken = self.look_at_lanes(alloc);
+        self.poll_on(hand, unneeded)
+    }
+
+    /// An idle worker polls, and again where that skips a task, some times.
+    #[inline(always)]
+    fn poll_on(&mut self, hand: &mut Hand<B>, unneeded: &mut Unneeded<B>) -> Next<B>
+        requires fits { Fits self.old.store.past hand.old }
+        requires idle { (hand.old.stack ≡ []) × (hand.old.hook ≡ None) }
+        ensures polls { PollsOn self.old hand.old result self.new hand.new }
+        ensures right { NextRight B.right result }
+        ensures leaves { LeavesWell self.new result }
+        ensures fits { Fits self.new.store.past hand.new }
+        ensures others { KeepsOthers hand.old.worker self.old.store.past self.new.store.past }
+        ensures worker { hand.new.worker ≡ hand.old.worker }
+    {
         match self.poll(hand) {
             Told::Run(t) => Next::Begin(t),
-            Told::Skip(_, body) => skip(body, unneeded),
-            Told::None => self.after_no_task(),
+            Told::Skip(_, body) => {
+                unneeded.add_skipped(body);
+                self.poll_again(hand, unneeded)
+            }
+            Told::None => self.after_no_task(hand.worker()),
             Told::Stuck(body) => self.leave_stuck(body, unneeded),
             _ => unreachable!(),
         }
     }
 
-    /// No task is queued: the worker leaves where the pool has terminated.
-    fn after_no_task(&mut self) -> Next<B>
+    /// The same, after a task was skipped.
+    #[inline(never)]
+    fn poll_again(&mut self, hand: &mut Hand<B>, unneeded: &mut Unneeded<B>) -> Next<B>
+        requires fits { Fits self.old.store.past hand.old }
+        requires idle { (hand.old.stack ≡ []) × (hand.old.hook ≡ None) }
+        ensures polls { PollsOn self.old hand.old result self.new hand.new }
+        ensures right { NextRight B.right result }
+        ensures leaves { LeavesWell self.new result }
+        ensures fits { Fits self.new.store.past hand.new }
+        ensures others { KeepsOthers hand.old.worker self.old.store.past self.new.store.past }
+        ensures worker { hand.new.worker ≡ hand.old.worker }
+    {
+        for _skip in 2..MOST_SKIPPED {
+            match self.poll(hand) {
+                Told::Skip(_, body) => unneeded.add_skipped(body),
+                told => return self.after_poll(hand, told, unneeded),
+            }
+        }
+        let told = self.poll(hand);
+        self.after_poll(hand, told, unneeded)
+    }
+
+    /// What an idle worker does that was told this.
+    fn after_poll(&mut self, hand: &Hand<B>, told: Told<B>, unneeded: &mut Unneeded<B>) -> Next<B>
+        requires { IsPolled self.old.store told }
+        ensures next { NextOfPoll self.old told result }
+        ensures right { NextRight B.right result }
+        ensures leaves { LeavesWell self.new result }
+        ensures same { self.new ≡ self.old }
+    {
+        match told {
+            Told::Run(t) => Next::Begin(t),
+            Told::Skip(_, body) => skip(body, unneeded),
+            Told::None => self.after_no_task(hand.worker()),
+            Told::Stuck(body) => self.leave_stuck(body, unneeded),
+            _ => unreachable!(),
+        }
+    }
+
+    /// No task is queued: the worker leaves where the pool has terminated, and with it all others.
+    fn after_no_task(&mut self, worker: WorkerId) -> Next<B>
         ensures next { Then (next_idle (is_finished self.old)) self.old result self.new }
         ensures right { NextRight B.right result }
         ensures leaves { LeavesWell self.new result }
     {
         if self.core.is_terminated() {
+            self.all_ended();
             Next::Leave(Ok(()))
         } else {
-            self.rest();
+            self.rest(worker);
             Next::Rest
         }
     }
@@ -235,32 +293,32 @@ impl<B: Body, N: Naming> Guarded<B, N> {
             return Next::Turn(Heard::Helped(false));
         }
         match hand.joined() {
-            Some(t) => self.wait_for(alloc, t),
+            Some(t) => self.wait_for(alloc, hand.worker(), t),
             None => Next::Wait,
         }
     }
 
     /// The worker waits for a task. Before the shutdown or the stop of the pool it takes in what the lanes show, as an idle one does: that
     /// comes with the last submission, and all workers may wait for tasks that only a stop ends.
-    fn wait_for(&mut self, alloc: Global, t: Serial) -> Next<B>
+    fn wait_for(&mut self, alloc: Global, worker: WorkerId, t: Serial) -> Next<B>
         ensures waits { Waits B.rooted_as self.old result self.new }
         ensures right { NextRight B.right result }
         ensures leaves { LeavesWell self.new result }
     {
         if self.waits.closing && !self.core.is_shut() {
-            return self.look_and_wait(alloc, t);
+            return self.look_and_wait(alloc, worker, t);
         }
-        self.sleep_until(t)
+        self.sleep_until(worker, t)
     }
 
     /// The worker takes in what the lanes show, and waits if that was nothing.
-    fn look_and_wait(&mut self, alloc: Global, t: Serial) -> Next<B>
+    fn look_and_wait(&mut self, alloc: Global, worker: WorkerId, t: Serial) -> Next<B>
         ensures waits { Waits B.rooted_as self.old result self.new }
         ensures right { NextRight B.right result }
         ensures leaves { LeavesWell self.new result }
     {
         match self.look_at_lanes(alloc) {
-            TakenIn::Nothing => self.sleep_until(t),
+            TakenIn::Nothing => self.sleep_until(worker, t),
             TakenIn::One => {
                 self.task_queued();
                 Next::Again
@@ -270,10 +328,10 @@ impl<B: Body, N: Naming> Guarded<B, N> {
     }
 
     /// The worker sleeps until this task is done, or another one is queued.
-    fn sleep_until(&mut self, t: Serial) -> Next<B>
+    fn sleep_until(&mut self, worker: WorkerId, t: Serial) -> Next<B>
         ensures { Then Next.Wait self.old result self.new }
     {
-        self.sleep_for(t);
+        self.sleep_for(worker, t);
         Next::Wait
     }
 
@@ -308,7 +366,7 @@ impl<B: Body, N: Naming> Guarded<B, N> {
 fn skip<B: Body>(body: B, unneeded: &mut Unneeded<B>) -> Next<B>
     ensures { result ≡ Next.Again }
 {
-    unneeded.skipped = Some(body);
+    unneeded.add_skipped(body);
     Next::Again
 }
 

@@ -3,44 +3,77 @@ ghost use Rattle.std.specs.Prelude.{◌≡◌};
 
 use crate::guarded::Guarded;
 use crate::naming::Naming;
-use fj_model::Serial;
+use crate::waits::{Due, place_of};
+use fj_core::Core;
+use fj_gate::Ticket;
+use fj_model::{Serial, WorkerId};
 use fj_store::Body;
-use fj_waiting::{Wake, Wanted};
+use fj_waiting::{Sleepers, Wanted};
 
 impl<B: Body, N: Naming> Guarded<B, N> {
-    /// Who is to be woken by all that was done since the last call.
-    pub fn take_wake(&mut self) -> Wake
+    /// Puts into `due` who is to be woken by all that was done since the last call, if anybody is.
+    #[inline(always)]
+    pub fn take_due(&mut self, due: &mut Due)
         ensures { self.new ≡ self.old }
     {
-        self.waits.take_due()
+        self.waits.take_due(due);
+    }
+
+    /// A worker that slept has the lock.
+    pub fn come_back(&mut self, worker: WorkerId)
+        ensures { self.new ≡ self.old }
+    {
+        self.waits.workers.come_back(place_of(worker));
+    }
+
+    /// A worker that slept has something to do. If it was the lookout, another one that has nothing to do looks for work from now on.
+    pub fn begin(&mut self, worker: WorkerId)
+        ensures { self.new ≡ self.old }
+    {
+        self.waits.workers.begin(place_of(worker));
+    }
+
+    /// A worker that found nothing to do rests.
+    pub fn rest(&mut self, worker: WorkerId)
+        ensures { self.new ≡ self.old }
+    {
+        self.waits.workers.rest(place_of(worker));
     }
 
     /// A worker sleeps until this task is done, or another one is queued.
-    pub fn sleep_for(&mut self, t: Serial)
+    pub fn sleep_for(&mut self, worker: WorkerId, t: Serial)
         ensures { self.new ≡ self.old }
     {
-        self.waits.joined = self.waits.joined.and(t);
+        self.waits.workers.wait(place_of(worker), t);
     }
 
-    /// A task was queued.
+    /// Somebody awaits this outcome from now on: at which seat, or among those without one.
+    pub fn sit(&mut self, ticket: Ticket) -> Option<usize>
+        ensures { self.new ≡ self.old }
+    {
+        self.waits.sit(ticket)
+    }
+
+    /// Who sat there is back.
+    pub fn stand_up(&mut self, seat: Option<usize>)
+        ensures { self.new ≡ self.old }
+    {
+        self.waits.stand_up(seat);
+    }
+
+    /// A task was queued: one that has nothing to do is to be woken, or else one that waits for a task.
+    #[inline(always)]
     pub fn task_queued(&mut self)
         ensures { self.new ≡ self.old }
     {
-        self.waits.task_queued();
+        self.waits.workers.wake_one();
     }
 
-    /// A worker that found nothing to do rests until it looks again.
-    pub fn rest(&mut self)
+    /// Several tasks were queued.
+    pub fn tasks_queued(&mut self)
         ensures { self.new ≡ self.old }
     {
-        self.waits.resting = self.waits.resting.saturating_add(1);
-    }
-
-    /// A worker that rested is back.
-    pub fn come_back(&mut self)
-        ensures { self.new ≡ self.old }
-    {
-        self.waits.resting = self.waits.resting.saturating_sub(1);
+        self.waits.workers.wake_all();
     }
 
     /// This task may be done now: who sleeps for it is to be woken. All are where its release made the core stuck.
@@ -52,12 +85,10 @@ impl<B: Body, N: Naming> Guarded<B, N> {
             self.waits.all_ended();
             return;
         }
-        if self.waits.joined.may_be(t) {
-            self.tell_joining();
+        if self.waits.workers.waits() && !self.core.is_undone(t) {
+            self.waits.workers.wake_for(t);
         }
-        if self.may_be_awaited(t) {
-            self.tell_awaiting();
-        }
+        self.tell_booked(t);
     }
 
     /// The result of this task is taken: who awaits its outcome is to be woken, and who joined it, or a task that was released with
@@ -72,9 +103,7 @@ impl<B: Body, N: Naming> Guarded<B, N> {
         }
         self.tell_joining();
         // What is released with it has lost its result before.
-        if self.may_be_awaited(t) {
-            self.tell_awaiting();
-        }
+        self.tell_booked(t);
     }
 
     /// Tasks may be done now, or their results taken: who sleeps for one of them is to be woken. All are where a release made the core
@@ -90,7 +119,7 @@ impl<B: Body, N: Naming> Guarded<B, N> {
         self.tell_awaiting();
     }
 
-    /// An outcome is told: whoever awaits the same ticket is to be woken, to be told that it was told before, and who joined its task, which
+    /// An outcome is told: each thread that awaits the same ticket is to be woken, to hear that it was told before, and who joined its task, which
     /// may be released now. Before the shutdown or the stop of the pool there may be room now for what stands in the lanes, into which those
     /// look who wait in joins.
     pub fn outcome_told(&mut self)
@@ -98,49 +127,12 @@ impl<B: Body, N: Naming> Guarded<B, N> {
     {
         self.tasks_ended();
         if self.waits.closing && !self.core.is_shut() {
-            self.waits.join_ended();
-        }
-    }
-
-    /// Whether somebody may await the outcome of this task.
-    #[inline(always)]
-    fn may_be_awaited(&self, t: Serial) -> bool {
-        match self.waits.awaited {
-            Wanted::Nothing => false,
-            Wanted::One(ticket) => self.core.booked(ticket) == Some(t),
-            Wanted::Several => true,
-        }
-    }
-
-    /// Who sleeps in a join is to be woken, where one of the tasks that were joined may be done or released.
-    fn tell_joining(&mut self)
-        ensures { self.new ≡ self.old }
-    {
-        let is_over = match self.waits.joined {
-            Wanted::Nothing => false,
-            Wanted::One(t) => !self.core.is_undone(t),
-            Wanted::Several => true,
-        };
-        if is_over {
-            self.waits.join_ended();
-        }
-    }
-
-    /// Who awaits an outcome is to be woken, where one of those that are awaited may be told.
-    fn tell_awaiting(&mut self)
-        ensures { self.new ≡ self.old }
-    {
-        let is_told = match self.waits.awaited {
-            Wanted::Nothing => false,
-            Wanted::One(ticket) => !self.core.is_awaited(ticket),
-            Wanted::Several => true,
-        };
-        if is_told {
-            self.waits.await_ended();
+            self.waits.workers.wake_waiting();
         }
     }
 
     /// Where the core is stuck all are to be woken.
+    #[inline(always)]
     pub fn tell_if_stuck(&mut self)
         ensures { self.new ≡ self.old }
     {
@@ -149,10 +141,97 @@ impl<B: Body, N: Naming> Guarded<B, N> {
         }
     }
 
-    /// The core is stuck, or the pool is shut down: all are to be woken.
+    /// The core is stuck, or the pool is shut down or has terminated: all are to be woken.
     pub fn all_ended(&mut self)
         ensures { self.new ≡ self.old }
     {
         self.waits.all_ended();
+    }
+
+    /// Who sleeps for a task that is done now, or released, is to be woken.
+    #[inline(always)]
+    fn tell_joining(&mut self)
+        ensures { self.new ≡ self.old }
+    {
+        if self.waits.workers.waits() {
+            tell_joining(&mut self.core, &mut self.waits.workers);
+        }
+    }
+
+    /// Who awaits the outcome of this task is to be woken.
+    #[inline(always)]
+    fn tell_booked(&mut self, t: Serial)
+        ensures { self.new ≡ self.old }
+    {
+        if self.waits.seats.waits() {
+            tell_booked(&self.core, &mut self.waits.seats, self.waits.seats_used, t);
+        }
+        if !self.waits.crowd.is_nothing() {
+            self.tell_crowd();
+        }
+    }
+
+    /// Who awaits an outcome that may be told is to be woken.
+    fn tell_awaiting(&mut self)
+        ensures { self.new ≡ self.old }
+    {
+        if self.waits.seats.waits() {
+            tell_awaiting(&mut self.core, &mut self.waits.seats, self.waits.seats_used);
+        }
+        if !self.waits.crowd.is_nothing() {
+            self.tell_crowd();
+        }
+    }
+
+    /// Who awaits an outcome without a seat is to be woken, where it may be told.
+    fn tell_crowd(&mut self)
+        ensures { self.new ≡ self.old }
+    {
+        let is_told = match self.waits.crowd {
+            Wanted::Nothing => false,
+            Wanted::One(ticket) => !self.core.is_awaited(ticket),
+            Wanted::Several => true,
+        };
+        if is_told {
+            self.waits.wake_crowd();
+        }
+    }
+}
+
+/// Who sleeps for a task that is done now, or released, is to be woken.
+fn tell_joining<B: Body>(core: &mut Core<B>, workers: &mut Sleepers<Serial>)
+    ensures { core.new ≡ core.old }
+{
+    for worker in 0..core.limits().workers() {
+        let place = place_of(WorkerId(worker));
+        if let Some(t) = workers.waited_for(place) {
+            if !core.is_undone(t) {
+                workers.wake(place);
+            }
+        }
+    }
+}
+
+/// Who awaits the outcome of this task at one of the first seats is to be woken.
+fn tell_booked<B: Body>(core: &Core<B>, seats: &mut Sleepers<Ticket>, used: usize, t: Serial) {
+    for seat in 0..used {
+        if let Some(ticket) = seats.waited_for(seat) {
+            if core.booked(ticket) == Some(t) {
+                seats.wake(seat);
+            }
+        }
+    }
+}
+
+/// Who awaits an outcome that may be told at one of the first seats is to be woken.
+fn tell_awaiting<B: Body>(core: &mut Core<B>, seats: &mut Sleepers<Ticket>, used: usize)
+    ensures { core.new ≡ core.old }
+{
+    for seat in 0..used {
+        if let Some(ticket) = seats.waited_for(seat) {
+            if !core.is_awaited(ticket) {
+                seats.wake(seat);
+            }
+        }
     }
 }

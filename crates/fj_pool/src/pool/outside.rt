@@ -2,10 +2,13 @@
 use crate::closer::Closer;
 use crate::naming::Naming;
 use crate::pool::Pool;
+use crate::pool::work::LONGEST_WAIT;
+use crate::waits::Due;
 use fj_gate::{Closing, Ticket};
 use fj_model::{Refusal, Sealed};
 use fj_store::{Body, Outcome};
 use std::sync::Wait;
+use std::time::Duration;
 
 impl<B: Body, N: Naming> Pool<B, N> {
     /// Waits for the outcome of what was submitted under a ticket, which is told once: `ForkJoinTask.join`. A result in it is right for the
@@ -17,16 +20,24 @@ impl<B: Body, N: Naming> Pool<B, N> {
     /// `Unknown` where the outcome was told before, where a body has had the result by a join or a take, or where the pool was shut down or
     /// stopped and all that was admitted was taken in, nothing of it under this ticket. `LogFull` where the core is stuck.
     pub fn await_done<R: Wait>(&self, rt: &R, ticket: Ticket) -> Result<Outcome<B>, Refusal> {
+        let mut due = Due::nobody();
         let mut guard = self.lock(rt);
         for _ in rt.forever() {
             let core = &mut *guard;
             if let Some(answer) = core.collect(ticket) {
-                let wake = core.take_wake();
+                core.take_due(&mut due);
                 drop(guard);
-                self.wake(wake);
+                self.wake_due(&mut due);
                 return answer;
             }
-            guard = self.awaiting.wait(rt, guard);
+            let seat = core.sit(ticket);
+            let condvar = self.condvars.seat(seat);
+            let seen = condvar.notifications();
+            drop(guard);
+            condvar.sleep(rt, seen, Duration::from_secs(LONGEST_WAIT));
+            guard = self.lock(rt);
+            let core = &mut *guard;
+            core.stand_up(seat);
         }
         unreachable!()
     }
@@ -47,24 +58,26 @@ impl<B: Body, N: Naming> Pool<B, N> {
     /// It finds its end only where all that was admitted can be taken in: a task keeps its place until its outcome was told.
     pub fn shutdown<R: Wait>(&self, rt: &R, closer: &mut Closer<N>) {
         let number = number_of(closer.close());
+        let mut due = Due::nobody();
         let mut guard = self.core.lock(rt);
         let core = &mut *guard;
         core.close_at(number);
-        let wake = core.take_wake();
+        core.take_due(&mut due);
         drop(guard);
-        self.wake(wake);
+        self.wake_due(&mut due);
     }
 
     /// Nothing more is admitted; once all that was admitted was taken in, every task that is undone is cancelled, and the workers leave:
     /// `ForkJoinPool.shutdownNow`. It also serves after a shutdown. A repeat has no effect. What a shutdown needs for its end this needs too.
     pub fn shutdown_now<R: Wait>(&self, rt: &R, closer: &mut Closer<N>) {
         let number = number_of(closer.close());
+        let mut due = Due::nobody();
         let mut guard = self.core.lock(rt);
         let core = &mut *guard;
         core.stop_at(number);
-        let wake = core.take_wake();
+        core.take_due(&mut due);
         drop(guard);
-        self.wake(wake);
+        self.wake_due(&mut due);
     }
 
     /// Whether all queues are empty and no worker runs anything, once what the lanes show was taken in: `ForkJoinPool.isQuiescent`.
@@ -72,12 +85,13 @@ impl<B: Body, N: Naming> Pool<B, N> {
     /// Submissions for which there is no place stay in their lanes, and do not count. Before it takes anything in it seals the history, where
     /// that is due, which takes memory; a refusal of that is ignored.
     pub fn is_quiescent<R: Wait>(&self, rt: &R) -> bool {
+        let mut due = Due::nobody();
         let mut guard = self.core.lock(rt);
         let core = &mut *guard;
         let quiescent = core.is_quiescent(self.alloc);
-        let wake = core.take_wake();
+        core.take_due(&mut due);
         drop(guard);
-        self.wake(wake);
+        self.wake_due(&mut due);
         quiescent
     }
 

@@ -1,5 +1,5 @@
 //! What a worker does, from its start to the end of its pool.
-ghost use Rattle.std.specs.Prelude.{IfSome};
+ghost use Rattle.std.specs.Prelude.{◌<◌, IfSome, length};
 ghost use Rattle.fj_pool.specs.Turning.{MayAsk, NextRight};
 
 use crate::hand::Hand;
@@ -9,15 +9,27 @@ use crate::next::{Next, Unneeded};
 use crate::pool::Pool;
 use crate::turns::observed_turn;
 use crate::turnstile::Turnstile;
+use crate::waits::{Due, place_of};
 use fj_model::{Refusal, WorkerId};
 use fj_store::{Ask, Body, Heard};
-use fj_waiting::{Contention, Idle, Wake};
+use fj_waiting::{Contention, Idle};
 use std::sync::{MutexGuard, Wait};
 use std::thread;
 use std::time::Duration;
 
-/// After so many seconds a worker that waits looks again, though nobody has woken it.
-const LONGEST_WAIT: u64 = 1;
+/// After so many seconds whoever waits looks again, though nobody has woken it.
+pub(crate) const LONGEST_WAIT: u64 = 1;
+
+/// How a worker waits, for work and for the lock.
+#[derive(Drop)]
+struct Pace {
+    idle: Idle,
+    contention: Contention,
+    /// Whether it has rested, or waited in a join, since it had the lock last.
+    slept: bool,
+    /// Whom it wakes once it has let the lock go.
+    due: Due,
+}
 
 /// A thread that works: by what it waits, and who observes it.
 #[derive(Drop)]
@@ -44,22 +56,17 @@ impl<B: Body, N: Naming> Pool<B, N> {
             worker: hand.held.worker(),
         };
         let mut ask: Option<Ask<B>> = None;
-        let mut idle = Idle::new();
-        let mut contention = Contention::new();
-        let mut unneeded = Unneeded::none();
+        let mut pace = Pace {
+            idle: Idle::new(),
+            contention: Contention::new(),
+            slept: false,
+            due: Due::nobody(),
+        };
         for _ in rt.forever() {
-            let next = self.serve(
-                &working,
-                hand,
-                ask,
-                &mut idle,
-                &mut contention,
-                &mut unneeded,
-            );
+            let next = self.serve(&working, hand, ask, &mut pace);
             ask = match next {
                 Next::Turn(heard) => observed_turn(hand, heard, turnstile),
                 Next::Begin(t) => {
-                    idle = Idle::new();
                     turnstile.before(working.worker, t);
                     observed_turn(hand, Heard::Start(t), turnstile)
                 }
@@ -71,38 +78,57 @@ impl<B: Body, N: Naming> Pool<B, N> {
     }
 
     /// Takes the lock once, and lets it go again as what comes next wants it.
+    #[inline(always)]
     fn serve<R: Wait, T: Turnstile>(
         &self,
         working: &Working<'_, '_, R, T>,
         hand: &mut Hand<B, N>,
         ask: Option<Ask<B>>,
-        idle: &mut Idle,
-        contention: &mut Contention,
-        unneeded: &mut Unneeded<B>,
+        pace: &mut Pace,
     ) -> Next<B>
-        requires { IfSome ask (λ a. MayAsk B.right B.key_of hand.old a) }
+        requires there { working.now.worker < length N.hands }
+        requires asks { IfSome ask (λ a. MayAsk B.right B.key_of hand.old a) }
         ensures { NextRight B.right result }
     {
-        let mut guard = self.lock_for_work(working.rt, contention);
+        let mut guard = self.lock_for_work(working.rt, &mut pace.contention);
         let core = &mut *guard;
-        if idle.looks_again() {
-            core.come_back();
+        if pace.slept {
+            core.come_back(working.worker);
         }
-        let next = core.serve(self.alloc, hand, ask, unneeded);
-        let wake = core.take_wake();
+        let next = core.serve(self.alloc, hand, ask);
+        if pace.slept && !matches!(next, Next::Rest) {
+            core.begin(working.worker);
+        }
+        core.take_due(&mut pace.due);
+        pace.slept = false;
         match next {
-            Next::Wait => self.wait_in_join(working, guard, wake, unneeded),
-            Next::Rest => self.rest(working, guard, wake, idle, unneeded),
-            _ => self.let_go(guard, wake, unneeded),
+            Next::Wait => {
+                pace.slept = true;
+                self.wait_in_join(working, guard, &mut pace.due, &mut hand.unneeded);
+            }
+            Next::Rest => {
+                pace.slept = true;
+                self.rest(working, guard, pace, &mut hand.unneeded);
+            }
+            Next::Begin(_) => {
+                pace.idle = Idle::new();
+                self.let_go(guard, &mut pace.due, &mut hand.unneeded);
+            }
+            _ => self.let_go(guard, &mut pace.due, &mut hand.unneeded),
         }
         next
     }
 
     /// Lets the lock go, wakes those whose wait has ended, and drops what is needed no more.
     #[inline(always)]
-    fn let_go(&self, guard: MutexGuard<'_, Locked<B, N>>, wake: Wake, unneeded: &mut Unneeded<B>) {
+    fn let_go(
+        &self,
+        guard: MutexGuard<'_, Locked<B, N>>,
+        due: &mut Due,
+        unneeded: &mut Unneeded<B>,
+    ) {
         drop(guard);
-        self.wake(wake);
+        self.wake_due(due);
         unneeded.clear();
     }
 
@@ -111,34 +137,38 @@ impl<B: Body, N: Naming> Pool<B, N> {
         &self,
         working: &Working<'_, '_, R, T>,
         guard: MutexGuard<'_, Locked<B, N>>,
-        wake: Wake,
+        due: &mut Due,
         unneeded: &mut Unneeded<B>,
-    ) {
-        // Under the lock, so that what it wakes is not taken for a change, and no change after this is missed.
-        self.wake(wake);
-        let seen = self.joining.notifications();
-        drop(guard);
-        unneeded.clear();
+    )
+        requires { working.now.worker < length N.hands }
+    {
+        let place = &self.condvars.workers[place_of(working.worker)];
+        let seen = place.notifications();
+        self.let_go(guard, due, unneeded);
         // What is queued because of this is a notification after those that were seen.
         working.turnstile.idle(working.worker);
-        self.joining
-            .sleep(working.rt, seen, Duration::from_secs(LONGEST_WAIT));
+        place.sleep(working.rt, seen, Duration::from_secs(LONGEST_WAIT));
     }
 
-    /// The same as letting it go, and sleeps or yields until it is time to look for work again.
+    /// The same, and sleeps or yields until there is work, or, if it is the lookout, until it is time to look for some.
     fn rest<R: Wait, T: Turnstile>(
         &self,
         working: &Working<'_, '_, R, T>,
         guard: MutexGuard<'_, Locked<B, N>>,
-        wake: Wake,
-        idle: &mut Idle,
+        pace: &mut Pace,
         unneeded: &mut Unneeded<B>,
-    ) {
-        let seen = self.idle.notifications();
-        self.let_go(guard, wake, unneeded);
+    )
+        requires { working.now.worker < length N.hands }
+    {
+        let place = &self.condvars.workers[place_of(working.worker)];
+        let seen = place.notifications();
+        let core = &*guard;
+        let looks = core.is_lookout(working.worker);
+        self.let_go(guard, &mut pace.due, unneeded);
         working.turnstile.idle(working.worker);
-        match idle.next_sleep() {
-            Some(sleep) => self.idle.sleep(working.rt, seen, sleep),
+        match pace.idle.next_sleep() {
+            Some(sleep) if looks => place.sleep(working.rt, seen, sleep),
+            Some(_) => place.sleep(working.rt, seen, Duration::from_secs(LONGEST_WAIT)),
             None => thread::yield_now(),
         }
     }
