@@ -39,7 +39,7 @@ fn root<'a, F: Tree>(
     requires same { family.now ≡ F.nodes }
     requires there { 0 < length F.nodes }
 {
-    let body: TreeFold<'a, F> = TreeFold::new(alloc, family, 0);
+    let body: TreeFold<'a, F> = TreeFold::new(alloc, family, 0)?;
     let owners = owners.clone()?;
     Ok(Failing::new(body, Common { fault, owners }))
 }

@@ -10,7 +10,7 @@ use crate::tree_fold::TreeFold;
 use fj_crew::{Turnstile, result_in, run_alone};
 use fj_jobs::Nodes;
 use fj_model::{Limits, MAX_EVENTS, MAX_TASKS, Mode, Refusal};
-use std::alloc::Global;
+use std::alloc::{AllocError, Global};
 use std::marker::Brand;
 use std::sync::Wait;
 use std::thread::Threads;
@@ -56,7 +56,10 @@ fn fold_in<F: Tree + Send, R: Threads + Wait + Sync, T: Turnstile + Sync>(
     ensures err { IfErr result RefusesRun }
 {
     let limits = limits_of(workers);
-    let body: TreeFold<F> = TreeFold::new(alloc, family, 0);
+    let made: Result<TreeFold<F>, AllocError> = TreeFold::new(alloc, family, 0);
+    let Ok(body) = made else {
+        return Err(Refusal::OutOfMemory);
+    };
     let outcome = match run_alone(rt, alloc, Mode::Async, limits, 0, body, turnstile) {
         Ok(outcome) => outcome,
         Err(refusal) => return Err(refusal),

@@ -1,4 +1,5 @@
-ghost use Rattle.std.specs.Prelude.{◌≡◌, ◌+◌, ◌-◌, ◌<◌, ℕ, Option, Some, None, IfSome, length, slice_get};
+ghost use Rattle.std.specs.Prelude.{◌≡◌, ◌⊎◌, ◌+◌, ◌-◌, ◌<◌, ℕ, Option, Some, None, IfOk, IfSome, length, slice_get};
+ghost use Rattle.fj_model.specs.Replies.{refusal_number};
 ghost use Rattle.fj_jobs.specs.TreeValues.{node_value};
 ghost use Rattle.fj_store.specs.Turns.{AskRight, HeardRight, Nearer};
 ghost use Rattle.fj_crew.specs.Asks.{AsksUnder};
@@ -15,13 +16,20 @@ use crate::tally::Tally;
 use crate::tree::Tree;
 use fj_model::{Kind, Refusal, Serial};
 use fj_store::{Ask, Body, Heard};
-use std::alloc::Global;
+use std::alloc::{AllocError, Global};
 use std::marker::PhantomData;
 
 /// The body of a node: it forks a body for each child and sums their values in its completion action, as a `CountedCompleter` that sums a
-/// tree. It borrows the family, so it is as small for a node with 4,000 children as for a leaf until it forks them.
+/// tree. It borrows the family, so it is as small for a node with 4,000 children as for a leaf until it forks them. It stands in a box, since a
+/// pool moves a body several times.
 #[derive(Drop)]
 pub struct TreeFold<'a, F: Tree> {
+    inside: Box<Inside<'a, F>>,
+}
+
+/// What the body of a node has.
+#[derive(Drop)]
+pub struct Inside<'a, F: Tree> {
     family: &'a Family,
     course: Course,
     /// The numbers of the tasks of its children, the first child's first.
@@ -32,25 +40,36 @@ pub struct TreeFold<'a, F: Tree> {
 }
 
 impl<'a, F: Tree> TreeFold<'a, F> {
-    /// The body of a node. Preconditions: the family is that of the tree that the type names, and has such a node.
-    pub fn new(alloc: Global, family: &'a Family, number: u32) -> TreeFold<'a, F>
+    /// The body of a node. An error where memory is refused. Preconditions: the family is that of the tree that the type names, and has such a
+    /// node.
+    pub fn new(
+        alloc: Global,
+        family: &'a Family,
+        number: u32,
+    ) -> Result<TreeFold<'a, F>, AllocError>
         requires same { family.now ≡ F.nodes }
         requires there { number < length F.nodes }
-        ensures { result.course.tally.node ≡ number }
+        ensures { IfOk result (λ body. body.inside.value.course.tally.node ≡ number) }
     {
         let course = Course {
             stage: Stage::New,
             next: family.first_child(number),
             tally: Tally::new(family, number),
         };
-        TreeFold {
+        let inside = Inside {
             family,
             course,
             forked: Vec::new(alloc),
             of: PhantomData,
+        };
+        match Box::new(alloc, inside) {
+            Ok(inside) => Ok(TreeFold { inside }),
+            Err(_) => Err(AllocError),
         }
     }
+}
 
+impl<'a, F: Tree> Inside<'a, F> {
     /// Its first turn, as this task: raises its pending count by the number of its children.
     fn begin(&mut self, me: u64) -> Ask<TreeFold<'a, F>>
         ensures key { self.new.course.tally.node ≡ self.old.course.tally.node }
@@ -158,7 +177,7 @@ impl<'a, F: Tree> TreeFold<'a, F> {
         self.add(child, value)
     }
 
-    /// Forks the next child, or ends where none is left.
+    /// Forks the next child, or ends where none is left. It fails where memory for the child's body is refused.
     fn fork(&mut self, me: u64) -> Ask<TreeFold<'a, F>>
         ensures key { self.new.course.tally.node ≡ self.old.course.tally.node }
         ensures right { AskRight (λ k o. o ≡ node_value F.nodes k) self.old.course.tally.node result }
@@ -166,16 +185,33 @@ impl<'a, F: Tree> TreeFold<'a, F> {
         ensures asks { AsksAsNode F.nodes self.old.course.tally.node result }
         ensures own { AsksUnder (Some me) result }
         ensures stays { HasTask (Some me) self.new.course.stage }
-        ensures next { ForksNext (λ b. b.course.tally.node) self.old.course.next result }
-        ensures goes_on { IfSome self.old.course.next (λ c. self.new.course.next ≡ child_from F.nodes (c + 1) self.old.course.tally.node) }
+        ensures next { (result ≡ Ask.Fail (refusal_number Refusal.OutOfMemory)) ⊎ ForksNext (λ b. b.inside.value.course.tally.node) self.old.course.next result }
     {
         let Some(child) = self.course.next else {
             self.course.stage = Stage::Ended;
             return Ask::Try;
         };
+        match TreeFold::new(*self.forked.allocator(), self.family, child) {
+            Ok(body) => self.fork_child(me, child, body),
+            Err(_) => self.fail(),
+        }
+    }
+
+    /// Forks the next child. Preconditions: it is this one, and this is its body.
+    fn fork_child(&mut self, me: u64, child: u32, body: TreeFold<'a, F>) -> Ask<TreeFold<'a, F>>
+        requires next { self.old.course.next ≡ Some child }
+        requires body { body.inside.value.course.tally.node ≡ child }
+        ensures key { self.new.course.tally.node ≡ self.old.course.tally.node }
+        ensures right { AskRight (λ k o. o ≡ node_value F.nodes k) self.old.course.tally.node result }
+        ensures nearer { Nearer (turns_left (length F.nodes) self.new.course) (length F.nodes + 1 + numbers_from (length F.nodes) self.old.course.next) result }
+        ensures asks { AsksAsNode F.nodes self.old.course.tally.node result }
+        ensures own { AsksUnder (Some me) result }
+        ensures stays { HasTask (Some me) self.new.course.stage }
+        ensures next { ForksNext (λ b. b.inside.value.course.tally.node) self.old.course.next result }
+        ensures goes_on { IfSome self.old.course.next (λ c. self.new.course.next ≡ child_from F.nodes (c + 1) self.old.course.tally.node) }
+    {
         self.course.stage = Stage::Forking(me);
         self.course.next = self.family.next_sibling(child);
-        let body = TreeFold::new(*self.forked.allocator(), self.family, child);
         let kind = Kind::Completer {
             relay: true,
             count: 0,
@@ -230,41 +266,16 @@ impl<'a, F: Tree> TreeFold<'a, F> {
         ensures asks { AsksAsNode F.nodes self.old.course.tally.node result }
         ensures own { AsksUnder None result }
         ensures stays { HasTask None self.new.course.stage }
+        ensures fails { result ≡ Ask.Fail (refusal_number Refusal.OutOfMemory) }
     {
         self.course.stage = Stage::Ended;
         Ask::Fail(Refusal::OutOfMemory.number())
     }
-}
 
-impl<'a, F: Tree> Body for TreeFold<'a, F> {
-    type Key = u32;
-
-    type Out = u64;
-
-    ghost key_of = { λ b. b.course.tally.node };
-
-    ghost rooted_as = { λ b. Some 0 };
-
-    ghost right = { λ k o. o ≡ node_value F.nodes k };
-
-    ghost turns = { λ b. turns_left (length F.nodes) b.course };
-
-    fn key(&self) -> &u32 {
-        &self.course.tally.node
-    }
-
-    fn into_key(self) -> u32 {
-        self.course.tally.node
-    }
-
-    fn rooted(&self) -> Option<u16> {
-        Some(0)
-    }
-
+    /// Takes a turn.
     fn turn(&mut self, heard: Heard<TreeFold<'a, F>>) -> Ask<TreeFold<'a, F>>
         requires { HeardRight (λ k o. o ≡ node_value F.nodes k) heard }
         ensures key { self.new.course.tally.node ≡ self.old.course.tally.node }
-        ensures rooted { ◌≡◌ {A = Option ℕ} (Some 0) (Some 0) }
         ensures right { AskRight (λ k o. o ≡ node_value F.nodes k) self.old.course.tally.node result }
         ensures nearer { Nearer (turns_left (length F.nodes) self.new.course) (turns_left (length F.nodes) self.old.course) result }
         ensures asks { AsksAsNode F.nodes self.old.course.tally.node result }
@@ -280,5 +291,44 @@ impl<'a, F: Tree> Body for TreeFold<'a, F> {
             Heard::Got(key, value) => self.got(*key, *value),
             _ => self.go_on_without(),
         }
+    }
+}
+
+impl<'a, F: Tree> Body for TreeFold<'a, F> {
+    type Key = u32;
+
+    type Out = u64;
+
+    ghost key_of = { λ b. b.inside.value.course.tally.node };
+
+    ghost rooted_as = { λ b. Some 0 };
+
+    ghost right = { λ k o. o ≡ node_value F.nodes k };
+
+    ghost turns = { λ b. turns_left (length F.nodes) b.inside.value.course };
+
+    fn key(&self) -> &u32 {
+        &self.inside.course.tally.node
+    }
+
+    fn into_key(self) -> u32 {
+        self.inside.course.tally.node
+    }
+
+    fn rooted(&self) -> Option<u16> {
+        Some(0)
+    }
+
+    fn turn(&mut self, heard: Heard<TreeFold<'a, F>>) -> Ask<TreeFold<'a, F>>
+        requires { HeardRight (λ k o. o ≡ node_value F.nodes k) heard }
+        ensures key { self.new.inside.value.course.tally.node ≡ self.old.inside.value.course.tally.node }
+        ensures rooted { ◌≡◌ {A = Option ℕ} (Some 0) (Some 0) }
+        ensures right { AskRight (λ k o. o ≡ node_value F.nodes k) self.old.inside.value.course.tally.node result }
+        ensures nearer { Nearer (turns_left (length F.nodes) self.new.inside.value.course) (turns_left (length F.nodes) self.old.inside.value.course) result }
+        ensures asks { AsksAsNode F.nodes self.old.inside.value.course.tally.node result }
+        ensures own { AsksUnder (own_task self.old.inside.value.course.stage heard.entry) result }
+        ensures stays { HasTask (own_task self.old.inside.value.course.stage heard.entry) self.new.inside.value.course.stage }
+    {
+        self.inside.turn(heard)
     }
 }

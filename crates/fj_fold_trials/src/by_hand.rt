@@ -5,7 +5,7 @@ ghost use Rattle.fj_store.specs.Turns.{HeardRight};
 
 use fj_fold::{Ask, Body, Family, Heard, Refusal, Tree, TreeFold};
 use fj_model::{Kind, Serial};
-use std::alloc::Global;
+use std::alloc::{AllocError, Global};
 
 /// The task of the body.
 const ME: u64 = 7;
@@ -195,6 +195,9 @@ pub fn drive_node<F: Tree>(
     requires values { AreValues F.nodes values.now }
     requires there { number < length F.nodes }
 {
-    let body: TreeFold<F> = TreeFold::new(alloc, family, number);
-    drive(alloc, body, values, upset)
+    let made: Result<TreeFold<F>, AllocError> = TreeFold::new(alloc, family, number);
+    match made {
+        Ok(body) => drive(alloc, body, values, upset),
+        Err(_) => Ended::Lost,
+    }
 }
