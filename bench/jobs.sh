@@ -4,7 +4,7 @@
 # give the same answer.
 # Usage: bench/jobs.sh [LOAD..]
 #   LOAD is leaves, blocks, primes, min, find, oversubscribed, started, chain, tree, submit or locks (default: all of them), or, where valgrind is there, profile
-# RUNS=N bench/jobs.sh ..     the least time of N runs of each program counts (default: 5)
+# RUNS=N bench/jobs.sh ..     the least and the median of N runs of each program are told (default: 5)
 # PROVED=1 bench/jobs.sh ..   ours is proved, which takes half an hour and more; else it is built as unproved.sh does
 set -euo pipefail
 export LC_ALL=C
@@ -118,23 +118,25 @@ run_once() {
     fi
 }
 
-# time_load LOAD NAMES DUE WORD..: a line with the least milliseconds of each program of NAMES that could be built.
+# least_and_median: of the numbers that it reads.
+least_and_median() {
+    sort -n | awk '{ time[NR] = $1 } END { print time[1], time[int((NR + 1) / 2)] }'
+}
+
+# time_load LOAD NAMES DUE WORD..: a line with the milliseconds of each program of NAMES that could be built.
 time_load() {
-    local load=$1 names=$2 line name time
-    local -A least=()
+    local load=$1 names=$2 line name
+    local -A times=()
     due=$3
     shift 3
     for ((run = 0; run < runs; run++)); do
         for name in $names; do
-            [[ ${program_of[$name]:-} ]] || continue
-            time=$(run_once "$name" "$@")
-            if [[ ! ${least[$name]:-} ]] || ((time < least[$name])); then least[$name]=$time; fi
+            [[ ! ${program_of[$name]:-} ]] || times[$name]+=$(run_once "$name" "$@")$'\n'
         done
     done
     line=$(printf '%-14s %-30s' "$load" "$*")
     for name in $names; do
-        [[ ${least[$name]:-} ]] || continue
-        line+=$(awk -v name="$name" -v time="${least[$name]}" 'BEGIN { printf "  %s: %.1f", name, time / 1e3 }')
+        [[ ! ${times[$name]:-} ]] || line+=$(printf '%s' "${times[$name]}" | least_and_median | awk -v name="$name" '{ printf "  %s: %.1f (%.1f)", name, $1 / 1e3, $2 / 1e3 }')
     done
     echo "$line"
 }
@@ -157,14 +159,15 @@ show_started() {
         END { printf "%-14s %-30s  microseconds until all have begun, least: %d  median: %d  greatest: %d\n", "started", workers, took[1], took[int((NR + 1) / 2)], took[NR] }'
 }
 
-# show_chain LEAVES: the least microseconds of all runs in which one worker splits so many leaves off one by one, and in halves.
+# show_chain LEAVES: the microseconds in which one worker splits so many leaves off one by one, and in halves.
 show_chain() {
-    local run
+    local run chain= halves=
     for ((run = 0; run < runs; run++)); do
-        echo "$(timeout "$limit" "${program_of[submitting]}" chain "$1" 0) $(timeout "$limit" "${program_of[submitting]}" chain "$1" 1)"
-    done | awk -v leaves="$1" '
-        { if (NR == 1 || $1 < chain) chain = $1; if (NR == 1 || $2 < halves) halves = $2 }
-        END { printf "%-14s %-30s  microseconds, one by one: %d  in halves: %d\n", "chain", leaves, chain, halves }'
+        chain+=$(timeout "$limit" "${program_of[submitting]}" chain "$1" 0)$'\n'
+        halves+=$(timeout "$limit" "${program_of[submitting]}" chain "$1" 1)$'\n'
+    done
+    echo "$1 $(printf '%s' "$chain" | least_and_median) $(printf '%s' "$halves" | least_and_median)" |
+        awk '{ printf "%-14s %-30s  microseconds, one by one: %d (%d)  in halves: %d (%d)\n", "chain", $1, $2, $3, $4, $5 }'
 }
 
 # profile WORD..: the functions of ours in which most instructions of a run are counted, each with its part in a hundred.
@@ -240,7 +243,7 @@ for load; do [[ $load == locks ]] || compared+=("$load"); done
 if ((${#compared[@]})); then
     build_ours "${compared[@]}"
     [[ ${compared[*]} == profile ]] || build_others
-    echo "milliseconds, the least of $runs runs"
+    echo "milliseconds, the least of $runs runs, and in brackets the median"
     for load in "${compared[@]}"; do run_load "$load"; done
 fi
 for load; do [[ $load != locks ]] || run_load "$load"; done

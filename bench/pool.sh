@@ -4,7 +4,8 @@
 #   LOAD is submit, outside, forked, delay or idle (default: all of them), or, with OPTIMISED=1 and as the only one, days: the peak memory of
 #   a pool through which 131,072 and 2,097,152 submissions pass
 # OPTIMISED=1 bench/pool.sh ..   compiles the loader without checks and with optimisation; else it is run as `rt try` runs it, which is far slower
-# RUNS=N bench/pool.sh ..        the least time of N runs counts (default: 1, OPTIMISED 5); of delay and idle there is one run
+# RUNS=N bench/pool.sh ..        the least time of N runs counts, the median is told beside it (default: 1, OPTIMISED 5); of delay and idle there
+#   is one run
 set -euo pipefail
 cd "$(dirname "${BASH_SOURCE[0]}")/.."
 
@@ -64,18 +65,17 @@ add_load() {
 
 # print_figures: reads lines LOAD_WORKERS_OTHER_RUN and three numbers of the loader, and prints the figures of each load, by its least time.
 print_figures() {
-    sort -V | awk '
-        function flush() {
-            if (load == "submit") printf "submit   workers: %d  submitters: %d  submissions: %d  seconds: %.4f  submissions/second: %.0f\n", workers, other, count, least / 1e9, count / least * 1e9
-            if (load == "outside" || load == "forked") printf "%-8s workers: %d  microseconds: %3d  tasks: %d  seconds: %.4f  tasks/second: %.0f  locks/task: %.2f\n", load, workers, other, count, least / 1e9, count / least * 1e9, locks / count
+    sed 's/_/ /g' | sort -k 1,1 -k 2,2n -k 3,3n -k 6,6n | awk '
+        function flush(median) {
+            median = times[int((runs + 1) / 2)]
+            if (load == "submit") printf "submit   workers: %d  submitters: %d  submissions: %d  seconds: %.4f  submissions/second: %.0f  median: %.0f\n", workers, other, count, least / 1e9, count / least * 1e9, count / median * 1e9
+            if (load == "outside" || load == "forked") printf "%-8s workers: %d  microseconds: %3d  tasks: %d  seconds: %.4f  tasks/second: %.0f  median: %.0f  locks/task: %.2f\n", load, workers, other, count, least / 1e9, count / least * 1e9, count / median * 1e9, locks / count
             if (load == "delay") printf "delay    workers: %d  milliseconds: median %.3f  99 of 100 within %.3f  greatest %.3f\n", workers, count / 1e6, least / 1e6, locks / 1e6
             if (load == "idle") printf "idle     workers: %d  seconds: %.2f  processor seconds: %.4f  of one core: %.2f %%\n", workers, least / 1e9, count / 1e9, count / least * 100
         }
         {
-            split($1, part, "_")
-            name = part[1] "_" part[2] "_" part[3]
-            if (name != last) { flush(); last = name; load = part[1]; workers = part[2]; other = part[3]; least = 0 }
-            if (least == 0 || $3 < least) { count = $2; least = $3; locks = $4 }
+            if ($1 " " $2 " " $3 != last) { flush(); last = $1 " " $2 " " $3; load = $1; workers = $2; other = $3; count = $5; least = $6; locks = $7; runs = 0 }
+            times[++runs] = $6
         }
         END { flush() }'
 }

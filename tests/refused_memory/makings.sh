@@ -16,6 +16,6 @@ fj_trials run_tests::the_largest_limits_hold machine 100
 fj_gate tests::a_look_is_remembered gate 20
 fj_lane tests::a_hundred_parcels_in_order lane 20
 fj_core_trials core_tests::trees cores 140
-fj_core_trials core_tests::asks cores 170
+fj_core_trials core_tests::asks cores 200
 fj_fault_trials making_tests::a_pool_is_made_and_wound_up pool 80
 END

@@ -1,6 +1,7 @@
 -- What each action of a body leaves of the core, and of the hand.
 use Rattle.std.proofs.Common.{ℕ, ◌≡◌, Bool, true, false, inl, inr, Option, Some, None, refl, ap, sym, ◌∙◌, subst}
-use Rattle.std.specs.Prelude.{◌⊎◌, is_some}
+use Rattle.std.specs.Prelude.{◌⊎◌, Result, Ok, Err, is_some}
+use Rattle.fj_model.specs.declared.refusal.Refusal.{Refusal}
 use Rattle.fj_model.specs.declared.refusal.Refusal.TheVariants.{Unknown, NotDone}
 use Rattle.fj_model.specs.declared.step.Ending.{Ending}
 use Rattle.fj_model.specs.declared.step.Ending.TheVariants as ending
@@ -19,11 +20,12 @@ use Rattle.fj_store.specs.Stores.{StoreState}
 use Rattle.fj_store.specs.Releases.{Releases}
 use Rattle.fj_store.specs.Accepting.{Accepts}
 use Rattle.fj_store.specs.Choosing.{WasStuck, GetsStuck, Helps, Joins}
-use Rattle.fj_store.specs.Results.{Keeps, KeepsUnless, TakesOut, TakesResult, Marks}
+use Rattle.fj_store.specs.Results.{Keeps, KeepsUnless, LetsGo, TakesOut, TakesResult, Marks}
 use Rattle.fj_store.specs.Asking.{Drops, Adds, QuietsRoot, Settles, Shows}
 use Rattle.fj_store.specs.Endings.{EndsOk, EndsBody, LeftOver}
 use Rattle.fj_store.specs.HookEndings.{EndsHook}
 use Rattle.fj_model.specs.Inside.{IsInside, is_outside_step}
+use Rattle.fj_core.specs.Cancels.{CancelsTask}
 use Rattle.fj_core.specs.Cores.{StaysInside}
 use Rattle.fj_core.specs.Acting.{ActsInBody, ActsInHook, ActsWhere, Acts}
 use Rattle.fj_model.proofs.Steps.Inside.{same_inside}
@@ -102,6 +104,12 @@ module _ {B K O : Type 0} where
   settles_leave old new asked (told.Stuck None) inside bare is = same_leaves old new is.1
   settles_leave old new asked _ inside bare is = absurd is
 
+  -- from outside
+  pub cancels_leave : (old new : StoreState B K O) (t : ℕ) (answer : Result Bool Refusal) → CancelsTask old t answer new → Leaves old new
+  cancels_leave old new t (Ok true) is = drops_stay old new (step.Cancel t) says.Yes refl refl is
+  cancels_leave old new t (Ok false) is = drops_stay old new (step.Cancel t) says.No refl refl is
+  cancels_leave old new t (Err r) is = same_leaves old new is.1
+
   pub shows_leave : (old new : StoreState B K O) (asked : Step) (answer : Told B K O) → is_outside_step asked ≡ false → is_bare asked ≡ true
       → Shows old asked answer new → Leaves old new
   shows_leave old new asked (told.Hear (hears.Is p s)) inside bare is = step_leaves old new asked (says.State p s) inside bare is.1.0 (ap (λ s. s.stuck) is.1.1)
@@ -118,6 +126,12 @@ module _ {B K O : Type 0} where
   takes_leave old new t (told.Hear (hears.Refused NotDone)) is = same_leaves old new is.3
   takes_leave old new t (told.Stuck None) is = same_leaves old new is.1
   takes_leave old new t _ is = absurd is
+
+  pub lets_leave : (old new : StoreState B K O) (t : ℕ) (answer : Told B K O) → LetsGo old t answer new → Leaves old new
+  lets_leave old new t (told.Hear hears.Went) is = then_leaves old is.mid new (marks_leave old is.mid t is.marks) (releases_leave is.mid new is.releases)
+  lets_leave old new t (told.Hear (hears.Refused r)) is = same_leaves old new is.3
+  lets_leave old new t (told.Stuck None) is = same_leaves old new is.1
+  lets_leave old new t _ is = absurd is
 
   -- ---- asks that move one
 
@@ -207,6 +221,7 @@ module _ {B K O : Type 0} where
   body_acts_stay key_of old new hand hand' (asks.Join t) answer is = joins_stay old new hand hand' t answer is
   body_acts_stay key_of old new hand hand' asks.Help answer is = helps_stay old new hand hand' answer is
   body_acts_stay key_of old new hand hand' (asks.Take t) answer is = (takes_leave old new t answer is.0).inside
+  body_acts_stay key_of old new hand hand' (asks.Release t) answer is = (lets_leave old new t answer is.0).inside
   body_acts_stay key_of old new hand hand' (asks.Add c n) answer is = (adds_leave old new (step.Add hand.worker c n) answer refl refl is.0).inside
   body_acts_stay key_of old new hand hand' (asks.QuietRoot t) answer is = (quiets_leave old new (step.QuietRoot hand.worker t) answer refl refl is.0).inside
   body_acts_stay key_of old new hand hand' (asks.Cancel t) answer is = (settles_leave old new (step.Cancel t) answer refl refl is.0).inside

@@ -34,12 +34,13 @@ use Rattle.fj_core.specs.declared.taken_in.Intake.TheVariants as intake
 use Rattle.fj_core.specs.Acting.{Acts, ActsInBody, ActsInHook, ActsWhere}
 use Rattle.fj_core.specs.Closes.{Dues, ShutsAt, shut_step}
 use Rattle.fj_core.specs.Closings.{is_due}
+use Rattle.fj_core.specs.Cancels.{CancelsTicket, CancelsUnless}
 use Rattle.fj_core.specs.Cores.{CoreState, CollectsTicket, CollectsUnless}
 use Rattle.fj_core.specs.Hands.{KeepsHand}
 use Rattle.fj_core.specs.Intakes.{Intakes, Readies, kind_rooted}
 use Rattle.fj_core.specs.Sealing.{SealsCore}
 use Rattle.fj_core.specs.Booked.{booked_under}
-use Rattle.fj_core.proofs.Acts.{Leaves, accepts_leave, adds_leave, quiets_leave, settles_leave, shows_leave, takes_leave}
+use Rattle.fj_core.proofs.Acts.{Leaves, accepts_leave, adds_leave, cancels_leave, lets_leave, quiets_leave, settles_leave, shows_leave, takes_leave}
 
 -- ---- one worker's hand
 
@@ -197,6 +198,7 @@ module _ {B K O : Type 0} where
   body_acts_keep v key_of old new hand hand' (asks.Join t) answer run other is = joins_keep v old new hand hand' t answer other is
   body_acts_keep v key_of old new hand hand' asks.Help answer run other is = helps_keep v old new hand hand' answer other is
   body_acts_keep v key_of old new hand hand' (asks.Take t) answer run other is = leaves_keep v old new (takes_leave old new t answer is.0)
+  body_acts_keep v key_of old new hand hand' (asks.Release t) answer run other is = leaves_keep v old new (lets_leave old new t answer is.0)
   body_acts_keep v key_of old new hand hand' (asks.Add c n) answer run other is = leaves_keep v old new (adds_leave old new (step.Add hand.worker c n) answer refl refl is.0)
   body_acts_keep v key_of old new hand hand' (asks.QuietRoot t) answer run other is = leaves_keep v old new (quiets_leave old new (step.QuietRoot hand.worker t) answer refl refl is.0)
   body_acts_keep v key_of old new hand hand' (asks.Cancel t) answer run other is = leaves_keep v old new (settles_leave old new (step.Cancel t) answer refl refl is.0)
@@ -268,6 +270,14 @@ module _ {B K O : Type 0} where
   collects_keep v old new t (Some (Ok outcome)) is = then_released v old is.mid new (marks_keep v old is.mid t is.marks) is.releases
 
   -- an outcome is asked for
+  pub cancels_hands : (old new : CoreState B K O) (ticket : ℕ) (answer : Result Bool Refusal) → CancelsTicket old ticket answer new → (v : ℕ) → KeepsHand v old.store.past new.store.past
+  cancels_hands old new ticket answer is v = go old.store.stuck (booked_under old.bookings ticket) is
+    where
+      go : (stuck : Bool) (booked : Option ℕ) → CancelsUnless stuck booked old answer new → KeepsHand v old.store.past new.store.past
+      go true booked is = same_past v old.store.past new.store.past (ap (λ (c : CoreState B K O). c.store.past) is.1)
+      go false (Some t) is = leaves_keep v old.store new.store (cancels_leave old.store new.store t answer is.0)
+      go false None is = same_past v old.store.past new.store.past (ap (λ (c : CoreState B K O). c.store.past) is.1)
+
   pub collects_hands : (old new : CoreState B K O) (ticket : ℕ) (answer : Option (Result (Outcome B K O) Refusal)) → CollectsTicket old ticket answer new
       → (v : ℕ) → KeepsHand v old.store.past new.store.past
   collects_hands old new ticket answer is v = go old.store.stuck (booked_under old.bookings ticket) is

@@ -12,7 +12,7 @@ use Rattle.fj_store.specs.declared.body.Told.TheVariants as told
 use Rattle.fj_store.specs.Stores.{StoreState}
 use Rattle.fj_store.specs.Accepting.{Accepts}
 use Rattle.fj_store.specs.Choosing.{Joins, Helps}
-use Rattle.fj_store.specs.Results.{TakesResult}
+use Rattle.fj_store.specs.Results.{LetsGo, TakesResult}
 use Rattle.fj_store.specs.Asking.{Adds, QuietsRoot, Settles, Shows}
 use Rattle.fj_store.specs.Endings.{EndsOk, EndsBody}
 use Rattle.fj_store.specs.HookEndings.{EndsHook}
@@ -45,6 +45,7 @@ module _ {B K O : Type 0} where
   ActsInBody key_of old hand (asks.Join t) answer new hand' = Joins old hand t answer new hand'
   ActsInBody key_of old hand asks.Help answer new hand' = Helps old hand answer new hand'
   ActsInBody key_of old hand (asks.Take t) answer new hand' = TakesResult old t answer new × (hand' ≡ hand)
+  ActsInBody key_of old hand (asks.Release t) answer new hand' = LetsGo old t answer new × (hand' ≡ hand)
   ActsInBody key_of old hand (asks.Add c n) answer new hand' = Adds old (step.Add hand.worker c n) answer new × (hand' ≡ hand)
   ActsInBody key_of old hand (asks.QuietRoot t) answer new hand' = QuietsRoot old (step.QuietRoot hand.worker t) answer new × (hand' ≡ hand)
   ActsInBody key_of old hand (asks.Cancel t) answer new hand' = Settles old (step.Cancel t) answer new × (hand' ≡ hand)

@@ -21,6 +21,10 @@ is_under ticket booking = booking.ticket == ticket
 abbrev pub booked_under : List Booking → ℕ → Option ℕ
 booked_under bookings ticket = option_map (λ b. b.serial) (find (is_under ticket) bookings)
 
+-- a task was taken in
+abbrev pub HasTask : List Booking → ℕ → Type 0
+HasTask bookings t = (place : ℕ) × (booking : Booking) × (slice_get bookings place ≡ Some booking) × (booking.serial ≡ t)
+
 -- for each ticket in the table the place of the first booking under it
 pub record IsIndex (bookings : List Booking) (first : List (Option ℕ)) : Type 0 where
   pub there : (ticket place : ℕ) → slice_get first ticket ≡ Some (Some place) → (place < length bookings) × (slice_get bookings place ≡ find (is_under ticket) bookings)

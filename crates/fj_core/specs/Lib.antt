@@ -10,6 +10,8 @@ pub mod Cores
 pub mod Closes
 -- a parcel is taken in
 pub mod Intakes
+-- a submission is cancelled from outside
+pub mod Cancels
 -- what a body or a hook asks
 pub mod Acting
 -- the history is sealed, and the part kept

@@ -1,5 +1,5 @@
-ghost use Rattle.std.specs.Prelude.{◌≡◌, ◌<◌, ◌∷◌, ◌++◌, [], length, IfOk, IsTrue, ◌↔◌, slice_get};
-ghost use Rattle.fj_core.specs.Booked.{booked_under, marked};
+ghost use Rattle.std.specs.Prelude.{◌≡◌, ◌<◌, ◌∷◌, ◌++◌, [], length, true, IfOk, IsTrue, ◌↔◌, slice_get};
+ghost use Rattle.fj_core.specs.Booked.{HasTask, booked_under, marked};
 
 use crate::booking::Booking;
 use fj_gate::Ticket;
@@ -77,6 +77,20 @@ impl Bookings {
                 let booking = self.list.iter().find(|booking| booking.ticket == ticket)?;
                 Some(booking.serial)
             }
+        }
+    }
+
+    /// Whether this task was taken in. It is looked for by halves, since tasks are taken in by rising number.
+    pub fn has_task(&self, t: Serial) -> bool
+        ensures { result ≡ true → HasTask self.now.bookings t }
+    {
+        let place = self
+            .list
+            .as_slice()
+            .partition_point(|booking| booking.serial.0 < t.0);
+        match self.list.get(place) {
+            Some(booking) => booking.serial == t,
+            None => false,
         }
     }
 }

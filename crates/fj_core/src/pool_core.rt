@@ -1,4 +1,4 @@
-ghost use Rattle.std.specs.Prelude.{◌≡◌, ◌≤◌, ◌&&◌, [], None, All, IfOk, vec_len};
+ghost use Rattle.std.specs.Prelude.{◌≡◌, ◌≤◌, ◌&&◌, [], None, true, All, IfOk, vec_len};
 ghost use Rattle.fj_lane.specs.declared.new_lane.TheConstants.{MAX_CAPACITY};
 ghost use Rattle.fj_model.specs.Bounds.{IsWithin};
 ghost use Rattle.fj_model.specs.Epochs.{IsPast};
@@ -6,7 +6,8 @@ ghost use Rattle.fj_model.specs.Statuses.{status, is_undone};
 ghost use Rattle.fj_model.specs.Tasks.{is_kept};
 ghost use Rattle.fj_store.specs.Choosing.{Polls};
 ghost use Rattle.fj_store.specs.Fitting.{Fits};
-ghost use Rattle.fj_core.specs.Booked.{booked_under};
+ghost use Rattle.fj_core.specs.Booked.{HasTask, booked_under};
+ghost use Rattle.fj_core.specs.Cancels.{CancelsTicket};
 ghost use Rattle.fj_core.specs.Cores.{ChangesStore, CollectsTicket, IsNew, StaysInside, first_hands, is_awaited};
 
 mod act;
@@ -23,7 +24,7 @@ use fj_gate::Ticket;
 use fj_lane::Drain;
 use fj_model::{Limits, Mode, OutOfMemory, Refusal, Serial};
 use fj_shelf::Hand;
-use fj_store::{Body, Outcome, Store, Told};
+use fj_store::{Body, Heard, Outcome, Store, Told};
 pub use remains::Remains;
 use std::alloc::Global;
 use std::marker::Model;
@@ -133,6 +134,36 @@ impl<B: Body> Core<B> {
                 }
             }
         }
+    }
+
+    /// Cancels the task that was taken in first under a ticket: `ForkJoinTask.cancel`. Whether it is cancelled now; false where it has ended
+    /// otherwise.
+    ///
+    /// `LogFull` where the core is stuck, or there is no room for the event. `Unknown` where nothing was taken in under it, or its task was
+    /// released.
+    pub fn cancel(&mut self, ticket: Ticket) -> Result<bool, Refusal>
+        ensures cancels { CancelsTicket self.old ticket result self.new }
+        ensures stays { StaysInside self.old.store self.new.store }
+    {
+        if self.store.is_stuck() {
+            return Err(Refusal::LogFull);
+        }
+        let Some(t) = self.bookings.find(ticket) else {
+            return Err(Refusal::Unknown);
+        };
+        match self.store.cancel(t) {
+            Told::Hear(Heard::Yes) => Ok(true),
+            Told::Hear(Heard::No) => Ok(false),
+            Told::Hear(Heard::Refused(refusal)) => Err(refusal),
+            _ => unreachable!(),
+        }
+    }
+
+    /// Whether this task was taken in from a lane.
+    pub fn is_booked(&self, t: Serial) -> bool
+        ensures { result ≡ true → HasTask self.now.bookings t }
+    {
+        self.bookings.has_task(t)
     }
 
     /// The task that was taken in first under a ticket. None if none was.

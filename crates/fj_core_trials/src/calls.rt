@@ -20,6 +20,10 @@ pub enum Call {
     Awaited(u64),
     /// Whether a task is undone.
     IsUndone(u64),
+    /// Whether a task was taken in.
+    IsBooked(u64),
+    /// What was submitted under a ticket is cancelled.
+    CancelTicket(u64),
     Seal,
     /// How many parts are sealed, and were not taken.
     Parts,
@@ -43,6 +47,7 @@ pub enum Asks {
     Join(u64),
     Help,
     Take(u64),
+    Release(u64),
     Add(u64, u32),
     QuietRoot(u64),
     Cancel(u64),
@@ -142,6 +147,8 @@ fn with_number(verb: &str, number: u64) -> Option<Call> {
         "booked" => Call::Booked(number),
         "is_awaited" => Call::Awaited(number),
         "is_undone" => Call::IsUndone(number),
+        "is_booked" => Call::IsBooked(number),
+        "cancel_ticket" => Call::CancelTicket(number),
         "by" => Call::By(number),
         _ => Call::Act(asks_with_number(verb, number)?),
     })
@@ -151,6 +158,7 @@ fn asks_with_number(verb: &str, number: u64) -> Option<Asks> {
     Some(match verb {
         "join" => Asks::Join(number),
         "take" => Asks::Take(number),
+        "release" => Asks::Release(number),
         "quiet_root" => Asks::QuietRoot(number),
         "cancel" => Asks::Cancel(number),
         "state" => Asks::State(number),

@@ -70,6 +70,11 @@ impl Driver {
             Call::Stuck => said(self.core.is_stuck()),
             Call::Awaited(ticket) => said(self.core.is_awaited(Ticket(ticket))),
             Call::IsUndone(t) => said(self.core.is_undone(Serial(t))),
+            Call::IsBooked(t) => said(self.core.is_booked(Serial(t))),
+            Call::CancelTicket(ticket) => match self.core.cancel(Ticket(ticket)) {
+                Ok(is) => said(is),
+                Err(refusal) => Tells::Refused(refusal),
+            },
             Call::Seal => match self.core.seal(alloc) {
                 Ok(()) => Tells::Done,
                 Err(refusal) => Tells::Refused(refusal),
@@ -182,6 +187,7 @@ fn ask(owners: &Rc<u8>, asks: Asks) -> Result<Ask<Work>, AllocError> {
         Asks::Join(t) => Ask::Join(Serial(t)),
         Asks::Help => Ask::Help,
         Asks::Take(t) => Ask::Take(Serial(t)),
+        Asks::Release(t) => Ask::Release(Serial(t)),
         Asks::Add(c, n) => Ask::Add(Serial(c), n),
         Asks::QuietRoot(t) => Ask::QuietRoot(Serial(t)),
         Asks::Cancel(t) => Ask::Cancel(Serial(t)),

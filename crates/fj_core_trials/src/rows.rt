@@ -7,12 +7,12 @@
 //! - `push TICKET BODY`, `push TICKET BODY root COUNT`: a body of this number goes into the lane; with a count it becomes a root
 //! - `intake`, `close_at N`, `stop_at N`, `is_quiescent`, `is_terminated`, `is_stuck`
 //! - `collect TICKET`, `is_awaited TICKET`, `booked TICKET`: the outcome under a ticket, whether it is still to come, and its task;
-//!   `is_undone T`
+//!   `cancel_ticket TICKET`; `is_undone T`, `is_booked T`
 //! - `seal`, `parts`, `take_parts`: how many parts are sealed and were not taken, and how many are taken now
 //! - `bodies`: how many there are; `by W`: the calls from here on are made by this worker
 //! - `poll`, and what a running body or a hook asks:
 //!   - `fork BODY`, `fork BODY root COUNT`, `fork BODY child PARENT COUNT`, `trigger BODY COUNT`
-//!   - `join T`, `help`, `take T`, `add T N`, `quiet_root T`, `cancel T`, `fault T CODE`, `state T`
+//!   - `join T`, `help`, `take T`, `release T`, `add T N`, `quiet_root T`, `cancel T`, `fault T CODE`, `state T`
 //!   - `ok RESULT`, `quiet`, `try`, `pass`, `complete`, `fail CODE`, `hook_done RESULT`
 pub mod asks;
 pub mod stuck;

@@ -24,6 +24,7 @@ use Rattle.fj_core.specs.contracts.archive.Archive.TheKnot as archive
 use Rattle.fj_core.specs.declared.archive.Archive.TheDeep.{the_members as archive_members, member-Archive}
 use Rattle.fj_store.specs.contracts.store.Store as Store
 use Rattle.fj_store.specs.contracts.store.Store.TheInside as Inside
+use Rattle.fj_model.proofs.ids.SubId.TheSendSync.{the_send as submitter_send}
 use Rattle.fj_crew.specs.contracts.crew.Crew as Crew
 use denote.RattleType.{RattleType}
 use denote.Ref.{NamedLft}
@@ -40,7 +41,6 @@ use Rattle.fj_pool.specs.contracts.guarded.Guarded.TheInside as GuardedInside
 use Rattle.fj_pool.specs.contracts.locked.Locked as Locked
 use Rattle.fj_pool.specs.contracts.locked.Locked.TheInside as LockedInside
 use Rattle.fj_pool.specs.contracts.pool.Pool as Pool
-use Rattle.fj_crew.specs.contracts.closing.Closing as Closing
 use Rattle.fj_gate.proofs.entrant.Entrant.TheSendSync.{the_send as entrant_send}
 use Rattle.fj_lane.proofs.drain.Drain.TheSendSync.{the_send as drain_send}
 use Rattle.fj_lane.proofs.rest.Rest.TheSendSync.{the_send as rest_send}
@@ -52,7 +52,6 @@ use Rattle.fj_store.proofs.due.Due.TheSendSync.{the_send as due_send}
 use Rattle.fj_core.proofs.bookings.Bookings.TheSendSync.{the_send as bookings_send}
 use Rattle.fj_core.proofs.closing.Closing.TheSendSync.{the_send as closing_send}
 use Rattle.fj_agreement.proofs.end.End.TheSendSync.{the_send as end_send}
-use Rattle.fj_pool.proofs.closer.Closer.TheSendSync.{the_send as closer_send}
 use Rattle.fj_pool.proofs.condvars.Condvars.TheSendSync.{the_sync as condvars_sync}
 use Rattle.fj_pool.proofs.waits.Waits.TheSendSync.{the_send as waits_send}
 
@@ -126,7 +125,10 @@ module _ (B N K O : RattleType) (g : Body.Ghosts B.Denot K.Denot O.Denot) (e : P
     as_row_send (Core.the_field B K O g e) (core_send B K O g e b k o),
     (
       search (sendable, crosses, as_row_send, waits_send),
-      (search (sendable, crosses, as_row_send, entrant_send), (search (sendable, crosses, as_row_send, rest_row), (search (sendable, crosses, as_row_send, named), tt))),
+      (
+        search (sendable, crosses, as_row_send, entrant_send),
+        (search (sendable, crosses, as_row_send, rest_row), (search (sendable, crosses, as_row_send, submitter_send), (search (sendable, crosses, as_row_send, named), tt))),
+      ),
     ),
   )
 
@@ -154,22 +156,13 @@ module _ (B N K O : RattleType) (g : Body.Ghosts B.Denot K.Denot O.Denot) (e : P
     ),
   )
 
-  closing_row : IsSend (Closing.the_row N n)
-  closing_row = declared_send (Closing.the_type N n) (search (sendable, crosses, as_row_send, closer_send, named) depth 20, (search (sendable, as_row_send) depth 20, tt))
-
-module _ (p c r t : NamedLft) (B N T R K O : RattleType) (g : Body.Ghosts B.Denot K.Denot O.Denot) (e : PartialEq.Ghosts K.Denot) (n : Naming.Ghosts N.Denot)
+module _ (p r t : NamedLft) (B N T R K O : RattleType) (g : Body.Ghosts B.Denot K.Denot O.Denot) (e : PartialEq.Ghosts K.Denot) (n : Naming.Ghosts N.Denot)
     (b : IsSend B) (k : IsSend K) (o : IsSend O) (named : IsSend N) (turnstile : IsSync T) (rt : IsSync R) where
   pool_row : IsSync (Pool.the_row B N K O g e n)
   pool_row = pool_sync B N K O g e n b k o named
 
-  closing_named : IsSend (Closing.the_row N n)
-  closing_named = closing_row B N K O g e n b k o named
-
-  pub crew_sync : IsSync (Crew.the_row p c r t B N T R K O g e n)
-  crew_sync = declared_sync (Crew.the_type p c r t B N T R K O g e n) (
+  pub crew_sync : IsSync (Crew.the_row p r t B N T R K O g e n)
+  crew_sync = declared_sync (Crew.the_type p r t B N T R K O g e n) (
     search (sendable, crosses, as_row_sync, pool_row) depth 20,
-    (
-      search (sendable, crosses, as_row_sync, closing_named) depth 20,
-      (search (sendable, crosses, as_row_sync, rt) depth 20, (search (sendable, crosses, as_row_sync, turnstile) depth 20, tt)),
-    ),
+    (search (sendable, crosses, as_row_sync, rt) depth 20, (search (sendable, crosses, as_row_sync, turnstile) depth 20, (search (sendable, as_row_sync) depth 20, tt))),
   )

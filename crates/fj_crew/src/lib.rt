@@ -7,13 +7,19 @@
 #![tactic(auto)]
 
 mod alone;
-mod closing;
 mod crew;
+mod play;
+mod playing;
 mod results;
+mod running;
 mod settings;
+mod submitters;
 
 pub use alone::run_alone;
-pub use fj_model::{Kind, Limits, Mode, Refusal, Serial, WorkerId};
-pub use fj_pool::{Ask, Body, Heard, Kept, Open, Outcome, Turnstile};
+pub use fj_model::{Kind, Limits, Mode, Refusal, Sealed, Serial, SubId, WorkerId};
+pub use fj_pool::{Ask, Body, Heard, Kept, Naming, Open, Outcome, Record, Ticket, Turnstile};
+pub use play::Play;
+pub use playing::{Played, with_pool};
 pub use results::{NoResult, result_in};
+pub use running::Running;
 pub use settings::Settings;

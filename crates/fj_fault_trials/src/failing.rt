@@ -124,6 +124,7 @@ where
         Ask::Join(t) => Ask::Join(t),
         Ask::Help => Ask::Help,
         Ask::Take(t) => Ask::Take(t),
+        Ask::Release(t) => Ask::Release(t),
         Ask::Add(c, n) => Ask::Add(c, n),
         Ask::QuietRoot(t) => Ask::QuietRoot(t),
         Ask::Cancel(t) => Ask::Cancel(t),

@@ -1,4 +1,4 @@
-ghost use Rattle.std.specs.Prelude.{◌≡◌, ◌<◌, ◌≤◌, ◌↔◌, length, IsTrue, IfOk, IfErr};
+ghost use Rattle.std.specs.Prelude.{◌≡◌, ◌+◌, ◌<◌, ◌≤◌, ◌↔◌, length, IsTrue, IfOk, IfErr};
 ghost use Rattle.fj_lane.specs.Ends.{Pushes};
 
 use crate::parcel::{LaneSpent, Parcel};
@@ -46,6 +46,13 @@ impl<B> Feed<B> {
         ensures within { length self.now.fed ≤ self.now.capacity }
     {
         self.pushed < self.capacity
+    }
+
+    /// How many more parcels it takes.
+    pub fn left(&self) -> u32
+        ensures { length self.now.fed + result ≡ self.now.capacity }
+    {
+        self.capacity - self.pushed
     }
 
     /// Pushes a parcel behind those that were pushed before. It waits for nobody, and never runs out of memory.

@@ -9,6 +9,7 @@ ghost use Rattle.fj_model.specs.Hooks.{hand};
 ghost use Rattle.fj_model.specs.Answers.{running, is_quiet, root_of};
 ghost use Rattle.fj_model.specs.Allowed.{AllowedFrom, is_closed, is_stopped};
 ghost use Rattle.fj_model.specs.Pasts.{fresh, limit, present, gone_since};
+ghost use Rattle.fj_ledger.specs.Counts.{queued};
 ghost use Rattle.fj_ledger.specs.Holds.{IsLawful, TellsOf, TellsHook};
 
 mod accept;
@@ -247,6 +248,20 @@ impl Ledger {
         ensures lawful { IsLawful self.now.pool (limit self.now) self.now.events }
     {
         self.log.is_stopped()
+    }
+
+    /// How many tasks are queued, for all owners.
+    pub fn queued(&self) -> usize
+        ensures { result ≡ queued self.now.pool.limits self.now.events }
+    {
+        self.queues.total()
+    }
+
+    /// How many tasks are kept.
+    pub fn live(&self) -> usize
+        ensures { result ≡ live self.now.events }
+    {
+        self.tree.len()
     }
 
     /// Whether one task more can be kept.

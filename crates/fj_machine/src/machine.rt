@@ -3,7 +3,7 @@ ghost use Rattle.fj_model.specs.Queues.{queue};
 ghost use Rattle.fj_model.specs.Stacks.{stack};
 ghost use Rattle.fj_model.specs.Bounds.{IsWithin};
 ghost use Rattle.fj_model.specs.Hooks.{hand};
-ghost use Rattle.fj_model.specs.Tasks.{is_kept, is_completer, parent};
+ghost use Rattle.fj_model.specs.Tasks.{is_kept, is_completer, live, parent};
 ghost use Rattle.fj_model.specs.Places.{open_tasks};
 ghost use Rattle.fj_model.specs.Allowed.{AllowedFrom};
 ghost use Rattle.fj_model.specs.Answers.{answer, refusal_of};
@@ -12,6 +12,7 @@ ghost use Rattle.fj_model.specs.Runs.{Steps};
 ghost use Rattle.fj_model.specs.Epochs.{IsPast, seal_refusal, RefusesSeal};
 ghost use Rattle.fj_model.specs.Parts.{Fits};
 ghost use Rattle.fj_model.specs.Headline.{Headline, RepliesTell};
+ghost use Rattle.fj_ledger.specs.Counts.{queued};
 ghost use Rattle.fj_machine.specs.InHands.{HooksApart};
 ghost use Rattle.fj_machine.specs.Outcomes.{Makes, said_by};
 ghost use Rattle.fj_model.specs.declared.step.Step.TheVariants.{Submit};
@@ -105,6 +106,20 @@ impl Machine {
         ensures { result.now ≡ gone_since self.now }
     {
         self.ledger.gone()
+    }
+
+    /// How many tasks are queued, for all owners.
+    pub fn queued(&self) -> usize
+        ensures { result ≡ queued self.now.pool.limits self.now.events }
+    {
+        self.ledger.queued()
+    }
+
+    /// How many tasks are kept: accepted, and not released.
+    pub fn live(&self) -> usize
+        ensures { result ≡ live self.now.events }
+    {
+        self.ledger.live()
     }
 
     /// The completer whose completion action is in a worker's hand. Precondition: there is such a worker.

@@ -23,15 +23,17 @@ use Rattle.fj_core.specs.declared.closing.Closing.{Closing}
 use Rattle.fj_core.specs.Booked.{booked_under}
 use Rattle.fj_core.specs.Closes.{ShutsAt}
 use Rattle.fj_core.specs.Closings.{is_due}
+use Rattle.fj_core.specs.Cancels.{CancelsTask, CancelsTicket, CancelsUnless}
 use Rattle.fj_core.specs.Cores.{CollectsTicket, CollectsUnless, CoreState, first_hands}
 use Rattle.fj_core.specs.Hands.{KeepsHand}
 use Rattle.fj_core.specs.Sealing.{SealsCore, holds_back, may_be_sealed}
-use Rattle.fj_core.proofs.Others.{collects_hands, intakes_hands, kept_fits, seals_hands, shuts_hands}
+use Rattle.fj_core.proofs.Others.{cancels_hands, collects_hands, intakes_hands, kept_fits, seals_hands, shuts_hands}
 use Rattle.fj_pool.specs.declared.guarded.outside.TakenIn.{TakenIn}
 use Rattle.fj_pool.specs.declared.holding.Holding.{Holding}
 use Rattle.fj_pool.specs.Holdings.{AreKept, AreTied, HaveEnds, IsTied, KeepsHands, KeepsOthers, TiedState, hands_of, holding_in, holding_of, nothing, pairs_of}
 use Rattle.fj_pool.specs.declared.next.Next.{Next}
-use Rattle.fj_pool.specs.Looking.{IsQuietBehind, LooksAtLanes, SealsWhere, TakesFrom, TakesUnless}
+use Rattle.fj_pool.specs.Asked.{CancelsBehind, CollectsAny}
+use Rattle.fj_pool.specs.Looking.{IsQuietBehind, LooksAtLanes, SealsWhere, TakesEach, TakesFrom, TakesUnless, so_far_behind}
 use Rattle.fj_pool.specs.Working.{MayLook, Then, Waits}
 use Rattle.fj_pool.proofs.Looking.{dues_same, pool_of, takes_same}
 
@@ -67,15 +69,18 @@ keeps_fit old new hand keeps fits = kept_fits old new hand (keeps.hands hand.wor
 
 -- what the lanes show is taken in
 module _ {B K O : Type 0} where
-  takes_hands : (rooted_as : B → Option ℕ) (n : ℕ) (old new : CoreState B K O) (taken : TakenIn) → TakesFrom rooted_as n old taken new → (w : ℕ) → KeepsHand w old.store.past new.store.past
-  takes_hands rooted_as zero old new taken is w =
+  takes_hands : (rooted_as : B → Option ℕ) (submitters first n : ℕ) (old new : CoreState B K O) (taken : TakenIn) → TakesFrom rooted_as submitters first n old taken new
+      → (w : ℕ) → KeepsHand w old.store.past new.store.past
+  takes_hands rooted_as submitters first zero old new taken is w =
       subst (KeepsHand w old.store.past) (sym (ap (λ (c : CoreState B K O). c.store.past) is.1)) (record { bodies = refl; hook = refl })
-  takes_hands rooted_as (suc s) old new taken (mid, before, answer, earlier, last, is) w =
-      let first = takes_hands rooted_as s old mid before earlier w in
-      let next = intakes_hands rooted_as mid new s answer last w in record { bodies = next.bodies ∙ first.bodies; hook = next.hook ∙ first.hook }
+  takes_hands rooted_as submitters first (suc n) old new taken (mid, before, answer, earlier, last, is) w =
+      let so_far = takes_hands rooted_as submitters first n old mid before earlier w in
+      let next = intakes_hands rooted_as mid new (so_far_behind submitters first n) answer last w in record { bodies = next.bodies ∙ so_far.bodies; hook = next.hook ∙ so_far.hook }
 
-  pub takes_keep_hands : (rooted_as : B → Option ℕ) (n : ℕ) (old new : CoreState B K O) (taken : TakenIn) → TakesFrom rooted_as n old taken new → KeepsHands old.store.past new.store.past
-  takes_keep_hands rooted_as n old new taken takes = record { pool = takes_same rooted_as n old new taken takes; hands = takes_hands rooted_as n old new taken takes }
+  pub takes_keep_hands : (rooted_as : B → Option ℕ) (old new : CoreState B K O) (taken : TakenIn) → TakesEach rooted_as old taken new → KeepsHands old.store.past new.store.past
+  takes_keep_hands rooted_as old new taken (first, takes) =
+      let submitters = old.store.past.pool.limits.submitters in
+      record { pool = takes_same rooted_as submitters first submitters old new taken takes; hands = takes_hands rooted_as submitters first submitters old new taken takes }
 
   core_keeps : (old new : CoreState B K O) → new ≡ old → KeepsHands old.store.past new.store.past
   core_keeps old new same = same_keeps old.store.past new.store.past (ap (λ (c : CoreState B K O). c.store.past) same)
@@ -90,7 +95,7 @@ module _ {B K O : Type 0} where
 
   unless_keeps : (held_back : Bool) (rooted_as : B → Option ℕ) (old new : CoreState B K O) (taken : TakenIn) → TakesUnless held_back rooted_as old taken new → KeepsHands old.store.past new.store.past
   unless_keeps true rooted_as old new taken is = core_keeps old new is.1
-  unless_keeps false rooted_as old new taken is = takes_keep_hands rooted_as old.store.past.pool.limits.submitters old new taken is
+  unless_keeps false rooted_as old new taken is = takes_keep_hands rooted_as old new taken is
 
   -- a look at the lanes
   pub looks_keep : (rooted_as : B → Option ℕ) (old new : CoreState B K O) (taken : TakenIn) → LooksAtLanes rooted_as old taken new → KeepsHands old.store.past new.store.past
@@ -121,7 +126,7 @@ module _ {B K O : Type 0} where
   pub quiet_keeps : (rooted_as : B → Option ℕ) (old new : CoreState B K O) (quiet : Bool) → IsQuietBehind rooted_as old quiet new → KeepsHands old.store.past new.store.past
   quiet_keeps rooted_as old new quiet is =
       keeps_then old.store.past is.mid.store.past new.store.past (seals_keep (may_be_sealed old.store.past) old is.mid is.seals)
-      (takes_keep_hands rooted_as is.mid.store.past.pool.limits.submitters is.mid new is.taken is.takes)
+      (takes_keep_hands rooted_as is.mid new is.taken is.takes)
 
   -- the closing number is set
   pub shuts_keep : (old new : CoreState B K O) (closing : Closing) → ShutsAt old closing new → KeepsHands old.store.past new.store.past
@@ -143,6 +148,31 @@ module _ {B K O : Type 0} where
   pub collects_keep : (old new : CoreState B K O) (ticket : ℕ) (answer : Option (Result (Outcome B K O) Refusal)) → CollectsTicket old ticket answer new → KeepsHands old.store.past new.store.past
   collects_keep old new ticket answer is =
       record { pool = ticket_same old.store.stuck (booked_under old.bookings ticket) old new answer is; hands = collects_hands old new ticket answer is }
+
+  -- the first of several outcomes is asked for
+  pub any_keeps : (tickets : List ℕ) (old new : CoreState B K O) (told : Option (ℕ × Result (Outcome B K O) Refusal)) → CollectsAny tickets old told new → KeepsHands old.store.past new.store.past
+  any_keeps tickets old new (Some (place, answer)) is = collects_keep old new is.ticket (Some answer) is.collects
+  any_keeps tickets old new None is = core_keeps old new is.1
+
+  cancels_same : (stuck : Bool) (booked : Option ℕ) (old new : CoreState B K O) (answer : Result Bool Refusal) → CancelsUnless stuck booked old answer new → new.store.past.pool ≡ old.store.past.pool
+  cancels_same true booked old new answer is = ap (λ (c : CoreState B K O). c.store.past.pool) is.1
+  cancels_same false None old new answer is = ap (λ (c : CoreState B K O). c.store.past.pool) is.1
+  cancels_same false (Some t) old new answer is = task_same old.store new.store t answer is.0
+    where
+      task_same : (old new : StoreState B K O) (t : ℕ) (answer : Result Bool Refusal) → CancelsTask old t answer new → pool_of new ≡ pool_of old
+      task_same old new t (Ok true) drops = ap pool_of drops.releases.were ∙ ap (λ (p : Past). p.pool) drops.step.1
+      task_same old new t (Ok false) drops = ap pool_of drops.releases.were ∙ ap (λ (p : Past). p.pool) drops.step.1
+      task_same old new t (Err r) refuses = ap pool_of refuses.1
+
+  cancels_keep : (old new : CoreState B K O) (ticket : ℕ) (answer : Result Bool Refusal) → CancelsTicket old ticket answer new → KeepsHands old.store.past new.store.past
+  cancels_keep old new ticket answer is =
+      record { pool = cancels_same old.store.stuck (booked_under old.bookings ticket) old new answer is; hands = cancels_hands old new ticket answer is }
+
+  -- a submission is cancelled
+  pub behind_keeps : (rooted_as : B → Option ℕ) (old new : CoreState B K O) (ticket : ℕ) (answer : Result Bool Refusal) → CancelsBehind rooted_as old ticket answer new
+      → KeepsHands old.store.past new.store.past
+  behind_keeps rooted_as old new ticket answer is =
+      keeps_then old.store.past is.mid.store.past new.store.past (looks_keep rooted_as old is.mid is.taken is.looks) (cancels_keep is.mid new ticket answer is.cancels)
 
 -- ---- what the ends know
 

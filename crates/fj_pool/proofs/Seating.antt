@@ -10,6 +10,11 @@ use Rattle.fj_lane.specs.Ends.{DrainState, FeedState, LaneId, new_drain, new_fee
 use Rattle.fj_pool.specs.Lanes.{lanes_of}
 use Rattle.fj_pool.specs.Parts.{ArePaired, AreSeated}
 use Rattle.fj_pool.specs.Seats.{IsNamed, SeatState, new_seat, seats_for, seats_from}
+use Rattle.fj_pool.specs.Winding.{AreAll}
+
+-- the seats of a pool are all submitters, by their numbers
+pub all_seats : {B : Type 0} (closer : CloserState) (lanes named : List LaneId) (seats : List (SeatState B)) → ArePaired closer lanes seats → named ≡ lanes → AreAll (length named) seats
+all_seats closer lanes named seats are same = (are.lane_each ∙ ap length (sym same), λ n seat at. (are.each n seat at).0)
 
 -- what is in the same option is the same
 same_some : {A : Type 0} (a b : A) → Some a ≡ Some b → a ≡ b

@@ -82,6 +82,7 @@ module _ {B K O : Type 0} where
   body_acts_at key_of old new hand hand' (asks.Join t) answer is = joins_at old new hand hand' t answer is
   body_acts_at key_of old new hand hand' asks.Help answer is = helps_at old new hand hand' answer is
   body_acts_at key_of old new hand hand' (asks.Take t) answer is = as_hand hand hand' is.1
+  body_acts_at key_of old new hand hand' (asks.Release t) answer is = as_hand hand hand' is.1
   body_acts_at key_of old new hand hand' (asks.Add c n) answer is = as_hand hand hand' is.1
   body_acts_at key_of old new hand hand' (asks.QuietRoot t) answer is = as_hand hand hand' is.1
   body_acts_at key_of old new hand hand' (asks.Cancel t) answer is = as_hand hand hand' is.1

@@ -12,6 +12,8 @@ pub mod Turning
 pub mod Winding
 -- what the lanes show is taken in
 pub mod Looking
+-- what is asked from outside, of one ticket or of several
+pub mod Asked
 -- what a worker does in one holding of the lock
 pub mod Working
 -- what a worker holds

@@ -1,5 +1,5 @@
 -- What the lanes show is taken in.
-use Rattle.std.specs.Prelude.{ℕ, ◌≡◌, ⊤, zero, suc, Bool, true, false, Option, Result}
+use Rattle.std.specs.Prelude.{ℕ, ◌≡◌, ◌+◌, ⊤, zero, suc, Bool, true, false, if◌then◌else◌, nat_lt, Option, Result}
 use Rattle.fj_model.specs.declared.refusal.Refusal.{Refusal}
 use Rattle.fj_model.specs.Answers.{is_quiet}
 use Rattle.fj_core.specs.declared.taken_in.Intake.{Intake}
@@ -21,17 +21,26 @@ abbrev pub with_answer : TakenIn → Intake → TakenIn
 with_answer taken (Took serial) = one_more taken
 with_answer taken _ = taken
 
-module _ {B K O : Type 0} where
-  -- one intake for each of the first submitters, so many of them, by rising number
-  abbrev pub TakesFrom : (B → Option ℕ) → ℕ → CoreState B K O → TakenIn → CoreState B K O → Type 0
-  TakesFrom rooted_as zero old taken new = (taken ≡ Nothing) × (new ≡ old)
-  TakesFrom rooted_as (suc s) old taken new =
-      (mid : CoreState B K O) × (before : TakenIn) × (answer : Intake)
-      × TakesFrom rooted_as s old before mid × Intakes rooted_as mid s answer new × (taken ≡ with_answer before answer)
+-- of so many submitters the one behind this one: behind the last one stands the first
+abbrev pub behind : ℕ → ℕ → ℕ
+behind submitters s = if nat_lt (s + 1) submitters then s + 1 else 0
 
-  -- one for each submitter
+-- the one that stands so many places behind this one
+abbrev pub so_far_behind : ℕ → ℕ → ℕ → ℕ
+so_far_behind submitters first zero = first
+so_far_behind submitters first (suc n) = behind submitters (so_far_behind submitters first n)
+
+module _ {B K O : Type 0} where
+  -- one intake for each of so many submitters, from this one on by rising number
+  abbrev pub TakesFrom : (B → Option ℕ) → ℕ → ℕ → ℕ → CoreState B K O → TakenIn → CoreState B K O → Type 0
+  TakesFrom rooted_as submitters first zero old taken new = (taken ≡ Nothing) × (new ≡ old)
+  TakesFrom rooted_as submitters first (suc n) old taken new =
+      (mid : CoreState B K O) × (before : TakenIn) × (answer : Intake)
+      × TakesFrom rooted_as submitters first n old before mid × Intakes rooted_as mid (so_far_behind submitters first n) answer new × (taken ≡ with_answer before answer)
+
+  -- one for each submitter, from one of them on
   abbrev pub TakesEach : (B → Option ℕ) → CoreState B K O → TakenIn → CoreState B K O → Type 0
-  TakesEach rooted_as old taken new = TakesFrom rooted_as old.store.past.pool.limits.submitters old taken new
+  TakesEach rooted_as old taken new = (first : ℕ) × TakesFrom rooted_as old.store.past.pool.limits.submitters first old.store.past.pool.limits.submitters old taken new
 
   -- a seal is tried where it is time for it
   abbrev pub SealsWhere : Bool → CoreState B K O → CoreState B K O → Type 0

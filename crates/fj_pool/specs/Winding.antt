@@ -10,7 +10,11 @@ use Rattle.fj_gate.specs.Ends.{drawn_by}
 use Rattle.fj_lane.specs.declared.parcel.Parcel.{Parcel}
 use Rattle.fj_lane.specs.Ends.{DrainState}
 use Rattle.fj_core.specs.declared.booking.Booking.{Booking}
-use Rattle.fj_core.specs.Booked.{booked_by}
+use Rattle.fj_model.specs.Statuses.{status}
+use Rattle.fj_shelf.specs.Shelves.{Entries}
+use Rattle.fj_store.specs.declared.outcomes.Outcome.{Outcome}
+use Rattle.fj_store.specs.Results.{outcome_of}
+use Rattle.fj_core.specs.Booked.{booked_by, booked_under}
 use Rattle.fj_core.specs.Closings.{is_over}
 use Rattle.fj_core.specs.Closes.{is_number}
 use Rattle.fj_pool.specs.Seats.{SeatState, tickets}
@@ -51,6 +55,10 @@ module _ {B : Type 0} where
   -- the lanes hold nothing any more
   abbrev pub AreEmpty : List (List (Parcel B)) → Type 0
   AreEmpty rests = All (λ r. r ≡ []) rests
+
+-- the outcome of the task that was taken in first under a ticket, with the result that was kept for it
+abbrev pub IsLeft : {B K O : Type 0} → List Event → List Booking → Entries (K × O) → ℕ → Outcome B K O → Type 0
+IsLeft h bookings results ticket outcome = (t : ℕ) × (booked_under bookings ticket ≡ Some t) × (outcome ≡ outcome_of (status h t) (results t))
 
 -- how many submissions the machine accepted, from all submitters
 abbrev pub submissions : Past → ℕ

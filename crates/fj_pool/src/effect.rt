@@ -9,8 +9,8 @@ pub enum Effect {
     Queues,
     /// This task may be done, and no other.
     Ends(Serial),
-    /// The result of this task is taken, where one was told: its outcome cannot be told any more. It may be released by that, and completers
-    /// above it with it, which are kept only for a task below: they cannot be joined any more.
+    /// The result of this task is taken or given up, where that was told: its outcome cannot be told any more. It may be released by that, and
+    /// completers above it with it, which are kept only for a task below: they cannot be joined any more.
     Takes(Serial),
     /// Several tasks may be done.
     EndsSeveral,
@@ -23,7 +23,7 @@ pub fn effect_of<B: Body>(hand: &Hand<B>, ask: &Ask<B>) -> Effect {
         Ask::Trigger(_, _) | Ask::Help | Ask::Add(_, _) | Ask::State(_) => Effect::Nothing,
         // These end the body alone: the status of its task stays.
         Ask::Quiet | Ask::Try | Ask::Complete => Effect::Nothing,
-        Ask::Join(t) | Ask::Take(t) => Effect::Takes(*t),
+        Ask::Join(t) | Ask::Take(t) | Ask::Release(t) => Effect::Takes(*t),
         Ask::Cancel(t) => Effect::Ends(*t),
         Ask::Ok(_) => ends(hand.running()),
         Ask::HookDone(_) => ends(hand.hooked()),
@@ -32,9 +32,9 @@ pub fn effect_of<B: Body>(hand: &Hand<B>, ask: &Ask<B>) -> Effect {
     }
 }
 
-/// Whether a result was taken by what was told so.
-pub fn is_result<B: Body>(told: &Told<B>) -> bool {
-    matches!(told, Told::Hear(Heard::Got(_, _)))
+/// Whether a result was taken, or given up, by what was told so.
+pub fn is_taken<B: Body>(told: &Told<B>) -> bool {
+    matches!(told, Told::Hear(Heard::Got(_, _) | Heard::Went))
 }
 
 /// This task is done, where there is one.

@@ -10,6 +10,7 @@ use crate::waits::Waits;
 use fj_core::Core;
 use fj_gate::Entrant;
 use fj_lane::Rest;
+use fj_model::SubId;
 use fj_store::Body;
 use std::alloc::{AllocError, Global};
 use std::marker::{Model, PhantomData};
@@ -22,11 +23,13 @@ pub struct Guarded<B: Body, N: Naming> {
     pub(crate) waits: Waits,
     pub(crate) entrants: Vec<Entrant>,
     pub(crate) rests: Vec<Rest<B>>,
+    /// The submitter with which the next look at the lanes begins: the first for which the last one found no room.
+    pub(crate) first: SubId,
     pub(crate) of: PhantomData<N>,
 }
 
 impl<B: Body, N: Naming> Model for Guarded<B, N> {
-    ghost use Rattle.std.specs.Prelude.{◌≡◌, ◌≤◌, [], length, vec_capacity};
+    ghost use Rattle.std.specs.Prelude.{◌≡◌, ◌<◌, ◌≤◌, [], length, vec_capacity};
     ghost use Rattle.fj_core.specs.Cores.{CoreState};
     ghost use Rattle.fj_pool.specs.Lanes.{lanes_of};
 
@@ -40,7 +43,8 @@ impl<B: Body, N: Naming> Model for Guarded<B, N> {
         × (length N.lanes ≤ vec_capacity g.entrants)
         × (g.rests.items ≡ [])
         × (length N.lanes ≤ vec_capacity g.rests)
-        × (g.core.store.past.pool ≡ N.pool) };
+        × (g.core.store.past.pool ≡ N.pool)
+        × (g.first < N.pool.limits.submitters) };
 }
 
 impl<B: Body, N: Naming> Guarded<B, N> {
@@ -57,6 +61,7 @@ impl<B: Body, N: Naming> Guarded<B, N> {
             waits,
             entrants: Vec::with_capacity(alloc, lanes)?,
             rests: Vec::with_capacity(alloc, lanes)?,
+            first: SubId(0),
             of: PhantomData,
         })
     }

@@ -3,6 +3,7 @@ ghost use Rattle.std.specs.Prelude.{◌≡◌, ◌++◌, [], IfNone, IfSome};
 ghost use Rattle.fj_core.specs.Closes.{ShutsAt, closed_at, is_finished, stopped_at};
 ghost use Rattle.fj_core.specs.Cores.{CollectsTicket};
 ghost use Rattle.fj_store.specs.Fitting.{Fits};
+ghost use Rattle.fj_pool.specs.Asked.{CancelsBehind, CollectsAny};
 ghost use Rattle.fj_pool.specs.Holdings.{AreKept};
 ghost use Rattle.fj_pool.specs.Looking.{IsQuietBehind};
 ghost use Rattle.fj_pool.specs.Turning.{LeavesWell, MayAsk, NextRight};
@@ -102,6 +103,13 @@ impl<B: Body, N: Naming> Locked<B, N> {
         self.guarded.sit(ticket)
     }
 
+    /// Somebody awaits the first of several outcomes from now on, without a seat.
+    pub fn sit_for_any(&mut self)
+        ensures { self.new ≡ self.old }
+    {
+        self.guarded.sit_for_any();
+    }
+
     /// Who sat there is back.
     pub fn stand_up(&mut self, seat: Option<usize>)
         ensures { self.new ≡ self.old }
@@ -114,6 +122,23 @@ impl<B: Body, N: Naming> Locked<B, N> {
         ensures { CollectsTicket self.old ticket result self.new }
     {
         self.guarded.collect(ticket)
+    }
+
+    /// The first of these outcomes that is told, and at which place of them it stands.
+    pub fn collect_any(
+        &mut self,
+        tickets: &[Ticket],
+    ) -> Option<(usize, Result<Outcome<B>, Refusal>)>
+        ensures { CollectsAny tickets.now self.old result self.new }
+    {
+        self.guarded.collect_any(tickets)
+    }
+
+    /// Cancels the submission under a ticket, once what the lanes show was taken in.
+    pub fn cancel(&mut self, alloc: Global, ticket: Ticket) -> Result<bool, Refusal>
+        ensures { CancelsBehind B.rooted_as self.old ticket result self.new }
+    {
+        self.guarded.cancel(alloc, ticket)
     }
 
     /// The sealed parts that are kept, which count as handed out from then on.

@@ -2,6 +2,7 @@ ghost use Rattle.std.specs.Prelude.{◌≡◌, All, IfOk, length, vec_len};
 ghost use Rattle.fj_pool.specs.Holdings.{AreKept, IsTied, hands_of};
 ghost use Rattle.fj_pool.specs.Lanes.{lanes_of};
 ghost use Rattle.fj_pool.specs.Seats.{IsNamed};
+ghost use Rattle.fj_pool.specs.Winding.{AreAll};
 
 mod lock;
 mod outside;
@@ -54,6 +55,7 @@ impl<B: Body, N: Naming> Pool<B, N> {
         ensures hands { IfOk result (λ r. r.1.items ≡ parts.hands) }
         ensures submitters { IfOk result (λ r. r.2.items ≡ parts.seats) }
         ensures closer { IfOk result (λ r. r.3 ≡ parts.closer) }
+        ensures all { IfOk result (λ r. AreAll (length N.lanes) r.2.items) }
     {
         let condvars = Condvars::new(alloc, parts.ends.len())?;
         let Parts {

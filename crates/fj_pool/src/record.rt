@@ -4,7 +4,8 @@ ghost use Rattle.fj_model.specs.Epochs.{IsPast};
 ghost use Rattle.fj_core.specs.Cores.{AreParts};
 ghost use Rattle.fj_pool.specs.Lanes.{lanes_of};
 ghost use Rattle.fj_pool.specs.Seats.{IsSeat};
-ghost use Rattle.fj_pool.specs.Winding.{AreAll, AreEmpty, AreSettled, HaveMet, has_terminated, submissions, tickets_of};
+ghost use Rattle.fj_shelf.specs.Shelves.{entries};
+ghost use Rattle.fj_pool.specs.Winding.{AreAll, AreEmpty, AreSettled, HaveMet, IsLeft, has_terminated, submissions, tickets_of};
 
 use crate::closer::Closer;
 use crate::guarded::Guarded;
@@ -14,11 +15,12 @@ use crate::pool::Pool;
 use crate::seat::Seat;
 use crate::submitter::Submitter;
 use fj_core::{Archive, Bookings, Remains};
-use fj_gate::{Entrant, meet as meet_gate};
+use fj_gate::{Entrant, Ticket, meet as meet_gate};
 use fj_lane::{Drain, Rest, meet};
 use fj_machine::Machine;
+use fj_model::{Owner, Place, Refusal, Said, Serial, Step, SubId, WorkerId};
 use fj_shelf::Shelf;
-use fj_store::{Body, Kept};
+use fj_store::{Body, Kept, Outcome, told_outcome};
 
 /// What is left of a pool. Java has no counterpart.
 #[derive(Drop)]
@@ -39,6 +41,27 @@ pub struct Record<B: Body> {
     pub closed: Option<u64>,
     /// Whether it had terminated: it was shut down or stopped, exactly the closing number of submissions was taken in, and all is quiet.
     pub terminated: bool,
+}
+
+impl<B: Body> Record<B> {
+    /// The outcome of what was submitted under a ticket, if its task has ended and was not released: what `await_done` has told, or would have, also
+    /// where the pool got stuck. A result goes to the first call.
+    pub fn take_outcome(&mut self, ticket: Ticket) -> Option<Outcome<B>>
+        ensures { IfSome result (λ outcome. IsLeft self.old.machine.events self.old.bookings.bookings (entries self.old.results) ticket outcome) }
+    {
+        // The check wants each type inside a reply to be named where one is moved.
+        let _inside: Option<(Place, Owner, Refusal, Serial, SubId, WorkerId)> = None;
+        // Tells that the past is that of a run.
+        let _run = self.machine.history();
+        let t = self.bookings.find(ticket)?;
+        match self.machine.step(&Step::State { t }) {
+            Said::State(_, status) if !status.is_undone() => {
+                let kept = self.results.take(t);
+                Some(told_outcome(status, kept))
+            }
+            _ => None,
+        }
+    }
 }
 
 impl<B: Body, N: Naming> Pool<B, N> {
@@ -69,6 +92,7 @@ impl<B: Body, N: Naming> Pool<B, N> {
             waits: _,
             entrants,
             rests,
+            first: _,
             of: _,
         } = self.into_guarded();
         let shut = core.is_shut();

@@ -1,4 +1,4 @@
-ghost use Rattle.std.specs.Prelude.{◌≡◌, IfOk, IfErr};
+ghost use Rattle.std.specs.Prelude.{◌≡◌, ◌+◌, IfOk, IfErr, length};
 ghost use Rattle.fj_pool.specs.Seats.{IsNamed, IsSeat, RefusesSubmission, Submits};
 
 use crate::naming::Naming;
@@ -38,6 +38,13 @@ impl<B, N: Naming> Submitter<B, N> {
         ensures tickets { IsSeat self.new }
     {
         self.seat.submit(body)
+    }
+
+    /// How many more bodies it takes in its life.
+    pub fn left(&self) -> u32
+        ensures { length self.now.feed.fed + result ≡ self.now.feed.capacity }
+    {
+        self.seat.feed.left()
     }
 
     /// Which submitter it is, from 0.

@@ -95,6 +95,11 @@ impl Waits {
         seat
     }
 
+    /// Somebody awaits the first of several outcomes from now on, among those without a seat.
+    pub fn sit_for_any(&mut self) {
+        self.crowd = Wanted::Several;
+    }
+
     /// Who sat there is back.
     pub fn stand_up(&mut self, seat: Option<usize>) {
         if let Some(place) = seat {

@@ -59,6 +59,22 @@ module _ {B K O : Type 0} where
   TakesResult old t (told.Stuck None) new = (old.stuck ≡ true) × (new ≡ old)
   TakesResult old t _ new = ⊥
 
+  -- a task's result is dropped, and then what can be is released, the task too
+  pub record GivesUp (old : StoreState B K O) (t : ℕ) (new : StoreState B K O) : Type 0 where
+    pub free : old.stuck ≡ false
+    pub is : is_kept old.past.events t ≡ true
+    pub first : is_in t old.taken ≡ false
+    pub mid : StoreState B K O
+    pub marks : Marks old t mid
+    pub releases : Releases mid new
+
+  -- nobody asks for it any more: of a task that is not kept, or that was taken before, it is Unknown
+  abbrev pub LetsGo : StoreState B K O → ℕ → Told B K O → StoreState B K O → Type 0
+  LetsGo old t (told.Hear hears.Went) new = GivesUp old t new
+  LetsGo old t (told.Hear (hears.Refused r)) new = (old.stuck ≡ false) × (r ≡ Unknown) × ((is_in t old.taken ≡ true) ⊎ (is_kept old.past.events t ≡ false)) × (new ≡ old)
+  LetsGo old t (told.Stuck None) new = (old.stuck ≡ true) × (new ≡ old)
+  LetsGo old t _ new = ⊥
+
   -- what is told of a task with this status, and with this result if one was kept
   abbrev pub outcome_of : Status → Option (K × O) → Outcome B K O
   outcome_of Normal kept = outcome.Normal kept

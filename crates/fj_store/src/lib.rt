@@ -16,5 +16,5 @@ mod tries;
 
 pub use body::{Ask, Body, Heard, Told};
 pub use kept::Kept;
-pub use outcomes::Outcome;
+pub use outcomes::{Outcome, told_outcome};
 pub use store::Store;

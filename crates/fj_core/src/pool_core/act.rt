@@ -91,6 +91,7 @@ fn serve_body<B: Body>(store: &mut Store<B>, hand: &mut Hand<B>, ask: Ask<B>) ->
         Ask::Join(t) => store.join(hand, t),
         Ask::Help => store.help(hand),
         Ask::Take(t) => store.take(t),
+        Ask::Release(t) => store.release(t),
         Ask::Add(c, n) => store.add(w, c, n),
         Ask::QuietRoot(t) => store.quiet_root(w, t),
         Ask::Cancel(t) => store.cancel(t),

@@ -67,6 +67,47 @@ help > idle
 ok 40 > over
 collect 0 > normal with a result
 
+What gives a place back that no result gives: two tasks may be kept
+1 2 99
+push 0 70 > done
+intake > took 0
+poll > run 0
+release 9 > refused Unknown
+fork 71 > task 1
+fork 72 > handed 72 TooManyTasks
+join 1 > run 1
+fail 9 > over with 71
+join 1 > failed 9
+join 1 > failed 9
+release 1 > went
+release 1 > refused Unknown
+join 1 > refused Unknown
+fork 72 > task 2
+release 2 > went
+release 2 > refused Unknown
+state 2 > is Queued(Work(WorkerId(0))) undone
+join 2 > run 2
+ok 5 > over
+join 2 > refused Unknown
+fork 73 root 0 > task 3
+help > run 3
+pass > over with 73
+join 3 > bare
+release 3 > went
+fork 74 > task 4
+cancel 4 > yes
+help > skip 4 with 74
+join 4 > cancelled
+release 4 > went
+fork 75 > task 5
+join 5 > run 5
+ok 6 > over
+release 5 > went
+join 5 > refused Unknown
+release 0 > went
+ok 40 > over
+collect 0 > refused Unknown
+
 What is unknown, and what the place of a task is, to a body
 1 8 64
 push 0 70 > done

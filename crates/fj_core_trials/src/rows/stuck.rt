@@ -41,6 +41,7 @@ trigger 72 0 > stuck with 72
 join 1 > stuck
 help > stuck
 take 1 > stuck
+release 1 > stuck
 add 1 1 > stuck
 quiet_root 1 > stuck
 cancel 1 > stuck
@@ -53,6 +54,7 @@ pass > stuck
 complete > stuck
 fail 5 > stuck
 hook_done 1 > stuck
+cancel_ticket 0 > refused LogFull
 intake > full LogFull
 collect 0 > refused LogFull
 bodies > 3

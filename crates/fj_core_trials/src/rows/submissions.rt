@@ -33,6 +33,36 @@ is_terminated > yes
 collect 0 > normal with a result
 bodies > 1
 
+What is cancelled from outside
+1 4 64
+cancel_ticket 0 > refused Unknown
+push 0 70 > done
+cancel_ticket 0 > refused Unknown
+is_booked 0 > no
+intake > took 0
+is_booked 0 > yes
+is_booked 1 > no
+cancel_ticket 0 > yes
+cancel_ticket 0 > yes
+poll > skip 0 with 70
+collect 0 > cancelled
+cancel_ticket 0 > refused Unknown
+is_booked 0 > yes
+push 1 71 > done
+intake > took 1
+poll > run 1
+fork 72 > task 2
+is_booked 2 > no
+join 2 > run 2
+ok 41 > over
+ok 40 > over
+cancel_ticket 1 > no
+collect 1 > normal with a result
+push 2 73 > done
+intake > took 3
+is_booked 2 > no
+is_booked 3 > yes
+
 Closed before anything was taken in
 1 8 64
 push 0 70 > done

@@ -82,6 +82,7 @@ fork 72 > handed 72 NotIdle
 trigger 73 0 > handed 73 NotIdle
 join 1 > refused NotIdle
 help > refused NotIdle
+release 1 > refused NotIdle
 add 0 1 > refused NotIdle
 quiet_root 0 > refused NotIdle
 cancel 0 > refused NotIdle

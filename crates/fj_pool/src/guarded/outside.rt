@@ -1,10 +1,11 @@
 //! What is asked of a pool from outside, and what its lanes show.
-ghost use Rattle.std.specs.Prelude.{◌≡◌, ◌++◌, []};
+ghost use Rattle.std.specs.Prelude.{◌≡◌, ◌<◌, ◌++◌, [], IfSome};
 ghost use Rattle.fj_core.specs.Closes.{ShutsAt, closed_at, is_finished, stopped_at};
 ghost use Rattle.fj_core.specs.Cores.{CollectsTicket};
 ghost use Rattle.fj_core.specs.Sealing.{may_be_sealed};
 ghost use Rattle.fj_pool.specs.Lanes.{KeepsLanes};
-ghost use Rattle.fj_pool.specs.Looking.{IsQuietBehind, LooksAtLanes, SealsWhere, TakesEach, with_answer};
+ghost use Rattle.fj_pool.specs.Asked.{CancelsBehind, CollectsAny};
+ghost use Rattle.fj_pool.specs.Looking.{IsQuietBehind, LooksAtLanes, SealsWhere, TakesEach, TakesFrom, behind, with_answer};
 
 use crate::guarded::Guarded;
 use crate::naming::Naming;
@@ -34,11 +35,13 @@ impl<B: Body, N: Naming> Guarded<B, N> {
         self.take_in()
     }
 
-    /// Takes in what the lanes show, each submitter once by rising number, and tells how many tasks are queued by that.
+    /// Takes in what the lanes show, each submitter once by rising number, and tells how many tasks are queued by that. It begins where the
+    /// last look found no room: else a place that comes free now and then would always go to the first submitter.
     fn take_in(&mut self) -> TakenIn
         ensures { TakesEach B.rooted_as self.old result self.new }
     {
-        let taken = take_each(&mut self.core);
+        let (taken, first) = take_each(&mut self.core, self.first);
+        self.first = first;
         match taken {
             // An intake that found no room for an event may have made the core stuck.
             TakenIn::Nothing => self.tell_if_stuck(),
@@ -69,6 +72,33 @@ impl<B: Body, N: Naming> Guarded<B, N> {
         if answer.is_some() {
             self.outcome_told();
         }
+        answer
+    }
+
+    /// The first of these outcomes, in their order, that `Core::collect` tells, and at which place of them it stands.
+    pub fn collect_any(
+        &mut self,
+        tickets: &[Ticket],
+    ) -> Option<(usize, Result<Outcome<B>, Refusal>)>
+        ensures { CollectsAny tickets.now self.old result self.new }
+    {
+        for place in 0..tickets.len() {
+            if let Some(answer) = self.collect(tickets[place]) {
+                return Some((place, answer));
+            }
+        }
+        None
+    }
+
+    /// Cancels the submission under a ticket, once what the lanes show was taken in.
+    pub fn cancel(&mut self, alloc: Global, ticket: Ticket) -> Result<bool, Refusal>
+        ensures { CancelsBehind B.rooted_as self.old ticket result self.new }
+    {
+        if let TakenIn::One = self.look_at_lanes(alloc) {
+            self.task_queued();
+        }
+        let answer = self.core.cancel(ticket);
+        self.tasks_ended();
         answer
     }
 
@@ -118,18 +148,48 @@ impl<B: Body, N: Naming> Guarded<B, N> {
     }
 }
 
-/// One intake for each submitter.
-fn take_each<B: Body>(core: &mut Core<B>) -> TakenIn
-    ensures takes { TakesEach B.rooted_as core.old result core.new }
+/// One intake for each submitter, from this one on; and the first for which there was no room, or else the same one.
+fn take_each<B: Body>(core: &mut Core<B>, first: SubId) -> (TakenIn, SubId)
+    requires { first < core.old.store.past.pool.limits.submitters }
+    ensures takes { TakesFrom B.rooted_as core.old.store.past.pool.limits.submitters first core.old.store.past.pool.limits.submitters core.old result.0 core.new }
+    ensures next { result.1 < core.old.store.past.pool.limits.submitters }
     ensures lanes { KeepsLanes core.old core.new }
     ensures pool { core.new.store.past.pool ≡ core.old.store.past.pool }
 {
+    let submitters = core.limits().submitters();
     let mut taken = TakenIn::Nothing;
-    for s in 0..core.limits().submitters() {
-        let answer = core.intake(SubId(s));
+    let mut s = first;
+    let mut waits = None;
+    for _look in 0..submitters {
+        let answer = core.intake(s);
         taken = count(taken, &answer);
+        waits = waits.or(full(&answer, s));
+        s = next_behind(s, submitters);
     }
-    taken
+    (taken, waits.unwrap_or(first))
+}
+
+/// The submitter, where there was no room for what it handed in.
+fn full(answer: &Intake, s: SubId) -> Option<SubId>
+    ensures { IfSome result (λ t. t ≡ s) }
+{
+    match answer {
+        Intake::Full(_) => Some(s),
+        _ => None,
+    }
+}
+
+/// The submitter behind this one, which of the last one is the first.
+fn next_behind(s: SubId, submitters: u32) -> SubId
+    requires { s < submitters }
+    ensures is { result ≡ behind submitters s }
+    ensures within { result < submitters }
+{
+    if s.0 + 1 < submitters {
+        SubId(s.0 + 1)
+    } else {
+        SubId(0)
+    }
 }
 
 /// The same, with what an intake answered.

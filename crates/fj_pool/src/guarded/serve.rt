@@ -11,7 +11,7 @@ ghost use Rattle.fj_pool.specs.Holdings.{KeepsOthers};
 ghost use Rattle.fj_pool.specs.Turning.{LeavesWell, MayAsk, NextRight};
 ghost use Rattle.fj_pool.specs.Working.{JoinsOnce, IsPolled, LooksForWork, NextOfPoll, PollsOn, Resumes, Serves, Then, Waits, next_idle, noted};
 
-use crate::effect::{Effect, effect_of, is_result};
+use crate::effect::{Effect, effect_of, is_taken};
 use crate::guarded::Guarded;
 use crate::guarded::outside::TakenIn;
 use crate::naming::Naming;
@@ -67,7 +67,7 @@ impl<B: Body, N: Naming> Guarded<B, N> {
         let helps = matches!(ask, Ask::Help);
         let effect = effect_of(hand, &ask);
         let told = self.note_and_act(hand, ask);
-        self.tell_waiting(effect, is_result(&told));
+        self.tell_waiting(effect, is_taken(&told));
         match told {
             Told::Hear(heard) => Next::Turn(heard),
             Told::Run(t) => Next::Begin(t),

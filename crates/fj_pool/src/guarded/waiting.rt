@@ -54,6 +54,13 @@ impl<B: Body, N: Naming> Guarded<B, N> {
         self.waits.sit(ticket)
     }
 
+    /// Somebody awaits the first of several outcomes from now on, without a seat.
+    pub fn sit_for_any(&mut self)
+        ensures { self.new ≡ self.old }
+    {
+        self.waits.sit_for_any();
+    }
+
     /// Who sat there is back.
     pub fn stand_up(&mut self, seat: Option<usize>)
         ensures { self.new ≡ self.old }
@@ -167,7 +174,7 @@ impl<B: Body, N: Naming> Guarded<B, N> {
             tell_booked(&self.core, &mut self.waits.seats, self.waits.seats_used, t);
         }
         if !self.waits.crowd.is_nothing() {
-            self.tell_crowd();
+            self.tell_crowd(Some(t));
         }
     }
 
@@ -179,18 +186,21 @@ impl<B: Body, N: Naming> Guarded<B, N> {
             tell_awaiting(&mut self.core, &mut self.waits.seats, self.waits.seats_used);
         }
         if !self.waits.crowd.is_nothing() {
-            self.tell_crowd();
+            self.tell_crowd(None);
         }
     }
 
-    /// Who awaits an outcome without a seat is to be woken, where it may be told.
-    fn tell_crowd(&mut self)
+    /// Who awaits an outcome without a seat is to be woken, where it may be told: that of this task, or, without one, any.
+    fn tell_crowd(&mut self, ended: Option<Serial>)
         ensures { self.new ≡ self.old }
     {
         let is_told = match self.waits.crowd {
             Wanted::Nothing => false,
             Wanted::One(ticket) => !self.core.is_awaited(ticket),
-            Wanted::Several => true,
+            Wanted::Several => match ended {
+                Some(t) => self.core.is_booked(t),
+                None => true,
+            },
         };
         if is_told {
             self.waits.wake_crowd();

@@ -1,4 +1,6 @@
 //! What is asked of a pool by those who do not work for it.
+ghost use Rattle.std.specs.Prelude.{◌<◌, IfSome, length};
+
 use crate::closer::Closer;
 use crate::naming::Naming;
 use crate::pool::Pool;
@@ -40,6 +42,70 @@ impl<B: Body, N: Naming> Pool<B, N> {
             core.stand_up(seat);
         }
         unreachable!()
+    }
+
+    /// The outcome of what was submitted under a ticket, if it can be told now: `ForkJoinTask.isDone`, and `join` where it is. It waits for the
+    /// lock alone. None while it is still to come. Refused as [`await_done`](Pool::await_done) is.
+    pub fn try_done<R: Wait>(&self, rt: &R, ticket: Ticket) -> Option<Result<Outcome<B>, Refusal>> {
+        let mut due = Due::nobody();
+        let mut guard = self.lock(rt);
+        let core = &mut *guard;
+        let answer = core.collect(ticket);
+        core.take_due(&mut due);
+        drop(guard);
+        self.wake_due(&mut due);
+        answer
+    }
+
+    /// Waits until one of the outcomes of what was submitted under these tickets can be told, the first in their order, and gives its place
+    /// among them: `ExecutorService.invokeAny` by tickets, failures too. It is told once. None where there is no ticket.
+    ///
+    /// Each time it wakes it looks at the tickets in order, under the lock, up to one whose outcome can be told: so have the oldest first.
+    /// Refused as [`await_done`](Pool::await_done) is.
+    pub fn await_any<R: Wait>(
+        &self,
+        rt: &R,
+        tickets: &[Ticket],
+    ) -> Option<(usize, Result<Outcome<B>, Refusal>)>
+        ensures place { IfSome result (λ told. told.0 < length tickets.now) }
+    {
+        if tickets.is_empty() {
+            return None;
+        }
+        let mut due = Due::nobody();
+        let mut guard = self.lock(rt);
+        for _ in rt.forever() {
+            let core = &mut *guard;
+            if let Some(told) = core.collect_any(tickets) {
+                core.take_due(&mut due);
+                drop(guard);
+                self.wake_due(&mut due);
+                return Some(told);
+            }
+            core.sit_for_any();
+            let condvar = self.condvars.seat(None);
+            let seen = condvar.notifications();
+            drop(guard);
+            condvar.sleep(rt, seen, Duration::from_secs(LONGEST_WAIT));
+            guard = self.lock(rt);
+        }
+        unreachable!()
+    }
+
+    /// Cancels what was submitted under a ticket: `ForkJoinTask.cancel`. Whether it is cancelled now; false where it has ended otherwise. Its
+    /// outcome is still to be asked for. A body that runs goes on to its end.
+    ///
+    /// First it looks at the lanes, as a worker does. `Unknown` where the submission stands in its lane all the same, since there is no place
+    /// for it, and where its outcome was told and its task is released. `LogFull` where the core is stuck, or the history is full.
+    pub fn cancel<R: Wait>(&self, rt: &R, ticket: Ticket) -> Result<bool, Refusal> {
+        let mut due = Due::nobody();
+        let mut guard = self.lock(rt);
+        let core = &mut *guard;
+        let answer = core.cancel(self.alloc, ticket);
+        core.take_due(&mut due);
+        drop(guard);
+        self.wake_due(&mut due);
+        answer
     }
 
     /// The sealed parts of the history that nobody has taken yet, the oldest first. It takes no memory, and waits for the lock alone.

@@ -17,7 +17,7 @@ use std::sync::{MutexGuard, Wait};
 use std::thread;
 use std::time::Duration;
 
-/// After so many seconds whoever waits looks again, though nobody has woken it.
+/// Each sleeper looks again after so many seconds, though it was not notified.
 pub(crate) const LONGEST_WAIT: u64 = 1;
 
 /// How a worker waits, for work and for the lock.

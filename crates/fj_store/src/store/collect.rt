@@ -2,7 +2,7 @@ ghost use Rattle.std.specs.Prelude.{◌≡◌, true, None};
 ghost use Rattle.fj_model.specs.Tasks.{is_kept};
 ghost use Rattle.fj_store.specs.Stores.{GivesNoMore};
 ghost use Rattle.fj_store.specs.Turns.{ToldRight};
-ghost use Rattle.fj_store.specs.Results.{Keeps, TakesAndReleases, TakesResult, Collects};
+ghost use Rattle.fj_store.specs.Results.{Keeps, LetsGo, TakesAndReleases, TakesResult, Collects};
 ghost use Rattle.fj_shelf.specs.Shelves.{entries};
 
 use crate::body::{Body, Heard, Told};
@@ -67,6 +67,30 @@ impl<B: Body> Store<B> {
                     }
                     None => Told::Hear(Heard::Refused(Refusal::NotDone)),
                 }
+            }
+            Said::Refused(_) => Told::Hear(Heard::Refused(Refusal::Unknown)),
+            _ => unreachable!(),
+        }
+    }
+
+    /// A body wants no result of a task any more, nor shall anybody else: the task is released as soon as it can be, at once or when it has
+    /// ended, and its result is dropped. `Unknown` where its outcome or result was taken before, or it is not kept.
+    pub fn release(&mut self, t: Serial) -> Told<B>
+        ensures { LetsGo self.old t result self.new }
+    {
+        // The check wants each type inside a reply to be named where one is moved.
+        let _inside: Option<(Place, Owner, Status, Refusal, Serial, SubId, WorkerId)> = None;
+        if self.stuck {
+            return Told::Stuck(None);
+        }
+        if self.taken.has(t) {
+            return Told::Hear(Heard::Refused(Refusal::Unknown));
+        }
+        match self.machine.step(&Step::State { t }) {
+            Said::State(_, _) => {
+                let _unneeded = self.results.take(t);
+                self.release_taken(t);
+                Told::Hear(Heard::Went)
             }
             Said::Refused(_) => Told::Hear(Heard::Refused(Refusal::Unknown)),
             _ => unreachable!(),

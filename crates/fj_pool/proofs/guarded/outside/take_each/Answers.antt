@@ -1,31 +1,55 @@
-use Rattle.std.proofs.Common.{◌≡◌, ◌<◌, sym, ap, ◌∙◌, subst, arith}
+use Rattle.std.proofs.Common.{ℕ, ◌≡◌, ◌<◌, refl, sym, ap, ◌∙◌, subst, arith}
 use Rattle.fj_model.specs.Bounds.{Bounds, Pool}
-use Rattle.fj_pool.specs.Looking.{TakesFrom}
-use Rattle.fj_pool.proofs.Looking.{takes_keep, takes_next, takes_none, takes_same}
+use Rattle.fj_pool.specs.Looking.{TakesFrom, behind}
+use Rattle.fj_pool.proofs.Looking.{one_behind, takes_keep, takes_next, takes_none, takes_same, waits_or, waits_or_first}
 use Rattle.fj_pool.proofs.guarded.outside.take_each.Goals as goal
 
-pub loop-s-init : goal.loop-s-init
-loop-s-init g c = takes_none g.B.Body.rooted_as c.args.core.now
+pub loop-look-init : goal.loop-look-init
+loop-look-init g c = record {
+  taken = takes_none g.B.Body.rooted_as c.args.core.now.store.past.pool.limits.submitters c.args.first c.args.core.now;
+  at = refl;
+  within = c.requires;
+  waits = tt;
+}
 
 pub intake-answer-requires : goal.intake-answer-requires
 intake-answer-requires g c =
-    let same = takes_same g.B.Body.rooted_as c.loop-s.s c.args.core.now c.loop-s.core c.loop-s.taken c.loop-s.invariant in
-    let count = c.submitters-s-end.ensures.number ∙ ap (λ (b : Bounds). b.submitters) c.limits.ensures.limits ∙ sym (ap (λ (p : Pool). p.limits.submitters) same) in
-    subst (λ n. c.loop-s.s < n) count c.loop-s-test.true
+    let submitters = c.args.core.now.store.past.pool.limits.submitters in
+    let same = takes_same g.B.Body.rooted_as submitters c.args.first c.loop-look._look c.args.core.now c.loop-look.core c.loop-look.taken c.loop-look.invariant.taken in
+    subst (λ n. c.loop-look.s < n) (sym (ap (λ (p : Pool). p.limits.submitters) same)) c.loop-look.invariant.within
 
-pub loop-s-preserved : goal.loop-s-preserved
-loop-s-preserved g c = takes_next g.B.Body.rooted_as c.loop-s.s c.args.core.now c.loop-s.core c.intake-answer.new.self c.loop-s.taken c.count-taken.result c.intake-answer.result
-    c.loop-s.invariant c.intake-answer.ensures.intakes c.count-taken.ensures
+pub next_behind-s-requires : goal.next_behind-s-requires
+next_behind-s-requires g c =
+    let count = c.submitters-submitters.ensures.number ∙ ap (λ (b : Bounds). b.submitters) c.limits.ensures.limits in
+    subst (λ n. c.loop-look.s < n) (sym count) c.loop-look.invariant.within
+
+pub loop-look-preserved : goal.loop-look-preserved
+loop-look-preserved g c =
+    let submitters = c.args.core.now.store.past.pool.limits.submitters in
+    let count = c.submitters-submitters.ensures.number ∙ ap (λ (b : Bounds). b.submitters) c.limits.ensures.limits in
+    let before = c.loop-look.invariant in record {
+      taken = takes_next g.B.Body.rooted_as submitters c.args.first c.loop-look._look c.loop-look.s c.args.core.now c.loop-look.core c.intake-answer.new.self c.loop-look.taken c.count-taken.result c.intake-answer.result
+          before.taken before.at c.intake-answer.ensures.intakes c.count-taken.ensures;
+      at = one_behind submitters c.args.first c.loop-look._look c.loop-look.s c.next_behind-s.result before.at (subst (λ n. c.next_behind-s.result ≡ behind n c.loop-look.s) count c.next_behind-s.ensures.is);
+      within = subst (λ n. c.next_behind-s.result < n) count c.next_behind-s.ensures.within;
+      waits = rw c.or-waits.ensures (waits_or submitters c.loop-look.s c.loop-look.waits c.full.result before.waits c.full.ensures before.within);
+    }
 
 pub returns-clause-takes : goal.returns-clause-takes
 returns-clause-takes g c =
-    let all : c.loop-s.s ≡ c.submitters-s-end.result = omega (arith, c.loop-s-test.false, c.loop-s.auto.s-end) in
-    subst (λ n. TakesFrom g.B.Body.rooted_as n c.args.core.now c.loop-s.taken c.loop-s.core)
-    (all ∙ c.submitters-s-end.ensures.number ∙ ap (λ (b : Bounds). b.submitters) c.limits.ensures.limits)
-    c.loop-s.invariant
+    let submitters = c.args.core.now.store.past.pool.limits.submitters in
+    let all : c.loop-look._look ≡ c.submitters-submitters.result = omega (arith, c.loop-look-test.false, c.loop-look.auto._look-end) in
+    subst (λ n. TakesFrom g.B.Body.rooted_as submitters c.args.first n c.args.core.now c.loop-look.taken c.loop-look.core)
+    (all ∙ c.submitters-submitters.ensures.number ∙ ap (λ (b : Bounds). b.submitters) c.limits.ensures.limits)
+    c.loop-look.invariant.taken
+
+pub returns-clause-next : goal.returns-clause-next
+returns-clause-next g c = rw c.unwrap_or.ensures (waits_or_first c.args.core.now.store.past.pool.limits.submitters c.args.first c.loop-look.waits c.loop-look.invariant.waits c.requires)
 
 pub returns-clause-lanes : goal.returns-clause-lanes
-returns-clause-lanes g c = takes_keep g.B.Body.rooted_as c.loop-s.s c.args.core.now c.loop-s.core c.loop-s.taken c.loop-s.invariant
+returns-clause-lanes g c =
+    takes_keep g.B.Body.rooted_as c.args.core.now.store.past.pool.limits.submitters c.args.first c.loop-look._look c.args.core.now c.loop-look.core c.loop-look.taken c.loop-look.invariant.taken
 
 pub returns-clause-pool : goal.returns-clause-pool
-returns-clause-pool g c = takes_same g.B.Body.rooted_as c.loop-s.s c.args.core.now c.loop-s.core c.loop-s.taken c.loop-s.invariant
+returns-clause-pool g c =
+    takes_same g.B.Body.rooted_as c.args.core.now.store.past.pool.limits.submitters c.args.first c.loop-look._look c.args.core.now c.loop-look.core c.loop-look.taken c.loop-look.invariant.taken

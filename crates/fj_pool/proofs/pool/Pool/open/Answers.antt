@@ -1,10 +1,11 @@
-use Rattle.std.proofs.Common.{◌≡◌, List, All, sym, ap, ◌∙◌, subst}
+use Rattle.std.proofs.Common.{◌≡◌, List, All, length, sym, ap, ◌∙◌, subst}
 use Rattle.atomic_table.specs.Seated.{TableId}
 use Rattle.fj_lane.specs.Ends.{LaneId}
 use Rattle.fj_pool.specs.Holdings.{AreKept, IsTied}
 use Rattle.fj_pool.specs.Lanes.{lanes_of}
 use Rattle.fj_pool.specs.Parts.{PartsState}
-use Rattle.fj_pool.proofs.Seating.{all_named}
+use Rattle.fj_pool.specs.Winding.{AreAll}
+use Rattle.fj_pool.proofs.Seating.{all_named, all_seats}
 use Rattle.fj_pool.proofs.pool.Pool.open.Goals as goal
 
 module _ {B K O : Type 0} where
@@ -31,3 +32,9 @@ put_together-requires-clause-named g c =
     let inside = c.parts.inside in
     all_named inside.closer g.N.Naming.gate (lanes_of inside.core.lanes) g.N.Naming.lanes inside.seats.items c.parts.invariant.paired
     (c.requires.gate ∙ sym (ap (λ (p : PartsState g.row.B.Denot g.row.B-Key.Denot g.row.B-Out.Denot). p.closer.gate) c.parts.view_is)) (lanes_named g.N.Naming.lanes _ c.args.parts c.requires.lanes c.parts.view_is)
+
+pub returns-clause-all : goal.returns-clause-all
+returns-clause-all g c =
+    let inside = c.parts.inside in
+    subst (λ seats. AreAll (length g.N.Naming.lanes) seats) (sym c.in_ok-pool.ensures)
+    (all_seats inside.closer (lanes_of inside.core.lanes) g.N.Naming.lanes inside.seats.items c.parts.invariant.paired (lanes_named g.N.Naming.lanes _ c.args.parts c.requires.lanes c.parts.view_is))

@@ -1,0 +1,2 @@
+-- what is under way
+pub mod UnderWays

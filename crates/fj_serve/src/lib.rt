@@ -1,0 +1,22 @@
+//! An endless service: bodies from a source, by pools that follow each other, and their outcomes to a sink.
+//!
+//! ```
+//! // By 4 workers, with at most 1,000 events under way; outcomes in the order in which the events came.
+//! let settings = Settings::workers(4)?;
+//! let served = serve(&rt, alloc, settings, Window::in_order(1_000), source, sink, &Open)?;
+//! ```
+#![tactic(auto)]
+
+mod feeding;
+mod numbered;
+mod serving;
+mod sink;
+mod source;
+mod under_way;
+mod window;
+
+pub use fj_crew::{Body, Limits, Open, Outcome, Record, Refusal, Sealed, Settings, Turnstile};
+pub use serving::{Served, Unserved, serve};
+pub use sink::Sink;
+pub use source::Source;
+pub use window::Window;
