@@ -4,9 +4,12 @@ use Rattle.std.proofs.Common.{◌≡◌, List, [], ◌∷◌, ◌++◌, refl, ap
 use Rattle.std.proofs.lemmas.List.{append-nil}
 use Rattle.std.proofs.lemmas.List.Elements.{filter_map-append}
 use Rattle.fj_store.specs.declared.body.Ask.{Ask}
+use Rattle.fj_store.specs.declared.body.Heard.{Heard}
+use Rattle.fj_store.specs.declared.body.Heard.TheVariants as hears
 use Rattle.fj_invoke.specs.declared.stage.Left.{Left}
 use Rattle.fj_invoke.specs.declared.stage.Left.TheVariants.{Forked, Done}
-use Rattle.fj_invoke.specs.Asks.{JoinsLast, forked_in, task_of}
+use Rattle.fj_invoke.specs.declared.stage.Stage.TheVariants.{Waiting}
+use Rattle.fj_invoke.specs.Asks.{JoinsLast, forked_by, forked_in, task_of}
 
 filtered_none : {L : Type 0} (f : L → Option ℕ) (x : L) → f x ≡ None → filter_map f (x ∷ []) ≡ []
 filtered_none f x e = rw e refl
@@ -30,3 +33,21 @@ joins_forked lefts t k ask joins = rw (forked_more task_of (lefts ++ Forked t k 
 
 pub joins_done : {B J K O : Type 0} (lefts : List (Left J K O)) (o : O) (ask : Ask B K O) → JoinsLast (forked_in (lefts ++ Done o ∷ [])) ask → JoinsLast (forked_in lefts) ask
 joins_done lefts o ask joins = rw (forked_same task_of (lefts ++ Done o ∷ []) lefts (Done o) refl refl) at joins
+
+-- where no result is heard the task that was to be joined is the last one
+pub lets_go_last : {B J K O : Type 0} (lefts : List (Left J K O)) (t : ℕ) (k : K) (v : O) (heard : Heard B K O) → ((key : K) (out : O) → heard ≡ hears.Got key out → ⊥) → (others : List ℕ) × (forked_by lefts (Waiting t k v) heard ≡ others ++ t ∷ [])
+lets_go_last lefts t k v (hears.Got key out) none = absurd (none key out refl)
+lets_go_last lefts t k v (hears.Start u) none = (forked_in lefts, refl)
+lets_go_last lefts t k v (hears.Hook u) none = (forked_in lefts, refl)
+lets_go_last lefts t k v (hears.Task u) none = (forked_in lefts, refl)
+lets_go_last lefts t k v (hears.Handed body refusal) none = (forked_in lefts, refl)
+lets_go_last lefts t k v hears.Bare none = (forked_in lefts, refl)
+lets_go_last lefts t k v (hears.Failed code) none = (forked_in lefts, refl)
+lets_go_last lefts t k v hears.Cancelled none = (forked_in lefts, refl)
+lets_go_last lefts t k v (hears.Refused refusal) none = (forked_in lefts, refl)
+lets_go_last lefts t k v (hears.Helped ran) none = (forked_in lefts, refl)
+lets_go_last lefts t k v (hears.Count n) none = (forked_in lefts, refl)
+lets_go_last lefts t k v hears.Went none = (forked_in lefts, refl)
+lets_go_last lefts t k v hears.Yes none = (forked_in lefts, refl)
+lets_go_last lefts t k v hears.No none = (forked_in lefts, refl)
+lets_go_last lefts t k v (hears.Is place status) none = (forked_in lefts, refl)

@@ -1,32 +1,27 @@
--- What a body of a job asks where it cannot go on.
-use Rattle.std.specs.Prelude.{◌≡◌, ⊤, Bool, true, false}
-use Rattle.fj_model.specs.declared.refusal.Refusal.{Refusal}
-use Rattle.fj_model.specs.declared.refusal.Refusal.TheVariants.{TooManyTasks, LogFull, OutOfMemory}
+-- How a body of a job ends where it cannot go on.
+use Rattle.std.specs.Prelude.{ℕ, ◌≡◌, ⊤, Bool, false}
+use Rattle.fj_model.specs.declared.refusal.Refusal.TheVariants.{OutOfMemory}
 use Rattle.fj_model.specs.Replies.{refusal_number}
 use Rattle.fj_store.specs.declared.body.Heard.{Heard}
 use Rattle.fj_store.specs.declared.body.Heard.TheVariants as hears
 use Rattle.fj_store.specs.declared.body.Ask.{Ask}
 use Rattle.fj_store.specs.declared.body.Ask.TheVariants as asks
+use Rattle.fj_lazy.specs.Failures.{code_heard, is_want_of_room}
 use Rattle.fj_invoke.specs.declared.stage.Stage.{Stage}
-use Rattle.fj_invoke.specs.declared.stage.Stage.TheVariants.{Waiting}
+use Rattle.fj_invoke.specs.declared.stage.Stage.TheVariants.{Going, Forking, Waiting, Leaving}
 
--- whether a fork was refused for want of room: then its job is computed in place
-abbrev pub is_want_of_room : Refusal → Bool
-is_want_of_room TooManyTasks = true
-is_want_of_room LogFull = true
-is_want_of_room _ = false
+-- it ends by this code, or lets a task go first
+abbrev pub Leaves : {B J K O : Type 0} → ℕ → Stage J K O → Ask B K O → Type 0
+Leaves code stage (asks.Release t) = stage ≡ Leaving code
+Leaves code stage (asks.Fail n) = n ≡ code
+Leaves code stage _ = ⊥
 
--- a result under this key is not that of the left half that is joined
-abbrev pub IsAnother : {J K O : Type 0} → (K → K → Bool) → Stage J K O → K → Type 0
-IsAnother eq (Waiting key tail) k = eq k key ≡ false
-IsAnother eq _ k = ⊤
-
--- it ends with the code that it heard, with the number of the refusal that it heard; or else as out of memory
-abbrev pub AsksFailing : {B J K O : Type 0} → (K → K → Bool) → Stage J K O → Heard B K O → Ask B K O → Type 0
-AsksFailing eq stage (hears.Failed code) ask = ask ≡ asks.Fail code
-AsksFailing eq stage (hears.Refused refusal) ask = ask ≡ asks.Fail (refusal_number refusal)
-AsksFailing eq stage hears.Cancelled ask = ask ≡ asks.Fail (refusal_number OutOfMemory)
-AsksFailing eq stage hears.Bare ask = ask ≡ asks.Fail (refusal_number OutOfMemory)
-AsksFailing eq stage (hears.Got k o) ask = IsAnother eq stage k → ask ≡ asks.Fail (refusal_number OutOfMemory)
-AsksFailing eq stage (hears.Handed body refusal) ask = is_want_of_room refusal ≡ false → ask ≡ asks.Fail (refusal_number OutOfMemory)
-AsksFailing eq stage _ ask = ⊤
+-- it leaves, unless what it hears is what it waits for: a first turn; the task of a fork, or a body for which there was no room; a result under the key
+-- of the half that it joins
+abbrev pub AsksFailing : {B J K O : Type 0} → (K → K → Bool) → Stage J K O → Heard B K O → Stage J K O → Ask B K O → Type 0
+AsksFailing eq (Leaving code) heard stage ask = Leaves code stage ask
+AsksFailing eq (Going j) (hears.Start t) stage ask = ⊤
+AsksFailing eq (Forking j k) (hears.Task t) stage ask = ⊤
+AsksFailing eq (Forking j k) (hears.Handed body refusal) stage ask = is_want_of_room refusal ≡ false → Leaves (refusal_number OutOfMemory) stage ask
+AsksFailing eq (Waiting t k v) (hears.Got heard o) stage ask = eq heard k ≡ false → Leaves (refusal_number OutOfMemory) stage ask
+AsksFailing eq before heard stage ask = Leaves (code_heard heard) stage ask

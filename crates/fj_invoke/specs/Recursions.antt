@@ -3,7 +3,7 @@ use Rattle.std.specs.Prelude.{ℕ, Bool, false, ◌≡◌, ◌+◌, ◌*◌, ⊤
 use Rattle.fj_invoke.specs.declared.stage.Left.{Left}
 use Rattle.fj_invoke.specs.declared.stage.Left.TheVariants.{Forked, Done}
 use Rattle.fj_invoke.specs.declared.stage.Stage.{Stage}
-use Rattle.fj_invoke.specs.declared.stage.Stage.TheVariants.{Going, Forking, Waiting, Over}
+use Rattle.fj_invoke.specs.declared.stage.Stage.TheVariants.{Going, Forking, Waiting, Leaving, Over}
 
 -- the value of a left half
 abbrev pub left_value : {J K O : Type 0} → (K → O) → Left J K O → O
@@ -19,7 +19,8 @@ tail_value combined (x ∷ xs) v = combined x (tail_value combined xs v)
 abbrev pub rest_value : {J K O : Type 0} → (J → K) → (K → O) → (O → O → O) → Stage J K O → Option O
 rest_value key_of value combined (Going j) = Some (value (key_of j))
 rest_value key_of value combined (Forking j k) = Some (combined (value k) (value (key_of j)))
-rest_value key_of value combined (Waiting k v) = Some (combined (value k) v)
+rest_value key_of value combined (Waiting t k v) = Some (combined (value k) v)
+rest_value key_of value combined (Leaving code) = None
 rest_value key_of value combined Over = None
 
 -- the left halves, and what stands right of them, give the value w
@@ -36,5 +37,6 @@ NotUnder key_of eq _ key = ⊤
 abbrev pub turns_of : {J K O : Type 0} → (J → ℕ) → ℕ → Stage J K O → ℕ
 turns_of size waiting (Going j) = 4 * size j + 2 * waiting + 2
 turns_of size waiting (Forking j k) = 4 * size j + 2 * waiting + 5
-turns_of size waiting (Waiting k v) = 2 * waiting + 1
-turns_of size waiting Over = 0
+turns_of size waiting (Waiting t k v) = 2 * waiting + 1
+turns_of size waiting (Leaving code) = waiting
+turns_of size waiting Over = waiting

@@ -1,4 +1,4 @@
-ghost use Rattle.std.specs.Prelude.{◌≡◌, ◌<◌, ◌++◌, ◌∷◌, [], IfOk, IfErr, map, vec_len};
+ghost use Rattle.std.specs.Prelude.{◌≡◌, ◌<◌, ◌++◌, ◌∷◌, [], IfOk, IfErr, IfSome, IfNone, map, vec_len};
 ghost use Rattle.fj_invoke.specs.Asks.{forked_in};
 ghost use Rattle.fj_invoke.specs.Recursions.{left_value, tail_value};
 
@@ -15,6 +15,7 @@ pub fn fold_done<J: Divide>(
     ensures all { IfOk result (λ v. tail_value J.combined (map (left_value J.value) lefts.old.items) tail ≡ v) }
     ensures one { IfErr result (λ w. tail_value J.combined (map (left_value J.value) lefts.new.items) (J.combined (J.value w.1) w.2) ≡ tail_value J.combined (map (left_value J.value) lefts.old.items) tail) }
     ensures fewer { IfErr result (λ w. vec_len lefts.new < vec_len lefts.old) }
+    ensures none { IfOk result (λ v. forked_in lefts.old.items ≡ []) }
     ensures last { IfErr result (λ w. forked_in lefts.old.items ≡ forked_in lefts.new.items ++ w.0 ∷ []) }
 {
     let mut value = tail;
@@ -25,4 +26,19 @@ pub fn fold_done<J: Divide>(
         }
     }
     Ok(value)
+}
+
+/// Takes out the left half that was forked last, with what stands right of it. None where there is none.
+pub fn last_forked<J: Divide>(lefts: &mut Vec<Left<J>>) -> Option<Serial>
+    ensures some { IfSome result (λ t. forked_in lefts.old.items ≡ forked_in lefts.new.items ++ t ∷ []) }
+    ensures fewer { IfSome result (λ t. vec_len lefts.new < vec_len lefts.old) }
+    ensures none { IfNone result (forked_in lefts.old.items ≡ []) }
+{
+    while let Some(left) = lefts.pop() {
+        match left {
+            Left::Forked(task, _) => return Some(task),
+            Left::Done(_) => {}
+        }
+    }
+    None
 }

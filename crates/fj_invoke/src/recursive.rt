@@ -1,14 +1,16 @@
-ghost use Rattle.std.specs.Prelude.{◌≡◌, ◌⊎◌, ℕ, ◌+◌, ◌*◌, ◌<◌, ◌≤◌, ◌++◌, ◌∷◌, [], Option, None, IfOk, IfErr, IfSome, IfNone, true, false, map, vec_len};
+ghost use Rattle.std.specs.Prelude.{◌≡◌, ◌⊎◌, ℕ, ◌+◌, ◌*◌, ◌<◌, ◌≤◌, ◌++◌, ◌∷◌, [], Option, None, IfOk, IfSome, IfNone, true, false, map, vec_len};
 ghost use Rattle.fj_model.specs.Replies.{refusal_number};
 ghost use Rattle.fj_store.specs.Turns.{HeardRight, AskRight, Nearer};
 ghost use Rattle.fj_invoke.specs.Recursions.{Gives, NotUnder, turns_of, left_value, tail_value};
-ghost use Rattle.fj_invoke.specs.Asks.{AsksAsJob, JoinsLast, forked_by, forked_in};
-ghost use Rattle.fj_invoke.specs.Failures.{AsksFailing, is_want_of_room};
+ghost use Rattle.fj_lazy.specs.Asks.{AsksAsJob};
+ghost use Rattle.fj_lazy.specs.Failures.{code_heard, is_want_of_room};
+ghost use Rattle.fj_invoke.specs.Asks.{JoinsLast, forked_by, forked_in};
+ghost use Rattle.fj_invoke.specs.Failures.{AsksFailing, Leaves};
 
-use crate::lefts::fold_done;
+use crate::lefts::{fold_done, last_forked};
 use crate::stage::{Left, Stage};
 use fj_jobs::{Divide, compute};
-use fj_model::{Kind, Refusal};
+use fj_model::{Kind, Refusal, Serial};
 use fj_store::{Ask, Body, Heard};
 use std::alloc::{AllocError, Global};
 use std::mem;
@@ -30,11 +32,22 @@ pub struct Inside<J: Divide> {
     ghost total: { ∥ Gives J.key_of J.value J.combined lefts.items stage (J.value key) ∥₁ },
 }
 
-/// Whether there was no room for a task: then it may be computed in place.
+/// Whether there was no room for a task: then its job may be computed in place.
 fn is_want_of_room(refusal: Refusal) -> bool
     ensures { result ≡ is_want_of_room refusal }
 {
     matches!(refusal, Refusal::TooManyTasks | Refusal::LogFull)
+}
+
+/// The code by which a body ends that hears this and cannot go on.
+fn failure_code<J: Divide>(heard: &Heard<Recursive<J>>) -> u32
+    ensures { result ≡ code_heard heard.now }
+{
+    match heard {
+        Heard::Failed(code) => *code,
+        Heard::Refused(refusal) => refusal.number(),
+        _ => Refusal::OutOfMemory.number(),
+    }
 }
 
 /// The value of a body that was not forked, if its key is this one, and it was refused for want of room.
@@ -88,21 +101,49 @@ impl<J: Divide> Recursive<J> {
 }
 
 impl<J: Divide> Inside<J> {
-    /// Ends with this code.
-    fn fail(&mut self, code: u32) -> Ask<Recursive<J>>
+    /// Lets go what it forked, the last one first, and then ends with this code.
+    fn leave(&mut self, code: u32) -> Ask<Recursive<J>>
         ensures key { self.new.key ≡ self.old.key }
-        ensures code { result ≡ Ask.Fail code }
+        ensures right { AskRight (λ k o. o ≡ J.value k) self.new.key result }
+        ensures nearer { Nearer (turns_of J.size (vec_len self.new.lefts) self.new.stage) (vec_len self.old.lefts) result }
+        ensures leaves { Leaves code self.new.stage result }
+        ensures asks { AsksAsJob result }
+        ensures joins { JoinsLast (forked_in self.old.lefts.items) result }
     {
-        self.stage = Stage::Over;
-        Ask::Fail(code)
+        self.stage = Stage::Leaving(code);
+        match last_forked(&mut self.lefts) {
+            Some(task) => Ask::Release(task),
+            None => Ask::Fail(code),
+        }
     }
 
-    /// Ends with the code of a run that is out of memory.
+    /// Leaves with the code of a run that is out of memory.
     fn give_up(&mut self) -> Ask<Recursive<J>>
         ensures key { self.new.key ≡ self.old.key }
-        ensures code { result ≡ Ask.Fail (refusal_number Refusal.OutOfMemory) }
+        ensures right { AskRight (λ k o. o ≡ J.value k) self.new.key result }
+        ensures nearer { Nearer (turns_of J.size (vec_len self.new.lefts) self.new.stage) (2 * vec_len self.old.lefts + 1) result }
+        ensures leaves { Leaves (refusal_number Refusal.OutOfMemory) self.new.stage result }
+        ensures asks { AsksAsJob result }
+        ensures joins { JoinsLast (forked_in self.old.lefts.items) result }
     {
-        self.fail(Refusal::OutOfMemory.number())
+        self.leave(Refusal::OutOfMemory.number())
+    }
+
+    /// The same with one more left half.
+    fn give_up_with(&mut self, left: Left<J>) -> Ask<Recursive<J>>
+        ensures key { self.new.key ≡ self.old.key }
+        ensures right { AskRight (λ k o. o ≡ J.value k) self.new.key result }
+        ensures nearer { Nearer (turns_of J.size (vec_len self.new.lefts) self.new.stage) (2 * vec_len self.old.lefts + 1) result }
+        ensures asks { AsksAsJob result }
+        ensures joins { JoinsLast (forked_in (self.old.lefts.items ++ left ∷ [])) result }
+    {
+        match left {
+            Left::Forked(task, _) => {
+                self.stage = Stage::Leaving(Refusal::OutOfMemory.number());
+                Ask::Release(task)
+            }
+            Left::Done(_) => self.give_up(),
+        }
     }
 }
 
@@ -121,7 +162,7 @@ impl<J: Divide> Inside<J> {
         match fold_done(&mut self.lefts, tail) {
             Ok(value) => Ask::Ok(value),
             Err((task, key, tail)) => {
-                self.stage = Stage::Waiting(key, tail);
+                self.stage = Stage::Waiting(task, key, tail);
                 Ask::Join(task)
             }
         }
@@ -168,14 +209,86 @@ impl<J: Divide> Inside<J> {
         ensures joins { JoinsLast (forked_in (self.old.lefts.items ++ left ∷ [])) result }
     {
         self.stage = Stage::Over;
-        match self.lefts.push(left) {
-            Ok(()) => self.go_on(job),
-            Err(_) => self.give_up(),
+        if self.lefts.reserve(1).is_err() {
+            return self.give_up_with(left);
         }
+        self.lefts.push_reserved(left);
+        self.go_on(job)
     }
 }
 
 impl<J: Divide> Inside<J> {
+    /// The first turn. Precondition: the job has the value of the whole, with the left halves.
+    #[inline(always)]
+    fn begin(&mut self, job: J, heard: Heard<Recursive<J>>) -> Ask<Recursive<J>>
+        requires { tail_value J.combined (map (left_value J.value) self.old.lefts.items) (J.value (J.key_of job)) ≡ J.value self.old.key }
+        ensures key { self.new.key ≡ self.old.key }
+        ensures right { AskRight (λ k o. o ≡ J.value k) self.new.key result }
+        ensures nearer { Nearer (turns_of J.size (vec_len self.new.lefts) self.new.stage) (4 * J.size job + 2 * vec_len self.old.lefts + 2) result }
+        ensures failing { AsksFailing J.Key.eq (Stage.Going job) heard self.new.stage result }
+        ensures asks { AsksAsJob result }
+        ensures joins { JoinsLast (forked_in self.old.lefts.items) result }
+    {
+        match heard {
+            Heard::Start(_) => self.go_on(job),
+            other => self.leave(failure_code(&other)),
+        }
+    }
+
+    /// A turn after the fork of a left half with this key. Precondition: it gives the value of the whole, with the job and the left halves.
+    #[inline(always)]
+    fn after_fork(&mut self, job: J, key: J::Key, heard: Heard<Recursive<J>>) -> Ask<Recursive<J>>
+        requires { tail_value J.combined (map (left_value J.value) self.old.lefts.items) (J.combined (J.value key) (J.value (J.key_of job))) ≡ J.value self.old.key }
+        ensures key { self.new.key ≡ self.old.key }
+        ensures right { AskRight (λ k o. o ≡ J.value k) self.new.key result }
+        ensures nearer { Nearer (turns_of J.size (vec_len self.new.lefts) self.new.stage) (4 * J.size job + 2 * vec_len self.old.lefts + 5) result }
+        ensures failing { AsksFailing J.Key.eq (Stage.Forking job key) heard self.new.stage result }
+        ensures asks { AsksAsJob result }
+        ensures joins { JoinsLast (forked_by self.old.lefts.items (Stage.Forking job key) heard) result }
+    {
+        match heard {
+            Heard::Task(task) => self.forked(job, Left::Forked(task, key)),
+            Heard::Handed(body, refusal) => match in_place(body, refusal, key) {
+                Some(value) => self.forked(job, Left::Done(value)),
+                None => self.give_up(),
+            },
+            other => self.leave(failure_code(&other)),
+        }
+    }
+
+    /// A turn after the join of this task, a left half with this key. Precondition: with what stands right of it and the left halves it gives the
+    /// value of the whole.
+    #[inline(always)]
+    fn after_join(
+        &mut self,
+        task: Serial,
+        key: J::Key,
+        tail: J::Out,
+        heard: Heard<Recursive<J>>,
+    ) -> Ask<Recursive<J>>
+        requires heard { HeardRight (λ k o. o ≡ J.value k) heard }
+        requires total { tail_value J.combined (map (left_value J.value) self.old.lefts.items) (J.combined (J.value key) tail) ≡ J.value self.old.key }
+        ensures key { self.new.key ≡ self.old.key }
+        ensures right { AskRight (λ k o. o ≡ J.value k) self.new.key result }
+        ensures nearer { Nearer (turns_of J.size (vec_len self.new.lefts) self.new.stage) (2 * vec_len self.old.lefts + 1) result }
+        ensures failing { AsksFailing J.Key.eq (Stage.Waiting task key tail) heard self.new.stage result }
+        ensures asks { AsksAsJob result }
+        ensures joins { JoinsLast (forked_by self.old.lefts.items (Stage.Waiting task key tail) heard) result }
+    {
+        match heard {
+            Heard::Got(heard_key, out) => {
+                if heard_key != key {
+                    return self.give_up();
+                }
+                self.finish(J::combine(out, tail))
+            }
+            other => {
+                self.stage = Stage::Leaving(failure_code(&other));
+                Ask::Release(task)
+            }
+        }
+    }
+
     /// Takes a turn.
     #[inline(always)]
     fn turn(&mut self, heard: Heard<Recursive<J>>) -> Ask<Recursive<J>>
@@ -183,45 +296,16 @@ impl<J: Divide> Inside<J> {
         ensures key { self.new.key ≡ self.old.key }
         ensures right { AskRight (λ k o. o ≡ J.value k) self.old.key result }
         ensures nearer { Nearer (turns_of J.size (vec_len self.new.lefts) self.new.stage) (turns_of J.size (vec_len self.old.lefts) self.old.stage) result }
-        ensures failing { AsksFailing J.Key.eq self.old.stage heard result }
+        ensures failing { AsksFailing J.Key.eq self.old.stage heard self.new.stage result }
         ensures asks { AsksAsJob result }
-        ensures joins { JoinsLast (forked_by self.old.lefts.items heard) result }
+        ensures joins { JoinsLast (forked_by self.old.lefts.items self.old.stage heard) result }
     {
-        let stage = mem::replace(&mut self.stage, Stage::Over);
-        match heard {
-            Heard::Start(_) => {
-                let Stage::Going(job) = stage else {
-                    return self.give_up();
-                };
-                self.go_on(job)
-            }
-            Heard::Task(task) => {
-                let Stage::Forking(job, key) = stage else {
-                    return self.give_up();
-                };
-                self.forked(job, Left::Forked(task, key))
-            }
-            Heard::Handed(body, refusal) => {
-                let Stage::Forking(job, key) = stage else {
-                    return self.give_up();
-                };
-                match in_place(body, refusal, key) {
-                    Some(value) => self.forked(job, Left::Done(value)),
-                    None => self.give_up(),
-                }
-            }
-            Heard::Got(heard_key, out) => {
-                let Stage::Waiting(key, tail) = stage else {
-                    return self.give_up();
-                };
-                if heard_key != key {
-                    return self.give_up();
-                }
-                self.finish(J::combine(out, tail))
-            }
-            Heard::Failed(code) => self.fail(code),
-            Heard::Refused(refusal) => self.fail(refusal.number()),
-            _ => self.give_up(),
+        match mem::replace(&mut self.stage, Stage::Over) {
+            Stage::Going(job) => self.begin(job, heard),
+            Stage::Forking(job, key) => self.after_fork(job, key, heard),
+            Stage::Waiting(task, key, tail) => self.after_join(task, key, tail, heard),
+            Stage::Leaving(code) => self.leave(code),
+            Stage::Over => self.leave(failure_code(&heard)),
         }
     }
 }
@@ -264,9 +348,9 @@ impl<J: Divide> Body for Recursive<J> {
         ensures rooted { ◌≡◌ {A = Option ℕ} None None }
         ensures right { AskRight (λ k o. o ≡ J.value k) self.old.inside.value.key result }
         ensures nearer { Nearer (turns_of J.size (vec_len self.new.inside.value.lefts) self.new.inside.value.stage) (turns_of J.size (vec_len self.old.inside.value.lefts) self.old.inside.value.stage) result }
-        ensures failing { AsksFailing J.Key.eq self.old.inside.value.stage heard result }
+        ensures failing { AsksFailing J.Key.eq self.old.inside.value.stage heard self.new.inside.value.stage result }
         ensures asks { AsksAsJob result }
-        ensures joins { JoinsLast (forked_by self.old.inside.value.lefts.items heard) result }
+        ensures joins { JoinsLast (forked_by self.old.inside.value.lefts.items self.old.inside.value.stage heard) result }
     {
         self.inside.turn(heard)
     }

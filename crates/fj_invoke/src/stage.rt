@@ -15,8 +15,10 @@ pub enum Stage<J: Divide> {
     Going(J),
     /// It forks a left half with this key, and goes on with this job.
     Forking(J, J::Key),
-    /// It joins a left half with this key; what stands right of that has this value.
-    Waiting(J::Key, J::Out),
+    /// It joins this task, a left half with this key; what stands right of that has this value.
+    Waiting(Serial, J::Key, J::Out),
+    /// It lets go what it forked, and then ends with this code.
+    Leaving(u32),
     /// It has ended.
     Over,
 }

@@ -1,7 +1,6 @@
 -- What a lazy body has in hand gives the value of the whole.
 use Rattle.std.proofs.Common.{◌≡◌, Bool, true, false, not, refl, sym}
 use Rattle.std.proofs.Math.Logic.{∥∥₁_elim}
-use Rattle.fj_jobs.specs.Finals.{IsFinal}
 
 -- what is known of one stage is known of the same one
 pub gives_at : {S : Type 0} (Gives : S → Type 0) (s t : S) → IsProp (Gives t) → ∥ Gives s ∥₁ → s ≡ t → Gives t
@@ -13,6 +12,3 @@ both_prop p q = hlevel (p, q)
 pub not_false : (b : Bool) → not b ≡ false → b ≡ true
 not_false true e = refl
 not_false false e = sym e
-
-pub final_as : {O : Type 0} (combined : O → O → O) (v x : O) → v ≡ x → IsFinal combined x → IsFinal combined v
-final_as combined v x e h = rw e h

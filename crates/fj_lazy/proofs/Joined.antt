@@ -7,8 +7,8 @@ use Rattle.fj_lazy.specs.Asks.{JoinsOwn}
 use Rattle.fj_lazy.specs.Parts.{forked_in, task_of}
 use Rattle.fj_lazy.proofs.Joins.{forked_more, forked_same}
 
-pub joins_forked : {B J K O : Type 0} (combined : O → O → O) (outers : List (Outer J K O)) (t : ℕ) (k : K) (news : List ℕ) (ask : Ask B K O) → JoinsOwn combined (forked_in (outers ++ Forked t k ∷ [])) news ask → JoinsOwn combined (forked_in outers ++ t ∷ []) news ask
-joins_forked combined outers t k news ask joins = rw (forked_more task_of (outers ++ Forked t k ∷ []) outers (Forked t k) t refl refl) at joins
+pub joins_forked : {B J K O : Type 0} (outers : List (Outer J K O)) (t : ℕ) (k : K) (news : List ℕ) (ask : Ask B K O) → JoinsOwn (forked_in (outers ++ Forked t k ∷ [])) news ask → JoinsOwn (forked_in outers ++ t ∷ []) news ask
+joins_forked outers t k news ask joins = rw (forked_more task_of (outers ++ Forked t k ∷ []) outers (Forked t k) t refl refl) at joins
 
 -- one more part is at most one more task
 pub forked_count : {J K O : Type 0} (all outers : List (Outer J K O)) (p : Outer J K O) → all ≡ outers ++ p ∷ [] → length (forked_in all) ≤ length (forked_in outers) + 1

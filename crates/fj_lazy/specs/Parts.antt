@@ -1,6 +1,5 @@
 -- What stands around the part of a job that is computed.
-use Rattle.std.specs.Prelude.{ℕ, zero, suc, ◌≡◌, ◌⊎◌, ◌+◌, ◌≤◌, ⊤, List, [], ◌∷◌, ◌++◌, Option, Some, None, filter_map}
-use Rattle.fj_jobs.specs.Finals.{IsFinal}
+use Rattle.std.specs.Prelude.{ℕ, zero, suc, ◌≡◌, ◌+◌, ◌≤◌, ⊤, List, [], ◌∷◌, ◌++◌, Option, Some, None, filter_map}
 use Rattle.fj_lazy.specs.declared.part.Inner.{Inner}
 use Rattle.fj_lazy.specs.declared.part.Inner.TheVariants as inner
 use Rattle.fj_lazy.specs.declared.part.Outer.{Outer}
@@ -59,7 +58,7 @@ abbrev pub task_of : {J K O : Type 0} → Outer J K O → Option ℕ
 task_of (outer.Forked t k) = Some t
 task_of (outer.Done o) = None
 
--- the tasks that were forked and are not joined yet, in the order of their forks
+-- the tasks that were forked, and are neither joined nor let go yet, in the order of their forks
 abbrev pub forked_in : {J K O : Type 0} → List (Outer J K O) → List ℕ
 forked_in parts = filter_map task_of parts
 
@@ -82,6 +81,7 @@ deep_weight size _ = 0
 abbrev pub Climbs : {J K O : Type 0} → (J → K) → (K → O) → (O → O → O) → List (Outer J K O) → List (Inner J K O) → O → Climb J K O → Type 0
 Climbs key_of value combined outers inners w (climb.Next j) = whole key_of value combined outers inners (value (key_of j)) ≡ w
 Climbs key_of value combined outers inners w (climb.Join t k v) = (inners ≡ []) × (around (outside value combined) outers (combined v (value k)) ≡ w)
+Climbs key_of value combined outers inners w (climb.Skip t v) = (inners ≡ []) × (around (outside value combined) outers v ≡ w)
 Climbs key_of value combined outers inners w (climb.Whole v) = v ≡ w
 
 -- the job that comes next is one that was pending
@@ -89,8 +89,9 @@ abbrev pub ClimbsLighter : {J K O : Type 0} → (J → ℕ) → List (Inner J K 
 ClimbsLighter size olds news (climb.Next j) = weigh (weight size) news + branches (size j) ≤ weigh (weight size) olds
 ClimbsLighter size olds news _ = ⊤
 
--- it joins the task that was forked last; at the end none is left to join, or all those that are stand right of a final value
-abbrev pub ClimbJoins : {J K O : Type 0} → (O → O → O) → List ℕ → List ℕ → Climb J K O → Type 0
-ClimbJoins combined olds news (climb.Next j) = olds ≡ news
-ClimbJoins combined olds news (climb.Join t k v) = olds ≡ news ++ t ∷ []
-ClimbJoins combined olds news (climb.Whole v) = (olds ≡ []) ⊎ IsFinal combined v
+-- it joins the task that was forked last, or lets it go; at the end there is none
+abbrev pub ClimbJoins : {J K O : Type 0} → List ℕ → List ℕ → Climb J K O → Type 0
+ClimbJoins olds news (climb.Next j) = olds ≡ news
+ClimbJoins olds news (climb.Join t k v) = olds ≡ news ++ t ∷ []
+ClimbJoins olds news (climb.Skip t v) = olds ≡ news ++ t ∷ []
+ClimbJoins olds news (climb.Whole v) = olds ≡ []

@@ -3,7 +3,7 @@ use Rattle.std.specs.Prelude.{ℕ, ◌≡◌, ◌+◌, ◌*◌, ⊤, List, lengt
 use Rattle.fj_lazy.specs.declared.part.Inner.{Inner}
 use Rattle.fj_lazy.specs.declared.part.Outer.{Outer}
 use Rattle.fj_lazy.specs.declared.part.Stage.{Stage}
-use Rattle.fj_lazy.specs.declared.part.Stage.TheVariants.{Going, Forking, Waiting, Over}
+use Rattle.fj_lazy.specs.declared.part.Stage.TheVariants.{Going, Forking, Waiting, Skipping, Leaving, Over}
 use Rattle.fj_lazy.specs.Parts.{around, beside, outside, whole, forked_in}
 
 -- the parts, and what stands within them, give the value w; what goes on after a fork is a leaf
@@ -12,7 +12,9 @@ Gives key_of value leaf_of combined outers inners (Going j) w = whole key_of val
 Gives key_of value leaf_of combined outers inners (Forking k j) w =
     (around (outside value combined) outers (combined (around (beside key_of value combined) inners (value (key_of j))) (value k)) ≡ w)
     × (value (key_of j) ≡ leaf_of j)
-Gives key_of value leaf_of combined outers inners (Waiting k v) w = whole key_of value combined outers inners (combined v (value k)) ≡ w
+Gives key_of value leaf_of combined outers inners (Waiting t k v) w = whole key_of value combined outers inners (combined v (value k)) ≡ w
+Gives key_of value leaf_of combined outers inners (Skipping v) w = whole key_of value combined outers inners v ≡ w
+Gives key_of value leaf_of combined outers inners (Leaving code) w = ⊤
 Gives key_of value leaf_of combined outers inners Over w = ⊤
 
 -- while a half is forked there is room for it, whether it is forked or handed back
@@ -20,12 +22,18 @@ abbrev pub HasRoom : {J K O : Type 0} → Stage J K O → Type 0 → Type 0
 HasRoom (Forking k v) room = room
 HasRoom _ room = ⊤
 
--- how many turns are left, at most, where so many forks may still be asked, and these are to be joined
+-- how many turns are left, at most, where these are to be let go, and so many forks may still be asked
+abbrev pub turns_to_leave : {J K O : Type 0} → ℕ → List (Outer J K O) → ℕ
+turns_to_leave forks outers = 3 * forks + length (forked_in outers)
+
+-- the same where they are to be joined
 abbrev pub turns_left : {J K O : Type 0} → ℕ → List (Outer J K O) → ℕ
-turns_left forks outers = 3 * forks + length (forked_in outers) + 1
+turns_left forks outers = turns_to_leave forks outers + 1
 
 abbrev pub turns_of : {J K O : Type 0} → ℕ → List (Outer J K O) → Stage J K O → ℕ
 turns_of forks outers (Going j) = turns_left forks outers
 turns_of forks outers (Forking k v) = turns_left forks outers + 1
-turns_of forks outers (Waiting k v) = turns_left forks outers
-turns_of forks outers Over = 0
+turns_of forks outers (Waiting t k v) = turns_left forks outers
+turns_of forks outers (Skipping v) = turns_left forks outers
+turns_of forks outers (Leaving code) = turns_to_leave forks outers
+turns_of forks outers Over = turns_to_leave forks outers

@@ -1,22 +1,23 @@
 ghost use Rattle.std.specs.Prelude.{◌≡◌, ℕ, ◌+◌, ◌*◌, ◌<◌, ◌≤◌, ◌++◌, ◌∷◌, [], Option, None, IfOk, IfErr, IfSome, true, vec_len, vec_capacity};
 ghost use Rattle.std.specs.VecDeque.{deque_len, deque_capacity};
 ghost use Rattle.fj_model.specs.Replies.{refusal_number};
-ghost use Rattle.fj_store.specs.Turns.{HeardRight, AskRight, Nearer};
+ghost use Rattle.fj_store.specs.Turns.{AskRight, Nearer};
 ghost use Rattle.fj_lazy.specs.Parts.{around, beside, branches, forked_in, outside, weigh, weight, whole};
-ghost use Rattle.fj_lazy.specs.Splits.{Gives, HasRoom, turns_left, turns_of};
-ghost use Rattle.fj_lazy.specs.Asks.{AsksAsJob, HoldsNothing, JoinsOwn, forked_by};
-ghost use Rattle.fj_lazy.specs.Failures.{AsksFailing, is_want_of_room};
+ghost use Rattle.fj_lazy.specs.Splits.{Gives, HasRoom, turns_left, turns_of, turns_to_leave};
+ghost use Rattle.fj_lazy.specs.Asks.{AsksAsJob, HoldsNothing, JoinsOwn};
+ghost use Rattle.fj_lazy.specs.Failures.{Leaves};
 
 use crate::descent::Descent;
-use crate::part::{Climb, Outer, Stage, Stop};
+use crate::part::{Climb, Stage, Stop};
 use crate::parts::Parts;
 use crate::signals::Signals;
 use crate::span::Span;
 use fj_jobs::Divide;
 use fj_model::{Kind, Refusal, WorkerId};
-use fj_store::{Ask, Body, Heard};
+use fj_store::Ask;
 use std::alloc::{AllocError, Global};
-use std::mem;
+
+mod turns;
 
 /// A job as a body that splits lazily: it computes leaf after leaf in its turn, and forks its largest right half that nobody has begun where a
 /// worker asks for work before a leaf. It is submitted as a plain task, with the key of its job.
@@ -31,38 +32,6 @@ pub struct Lazy<'s, J: Divide> {
     forks: u32,
     ghost total: { ∥ Gives J.key_of J.value J.leaf_of J.combined parts.outer.items parts.inner.items stage (J.value key) ∥₁ },
     ghost room: { ∥ HasRoom stage ((vec_len parts.outer < vec_capacity parts.outer) × (deque_len parts.inner < deque_capacity parts.inner)) ∥₁ },
-}
-
-/// Whether there was no room for a task: then it may be computed in place.
-fn is_want_of_room(refusal: Refusal) -> bool
-    ensures { result ≡ is_want_of_room refusal }
-{
-    matches!(refusal, Refusal::TooManyTasks | Refusal::LogFull)
-}
-
-/// The job of a body that was not forked, if its key is this one, and it was refused for want of room.
-fn half_of<J: Divide>(body: Lazy<'_, J>, refusal: Refusal, key: J::Key) -> Option<J>
-    ensures value { IfSome result (λ j. J.value (J.key_of j) ≡ J.value key) }
-    ensures room { IfSome result (λ j. is_want_of_room refusal ≡ true) }
-{
-    if !is_want_of_room(refusal) {
-        return None;
-    }
-    let Lazy {
-        key: _,
-        parts: _,
-        stage,
-        descent: _,
-        span: _,
-        forks: _,
-    } = body;
-    let Stage::Going(half) = stage else {
-        return None;
-    };
-    if half.key() != key {
-        return None;
-    }
-    Some(half)
 }
 
 impl<'s, J: Divide> Lazy<'s, J> {
@@ -112,21 +81,34 @@ impl<'s, J: Divide> Lazy<'s, J> {
         Ok(Lazy::at(half, right, parts, descent))
     }
 
-    /// Ends with this code.
-    fn fail(&mut self, code: u32) -> Ask<Lazy<'s, J>>
+    /// Lets go what it forked, the last one first, and then ends with this code.
+    fn leave(&mut self, code: u32) -> Ask<Lazy<'s, J>>
         ensures key { self.new.key ≡ self.old.key }
-        ensures code { result ≡ Ask.Fail code }
+        ensures right { AskRight (λ k o. o ≡ J.value k) self.new.key result }
+        ensures nearer { Nearer (turns_of self.new.forks self.new.parts.outer.items self.new.stage) (turns_to_leave self.old.forks self.old.parts.outer.items) result }
+        ensures leaves { Leaves code self.new.stage result }
+        ensures asks { AsksAsJob result }
+        ensures joins { JoinsOwn (forked_in self.old.parts.outer.items) (forked_in self.new.parts.outer.items) result }
+        ensures free { HoldsNothing self.new.parts.inner.items result }
     {
-        self.stage = Stage::Over;
-        Ask::Fail(code)
+        self.stage = Stage::Leaving(code);
+        match self.parts.last_forked() {
+            Some(task) => Ask::Release(task),
+            None => Ask::Fail(code),
+        }
     }
 
-    /// Ends with the code of a run that is out of memory.
+    /// Leaves with the code of a run that is out of memory.
     fn give_up(&mut self) -> Ask<Lazy<'s, J>>
         ensures key { self.new.key ≡ self.old.key }
-        ensures code { result ≡ Ask.Fail (refusal_number Refusal.OutOfMemory) }
+        ensures right { AskRight (λ k o. o ≡ J.value k) self.new.key result }
+        ensures nearer { Nearer (turns_of self.new.forks self.new.parts.outer.items self.new.stage) (turns_left self.old.forks self.old.parts.outer.items) result }
+        ensures leaves { Leaves (refusal_number Refusal.OutOfMemory) self.new.stage result }
+        ensures asks { AsksAsJob result }
+        ensures joins { JoinsOwn (forked_in self.old.parts.outer.items) (forked_in self.new.parts.outer.items) result }
+        ensures free { HoldsNothing self.new.parts.inner.items result }
     {
-        self.fail(Refusal::OutOfMemory.number())
+        self.leave(Refusal::OutOfMemory.number())
     }
 }
 
@@ -139,7 +121,7 @@ impl<'s, J: Divide> Lazy<'s, J> {
         ensures right { IfErr result (λ ask. AskRight (λ k o. o ≡ J.value k) self.new.key ask) }
         ensures nearer { IfErr result (λ ask. Nearer (turns_of self.new.forks self.new.parts.outer.items self.new.stage) (turns_left self.old.forks self.old.parts.outer.items) ask) }
         ensures asks { IfErr result (λ ask. AsksAsJob ask) }
-        ensures joins { IfErr result (λ ask. JoinsOwn J.combined (forked_in self.old.parts.outer.items) (forked_in self.new.parts.outer.items) ask) }
+        ensures joins { IfErr result (λ ask. JoinsOwn (forked_in self.old.parts.outer.items) (forked_in self.new.parts.outer.items) ask) }
         ensures free { IfErr result (λ ask. HoldsNothing self.new.parts.inner.items ask) }
         ensures next { IfOk result (λ j. whole J.key_of J.value J.combined self.new.parts.outer.items self.new.parts.inner.items (J.value (J.key_of j)) ≡ J.value self.new.key) }
         ensures lighter { IfOk result (λ j. weigh (weight J.size) self.new.parts.inner.items + branches (J.size j) ≤ weigh (weight J.size) self.old.parts.inner.items) }
@@ -150,8 +132,13 @@ impl<'s, J: Divide> Lazy<'s, J> {
         match self.parts.climb(value) {
             Climb::Next(job) => Ok(job),
             Climb::Join(task, key, left) => {
-                self.stage = Stage::Waiting(key, left);
+                self.stage = Stage::Waiting(task, key, left);
                 Err(Ask::Join(task))
+            }
+            Climb::Skip(task, left) => {
+                self.descent.signals().finish(self.span.last);
+                self.stage = Stage::Skipping(left);
+                Err(Ask::Release(task))
             }
             Climb::Whole(value) => {
                 if J::is_final(&value) {
@@ -172,7 +159,7 @@ impl<'s, J: Divide> Lazy<'s, J> {
         ensures right { IfErr result (λ ask. AskRight (λ k o. o ≡ J.value k) self.new.key ask) }
         ensures nearer { IfErr result (λ ask. Nearer (turns_of self.new.forks self.new.parts.outer.items self.new.stage) (turns_left self.old.forks self.old.parts.outer.items) ask) }
         ensures asks { IfErr result (λ ask. AsksAsJob ask) }
-        ensures joins { IfErr result (λ ask. JoinsOwn J.combined (forked_in self.old.parts.outer.items) (forked_in self.new.parts.outer.items) ask) }
+        ensures joins { IfErr result (λ ask. JoinsOwn (forked_in self.old.parts.outer.items) (forked_in self.new.parts.outer.items) ask) }
         ensures free { IfErr result (λ ask. HoldsNothing self.new.parts.inner.items ask) }
         ensures next { IfOk result (λ j. whole J.key_of J.value J.combined self.new.parts.outer.items self.new.parts.inner.items (J.value (J.key_of j)) ≡ J.value self.new.key) }
         ensures lighter { IfOk result (λ j. weigh (weight J.size) self.new.parts.inner.items + branches (J.size j) ≤ weigh (weight J.size) self.old.parts.inner.items + branches (J.size half)) }
@@ -195,7 +182,7 @@ impl<'s, J: Divide> Lazy<'s, J> {
         ensures right { IfErr result (λ ask. AskRight (λ k o. o ≡ J.value k) self.new.key ask) }
         ensures nearer { IfErr result (λ ask. Nearer (turns_of self.new.forks self.new.parts.outer.items self.new.stage) (turns_left self.old.forks self.old.parts.outer.items) ask) }
         ensures asks { IfErr result (λ ask. AsksAsJob ask) }
-        ensures joins { IfErr result (λ ask. JoinsOwn J.combined (forked_in self.old.parts.outer.items) (forked_in self.new.parts.outer.items) ask) }
+        ensures joins { IfErr result (λ ask. JoinsOwn (forked_in self.old.parts.outer.items) (forked_in self.new.parts.outer.items) ask) }
         ensures free { IfErr result (λ ask. HoldsNothing self.new.parts.inner.items ask) }
         ensures next { IfOk result (λ j. whole J.key_of J.value J.combined self.new.parts.outer.items self.new.parts.inner.items (J.value (J.key_of j)) ≡ J.value self.new.key) }
         ensures lighter { IfOk result (λ j. weigh (weight J.size) self.new.parts.inner.items + branches (J.size j) ≤ weigh (weight J.size) self.old.parts.inner.items + branches (J.size half)) }
@@ -235,7 +222,7 @@ impl<'s, J: Divide> Lazy<'s, J> {
         ensures right { IfErr result (λ ask. AskRight (λ k o. o ≡ J.value k) self.new.key ask) }
         ensures nearer { IfErr result (λ ask. Nearer (turns_of self.new.forks self.new.parts.outer.items self.new.stage) (turns_left self.old.forks self.old.parts.outer.items) ask) }
         ensures asks { IfErr result (λ ask. AsksAsJob ask) }
-        ensures joins { IfErr result (λ ask. JoinsOwn J.combined (forked_in self.old.parts.outer.items) (forked_in self.new.parts.outer.items) ask) }
+        ensures joins { IfErr result (λ ask. JoinsOwn (forked_in self.old.parts.outer.items) (forked_in self.new.parts.outer.items) ask) }
         ensures free { IfErr result (λ ask. HoldsNothing self.new.parts.inner.items ask) }
         ensures next { IfOk result (λ j. whole J.key_of J.value J.combined self.new.parts.outer.items self.new.parts.inner.items (J.value (J.key_of j)) ≡ J.value self.new.key) }
         ensures lighter { IfOk result (λ j. weigh (weight J.size) self.new.parts.inner.items + branches (J.size j) ≤ weigh (weight J.size) self.old.parts.inner.items) }
@@ -268,7 +255,7 @@ impl<'s, J: Divide> Lazy<'s, J> {
         ensures right { IfErr result (λ ask. AskRight (λ k o. o ≡ J.value k) self.new.key ask) }
         ensures nearer { IfErr result (λ ask. Nearer (turns_of self.new.forks self.new.parts.outer.items self.new.stage) (turns_left self.old.forks self.old.parts.outer.items) ask) }
         ensures asks { IfErr result (λ ask. AsksAsJob ask) }
-        ensures joins { IfErr result (λ ask. JoinsOwn J.combined (forked_in self.old.parts.outer.items) (forked_in self.new.parts.outer.items) ask) }
+        ensures joins { IfErr result (λ ask. JoinsOwn (forked_in self.old.parts.outer.items) (forked_in self.new.parts.outer.items) ask) }
         ensures free { IfErr result (λ ask. HoldsNothing self.new.parts.inner.items ask) }
         ensures next { IfOk result (λ j. whole J.key_of J.value J.combined self.new.parts.outer.items self.new.parts.inner.items (J.value (J.key_of j)) ≡ J.value self.new.key) }
         ensures lighter { IfOk result (λ j. weigh (weight J.size) self.new.parts.inner.items + branches (J.size j) < weigh (weight J.size) self.old.parts.inner.items + branches (J.size job)) }
@@ -285,161 +272,6 @@ impl<'s, J: Divide> Lazy<'s, J> {
                 },
                 Err(_) => Err(self.give_up()),
             },
-        }
-    }
-
-    /// Computes a job and those after it, until something is to be asked. Precondition: with the parts it gives the value of the whole.
-    fn go_on(&mut self, job: J) -> Ask<Lazy<'s, J>>
-        requires { whole J.key_of J.value J.combined self.old.parts.outer.items self.old.parts.inner.items (J.value (J.key_of job)) ≡ J.value self.old.key }
-        ensures key { self.new.key ≡ self.old.key }
-        ensures right { AskRight (λ k o. o ≡ J.value k) self.new.key result }
-        ensures nearer { Nearer (turns_of self.new.forks self.new.parts.outer.items self.new.stage) (turns_left self.old.forks self.old.parts.outer.items) result }
-        ensures asks { AsksAsJob result }
-        ensures joins { JoinsOwn J.combined (forked_in self.old.parts.outer.items) (forked_in self.new.parts.outer.items) result }
-        ensures free { HoldsNothing self.new.parts.inner.items result }
-    {
-        let mut job = job;
-        loop {
-            match self.compute_on(job) {
-                Ok(next) => job = next,
-                Err(ask) => return ask,
-            }
-        }
-    }
-
-    /// Goes on with what is to be done next, unless something is asked. Precondition: with the parts that is left to do gives the value of the whole.
-    fn go_up(&mut self, value: J::Out) -> Ask<Lazy<'s, J>>
-        requires { whole J.key_of J.value J.combined self.old.parts.outer.items self.old.parts.inner.items value ≡ J.value self.old.key }
-        ensures key { self.new.key ≡ self.old.key }
-        ensures right { AskRight (λ k o. o ≡ J.value k) self.new.key result }
-        ensures nearer { Nearer (turns_of self.new.forks self.new.parts.outer.items self.new.stage) (turns_left self.old.forks self.old.parts.outer.items) result }
-        ensures asks { AsksAsJob result }
-        ensures joins { JoinsOwn J.combined (forked_in self.old.parts.outer.items) (forked_in self.new.parts.outer.items) result }
-        ensures free { HoldsNothing self.new.parts.inner.items result }
-    {
-        match self.step_up(value) {
-            Ok(job) => self.go_on(job),
-            Err(ask) => ask,
-        }
-    }
-
-    /// Goes on with a leaf, beside a half that was forked. Preconditions: there is room, and with the parts they give the value of the whole.
-    fn go_within(&mut self, forked: Outer<J>, leaf: J) -> Ask<Lazy<'s, J>>
-        requires total { whole J.key_of J.value J.combined (self.old.parts.outer.items ++ forked ∷ []) self.old.parts.inner.items (J.value (J.key_of leaf)) ≡ J.value self.old.key }
-        requires room { vec_len self.old.parts.outer < vec_capacity self.old.parts.outer }
-        ensures key { self.new.key ≡ self.old.key }
-        ensures right { AskRight (λ k o. o ≡ J.value k) self.new.key result }
-        ensures nearer { Nearer (turns_of self.new.forks self.new.parts.outer.items self.new.stage) (turns_left self.old.forks self.old.parts.outer.items + 1) result }
-        ensures asks { AsksAsJob result }
-        ensures joins { JoinsOwn J.combined (forked_in (self.old.parts.outer.items ++ forked ∷ [])) (forked_in self.new.parts.outer.items) result }
-        ensures free { HoldsNothing self.new.parts.inner.items result }
-    {
-        self.stage = Stage::Over;
-        self.parts.outer.push_reserved(forked);
-        self.go_on(leaf)
-    }
-
-    /// Goes on with a leaf, beside a half that was handed back. Preconditions: those of `keep`.
-    fn go_without(&mut self, half: J, leaf: J) -> Ask<Lazy<'s, J>>
-        requires total { around (outside J.value J.combined) self.old.parts.outer.items (J.combined (around (beside J.key_of J.value J.combined) self.old.parts.inner.items (J.value (J.key_of leaf))) (J.value (J.key_of half))) ≡ J.value self.old.key }
-        requires leaf { J.value (J.key_of leaf) ≡ J.leaf_of leaf }
-        requires room { deque_len self.old.parts.inner < deque_capacity self.old.parts.inner }
-        ensures key { self.new.key ≡ self.old.key }
-        ensures right { AskRight (λ k o. o ≡ J.value k) self.new.key result }
-        ensures nearer { Nearer (turns_of self.new.forks self.new.parts.outer.items self.new.stage) (turns_left self.old.forks self.old.parts.outer.items) result }
-        ensures asks { AsksAsJob result }
-        ensures joins { JoinsOwn J.combined (forked_in self.old.parts.outer.items) (forked_in self.new.parts.outer.items) result }
-        ensures free { HoldsNothing self.new.parts.inner.items result }
-    {
-        match self.keep(half, leaf) {
-            Ok(job) => self.go_on(job),
-            Err(ask) => ask,
-        }
-    }
-}
-
-impl<'s, J: Divide> Body for Lazy<'s, J> {
-    type Key = J::Key;
-
-    type Out = J::Out;
-
-    ghost key_of = { λ b. b.key };
-
-    ghost rooted_as = { λ b. None };
-
-    ghost right = { λ k o. o ≡ J.value k };
-
-    ghost turns = { λ b. turns_of b.forks b.parts.outer.items b.stage };
-
-    fn key(&self) -> &J::Key {
-        &self.key
-    }
-
-    fn into_key(self) -> J::Key {
-        let Lazy {
-            key,
-            parts: _,
-            stage: _,
-            descent: _,
-            span: _,
-            forks: _,
-        } = self;
-        key
-    }
-
-    fn rooted(&self) -> Option<u16> {
-        None
-    }
-
-    fn turn(&mut self, heard: Heard<Lazy<'s, J>>) -> Ask<Lazy<'s, J>>
-        requires { HeardRight (λ k o. o ≡ J.value k) heard }
-        ensures key { self.new.key ≡ self.old.key }
-        ensures rooted { ◌≡◌ {A = Option ℕ} None None }
-        ensures right { AskRight (λ k o. o ≡ J.value k) self.old.key result }
-        ensures nearer { Nearer (turns_of self.new.forks self.new.parts.outer.items self.new.stage) (turns_of self.old.forks self.old.parts.outer.items self.old.stage) result }
-        ensures failing { AsksFailing J.Key.eq self.old.stage heard.entry result }
-        ensures asks { AsksAsJob result }
-        ensures joins { JoinsOwn J.combined (forked_by self.old.parts.outer.items heard.entry) (forked_in self.new.parts.outer.items) result }
-        ensures free { HoldsNothing self.new.parts.inner.items result }
-    {
-        let stage = mem::replace(&mut self.stage, Stage::Over);
-        match heard {
-            Heard::Start(_) => {
-                let Stage::Going(job) = stage else {
-                    return self.give_up();
-                };
-                if self.descent.signals().is_over(self.span.first) {
-                    return self.give_up();
-                }
-                self.go_on(job)
-            }
-            Heard::Task(task) => {
-                let Stage::Forking(key, leaf) = stage else {
-                    return self.give_up();
-                };
-                self.go_within(Outer::Forked(task, key), leaf)
-            }
-            Heard::Handed(body, refusal) => {
-                let Stage::Forking(key, leaf) = stage else {
-                    return self.give_up();
-                };
-                match half_of(body, refusal, key) {
-                    Some(half) => self.go_without(half, leaf),
-                    None => self.give_up(),
-                }
-            }
-            Heard::Got(heard_key, out) => {
-                let Stage::Waiting(key, value) = stage else {
-                    return self.give_up();
-                };
-                if heard_key != key {
-                    return self.give_up();
-                }
-                self.go_up(J::combine(value, out))
-            }
-            Heard::Failed(code) => self.fail(code),
-            Heard::Refused(refusal) => self.fail(refusal.number()),
-            _ => self.give_up(),
         }
     }
 }

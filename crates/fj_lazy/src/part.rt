@@ -35,6 +35,8 @@ pub enum Climb<J: Divide> {
     Next(J),
     /// This task, a right half with this key, is joined; what stands left of it has this value.
     Join(Serial, J::Key, J::Out),
+    /// This task, a right half, is let go, since what stands left of it has this value, which is final.
+    Skip(Serial, J::Out),
     /// It is the value of the whole.
     Whole(J::Out),
 }
@@ -46,8 +48,12 @@ pub enum Stage<J: Divide> {
     Going(J),
     /// It forks a right half with this key, which stands between the outer and the inner parts, and goes on with this leaf within these.
     Forking(J::Key, J),
-    /// It joins a right half with this key; what stands left of it has this value.
-    Waiting(J::Key, J::Out),
+    /// It joins this task, a right half with this key; what stands left of it has this value.
+    Waiting(Serial, J::Key, J::Out),
+    /// It lets a right half go; what stands left of it has this value, which is final.
+    Skipping(J::Out),
+    /// It lets go what it forked, and then ends with this code.
+    Leaving(u32),
     /// It has ended.
     Over,
 }

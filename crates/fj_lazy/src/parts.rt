@@ -1,11 +1,11 @@
-ghost use Rattle.std.specs.Prelude.{◌≡◌, ◌+◌, ◌<◌, ◌≤◌, [], true, IfOk, IfSome, IfNone, vec_len, vec_capacity};
+ghost use Rattle.std.specs.Prelude.{◌≡◌, ◌+◌, ◌<◌, ◌≤◌, ◌++◌, ◌∷◌, [], IfOk, IfSome, IfNone, length, vec_len, vec_capacity};
 ghost use Rattle.std.specs.VecDeque.{deque_len, deque_capacity};
 ghost use Rattle.fj_lazy.specs.Parts.{ClimbJoins, Climbs, ClimbsLighter, around, beside, branches, forked_in, inside, outside, weigh, weight, whole};
-ghost use Rattle.fj_jobs.specs.Finals.{IsFinal};
 
 use crate::descent::{Descent, LEVELS};
 use crate::part::{Climb, Inner, Outer};
 use fj_jobs::Divide;
+use fj_model::Serial;
 use std::alloc::{AllocError, Global};
 use std::collections::VecDeque;
 
@@ -82,12 +82,12 @@ impl<J: Divide> Parts<J> {
 }
 
 impl<J: Divide> Parts<J> {
-    /// Combines a value with those beside it, up to a half that is to be computed or joined first. What stands right of a final value is
-    /// dropped.
+    /// Combines a value with those beside it, up to a half that is to be computed, joined or let go first. What nobody has begun right of a final
+    /// value is dropped.
     pub fn climb(&mut self, value: J::Out) -> Climb<J>
         ensures value { Climbs J.key_of J.value J.combined self.new.outer.items self.new.inner.items (whole J.key_of J.value J.combined self.old.outer.items self.old.inner.items value) result }
         ensures lighter { ClimbsLighter J.size self.old.inner.items self.new.inner.items result }
-        ensures joins { ClimbJoins J.combined (forked_in self.old.outer.items) (forked_in self.new.outer.items) result }
+        ensures joins { ClimbJoins (forked_in self.old.outer.items) (forked_in self.new.outer.items) result }
     {
         let mut value = value;
         while let Some(part) = self.inner.pop_back() {
@@ -110,14 +110,14 @@ impl<J: Divide> Parts<J> {
         requires { self.old.inner.items ≡ [] }
         ensures value { Climbs J.key_of J.value J.combined self.new.outer.items self.new.inner.items (around (outside J.value J.combined) self.old.outer.items value) result }
         ensures lighter { ClimbsLighter J.size [] self.new.inner.items result }
-        ensures joins { ClimbJoins J.combined (forked_in self.old.outer.items) (forked_in self.new.outer.items) result }
+        ensures joins { ClimbJoins (forked_in self.old.outer.items) (forked_in self.new.outer.items) result }
     {
         let mut value = value;
         while let Some(part) = self.outer.pop() {
             match part {
                 Outer::Forked(task, key) => {
                     if J::is_final(&value) {
-                        return Climb::Whole(self.end(value));
+                        return Climb::Skip(task, value);
                     }
                     return Climb::Join(task, key, value);
                 }
@@ -127,19 +127,18 @@ impl<J: Divide> Parts<J> {
         Climb::Whole(value)
     }
 
-    /// The value of the whole, from a final one: what was forked right of it is joined no more.
-    fn end(&mut self, value: J::Out) -> J::Out
-        requires { IsFinal J.combined value }
-        ensures value { result ≡ around (outside J.value J.combined) self.old.outer.items value }
-        ensures last { IsFinal J.combined result }
+    /// Takes out the half that was forked last, with what stands within it. None where there is none.
+    pub fn last_forked(&mut self) -> Option<Serial>
+        ensures some { IfSome result (λ t. forked_in self.old.outer.items ≡ forked_in self.new.outer.items ++ t ∷ []) }
+        ensures fewer { IfSome result (λ t. length (forked_in self.new.outer.items) < length (forked_in self.old.outer.items)) }
+        ensures none { IfNone result (forked_in self.old.outer.items ≡ []) }
     {
-        let mut value = value;
         while let Some(part) = self.outer.pop() {
             match part {
-                Outer::Forked(_, _) => continue,
-                Outer::Done(left) => value = J::combine(left, value),
+                Outer::Forked(task, _) => return Some(task),
+                Outer::Done(_) => {}
             }
         }
-        value
+        None
     }
 }

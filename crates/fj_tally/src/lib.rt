@@ -1,0 +1,23 @@
+//! What a history counts: how many tasks were submitted, forked, run, stolen and released, by worker where a worker did it, and how many
+//! there were at once.
+//!
+//! ```
+//! let tally = Tally::of(alloc, &part.events)?;
+//! println!(rt; "{} begun, {} at once", tally.begun, tally.most_live)?;
+//! ```
+#![tactic(auto)]
+
+mod counts;
+mod numbered;
+mod progress;
+mod queues;
+mod tally;
+mod tasks;
+mod worker_tally;
+mod workers;
+
+pub use tally::Tally;
+pub use worker_tally::WorkerTally;
+
+#[cfg(test)]
+mod tests;
