@@ -33,8 +33,10 @@ impl<'s> Divide for Hungry<'s> {
     }
 
     fn split(self) -> Result<(Hungry<'s>, Hungry<'s>), Hungry<'s>> {
+        // Each body for a worker of its own: else two that ask at once fork for one alone.
+        let asker = WorkerId((self.key().from % 64) as u32);
         let Hungry { sum, signals } = self;
-        signals.ask(WorkerId(0));
+        signals.ask(asker);
         match sum.split() {
             Ok((left, right)) => Ok((
                 Hungry { sum: left, signals },
