@@ -1,4 +1,4 @@
--- What is told of a run, and why one is refused.
+-- The answer of a run, and why one is refused.
 pub mod Runs
 -- what a body asks as a certain task
 pub mod Asks

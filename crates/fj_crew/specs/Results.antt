@@ -15,7 +15,7 @@ result_in (Normal None) = Err Missing
 result_in (Exceptional code) = Err (Failed code)
 result_in Cancelled = Err Missing
 
--- what is told of a body that was to give a result: that the history was full where it failed with that number, else that memory was refused
+-- the refusal of a run whose body gave no result: LogFull where it failed with that number, else OutOfMemory
 abbrev pub refusal_of : NoResult → Refusal
 refusal_of (Failed code) = if code == refusal_number LogFull then LogFull else OutOfMemory
 refusal_of Missing = OutOfMemory

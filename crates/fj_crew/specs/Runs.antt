@@ -1,4 +1,4 @@
--- What is told of a run, and why one is refused.
+-- The answer of a run, and why one is refused.
 use Rattle.std.specs.Prelude.{⊤, Result, Ok, Err}
 use Rattle.fj_model.specs.declared.refusal.Refusal.{Refusal}
 use Rattle.fj_model.specs.declared.refusal.Refusal.TheVariants.{LogFull, OutOfMemory}
@@ -11,7 +11,7 @@ RefusesRun OutOfMemory = ⊤
 RefusesRun _ = ⊥
 
 module _ {B K O : Type 0} where
-  -- what is told of this answer: that the history was full; of any other refusal, that memory was refused
+  -- LogFull stays, any other refusal becomes OutOfMemory
   abbrev pub told_of : Result (Outcome B K O) Refusal → Result (Outcome B K O) Refusal
   told_of (Ok outcome) = Ok outcome
   told_of (Err LogFull) = Err LogFull

@@ -65,7 +65,7 @@ where
     }
 }
 
-/// What is told of an answer: of a refusal that the history was full, and else that memory was refused.
+/// The answer of a run: `LogFull` stays, any other refusal becomes `OutOfMemory`.
 fn told<B: Body>(answer: Result<Outcome<B>, Refusal>) -> Result<Outcome<B>, Refusal>
     ensures told { result ≡ told_of answer }
     ensures err { IfErr result RefusesRun }

@@ -1,4 +1,4 @@
--- The left halves, and what stands right of them.
+-- The left halves, and everything right of them.
 pub mod Tails
 -- The tasks of the left halves.
 pub mod Joins

@@ -1,4 +1,4 @@
--- What is told of the outcome of a job's body.
+-- The answer of a job, by the outcome of its body.
 use Rattle.std.specs.Prelude.{◌≡◌, Bool, false, Result, Ok, Err}
 use Rattle.fj_model.specs.declared.refusal.Refusal.{Refusal}
 use Rattle.fj_model.specs.declared.refusal.Refusal.TheVariants.{OutOfMemory}

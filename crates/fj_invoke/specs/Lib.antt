@@ -4,5 +4,5 @@ pub mod Recursions
 pub mod Asks
 -- How it ends where it cannot go on.
 pub mod Failures
--- What is told of its outcome.
+-- The answer of a job, by the outcome of its body.
 pub mod Answers

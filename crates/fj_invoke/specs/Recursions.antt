@@ -10,12 +10,12 @@ abbrev pub left_value : {J K O : Type 0} → (K → O) → Left J K O → O
 left_value value (Forked t k) = value k
 left_value value (Done o) = o
 
--- the values of the left halves, combined from the right with the value of what stands right of them
+-- the values of the left halves, combined from the right with the value of everything right of them
 abbrev pub tail_value : {O : Type 0} → (O → O → O) → List O → O → O
 tail_value combined [] v = v
 tail_value combined (x ∷ xs) v = combined x (tail_value combined xs v)
 
--- the value of what stands right of the left halves
+-- the value of everything right of the left halves
 abbrev pub rest_value : {J K O : Type 0} → (J → K) → (K → O) → (O → O → O) → Stage J K O → Option O
 rest_value key_of value combined (Going j) = Some (value (key_of j))
 rest_value key_of value combined (Forking j k) = Some (combined (value k) (value (key_of j)))
@@ -23,7 +23,7 @@ rest_value key_of value combined (Waiting t k v) = Some (combined (value k) v)
 rest_value key_of value combined (Leaving code) = None
 rest_value key_of value combined Over = None
 
--- the left halves, and what stands right of them, give the value w
+-- the left halves, and everything right of them, give the value w
 abbrev pub Gives : {J K O : Type 0} → (J → K) → (K → O) → (O → O → O) → List (Left J K O) → Stage J K O → O → Type 0
 Gives key_of value combined lefts stage w =
     MatchOption (rest_value key_of value combined stage) ⊤ (λ v. tail_value combined (map (left_value value) lefts) v ≡ w)

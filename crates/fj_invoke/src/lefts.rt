@@ -6,8 +6,8 @@ use crate::stage::Left;
 use fj_jobs::Divide;
 use fj_model::Serial;
 
-/// Combines the values of the last left halves with what stands right of them, up to the last one that was forked: that is given, as its
-/// task with its key, and with the value of what stands right of it. Without one the whole value is given.
+/// Combines the values of the last left halves with everything right of them, up to the last one that was forked: that is given, as its
+/// task with its key, and with the value of everything right of it. Without one the whole value is given.
 pub fn fold_done<J: Divide>(
     lefts: &mut Vec<Left<J>>,
     tail: J::Out,
@@ -28,7 +28,7 @@ pub fn fold_done<J: Divide>(
     Ok(value)
 }
 
-/// Takes out the left half that was forked last, with what stands right of it. None where there is none.
+/// Takes out the left half that was forked last, and those after it. None where there is none.
 pub fn last_forked<J: Divide>(lefts: &mut Vec<Left<J>>) -> Option<Serial>
     ensures some { IfSome result (λ t. forked_in lefts.old.items ≡ forked_in lefts.new.items ++ t ∷ []) }
     ensures fewer { IfSome result (λ t. vec_len lefts.new < vec_len lefts.old) }

@@ -148,7 +148,7 @@ impl<J: Divide> Inside<J> {
 }
 
 impl<J: Divide> Inside<J> {
-    /// What stands right of the left halves has this value. Precondition: with theirs it gives the value of the whole.
+    /// Everything right of the left halves has this value. Precondition: with theirs it gives the value of the whole.
     #[inline(always)]
     fn finish(&mut self, tail: J::Out) -> Ask<Recursive<J>>
         requires { tail_value J.combined (map (left_value J.value) self.old.lefts.items) tail ≡ J.value self.old.key }
@@ -256,7 +256,7 @@ impl<J: Divide> Inside<J> {
         }
     }
 
-    /// A turn after the join of this task, a left half with this key. Precondition: with what stands right of it and the left halves it gives the
+    /// A turn after the join of this task, a left half with this key. Precondition: with everything right of it and the left halves it gives the
     /// value of the whole.
     #[inline(always)]
     fn after_join(

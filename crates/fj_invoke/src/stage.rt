@@ -15,7 +15,7 @@ pub enum Stage<J: Divide> {
     Going(J),
     /// It forks a left half with this key, and goes on with this job.
     Forking(J, J::Key),
-    /// It joins this task, a left half with this key; what stands right of that has this value.
+    /// It joins this task, a left half with this key; everything right of it has this value.
     Waiting(Serial, J::Key, J::Out),
     /// It lets go what it forked, and then ends with this code.
     Leaving(u32),

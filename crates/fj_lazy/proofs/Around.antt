@@ -50,7 +50,7 @@ branches_halves a b (suc n) ha hb =
 pub around_step : {P O : Type 0} (f : P → O → O) (all ps : List P) (p q : P) (v y w : O) → around f all v ≡ w → all ≡ ps ++ p ∷ [] → p ≡ q → y ≡ f q v → around f ps y ≡ w
 around_step f all ps p q v y w h e i k = ap (around f ps) (k ∙ ap (λ x. f x v) (sym i)) ∙ sym (around_taken f all ps p v e) ∙ h
 
--- the last part is changed for another one, with what stands within it
+-- the last part is changed for another one, with the parts inside it
 pub around_changed : {P O : Type 0} (f : P → O → O) (all ps news : List P) (p q r : P) (v x w : O) → around f all v ≡ w → all ≡ ps ++ p ∷ [] → p ≡ q → news ≡ ps ++ r ∷ [] → f r x ≡ f q v → around f news x ≡ w
 around_changed f all ps news p q r v x w h e i n k = around_taken f news ps r x n ∙ around_step f all ps p q v (f r x) w h e i k
 

@@ -1,4 +1,4 @@
--- What stands around the part of a job that is computed.
+-- The parts around the one that is computed.
 use Rattle.std.specs.Prelude.{ℕ, zero, suc, ◌≡◌, ◌+◌, ◌≤◌, ⊤, List, [], ◌∷◌, ◌++◌, Option, Some, None, filter_map}
 use Rattle.fj_lazy.specs.declared.part.Inner.{Inner}
 use Rattle.fj_lazy.specs.declared.part.Inner.TheVariants as inner
@@ -64,7 +64,7 @@ forked_in parts = filter_map task_of parts
 
 -- ---- where a descent stops
 
--- with what stands around it, innermost first, it gives the value w; a leaf is one
+-- with the parts around it, the innermost first, it gives the value w; a leaf is one
 abbrev pub StopsAt : {J K O : Type 0} → (J → K) → (K → O) → (J → O) → (O → O → O) → List (Inner J K O) → O → Option (Stop J K O) → Type 0
 StopsAt key_of value leaf_of combined parts w None = ⊥
 StopsAt key_of value leaf_of combined parts w (Some (stop.Leaf j)) = (inside (beside key_of value combined) parts (value (key_of j)) ≡ w) × (value (key_of j) ≡ leaf_of j)

@@ -6,7 +6,7 @@ use Rattle.fj_lazy.specs.declared.part.Stage.{Stage}
 use Rattle.fj_lazy.specs.declared.part.Stage.TheVariants.{Going, Forking, Waiting, Skipping, Leaving, Over}
 use Rattle.fj_lazy.specs.Parts.{around, beside, outside, whole, forked_in}
 
--- the parts, and what stands within them, give the value w; what goes on after a fork is a leaf
+-- the parts, and those inside them, give the value w; what goes on after a fork is a leaf
 abbrev pub Gives : {J K O : Type 0} → (J → K) → (K → O) → (J → O) → (O → O → O) → List (Outer J K O) → List (Inner J K O) → Stage J K O → O → Type 0
 Gives key_of value leaf_of combined outers inners (Going j) w = whole key_of value combined outers inners (value (key_of j)) ≡ w
 Gives key_of value leaf_of combined outers inners (Forking k j) w =

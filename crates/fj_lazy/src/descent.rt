@@ -18,7 +18,7 @@ pub struct Descent<'s, J: Divide> {
     signals: &'s Signals,
     /// Where its body stands among those of the job.
     place: u64,
-    /// What stands around the place where it stopped, innermost first.
+    /// The parts around the place where it stopped, the innermost first.
     around: Vec<Inner<J>>,
     /// Where it stopped.
     stop: Option<Stop<J>>,

@@ -33,9 +33,9 @@ pub enum Stop<J: Divide> {
 pub enum Climb<J: Divide> {
     /// This job is computed.
     Next(J),
-    /// This task, a right half with this key, is joined; what stands left of it has this value.
+    /// This task, a right half with this key, is joined; everything left of it has this value.
     Join(Serial, J::Key, J::Out),
-    /// This task, a right half, is let go, since what stands left of it has this value, which is final.
+    /// This task, a right half, is let go, since everything left of it has this value, which is final.
     Skip(Serial, J::Out),
     /// It is the value of the whole.
     Whole(J::Out),
@@ -48,9 +48,9 @@ pub enum Stage<J: Divide> {
     Going(J),
     /// It forks a right half with this key, which stands between the outer and the inner parts, and goes on with this leaf within these.
     Forking(J::Key, J),
-    /// It joins this task, a right half with this key; what stands left of it has this value.
+    /// It joins this task, a right half with this key; everything left of it has this value.
     Waiting(Serial, J::Key, J::Out),
-    /// It lets a right half go; what stands left of it has this value, which is final.
+    /// It lets a right half go; everything left of it has this value, which is final.
     Skipping(J::Out),
     /// It lets go what it forked, and then ends with this code.
     Leaving(u32),

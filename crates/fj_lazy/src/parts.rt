@@ -9,7 +9,7 @@ use fj_model::Serial;
 use std::alloc::{AllocError, Global};
 use std::collections::VecDeque;
 
-/// What stands around the part of a job that is computed, from the outermost part to the innermost one.
+/// The parts around the one that is computed, the outermost first.
 #[derive(Drop)]
 pub struct Parts<J: Divide> {
     /// Those around the largest half that nobody has begun.
@@ -127,7 +127,7 @@ impl<J: Divide> Parts<J> {
         Climb::Whole(value)
     }
 
-    /// Takes out the half that was forked last, with what stands within it. None where there is none.
+    /// Takes out the half that was forked last, with the parts inside it. None where there is none.
     pub fn last_forked(&mut self) -> Option<Serial>
         ensures some { IfSome result (λ t. forked_in self.old.outer.items ≡ forked_in self.new.outer.items ++ t ∷ []) }
         ensures fewer { IfSome result (λ t. length (forked_in self.new.outer.items) < length (forked_in self.old.outer.items)) }

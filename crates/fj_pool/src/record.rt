@@ -122,7 +122,7 @@ impl<B: Body, N: Naming> Pool<B, N> {
 }
 
 impl<B: Body, N: Naming> Pool<B, N> {
-    /// What stands behind the lock.
+    /// What the lock guarded.
     fn into_guarded(self) -> Guarded<B, N> {
         let Pool {
             alloc: _,

@@ -123,7 +123,7 @@ impl<R: Threads + Wait + Sync, T: Turnstile + Sync> Serving<'_, '_, R, T> {
     }
 }
 
-/// What is told of a service that cannot go on.
+/// What comes back of a service that cannot go on.
 fn stop<B: Body, S: Drop, K: Drop>(
     feeding: Feeding<B, S, K>,
     refusal: Refusal,

@@ -176,7 +176,7 @@ impl<'s, J: Divide> Lazy<'s, J> {
         }
     }
 
-    /// A turn after the join of this task, a half with this key. Precondition: with what stands left of it, it gives the value of the whole.
+    /// A turn after the join of this task, a half with this key. Precondition: with everything left of it, it gives the value of the whole.
     fn after_join(
         &mut self,
         task: Serial,
