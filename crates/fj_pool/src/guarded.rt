@@ -1,4 +1,5 @@
-ghost use Rattle.std.specs.Prelude.{◌≡◌, IfOk, length};
+ghost use Rattle.std.specs.Prelude.{◌≡◌, ◌≤◌, [], IfOk, length, vec_capacity};
+ghost use Rattle.fj_waiting.specs.declared.places.TheConstants.{MAX_PLACES};
 ghost use Rattle.fj_pool.specs.Lanes.{lanes_of};
 
 mod outside;
@@ -48,21 +49,44 @@ impl<B: Body, N: Naming> Model for Guarded<B, N> {
 }
 
 impl<B: Body, N: Naming> Guarded<B, N> {
-    /// A core, with room for so many lanes. Preconditions: the name is that of the core, and its lanes are so many.
-    pub fn new(alloc: Global, core: Core<B>, lanes: usize) -> Result<Guarded<B, N>, AllocError>
+    /// A core, with what stands beside it. Preconditions: the name is that of the core, and there is room for its lanes.
+    pub fn new(core: Core<B>, room: Room<B>) -> Guarded<B, N>
         requires lanes { lanes_of core.lanes ≡ N.lanes }
         requires pool { core.store.past.pool ≡ N.pool }
-        requires count { lanes ≡ length N.lanes }
-        ensures { IfOk result (λ g. g ≡ core) }
+        requires entrants { (room.entrants.items ≡ []) × (length N.lanes ≤ vec_capacity room.entrants) }
+        requires rests { (room.rests.items ≡ []) × (length N.lanes ≤ vec_capacity room.rests) }
+        ensures { result ≡ core }
     {
-        let waits = Waits::new(alloc, core.limits().workers() as usize)?;
-        Ok(Guarded {
+        Guarded {
             core,
-            waits,
-            entrants: Vec::with_capacity(alloc, lanes)?,
-            rests: Vec::with_capacity(alloc, lanes)?,
+            waits: room.waits,
+            entrants: room.entrants,
+            rests: room.rests,
             first: SubId(0),
             of: PhantomData,
+        }
+    }
+}
+
+/// What stands beside the core of a new pool.
+#[derive(Drop)]
+pub struct Room<B> {
+    pub(crate) waits: Waits,
+    pub(crate) entrants: Vec<Entrant>,
+    pub(crate) rests: Vec<Rest<B>>,
+}
+
+impl<B> Room<B> {
+    /// Room for so many workers and lanes. An error where memory is refused, and no other.
+    pub fn new(alloc: Global, workers: usize, lanes: usize) -> Result<Room<B>, AllocError>
+        requires { workers ≤ MAX_PLACES }
+        ensures entrants { IfOk result (λ r. (r.entrants.items ≡ []) × (lanes ≤ vec_capacity r.entrants)) }
+        ensures rests { IfOk result (λ r. (r.rests.items ≡ []) × (lanes ≤ vec_capacity r.rests)) }
+    {
+        Ok(Room {
+            waits: Waits::new(alloc, workers)?,
+            entrants: Vec::with_capacity(alloc, lanes)?,
+            rests: Vec::with_capacity(alloc, lanes)?,
         })
     }
 }

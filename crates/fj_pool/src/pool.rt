@@ -1,5 +1,6 @@
-ghost use Rattle.std.specs.Prelude.{◌≡◌, All, IfOk, length, vec_len};
-ghost use Rattle.fj_pool.specs.Holdings.{AreKept, IsTied, hands_of};
+ghost use Rattle.std.specs.Prelude.{◌≡◌, ◌≤◌, [], All, IfOk, length, vec_capacity, vec_len};
+ghost use Rattle.fj_waiting.specs.declared.places.TheConstants.{MAX_PLACES};
+ghost use Rattle.fj_pool.specs.Holdings.{IsTied, hands_of};
 ghost use Rattle.fj_pool.specs.Lanes.{lanes_of};
 ghost use Rattle.fj_pool.specs.Seats.{IsNamed};
 ghost use Rattle.fj_pool.specs.Winding.{AreAll};
@@ -10,9 +11,8 @@ mod work;
 
 use crate::closer::Closer;
 use crate::condvars::Condvars;
-use crate::guarded::Guarded;
+use crate::guarded::{Guarded, Room};
 use crate::hand::Hand;
-use crate::holding::Holding;
 use crate::locked::Locked;
 use crate::naming::Naming;
 use crate::next::Unneeded;
@@ -21,8 +21,6 @@ use crate::seat::Seat;
 use crate::submitter::Submitter;
 use crate::tied::Tied;
 use crate::waits::Due;
-use fj_agreement::End;
-use fj_core::Core;
 use fj_model::OutOfMemory;
 use fj_store::Body;
 use std::alloc::{AllocError, Global};
@@ -57,7 +55,6 @@ impl<B: Body, N: Naming> Pool<B, N> {
         ensures closer { IfOk result (λ r. r.3 ≡ parts.closer) }
         ensures all { IfOk result (λ r. AreAll (length N.lanes) r.2.items) }
     {
-        let condvars = Condvars::new(alloc, parts.ends.len())?;
         let Parts {
             core,
             hands,
@@ -65,8 +62,20 @@ impl<B: Body, N: Naming> Pool<B, N> {
             seats,
             closer,
         } = parts;
-        let hands = name_hands(alloc, hands)?;
-        let (pool, submitters) = put_together(alloc, core, ends, seats, condvars)?;
+        let lanes = seats.len();
+        let workers = core.limits().workers() as usize;
+        let Beside {
+            condvars,
+            room,
+            hands,
+            submitters,
+        } = Beside::new(alloc, workers, hands, seats)?;
+        let pool = Pool {
+            alloc,
+            lanes,
+            core: Mutex::new(Locked::new(Guarded::new(core, room), ends)),
+            condvars,
+        };
         let closer = Closer {
             end: closer,
             of: PhantomData,
@@ -84,32 +93,39 @@ impl<B: Body, N: Naming> Pool<B, N> {
     }
 }
 
-/// A pool with this core, and its submitters by name. Preconditions: the name is that of this core and these ends.
-fn put_together<B: Body, N: Naming>(
-    alloc: Global,
-    core: Core<B>,
-    ends: Vec<End<Holding>>,
-    seats: Vec<Seat<B>>,
+/// What stands beside the core of a new pool.
+#[derive(Drop)]
+struct Beside<B, N: Naming> {
     condvars: Condvars,
-) -> Result<(Pool<B, N>, Vec<Submitter<B, N>>), AllocError>
-    requires lanes { lanes_of core.lanes ≡ N.lanes }
-    requires pool { core.store.past.pool ≡ N.pool }
-    requires kept { AreKept N.hands core.store.past ends.items }
-    requires count { vec_len seats ≡ length N.lanes }
-    requires named { All (λ s. IsNamed N.gate N.lanes s) seats.items }
-    requires as_many { vec_len condvars.workers ≡ length N.hands }
-    ensures { IfOk result (λ r. r.1.items ≡ seats.items) }
-{
-    let lanes = seats.len();
-    let submitters = name_all(alloc, seats)?;
-    let core = Locked::new(Guarded::new(alloc, core, lanes)?, ends);
-    let pool = Pool {
-        alloc,
-        lanes,
-        core: Mutex::new(core),
-        condvars,
-    };
-    Ok((pool, submitters))
+    room: Room<B>,
+    hands: Vec<Hand<B, N>>,
+    submitters: Vec<Submitter<B, N>>,
+}
+
+impl<B: Drop, N: Naming> Beside<B, N> {
+    /// All for which memory may be refused. Preconditions: the name is that of these hands and ends, and the workers are so many.
+    fn new(
+        alloc: Global,
+        workers: usize,
+        hands: Vec<Tied<B>>,
+        seats: Vec<Seat<B>>,
+    ) -> Result<Beside<B, N>, AllocError>
+        requires workers { workers ≤ MAX_PLACES }
+        requires hands { All (λ h. IsTied N.hands h) hands.items }
+        requires named { All (λ s. IsNamed N.gate N.lanes s) seats.items }
+        ensures condvars { IfOk result (λ r. vec_len r.condvars.workers ≡ workers) }
+        ensures entrants { IfOk result (λ r. (r.room.entrants.items ≡ []) × (vec_len seats ≤ vec_capacity r.room.entrants)) }
+        ensures rests { IfOk result (λ r. (r.room.rests.items ≡ []) × (vec_len seats ≤ vec_capacity r.room.rests)) }
+        ensures hands { IfOk result (λ r. r.hands.items ≡ hands_of hands.items) }
+        ensures submitters { IfOk result (λ r. r.submitters.items ≡ seats.items) }
+    {
+        Ok(Beside {
+            condvars: Condvars::new(alloc, workers)?,
+            room: Room::new(alloc, workers, seats.len())?,
+            hands: name_hands(alloc, hands)?,
+            submitters: name_all(alloc, seats)?,
+        })
+    }
 }
 
 /// The hands, by name. Precondition: the name is that of their ends.

@@ -1,7 +1,7 @@
 use Rattle.std.proofs.Common.{◌≡◌, List, All, length, sym, ap, ◌∙◌, subst}
 use Rattle.atomic_table.specs.Seated.{TableId}
 use Rattle.fj_lane.specs.Ends.{LaneId}
-use Rattle.fj_pool.specs.Holdings.{AreKept, IsTied}
+use Rattle.fj_pool.specs.Holdings.{IsTied}
 use Rattle.fj_pool.specs.Lanes.{lanes_of}
 use Rattle.fj_pool.specs.Parts.{PartsState}
 use Rattle.fj_pool.specs.Winding.{AreAll}
@@ -17,18 +17,13 @@ module _ {B K O : Type 0} where
   pairs_named : (named : List TableId) (made parts : PartsState B K O) → named ≡ parts.pairs → made ≡ parts → named ≡ made.pairs
   pairs_named named made parts pairs is = pairs ∙ sym (ap (λ (p : PartsState B K O). p.pairs) is)
 
-pub name_hands-requires : goal.name_hands-requires
-name_hands-requires g c =
+pub new-requires-clause-hands : goal.new-requires-clause-hands
+new-requires-clause-hands g c =
     let inside = c.parts.inside in
     subst (λ ps. All (λ t. IsTied ps t) inside.hands.items) (sym (pairs_named g.N.Naming.hands _ c.args.parts c.requires.hands c.parts.view_is)) c.parts.invariant.held.each
 
-pub put_together-requires-clause-kept : goal.put_together-requires-clause-kept
-put_together-requires-clause-kept g c =
-    let inside = c.parts.inside in
-    subst (λ ps. AreKept ps inside.core.store.past inside.ends.items) (sym (pairs_named g.N.Naming.hands _ c.args.parts c.requires.hands c.parts.view_is)) c.parts.invariant.held.kept
-
-pub put_together-requires-clause-named : goal.put_together-requires-clause-named
-put_together-requires-clause-named g c =
+pub new-requires-clause-named : goal.new-requires-clause-named
+new-requires-clause-named g c =
     let inside = c.parts.inside in
     all_named inside.closer g.N.Naming.gate (lanes_of inside.core.lanes) g.N.Naming.lanes inside.seats.items c.parts.invariant.paired
     (c.requires.gate ∙ sym (ap (λ (p : PartsState g.row.B.Denot g.row.B-Key.Denot g.row.B-Out.Denot). p.closer.gate) c.parts.view_is)) (lanes_named g.N.Naming.lanes _ c.args.parts c.requires.lanes c.parts.view_is)
@@ -36,5 +31,5 @@ put_together-requires-clause-named g c =
 pub returns-clause-all : goal.returns-clause-all
 returns-clause-all g c =
     let inside = c.parts.inside in
-    subst (λ seats. AreAll (length g.N.Naming.lanes) seats) (sym c.in_ok-pool.ensures)
+    subst (λ seats. AreAll (length g.N.Naming.lanes) seats) (sym c.in_ok-condvars.ensures.submitters)
     (all_seats inside.closer (lanes_of inside.core.lanes) g.N.Naming.lanes inside.seats.items c.parts.invariant.paired (lanes_named g.N.Naming.lanes _ c.args.parts c.requires.lanes c.parts.view_is))
