@@ -22,6 +22,7 @@ use crate::closing::Closing;
 use crate::first_hands::new_hands;
 use fj_gate::Ticket;
 use fj_lane::Drain;
+use fj_machine::Machine;
 use fj_model::{Limits, Mode, OutOfMemory, Refusal, Serial};
 use fj_shelf::Hand;
 use fj_store::{Body, Heard, Outcome, Store, Told};
@@ -95,6 +96,13 @@ impl<B: Body> Core<B> {
         ensures run { IsPast self.now.store.past }
     {
         self.store.limits()
+    }
+
+    /// The machine beneath: its history, and what that shows.
+    pub fn machine(&self) -> &Machine
+        ensures { result.now ≡ self.now.store.past }
+    {
+        self.store.machine()
     }
 
     /// An idle worker asks for its next task. `Stuck` where the core is stuck, and where the history is full, by which it gets stuck.

@@ -17,7 +17,9 @@ mod submitters;
 
 pub use alone::run_alone;
 pub use fj_model::{Kind, Limits, Mode, Refusal, Sealed, Serial, SubId, WorkerId};
-pub use fj_pool::{Ask, Body, Heard, Kept, Naming, Open, Outcome, Record, Ticket, Turnstile};
+pub use fj_pool::{
+    Ask, Body, Glance, Heard, Kept, Naming, Open, Outcome, Record, Ticket, Turnstile,
+};
 pub use play::Play;
 pub use playing::{Played, with_pool};
 pub use results::{NoResult, result_in};

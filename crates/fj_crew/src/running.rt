@@ -2,7 +2,7 @@ ghost use Rattle.std.specs.Prelude.{◌<◌, IfSome, length};
 
 use crate::submitters::Submitters;
 use fj_model::{Refusal, Sealed, SubId};
-use fj_pool::{Body, Naming, Outcome, Pool, Ticket};
+use fj_pool::{Body, Glance, Naming, Outcome, Pool, Ticket};
 use std::sync::Wait;
 
 /// A pool whose workers are at work, with all its submitters.
@@ -105,6 +105,11 @@ impl<'p, 'r, B: Body, N: Naming, R: Wait> Running<'p, 'r, B, N, R> {
     /// Whether all that was submitted has ended: `Pool::is_quiescent`.
     pub fn is_quiescent(&self) -> bool {
         self.pool.is_quiescent(self.rt)
+    }
+
+    /// What the pool does at this moment: `Pool::glance`.
+    pub fn glance(&self) -> Glance {
+        self.pool.glance(self.rt)
     }
 
     /// The sealed parts of the history that nobody has taken yet: `Pool::take_parts`.

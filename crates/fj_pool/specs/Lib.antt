@@ -18,3 +18,5 @@ pub mod Asked
 pub mod Working
 -- what a worker holds
 pub mod Holdings
+-- what a pool does at one moment
+pub mod Glances

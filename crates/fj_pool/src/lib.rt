@@ -14,6 +14,7 @@
 mod closer;
 mod condvars;
 mod effect;
+mod glance;
 mod guarded;
 mod hand;
 mod holding;
@@ -37,6 +38,7 @@ pub use fj_lane::{Parcel, Rest};
 pub use fj_machine::Machine;
 pub use fj_shelf::Shelf;
 pub use fj_store::{Ask, Body, Heard, Kept, Outcome, Told};
+pub use glance::Glance;
 pub use hand::Hand;
 pub use naming::Naming;
 pub use parts::Parts;

@@ -4,11 +4,13 @@ ghost use Rattle.fj_core.specs.Closes.{ShutsAt, closed_at, is_finished, stopped_
 ghost use Rattle.fj_core.specs.Cores.{CollectsTicket};
 ghost use Rattle.fj_store.specs.Fitting.{Fits};
 ghost use Rattle.fj_pool.specs.Asked.{CancelsBehind, CollectsAny};
+ghost use Rattle.fj_pool.specs.Glances.{IsGlance};
 ghost use Rattle.fj_pool.specs.Holdings.{AreKept};
 ghost use Rattle.fj_pool.specs.Looking.{IsQuietBehind};
 ghost use Rattle.fj_pool.specs.Turning.{LeavesWell, MayAsk, NextRight};
 ghost use Rattle.fj_pool.specs.Working.{Resumes, Serves};
 
+use crate::glance::Glance;
 use crate::guarded::Guarded;
 use crate::hand::Hand;
 use crate::holding::Holding;
@@ -168,6 +170,13 @@ impl<B: Body, N: Naming> Locked<B, N> {
         ensures { IsQuietBehind B.rooted_as self.old result self.new }
     {
         self.guarded.is_quiescent(alloc)
+    }
+
+    /// What the pool does at this moment.
+    pub fn glance(&self) -> Glance
+        ensures { IsGlance self.now.store.past result }
+    {
+        Glance::of(self.guarded.core.machine())
     }
 
     /// Whether the pool has terminated.

@@ -102,6 +102,13 @@ impl<B: Body> Store<B> {
         self.machine.limits()
     }
 
+    /// The machine beneath: its history, and what that shows.
+    pub fn machine(&self) -> &Machine
+        ensures { result.now ≡ self.now.past }
+    {
+        &self.machine
+    }
+
     /// Whether it is stuck: something that has to be made found no room in the history.
     pub fn is_stuck(&self) -> bool
         ensures { result ≡ self.now.stuck }

@@ -2,6 +2,7 @@
 ghost use Rattle.std.specs.Prelude.{◌<◌, IfSome, length};
 
 use crate::closer::Closer;
+use crate::glance::Glance;
 use crate::naming::Naming;
 use crate::pool::Pool;
 use crate::pool::work::LONGEST_WAIT;
@@ -144,6 +145,13 @@ impl<B: Body, N: Naming> Pool<B, N> {
         core.take_due(&mut due);
         drop(guard);
         self.wake_due(&mut due);
+    }
+
+    /// What the pool does at this moment. It waits for the lock alone, and takes nothing in.
+    pub fn glance<R: Wait>(&self, rt: &R) -> Glance {
+        let mut guard = self.core.lock(rt);
+        let core = &mut *guard;
+        core.glance()
     }
 
     /// Whether all queues are empty and no worker runs anything, once what the lanes show was taken in: `ForkJoinPool.isQuiescent`.
