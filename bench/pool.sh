@@ -44,7 +44,7 @@ add_load() {
         done
         ;;
     outside | forked)
-        for micros in 0 1 100; do
+        for micros in 0 1 3 10 100; do
             for workers in 1 2 4; do
                 if [[ $1 == outside ]]; then
                     add "$runs" "outside_${workers}_$micros" tasks "$workers" 4000 0 "$micros"
