@@ -165,7 +165,7 @@ fn tasks_are_counted_by_what_becomes_of_them(rt: HostRuntime) -> Result<(), Fail
 }
 
 #[test]
-fn workers_steal_and_nest(rt: HostRuntime) -> Result<(), Fail> {
+fn workers_steal(rt: HostRuntime) -> Result<(), Fail> {
     let alloc = rt.alloc();
     told(
         &rt,
@@ -188,6 +188,27 @@ fn workers_steal_and_nest(rt: HostRuntime) -> Result<(), Fail> {
     told(
         &rt,
         alloc,
+        "a cancelled fork is stolen, and not run",
+        &[
+            submit(0, 0),
+            out(0, 0),
+            fork(1, 0),
+            settle(1, Status::Cancelled),
+            skip(1, 2),
+        ],
+        [1, 1, 0, 1, 1, 0, 1, 0],
+        &[[1, 0, 0], [0, 0, 0], [0, 1, 0]],
+        [2, 1],
+    )?;
+    Ok(())
+}
+
+#[test]
+fn bodies_nest(rt: HostRuntime) -> Result<(), Fail> {
+    let alloc = rt.alloc();
+    told(
+        &rt,
+        alloc,
         "two run within another one, and a fourth after it",
         &[
             submit(0, 0),
@@ -205,21 +226,6 @@ fn workers_steal_and_nest(rt: HostRuntime) -> Result<(), Fail> {
         [2, 2, 0, 4, 0, 0, 0, 0],
         &[[4, 0, 2]],
         [4, 1],
-    )?;
-    told(
-        &rt,
-        alloc,
-        "a cancelled fork is stolen, and not run",
-        &[
-            submit(0, 0),
-            out(0, 0),
-            fork(1, 0),
-            settle(1, Status::Cancelled),
-            skip(1, 2),
-        ],
-        [1, 1, 0, 1, 1, 0, 1, 0],
-        &[[1, 0, 0], [0, 0, 0], [0, 1, 0]],
-        [2, 1],
     )?;
     Ok(())
 }
