@@ -6,7 +6,7 @@ use crate::artifact::Artifact;
 use crate::fault::Fault;
 use crate::make::Make;
 use crate::target::Target;
-use fj_crew::{Limits, Mode, Open, result_in, run_alone};
+use fj_crew::{Limits, Open, Settings, result_in, run_alone};
 use std::alloc::Global;
 use std::sync::Wait;
 use std::thread::Threads;
@@ -44,7 +44,7 @@ pub fn build<R: Threads + Wait + Sync>(
         Err(refusal) => return Err(Fault::Refused(refusal)),
     };
     let body = Make::new(alloc, plan, *target);
-    let outcome = match run_alone(rt, alloc, Mode::Joining, limits, 0, body, &Open) {
+    let outcome = match run_alone(rt, alloc, Settings::with_limits(limits), body, &Open) {
         Ok(outcome) => outcome,
         Err(refusal) => return Err(Fault::Refused(refusal)),
     };

@@ -5,7 +5,7 @@ use crate::play::Play;
 use crate::playing::with_pool;
 use crate::running::Running;
 use crate::settings::Settings;
-use fj_model::{Limits, Mode, Refusal, SubId};
+use fj_model::{Refusal, SubId};
 use fj_pool::{Body, Naming, Outcome, Turnstile};
 use std::alloc::Global;
 use std::sync::Wait;
@@ -37,15 +37,13 @@ impl<B: Body> Play<B> for Alone<B> {
 /// Runs a body to its outcome, in a pool of its own: a thread for each worker, and none that outlives the call. A result in the outcome is
 /// right for the key beside it. It follows `ForkJoinPool.invoke`.
 ///
-/// `start` is the scan word of worker 0; that of each further one is one more. The turnstile is asked before the first turn of each body.
+/// The pool is made by these settings, for one submission. The turnstile is asked before the first turn of each body.
 ///
 /// `LogFull` where the history is full. `OutOfMemory` where memory is refused, or a thread cannot be started; then the body is not run.
 pub fn run_alone<B: Body + Send, T: Turnstile + Sync, R: Threads + Wait + Sync>(
     rt: &R,
     alloc: Global,
-    mode: Mode,
-    limits: Limits,
-    start: u32,
+    settings: Settings,
     body: B,
     turnstile: &T,
 ) -> Result<Outcome<B>, Refusal>
@@ -54,12 +52,8 @@ where
     B::Out: Send,
     ensures { IfErr result RefusesRun }
 {
-    let settings = Settings::with_limits(limits)
-        .in_mode(mode)
-        .starting_at(start)
-        .for_one();
     let player = Alone { body: Some(body) };
-    match with_pool(rt, alloc, settings, player, turnstile) {
+    match with_pool(rt, alloc, settings.for_one(), player, turnstile) {
         Ok(played) => told(played.out),
         Err(_) => Err(Refusal::OutOfMemory),
     }

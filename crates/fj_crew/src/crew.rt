@@ -2,9 +2,10 @@ use crate::play::Play;
 use crate::running::Running;
 use crate::submitters::Submitters;
 use fj_pool::{Body, Closer, Hand, Naming, Pool, Turnstile};
+use std::alloc::{AllocError, Global};
 use std::sync::Wait;
 use std::thread;
-use std::thread::Threads;
+use std::thread::{Builder, Threads};
 
 /// What the threads of a pool share.
 #[derive(Drop)]
@@ -74,6 +75,15 @@ impl<B: Body, N: Naming, T: Turnstile, R: Wait> Crew<'_, '_, '_, B, N, T, R> {
     }
 }
 
+/// How the thread of a worker starts: by a name that tools such as `top -H` show, as `fj-worker-3`. Without memory for that, by none.
+fn thread_of(alloc: Global, worker: usize) -> Builder {
+    let name: Result<String, AllocError> = format!(in alloc; "fj-worker-{worker}");
+    match name {
+        Ok(name) => Builder::new().name(name),
+        Err(_) => Builder::new(),
+    }
+}
+
 /// Plays while a thread works for each hand. Where one cannot be started, nothing is played.
 pub fn run_all<
     B: Body + Send,
@@ -82,6 +92,7 @@ pub fn run_all<
     T: Turnstile + Sync,
     R: Threads + Wait + Sync,
 >(
+    alloc: Global,
     crew: &Crew<B, N, T, R>,
     mut hands: Vec<Hand<B, N>>,
     submitters: Submitters<B, N>,
@@ -94,8 +105,9 @@ where
 {
     thread::scope(thread::scope_env(), crew.rt, |scope| {
         let mut all = true;
-        for hand in hands.iter_mut() {
-            all = all && scope.spawn(move || crew.work(hand)).is_ok();
+        for (worker, hand) in hands.iter_mut().enumerate() {
+            let thread = thread_of(alloc, worker);
+            all = all && thread.spawn_scoped(scope, move || crew.work(hand)).is_ok();
         }
         if all {
             crew.play(submitters, closer, player)

@@ -1,8 +1,7 @@
 //! One body is run to its outcome, by workers in threads, in a pool of its own.
 //!
 //! ```
-//! // Limits of 4 workers, 1 submitter, 4,096 tasks and 1,048,576 events.
-//! let outcome = run_alone(&rt, alloc, Mode::Joining, limits, 0, body, &Open)?;
+//! let outcome = run_alone(&rt, alloc, Settings::workers(4)?, body, &Open)?;
 //! ```
 #![tactic(auto)]
 

@@ -112,7 +112,7 @@ where
                 out,
                 submitters,
                 closer,
-            } = run_all(&crew, hands, submitters, closer, player);
+            } = run_all(alloc, &crew, hands, submitters, closer, player);
             let record = pool.wind_up(submitters.into_all(), closer);
             match out {
                 Some(out) => Ok(Played {

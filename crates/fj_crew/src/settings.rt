@@ -4,7 +4,9 @@ ghost use Rattle.fj_model.specs.declared.limits.TheConstants.{MAX_EVENTS, MAX_TA
 ghost use Rattle.fj_model.specs.Bounds.{IsWithin, bounds};
 
 use fj_lane::MAX_CAPACITY;
-use fj_model::{Limits, MAX_EVENTS, MAX_TASKS, Mode, Refusal};
+use fj_model::{Limits, MAX_EVENTS, MAX_TASKS, MAX_WORKERS, Mode, Refusal};
+use std::thread;
+use std::thread::Threads;
 
 /// With what a pool is made: so many workers, and for all else what suits most.
 ///
@@ -27,6 +29,21 @@ impl Settings {
         ensures err { OnErr result (result ≡ Err Refusal.BadLimits) }
     {
         Ok(Settings::with_limits(Limits::new(workers, 1, MAX_TASKS, MAX_EVENTS)?))
+    }
+
+    /// As many workers as this process has processors, at most 32, and one where the system does not tell. `new ForkJoinPool()`.
+    pub fn available<R: Threads>(rt: &R) -> Settings
+        ensures limits { result.limits ≡ bounds result.limits.workers 1 MAX_TASKS MAX_EVENTS }
+        ensures mode { (result.mode ≡ Mode.Joining) × (result.start ≡ 0) }
+    {
+        let processors = match thread::available_parallelism(rt) {
+            Ok(processors) => processors.get(),
+            Err(_) => 1,
+        };
+        let Ok(settings) = Settings::workers(processors.min(MAX_WORKERS as usize) as u32) else {
+            unreachable!()
+        };
+        settings
     }
 
     /// These limits, and for all else what suits most.

@@ -3,7 +3,7 @@ ghost use Rattle.std.specs.Prelude.{◌≡◌, ◌<◌, length};
 
 use crate::by_hand::{Close, Driven, Ended, drive_job, end_of};
 use crate::failing::{Common, Failing, Fault};
-use fj_crew::{Limits, Mode, Open, run_alone};
+use fj_crew::{Limits, Mode, Open, Settings, run_alone};
 use fj_fold::{Family, Nodes, Tree, TreeFold, read_tree};
 use std::alloc::Global;
 use std::marker::Brand;
@@ -83,7 +83,8 @@ fn in_threads_in<F: Tree + Send, R: Threads + Wait + Sync>(
 {
     let limits = Limits::new(2, 1, 64, 256)?;
     let body = root::<F>(alloc, family, fault, owners)?;
-    Ok(end_of(run_alone(rt, alloc, Mode::Async, limits, 0, body, &Open)?))
+    let settings = Settings::with_limits(limits).in_mode(Mode::Async);
+    Ok(end_of(run_alone(rt, alloc, settings, body, &Open)?))
 }
 
 /// The same, and how many bodies are left of it.

@@ -2,7 +2,7 @@
 use crate::by_hand::{Close, Driven, Ended, drive_job, end_of};
 use crate::failing::{Common, Failing, Fault};
 use crate::hungry::Hungry;
-use fj_crew::run_alone;
+use fj_crew::{Settings, run_alone};
 use fj_invoke::{BlockedRange, Interval, Limits, Mode, Open, RangeSum};
 use fj_lazy::{Lazy, Signals};
 use std::alloc::Global;
@@ -65,7 +65,7 @@ pub fn in_threads<R: Threads + Wait + Sync>(
     let owners = Arc::new(alloc, 0u8)?;
     let body = whole(alloc, fault, &owners, &signals)?;
     let limits = Limits::new(2, 1, 64, 256)?;
-    let outcome = run_alone(rt, alloc, Mode::Joining, limits, 0, body, &Open)?;
+    let outcome = run_alone(rt, alloc, Settings::with_limits(limits), body, &Open)?;
     Ok((
         end_of(outcome),
         Arc::strong_count(&owners).saturating_sub(1),

@@ -7,7 +7,7 @@ ghost use Rattle.fj_crew.specs.Runs.{RefusesRun};
 use crate::family::Family;
 use crate::tree::Tree;
 use crate::tree_fold::TreeFold;
-use fj_crew::{Turnstile, result_in, run_alone};
+use fj_crew::{Settings, Turnstile, result_in, run_alone};
 use fj_jobs::Nodes;
 use fj_model::{Limits, MAX_EVENTS, MAX_TASKS, Mode, Refusal};
 use std::alloc::{AllocError, Global};
@@ -60,7 +60,8 @@ fn fold_in<F: Tree + Send, R: Threads + Wait + Sync, T: Turnstile + Sync>(
     let Ok(body) = made else {
         return Err(Refusal::OutOfMemory);
     };
-    let outcome = match run_alone(rt, alloc, Mode::Async, limits, 0, body, turnstile) {
+    let settings = Settings::with_limits(limits).in_mode(Mode::Async);
+    let outcome = match run_alone(rt, alloc, settings, body, turnstile) {
         Ok(outcome) => outcome,
         Err(refusal) => return Err(refusal),
     };

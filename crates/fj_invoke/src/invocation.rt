@@ -3,7 +3,7 @@ ghost use Rattle.fj_crew.specs.Runs.{RefusesRun};
 ghost use Rattle.fj_invoke.specs.Answers.{RefusesOutcome};
 
 use crate::recursive::Recursive;
-use fj_crew::{Turnstile, result_in, run_alone};
+use fj_crew::{Settings, Turnstile, result_in, run_alone};
 use fj_jobs::Divide;
 use fj_model::{Limits, Mode, Refusal};
 use fj_store::Outcome;
@@ -37,7 +37,10 @@ where
     let Ok(body) = Recursive::new(alloc, job) else {
         return Err(Refusal::OutOfMemory);
     };
-    match run_alone(rt, alloc, mode, limits, start, body, turnstile) {
+    let settings = Settings::with_limits(limits)
+        .in_mode(mode)
+        .starting_at(start);
+    match run_alone(rt, alloc, settings, body, turnstile) {
         Ok(outcome) => answer_of(outcome, key),
         Err(refusal) => Err(refusal),
     }

@@ -67,15 +67,7 @@ where
     let Ok(body) = Lazy::new(alloc, job, &signals) else {
         return Err(Refusal::OutOfMemory);
     };
-    match run_alone(
-        rt,
-        alloc,
-        settings.mode(),
-        settings.limits(),
-        settings.start(),
-        body,
-        &idle,
-    ) {
+    match run_alone(rt, alloc, settings, body, &idle) {
         Ok(outcome) => answer_of(outcome, key),
         Err(refusal) => Err(refusal),
     }

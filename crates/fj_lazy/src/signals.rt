@@ -46,14 +46,17 @@ impl Signals {
         self.asking.load(Ordering::SeqCst) != 0 || self.is_over(place)
     }
 
-    /// Answers a worker that asks for work, the one with the lowest number. It has not asked any more then.
+    /// Answers a worker that asks for work, the one with the lowest number. It has not asked any more then. None only where nobody asks.
     pub(crate) fn take(&self) -> Option<WorkerId> {
-        let w = WorkerId(self.asking.load(Ordering::SeqCst).trailing_zeros());
-        let bit = bit_of(w);
-        if self.asking.fetch_and(!bit, Ordering::SeqCst) & bit == 0 {
-            return None;
+        let asked = self.asking.fetch_update(
+            Ordering::SeqCst,
+            Ordering::SeqCst,
+            |asking| asking.checked_sub(1).map(|less| asking & less),
+        );
+        match asked {
+            Ok(asking) => Some(WorkerId(asking.trailing_zeros())),
+            Err(_) => None,
         }
-        Some(w)
     }
 
     /// Takes one of the forks that are left. Whether there was one.

@@ -6,7 +6,7 @@ use crate::fault::Fault;
 use crate::flow::Flow;
 use crate::item::Item;
 use crate::stage::Stage;
-use fj_crew::{Limits, Mode, Open, result_in, run_alone};
+use fj_crew::{Limits, Open, Settings, result_in, run_alone};
 use std::alloc::Global;
 use std::sync::Wait;
 use std::thread::Threads;
@@ -39,7 +39,8 @@ pub fn process<R: Threads + Wait + Sync>(
         Ok(limits) => limits,
         Err(refusal) => return Err(Fault::Refused(refusal)),
     };
-    let outcome = match run_alone(rt, alloc, Mode::Joining, limits, 0, Flow::new(item), &Open) {
+    let settings = Settings::with_limits(limits);
+    let outcome = match run_alone(rt, alloc, settings, Flow::new(item), &Open) {
         Ok(outcome) => outcome,
         Err(refusal) => return Err(Fault::Refused(refusal)),
     };

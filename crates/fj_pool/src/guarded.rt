@@ -49,7 +49,7 @@ impl<B: Body, N: Naming> Model for Guarded<B, N> {
 }
 
 impl<B: Body, N: Naming> Guarded<B, N> {
-    /// A core, with what stands beside it. Preconditions: the name is that of the core, and there is room for its lanes.
+    /// A core guarded by the lock. Preconditions: the name is that of the core, and there is room for its lanes.
     pub fn new(core: Core<B>, room: Room<B>) -> Guarded<B, N>
         requires lanes { lanes_of core.lanes ≡ N.lanes }
         requires pool { core.store.past.pool ≡ N.pool }
@@ -68,7 +68,7 @@ impl<B: Body, N: Naming> Guarded<B, N> {
     }
 }
 
-/// What stands beside the core of a new pool.
+/// The state of a new pool that the lock guards, but for its core.
 #[derive(Drop)]
 pub struct Room<B> {
     pub(crate) waits: Waits,

@@ -93,7 +93,7 @@ impl<B: Body, N: Naming> Pool<B, N> {
     }
 }
 
-/// What stands beside the core of a new pool.
+/// A new pool but for its core: all for which memory may be refused.
 #[derive(Drop)]
 struct Beside<B, N: Naming> {
     condvars: Condvars,
@@ -103,7 +103,7 @@ struct Beside<B, N: Naming> {
 }
 
 impl<B: Drop, N: Naming> Beside<B, N> {
-    /// All for which memory may be refused. Preconditions: the name is that of these hands and ends, and the workers are so many.
+    /// An error where memory is refused, and no other. Preconditions: the name is that of these hands and seats, and no worker lacks a place.
     fn new(
         alloc: Global,
         workers: usize,
