@@ -1,0 +1,43 @@
+#!/usr/bin/env bash
+# Lays out a repository with the program on the page of fj_free, as one that takes copies of our crates, builds and runs it there by tools/quick. What it
+# writes must stand alone on standard output, the warning before and after it on standard error, and nothing but the program may be left. A crate
+# that is nowhere must be told. Usage: tests/quick/run.sh
+set -euo pipefail
+cd "$(dirname "${BASH_SOURCE[0]}")/../.."
+crates=(fj_model fj_queues fj_tree fj_ledger fj_machine fj_gate fj_lane fj_shelf fj_store fj_core fj_waiting fj_agreement fj_pool fj_crew fj_free)
+wanted=102334155
+
+folder=$(mktemp -d)
+trap 'rm -rf "$folder"' EXIT
+fib=$folder/app/crates/fib
+quick=$PWD/tools/quick
+
+# The program is the first block of the page.
+lay_out() {
+    mkdir -p "$fib/src"
+    cp HANDLES "$folder/app"
+    tar cf - --exclude=out "${crates[@]/#/crates/}" | tar xf - -C "$folder/app"
+    grep -E "^($(IFS='|'; echo "${crates[*]}")):" crates.txt > "$folder/app/crates.txt"
+    echo 'fib: fj_free anyhow' >> "$folder/app/crates.txt"
+    awk '/^```rust$/ { inside = 1; next } /^```$/ && inside { exit } inside' crates/fj_free/README.md > "$fib/src/main.rt"
+}
+
+# fail WHAT: says what is wrong, and what was told.
+fail() {
+    echo "$1" >&2
+    cat "$folder/told" >&2
+    exit 1
+}
+
+lay_out
+cd "$fib/src"
+find "$folder/app" -type f | sort > "$folder/before"
+number=$("$quick" fib -- 2> "$folder/told") || fail "it was not built, or has failed"
+[[ $number == "$wanted" ]] || fail "it wrote $number"
+[[ $(grep -c UNPROVED "$folder/told") == 2 ]] || fail "it was not said twice that it is unproved"
+left=$(find "$folder/app" -type f | sort | comm -13 "$folder/before" -)
+[[ $left == "$fib/out/quick" ]] || fail "it left $left"
+status=0
+"$quick" no_such_crate 2> "$folder/told" || status=$?
+[[ $status == 2 ]] || fail "of a crate that is nowhere the status is $status"
+echo "the program on the page of fj_free, built without a proof, writes $number"
