@@ -1,0 +1,44 @@
+use fj_free::{Ask, Free, Heard, Kind, Turns};
+
+/// A number of Fibonacci, by forks and joins.
+#[derive(Drop)]
+pub struct Fib {
+    /// Which one.
+    pub n: u32,
+    /// The smaller one of the two that it is made of, once it is known.
+    pub smaller: u64,
+}
+
+/// Below this it is computed alone.
+const SMALL: u32 = 20;
+
+/// The same by one thread.
+fn alone(n: u32) -> u64 {
+    let (mut this, mut next) = (0u64, 1u64);
+    for _ in 0..n {
+        (this, next) = (next, this.wrapping_add(next));
+    }
+    this
+}
+
+impl Turns for Fib {
+    type Out = u64;
+
+    fn turn(&mut self, heard: Heard<Free<Fib>>) -> Ask<Free<Fib>> {
+        match heard {
+            Heard::Start(_) if self.n < SMALL => Ask::Ok(alone(self.n)),
+            Heard::Start(_) => {
+                let n = self.n.saturating_sub(1);
+                Ask::Fork(Free::new(Fib { n, smaller: 0 }), Kind::Plain)
+            }
+            Heard::Task(greater) => {
+                self.smaller = alone(self.n.saturating_sub(2));
+                Ask::Join(greater)
+            }
+            Heard::Got(_, greater) => Ask::Ok(greater.wrapping_add(self.smaller)),
+            // There was no room for the fork.
+            Heard::Handed(..) => Ask::Ok(alone(self.n)),
+            _ => Ask::Fail(1),
+        }
+    }
+}

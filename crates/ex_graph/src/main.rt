@@ -1,0 +1,49 @@
+//! A graph of targets. Each line of standard input is a target: how long its compiler takes, where 0 fails, and the numbers of the targets that it needs.
+//! What became of each is written.
+#![tactic(auto)]
+
+mod compiler;
+
+use crate::compiler::Compiler;
+use anyhow::{Context, Result};
+use fj_graph::{Fate, Graph, NodeId, Policy, Settings, Stop, run_graph};
+
+fn main(rt: HostRuntime) -> Result<()> {
+    let alloc = rt.alloc();
+    let mut graph = Graph::new(alloc);
+    let mut efforts: Vec<u32> = Vec::new(alloc);
+    let mut needed: Vec<(NodeId, NodeId)> = Vec::new(alloc);
+    for line in rt.lines(alloc) {
+        let line = line?;
+        let mut words = line.split_whitespace();
+        let effort = words.next().context("an empty line")?;
+        efforts.push(effort.parse()?)?;
+        let target = graph.node()?;
+        for word in words {
+            needed.push((target, NodeId(word.parse()?)))?;
+        }
+    }
+    for (target, input) in needed {
+        graph.needs(target, input)?;
+    }
+    let compiler = Compiler { efforts };
+    let settings = Settings::available(&rt);
+    let stop = Stop::new();
+    let ran = run_graph(
+        &rt,
+        alloc,
+        settings,
+        Policy::KeepGoing,
+        graph,
+        &compiler,
+        &stop,
+    )?;
+    for (number, fate) in ran.fates.iter().enumerate() {
+        match fate {
+            Fate::Done => println!(rt; "{number} done")?,
+            Fate::Failed(code) => println!(rt; "{number} failed with code {code}")?,
+            Fate::Skipped => println!(rt; "{number} skipped")?,
+        }
+    }
+    Ok(())
+}

@@ -1,0 +1,2 @@
+-- sums that wrap
+pub mod Sums

@@ -1,0 +1,20 @@
+use crate::event::Event;
+use fj_free::Free;
+use fj_serve::Source;
+use std::collections::VecDeque;
+
+/// Where the events come from.
+#[derive(Drop)]
+pub struct Events {
+    /// The numbers of those that have not come yet.
+    pub numbers: VecDeque<u32>,
+}
+
+impl Source<Free<Event>> for Events {
+    fn next(&mut self) -> Option<Free<Event>> {
+        match self.numbers.pop_front() {
+            Some(number) => Some(Free::new(Event { number })),
+            None => None,
+        }
+    }
+}

@@ -1,0 +1,46 @@
+ghost use Rattle.std.specs.Prelude.{◌≤◌, IfErr};
+ghost use Rattle.fj_crew.specs.Runs.{RefusesRun};
+
+use crate::block::Block;
+use crate::each::Each;
+use crate::every::Every;
+use crate::pace::Pace;
+use fj_invoke::{Refusal, Settings, invoke_lazily};
+use std::alloc::Global;
+use std::ops::Range;
+use std::sync::Wait;
+use std::thread::Threads;
+use std::time::Clock;
+
+/// Does something with each block of a range, by workers in threads: `IntStream.range(..).parallel().forEach`. The blocks are disjoint, in no order
+/// in time, and together the range. Precondition: the range ends at most at the limit.
+///
+/// It begins on the calling thread, and makes a pool only where what is left takes longer than that; one worker needs none. `LogFull` where the
+/// history is full, `OutOfMemory` where memory is refused to the pool or a thread cannot be started; what was done by then stays done.
+pub fn for_each<E: Each + Sync, R: Threads + Wait + Clock + Sync>(
+    rt: &R,
+    alloc: Global,
+    settings: Settings,
+    range: Range<usize>,
+    each: &E,
+) -> Result<(), Refusal>
+    requires { range.end ≤ E.limit each.now }
+    ensures { IfErr result RefusesRun }
+{
+    let pace = Pace::start(rt);
+    let Range { start, end } = range;
+    let mut from = start;
+    let mut size = 1usize;
+    while from < end {
+        if settings.limits().workers() > 1 && pace.is_worth_a_pool(from - start, end - from) {
+            let block = Block { from, to: end };
+            let grain = block.grain();
+            return invoke_lazily(rt, alloc, settings, Every { block, grain, each });
+        }
+        let next = from + size.min(end - from);
+        each.each(from..next);
+        from = next;
+        size = size.saturating_mul(2);
+    }
+    Ok(())
+}

@@ -1,0 +1,2 @@
+-- what a job gave, or why it gave nothing
+pub mod Results

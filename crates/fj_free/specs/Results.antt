@@ -1,0 +1,18 @@
+-- What a job gave, or why it gave nothing.
+use Rattle.std.specs.Prelude.{⊤, Result, Ok, Err}
+use Rattle.fj_crew.specs.Runs.{RefusesRun}
+use Rattle.fj_crew.specs.declared.results.NoResult.{NoResult}
+use Rattle.fj_crew.specs.declared.results.NoResult.TheVariants as none
+use Rattle.fj_free.specs.declared.unfinished.Unfinished.{Unfinished}
+use Rattle.fj_free.specs.declared.unfinished.Unfinished.TheVariants.{Refused, Failed, Missing}
+
+-- the result without its key, or why there is none
+abbrev pub out_in : {K O : Type 0} → Result (K × O) NoResult → Result O Unfinished
+out_in (Ok kept) = Ok kept.1
+out_in (Err (none.Failed code)) = Err (Failed code)
+out_in (Err none.Missing) = Err Missing
+
+-- a run is refused where the history was full, or memory or a thread was refused
+abbrev pub IsTold : Unfinished → Type 0
+IsTold (Refused refusal) = RefusesRun refusal
+IsTold _ = ⊤

@@ -1,0 +1,11 @@
+use crate::free::Free;
+use fj_crew::{Ask, Heard};
+
+/// A job in turns, of which nothing is promised.
+pub trait Turns: Drop + Sized {
+    /// What it gives.
+    type Out: Drop;
+
+    /// One turn: what it asks, having heard this.
+    fn turn(&mut self, heard: Heard<Free<Self>>) -> Ask<Free<Self>>;
+}

@@ -1,0 +1,16 @@
+use fj_crew::Refusal;
+use thiserror::Error;
+
+/// Why a job has given nothing.
+#[derive(Clone, Copy, Debug, PartialEq, Error)]
+pub enum Unfinished {
+    /// The run was refused: `LogFull` where its history is full, `OutOfMemory` where memory or a thread was refused.
+    #[error("{0}")]
+    Refused(Refusal),
+    /// The job failed with this code; `SPENT` where it has taken all its turns.
+    #[error("failed with code {0}")]
+    Failed(u32),
+    /// The job was cancelled, or ended without a result.
+    #[error("no result")]
+    Missing,
+}

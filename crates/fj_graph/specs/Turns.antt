@@ -1,0 +1,11 @@
+-- The one turn of a body.
+use Rattle.std.specs.Prelude.{◌≡◌, ⊤}
+use Rattle.fj_store.specs.declared.body.Ask.{Ask}
+use Rattle.fj_store.specs.declared.body.Ask.TheVariants.{Fail}
+use Rattle.fj_store.specs.declared.body.Heard.{Heard}
+use Rattle.fj_store.specs.declared.body.Heard.TheVariants.{Start}
+
+-- whatever is heard but the start, it fails, and calls nothing
+abbrev pub FailsLater : {B K O : Type 0} → Heard B K O → Ask B K O → Type 0
+FailsLater (Start me) ask = ⊤
+FailsLater _ ask = ask ≡ Fail 0

@@ -1,0 +1,68 @@
+use crate::graph::Graph;
+use crate::node::NodeId;
+use std::alloc::{AllocError, Global};
+use std::collections::VecDeque;
+
+/// Which nodes to look at next: those whose inputs are all done, as far as counts tell. Nothing is proved of it, so whoever takes one looks at its
+/// inputs again.
+#[derive(Drop)]
+pub(crate) struct Frontier {
+    /// How many inputs each node still waits for.
+    waits: Vec<usize>,
+    ready: VecDeque<NodeId>,
+}
+
+impl Frontier {
+    /// The nodes that need nothing. It has room for all nodes.
+    pub(crate) fn new(alloc: Global, graph: &Graph) -> Result<Frontier, AllocError> {
+        let mut waits = Vec::with_capacity(alloc, graph.len())?;
+        let mut ready = VecDeque::with_capacity(alloc, graph.len())?;
+        for number in 0..graph.count() {
+            let node = NodeId(number);
+            let inputs = graph.inputs(node).len();
+            if waits.push(inputs).is_err() || (inputs == 0 && ready.push_back(node).is_err()) {
+                return Err(AllocError);
+            }
+        }
+        Ok(Frontier { waits, ready })
+    }
+
+    /// Takes the next one.
+    pub(crate) fn take(&mut self) -> Option<NodeId> {
+        self.ready.pop_front()
+    }
+
+    /// This one comes next.
+    pub(crate) fn put_back(&mut self, node: NodeId) -> Result<(), AllocError> {
+        match self.ready.push_front(node) {
+            Ok(()) => Ok(()),
+            Err(_) => Err(AllocError),
+        }
+    }
+
+    /// Whether there is one.
+    pub(crate) fn has_next(&self) -> bool {
+        !self.ready.is_empty()
+    }
+
+    /// A node is done: what needs it waits for one input fewer, and comes where that was the last one.
+    pub(crate) fn done(&mut self, graph: &Graph, node: NodeId) -> Result<(), AllocError> {
+        for user in graph.users(node) {
+            if self.arrive(*user) && self.ready.push_back(*user).is_err() {
+                return Err(AllocError);
+            }
+        }
+        Ok(())
+    }
+
+    /// A node waits for one input fewer. Whether it waits for none now.
+    fn arrive(&mut self, node: NodeId) -> bool {
+        match self.waits.get_mut(node.0 as usize) {
+            Some(waits) => {
+                *waits = waits.saturating_sub(1);
+                *waits == 0
+            }
+            None => false,
+        }
+    }
+}

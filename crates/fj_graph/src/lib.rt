@@ -1,0 +1,47 @@
+//! A graph of nodes with inputs: the work of each is called at most once, after all its inputs are done, by the workers of a pool.
+//!
+//! ```
+//! let mut graph = Graph::new(alloc);
+//! let source = graph.node()?;
+//! let object = graph.node()?;
+//! // The work of the object begins when that of its source is done.
+//! graph.needs(object, source)?;
+//! let ran = run_graph(&rt, alloc, Settings::workers(4)?, Policy::KeepGoing, graph, &compiler, &Stop::new())?;
+//! ```
+#![tactic(auto)]
+
+mod call;
+mod calls;
+mod fate;
+mod fault;
+mod frontier;
+mod graph;
+mod named;
+mod node;
+mod node_state;
+mod order;
+mod player;
+mod policy;
+mod progress;
+mod refused;
+mod running;
+mod step;
+mod stop;
+#[cfg(test)]
+mod tests;
+mod under_way;
+#[cfg(test)]
+mod watch;
+mod work;
+
+pub use fate::Fate;
+pub use fault::GraphFault;
+pub use fj_crew::{Limits, Refusal, Settings};
+pub use graph::Graph;
+pub use node::NodeId;
+pub use policy::Policy;
+pub use refused::GraphRefused;
+pub use running::{Ran, run_graph};
+pub use step::Step;
+pub use stop::Stop;
+pub use work::Work;

@@ -1,0 +1,67 @@
+//! Whether a graph has a cycle: its nodes get ranks, and then each is compared with its inputs, so nobody has to believe the ranks.
+ghost use Rattle.std.specs.Prelude.{◌≡◌, ◌<◌, IfNone, IfOk, IfSome, length, ltb, slice_index, true};
+ghost use Rattle.std.specs.List.{list_all};
+ghost use Rattle.fj_graph.specs.Graphs.{IsAbove, IsAcyclic};
+
+use crate::frontier::Frontier;
+use crate::graph::Graph;
+use crate::node::NodeId;
+use std::alloc::{AllocError, Global};
+
+impl Graph {
+    /// Whether there is a cycle: a node that is on one, or that needs a node on one, however far away. None where there is none, and then the
+    /// graph can be run. An error where memory is refused.
+    pub fn cycle(&self, alloc: Global) -> Result<Option<NodeId>, AllocError>
+        ensures none { IfOk result (λ found. IfNone found (IsAcyclic self.now)) }
+        ensures some { IfOk result (λ found. IfSome found (λ node. node.0 < length self.now)) }
+    {
+        let ranks = self.ranks(alloc)?;
+        for number in 0..self.count() {
+            let node = NodeId(number);
+            if !self.is_above_inputs(ranks.as_slice(), node) {
+                return Ok(Some(node));
+            }
+        }
+        Ok(None)
+    }
+
+    /// The rank of each node: one more than that of its inputs at least, if no cycle is among them.
+    fn ranks(&self, alloc: Global) -> Result<Vec<u32>, AllocError> {
+        let mut ranks: Vec<u32> = vec![in alloc; 0; self.len()]?;
+        let mut frontier = Frontier::new(alloc, self)?;
+        for rank in 0..u32::MAX {
+            let Some(node) = frontier.take() else {
+                break;
+            };
+            if let Some(place) = ranks.get_mut(node.0 as usize) {
+                *place = rank;
+            }
+            frontier.done(self, node)?;
+        }
+        Ok(ranks)
+    }
+
+    /// Whether each input of a node has a lower rank.
+    fn is_above_inputs(&self, ranks: &[u32], node: NodeId) -> bool
+        ensures { result ≡ true → IsAbove (slice_index ranks.now) self.now node.0 }
+    {
+        are_below(ranks, self.inputs(node), rank_of(ranks, node))
+    }
+}
+
+/// Whether each of these nodes has a rank below this one.
+fn are_below(ranks: &[u32], nodes: &[NodeId], rank: u32) -> bool
+    ensures { result ≡ list_all (λ node. ltb (slice_index ranks.now node.0) rank) nodes.now }
+{
+    nodes.iter().all(|node| rank_of(ranks, *node) < rank)
+}
+
+/// The rank of a node, 0 where there is no such node.
+fn rank_of(ranks: &[u32], node: NodeId) -> u32
+    ensures { result ≡ slice_index ranks.now node.0 }
+{
+    match ranks.get(node.0 as usize) {
+        Some(rank) => *rank,
+        None => 0,
+    }
+}

@@ -1,0 +1,189 @@
+ghost use Rattle.std.specs.Prelude.{◌≡◌, IfSome};
+ghost use Rattle.fj_graph.specs.Courses.{AreFates, MayBegin};
+
+use crate::call::Call;
+use crate::calls::Calls;
+use crate::fate::Fate;
+use crate::frontier::Frontier;
+use crate::graph::Graph;
+use crate::named::Named;
+use crate::node::NodeId;
+use crate::progress::Progress;
+use crate::under_way::UnderWay;
+use crate::work::Work;
+use fj_crew::{Naming, Outcome, Play, Refusal, Running, SubId, Ticket, result_in};
+use std::alloc::{AllocError, Global};
+use std::sync::Wait;
+
+/// What runs a graph: it alone knows how far each node has come. The workers call work, and nothing else.
+#[derive(Drop)]
+pub(crate) struct Player<'a, W, G: Named> {
+    graph: &'a Graph,
+    calls: Calls<'a, W>,
+    pub(crate) progress: Progress<G>,
+    pub(crate) frontier: Frontier,
+    under_way: UnderWay,
+    /// How many bodies may be under way.
+    window: usize,
+    /// The submitter whose lane is filled now.
+    lane: SubId,
+    /// Whether something was not called since a flag is set.
+    pub(crate) stopped: bool,
+    /// Why it cannot go on, if it cannot.
+    pub(crate) refusal: Option<Refusal>,
+    ghost same: { graph.now ≡ G.graph },
+}
+
+impl<'a, W, G: Named> Player<'a, W, G> {
+    /// Nothing was begun. Precondition: the graph is that which the type names.
+    pub(crate) fn new(
+        alloc: Global,
+        graph: &'a Graph,
+        calls: Calls<'a, W>,
+        window: usize,
+    ) -> Result<Player<'a, W, G>, AllocError>
+        requires same { graph.now ≡ G.graph }
+    {
+        Ok(Player {
+            graph,
+            calls,
+            progress: Progress::new(alloc, graph)?,
+            frontier: Frontier::new(alloc, graph)?,
+            under_way: UnderWay::new(alloc, window)?,
+            window,
+            lane: SubId(0),
+            stopped: false,
+            refusal: None,
+        })
+    }
+
+    /// It goes on, or cannot.
+    fn note(&mut self, done: Result<(), AllocError>) {
+        if done.is_err() {
+            self.refusal = Some(Refusal::OutOfMemory);
+        }
+    }
+
+    /// A node begins, under this ticket. Precondition: it may.
+    fn begin(&mut self, node: NodeId, ticket: Ticket)
+        requires { MayBegin G.graph self.old.progress.course.items node.0 }
+    {
+        let begun = self.progress.begin(node);
+        self.note(begun);
+        let pushed = self.under_way.push(ticket, node);
+        self.note(pushed);
+    }
+
+    /// This became of a node.
+    fn end(&mut self, node: NodeId, fate: Fate) {
+        let ended = self.progress.end(node, fate);
+        self.note(ended);
+        if fate == Fate::Done {
+            let found = self.frontier.done(self.graph, node);
+            self.note(found);
+        }
+    }
+
+    /// Tells what became of each node, if nothing is left to run: whether the run was stopped.
+    pub(crate) fn conclude(&mut self) -> Option<bool>
+        ensures { IfSome result (λ stopped. AreFates G.graph stopped self.new.progress.course.items self.new.progress.fates.items) }
+    {
+        if !self.stopped && self.frontier.has_next() {
+            return None;
+        }
+        match self.progress.tell(self.graph, self.stopped) {
+            Ok(stopped) => Some(stopped),
+            Err(node) => {
+                let back = self.frontier.put_back(node);
+                self.note(back);
+                None
+            }
+        }
+    }
+
+    /// The next of so many lanes is filled from now on, if there is one. Whether there is.
+    fn change_lane(&mut self, lanes: usize) -> bool {
+        match self.lane.0.checked_add(1) {
+            Some(next) if (next as usize) < lanes => {
+                self.lane = SubId(next);
+                true
+            }
+            _ => false,
+        }
+    }
+}
+
+impl<'a, W: Work, G: Named> Player<'a, W, G> {
+    /// Looks at the next node, and submits its body if it may begin. Whether there may be more to submit.
+    fn feed<N: Naming, R: Wait>(&mut self, pool: &mut Running<'_, '_, Call<'a, W>, N, R>) -> bool {
+        let Some(node) = self.frontier.take() else {
+            return false;
+        };
+        if !self.progress.may_begin(self.graph, node) {
+            return true;
+        }
+        if self.calls.is_stopped() {
+            self.stopped = true;
+            return false;
+        }
+        match pool.submit(self.lane, self.calls.call(node)) {
+            Ok(ticket) => {
+                self.begin(node, ticket);
+                true
+            }
+            Err((Refusal::LaneSpent, _)) => {
+                let back = self.frontier.put_back(node);
+                self.note(back);
+                self.change_lane(pool.submitters())
+            }
+            Err((refusal, _)) => {
+                self.refusal = Some(refusal);
+                false
+            }
+        }
+    }
+
+    /// Fills the window, unless it cannot go on.
+    fn fill<N: Naming, R: Wait>(&mut self, pool: &mut Running<'_, '_, Call<'a, W>, N, R>) {
+        for _body in 0..u64::MAX {
+            let has_room = self.under_way.len() < self.window;
+            if self.stopped || self.refusal.is_some() || !has_room || !self.feed(pool) {
+                return;
+            }
+        }
+    }
+
+    /// Waits for an outcome, and notes it. Whether there was one.
+    fn hear<N: Naming, R: Wait>(&mut self, pool: &mut Running<'_, '_, Call<'a, W>, N, R>) -> bool {
+        let Some((node, outcome)) = self.under_way.wait(pool) else {
+            return false;
+        };
+        match fate_in(outcome) {
+            Ok(fate) => self.end(node, fate),
+            Err(refusal) => self.refusal = Some(refusal),
+        }
+        true
+    }
+}
+
+/// What an outcome tells of its node.
+fn fate_in<'a, W: Work>(outcome: Result<Outcome<Call<'a, W>>, Refusal>) -> Result<Fate, Refusal> {
+    match result_in(outcome?) {
+        Ok((_, fate)) => Ok(fate),
+        Err(none) => Err(none.refusal()),
+    }
+}
+
+impl<'a, W: Work, G: Named> Play<Call<'a, W>> for Player<'a, W, G> {
+    type Out = ();
+
+    fn play<N: Naming, R: Wait>(&mut self, pool: &mut Running<'_, '_, Call<'a, W>, N, R>) {
+        self.lane = SubId(0);
+        for _round in 0..u64::MAX {
+            self.fill(pool);
+            if !self.hear(pool) {
+                return;
+            }
+        }
+    }
+}

@@ -1,0 +1,123 @@
+ghost use Rattle.std.specs.Prelude.{◌≡◌, IfErr, IfOk, OnOk};
+ghost use Rattle.fj_crew.specs.Runs.{RefusesRun};
+ghost use Rattle.fj_graph.specs.Courses.{AreFates, IsCourse};
+ghost use Rattle.fj_graph.specs.Graphs.{IsAcyclic};
+ghost use Rattle.fj_graph.specs.Refusals.{RefusesGraph};
+
+use crate::calls::Calls;
+use crate::fate::Fate;
+use crate::graph::Graph;
+use crate::named::Named;
+use crate::player::Player;
+use crate::policy::Policy;
+use crate::refused::GraphRefused;
+use crate::step::Step;
+use crate::stop::Stop;
+use crate::work::Work;
+use fj_crew::{Open, Refusal, Settings, with_pool};
+use std::alloc::Global;
+use std::marker::Brand;
+use std::sync::Wait;
+use std::thread::Threads;
+
+/// The most bodies that are under way at a time: 32 workers, the most that a pool has, each run one while another waits. More would be begun
+/// no sooner, and each outcome is looked for among all of them.
+const WINDOW: u32 = 64;
+
+/// A graph that was run to its end.
+#[derive(Drop)]
+pub struct Ran {
+    /// What became of each node, by its number.
+    pub fates: Vec<Fate>,
+    /// What began and what ended, in the order in which it was told.
+    pub course: Vec<Step>,
+    /// Whether something was not called since a flag was set.
+    pub stopped: bool,
+}
+
+/// Calls the work of each node at most once, and after that of all its inputs is done, by the workers of a pool with these settings. It ends
+/// where each node has its fate. What has a flag set is looked at before each call; what runs then is run to its end.
+///
+/// It needs no more than 64 places of the pool, however large the graph is. Where all lanes of a pool are spent the next one is opened.
+///
+/// `Cycle` where the graph has a cycle: nothing is called. `Refused` with `OutOfMemory` where memory is refused or a thread cannot be
+/// started, with `LogFull` where the pool got stuck.
+pub fn run_graph<'a, W: Work + Sync, R: Threads + Wait + Sync>(
+    rt: &R,
+    alloc: Global,
+    settings: Settings,
+    policy: Policy,
+    graph: Graph,
+    work: &'a W,
+    stop: &'a Stop,
+) -> Result<Ran, GraphRefused>
+    ensures course { IfOk result (λ ran. IsCourse graph ran.course.items) }
+    ensures fates { IfOk result (λ ran. AreFates graph ran.stopped ran.course.items ran.fates.items) }
+    ensures ordered { OnOk result (IsAcyclic graph) }
+    ensures err { IfErr result (RefusesGraph graph) }
+{
+    match graph.cycle(alloc) {
+        Ok(None) => {}
+        Ok(Some(node)) => return Err(GraphRefused::Cycle(node)),
+        Err(_) => return Err(GraphRefused::Refused(Refusal::OutOfMemory)),
+    }
+    let own = Stop::new();
+    let calls = Calls {
+        work,
+        stop,
+        own: &own,
+        policy,
+    };
+    match run_in::<Brand, W, R>(rt, alloc, settings, &graph, calls) {
+        Ok(ran) => Ok(ran),
+        Err(refusal) => Err(GraphRefused::Refused(refusal)),
+    }
+}
+
+/// The same for the graph that the type names, without a cycle. Precondition: it is that one.
+fn run_in<'a, G: Named, W: Work + Sync, R: Threads + Wait + Sync>(
+    rt: &R,
+    alloc: Global,
+    settings: Settings,
+    graph: &'a Graph,
+    calls: Calls<'a, W>,
+) -> Result<Ran, Refusal>
+    requires same { graph.now ≡ G.graph }
+    ensures course { IfOk result (λ ran. IsCourse G.graph ran.course.items) }
+    ensures fates { IfOk result (λ ran. AreFates G.graph ran.stopped ran.course.items ran.fates.items) }
+    ensures err { IfErr result RefusesRun }
+{
+    let window = settings.limits().tasks().min(WINDOW) as usize;
+    let Ok(first) = Player::<W, G>::new(alloc, graph, calls, window) else {
+        return Err(Refusal::OutOfMemory);
+    };
+    let mut player = first;
+    for _ in rt.forever() {
+        let Ok(played) = with_pool(rt, alloc, settings, player, &Open) else {
+            return Err(Refusal::OutOfMemory);
+        };
+        player = played.player;
+        if let Some(refusal) = player.refusal {
+            return Err(told(refusal));
+        }
+        if let Some(stopped) = player.conclude() {
+            let (course, fates) = player.progress.into_lists();
+            return Ok(Ran {
+                fates,
+                course,
+                stopped,
+            });
+        }
+    }
+    unreachable!()
+}
+
+/// Why a run ends without fates: `LogFull` stays, any other refusal becomes `OutOfMemory`.
+fn told(refusal: Refusal) -> Refusal
+    ensures { RefusesRun result }
+{
+    match refusal {
+        Refusal::LogFull => Refusal::LogFull,
+        _ => Refusal::OutOfMemory,
+    }
+}

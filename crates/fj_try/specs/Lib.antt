@@ -1,0 +1,2 @@
+-- why a job that may fail has no value
+pub mod Faults
