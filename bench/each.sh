@@ -1,0 +1,53 @@
+#!/usr/bin/env bash
+# Times loops over rows in memory, by fj_each with 1, 2 and 4 workers and by a plain loop, beside rayon: for each query and size a line with the
+# milliseconds of each, least and median. Ours is built as unproved.sh does: nothing of it is proved.
+# Usage: bench/each.sh [QUERY..]      QUERY is scan, group, build, probe or find (default: all of them)
+# RUNS=N ROWS="N .." bench/each.sh    the runs of each, and the numbers of rows (default: 21; 1000 100000 10000000)
+set -euo pipefail
+export LC_ALL=C
+cd "$(dirname "${BASH_SOURCE[0]}")/.."
+
+runs=${RUNS:-21}
+. bench/loader.sh
+. bench/unproved.sh
+lay_out_loader each fj_model fj_streams fj_queues fj_tree fj_ledger fj_machine fj_gate fj_lane fj_shelf fj_store fj_core fj_waiting fj_agreement \
+    fj_pool fj_jobs fj_crew fj_lazy fj_invoke fj_try fj_each
+folder=$(dirname "$(dirname "$loader")")
+optimise_loader
+
+# rayon as Debian has it, without a network.
+build_rayon() {
+    local of_package sources
+    command -v cargo > /dev/null || return 1
+    of_package=$(dpkg -L librust-rayon-dev 2> /dev/null | grep '/rayon-[^/]*$') || return 1
+    sources=$(dirname "$of_package")
+    cp -r bench/each/rayon "$folder/rayon_source"
+    cargo build --release --offline --quiet --manifest-path "$folder/rayon_source/Cargo.toml" --target-dir "$folder/rayon" \
+        --config 'source.crates-io.replace-with="debian"' --config "source.debian.directory=\"$sources\"" > "$loader.log" 2>&1
+}
+rayon=
+if build_rayon; then rayon=$folder/rayon/release/each; else echo "no rayon (Debian: librust-rayon-dev): it is left out"; fi
+
+# time_one NAME PROGRAM QUERY WORKERS ROWS: the milliseconds; the answer must be the same for all.
+time_one() {
+    local least median answer
+    read -r least median answer < <("$2" "$3" "$4" "$5" "$runs")
+    if [[ ${due:=$answer} != "$answer" ]]; then echo "$1 $3: $answer, and not $due" >&2; exit 1; fi
+    awk -v name="$1" -v least="$least" -v median="$median" 'BEGIN { printf "  %s %.3f (%.3f)", name, least / 1e6, median / 1e6 }'
+}
+
+queries=("$@")
+if [[ ${#queries[@]} = 0 ]]; then queries=(scan group build probe find); fi
+for query in "${queries[@]}"; do
+    for rows in ${ROWS:-1000 100000 10000000}; do
+        due=
+        printf '%s, %d rows:' "$query" "$rows"
+        time_one loop "$program" "$query" 0 "$rows"
+        for workers in 1 2 4; do time_one "$workers" "$program" "$query" "$workers" "$rows"; done
+        if [[ $rayon ]]; then
+            time_one rayon-loop "$rayon" "$query" 0 "$rows"
+            for workers in 1 2 4; do time_one "rayon-$workers" "$rayon" "$query" "$workers" "$rows"; done
+        fi
+        echo
+    done
+done
