@@ -7,7 +7,7 @@ cd "$(dirname "${BASH_SOURCE[0]}")/../.."
 blocks=$(mktemp -d)
 trap 'rm -rf "$blocks"' EXIT
 count=0
-for document in docs/*.md; do
+for document in README.md docs/*.md crates/*/README.md; do
     rm -f "$blocks"/*
     awk -v blocks="$blocks" '
         /^```rust [^ ]+$/ { file = blocks "/" ++n; print $2 > (file ".name"); printf "" > file; next }
