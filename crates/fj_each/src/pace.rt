@@ -1,10 +1,10 @@
 use std::time::{Clock, Instant};
 
 /// For how long a loop runs on the calling thread at least, in nanoseconds: before that its pace cannot be told.
-const SAMPLE: u64 = 100_000;
+const SAMPLE: u64 = 50_000;
 
 /// How long what is left has to take so that a pool is made for it, in nanoseconds: a pool of four workers costs a third of that.
-const WORTH: u64 = 1_000_000;
+const WORTH: u64 = 500_000;
 
 /// How fast a loop gets on, by which it is told whether a pool is worth its making.
 #[derive(Drop)]
