@@ -1,12 +1,14 @@
 //! A service. Each line of standard input is an event; what its handler answers is written in the order of the events.
 #![tactic(auto)]
 
+mod answers;
 mod event;
-mod service;
+mod events;
 
-use crate::service::Service;
+use crate::answers::Answers;
+use crate::events::Events;
 use anyhow::{Result, bail};
-use fj_crew::{Open, Settings, with_pool};
+use fj_serve::{Open, Settings, Window, serve};
 use std::collections::VecDeque;
 
 fn main(rt: HostRuntime) -> Result<()> {
@@ -15,15 +17,36 @@ fn main(rt: HostRuntime) -> Result<()> {
     for line in rt.lines(alloc) {
         numbers.push_back(line?.trim().parse()?)?;
     }
-    let service = Service::new(alloc, numbers);
-    let settings = Settings::available(&rt);
-    let service = match with_pool(&rt, alloc, settings, service, &Open) {
-        Ok(played) => played.player,
-        Err((refusal, _)) => bail!("{refusal}"),
+    let source = Events { numbers };
+    let sink = Answers {
+        answers: Vec::new(alloc),
+        lost: false,
     };
-    for answer in service.answers.as_slice() {
+    // At most so many events are under way.
+    let window = Window::in_order(100);
+    let served = match serve(
+        &rt,
+        alloc,
+        Settings::available(&rt),
+        window,
+        source,
+        sink,
+        &Open,
+    ) {
+        Ok(served) => served,
+        Err(unserved) => bail!("{}", unserved.refusal),
+    };
+    for answer in served.sink.answers.as_slice() {
         println!(rt; "{answer}")?;
     }
-    println!(rt; "{} without an answer", service.lost)?;
+    println!(rt;
+        "{} events, {}",
+        served.bodies,
+        if served.sink.lost {
+            "some lost"
+        } else {
+            "none lost"
+        }
+    )?;
     Ok(())
 }

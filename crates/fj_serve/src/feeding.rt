@@ -3,6 +3,7 @@ ghost use Rattle.fj_serve.specs.UnderWays.{how_many};
 
 use crate::sink::Sink;
 use crate::source::Source;
+use crate::told::told_of;
 use crate::under_way::UnderWay;
 use crate::window::Window;
 use fj_crew::{Body, Naming, Play, Refusal, Running, SubId};
@@ -126,7 +127,7 @@ impl<B: Body, S: Source<B>, K: Sink<B>> Feeding<B, S, K> {
         if matches!(outcome, Err(Refusal::LogFull)) {
             self.refusal = Some(Refusal::LogFull);
         }
-        self.sink.hear(nth, outcome);
+        self.sink.hear(nth, told_of(outcome));
         if self.told % TOLD_PER_LOOK == 0 {
             for part in pool.take_parts() {
                 self.sink.take_part(part);

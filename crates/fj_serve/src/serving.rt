@@ -1,4 +1,5 @@
 use crate::feeding::Feeding;
+use crate::pool_record::of_record;
 use crate::sink::Sink;
 use crate::source::Source;
 use crate::window::Window;
@@ -113,7 +114,7 @@ impl<R: Threads + Wait + Sync, T: Turnstile + Sync> Serving<'_, '_, R, T> {
                 match player.refusal {
                     Some(refusal) => Err(stop(player, refusal, Some(record))),
                     None => {
-                        player.sink.take_record(record);
+                        player.sink.take_record(of_record(record));
                         Ok((player, is_done))
                     }
                 }

@@ -1,0 +1,23 @@
+use fj_core::Archive;
+use fj_crew::{Body, Record};
+use fj_machine::Machine;
+
+/// What is left of a pool that has served: its record, without bodies and results.
+#[derive(Drop)]
+pub struct PoolRecord {
+    /// The machine, with its history since the last seal.
+    pub machine: Machine,
+    /// The sealed parts that nobody has taken.
+    pub archive: Archive,
+    /// Whether the pool has terminated.
+    pub terminated: bool,
+}
+
+/// That of a record.
+pub fn of_record<B: Body>(record: Record<B>) -> PoolRecord {
+    PoolRecord {
+        machine: record.machine,
+        archive: record.archive,
+        terminated: record.terminated,
+    }
+}
