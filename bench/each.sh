@@ -15,18 +15,8 @@ lay_out_loader each fj_model fj_streams fj_queues fj_tree fj_ledger fj_machine f
 folder=$(dirname "$(dirname "$loader")")
 optimise_loader
 
-# rayon as Debian has it, without a network.
-build_rayon() {
-    local of_package sources
-    command -v cargo > /dev/null || return 1
-    of_package=$(dpkg -L librust-rayon-dev 2> /dev/null | grep '/rayon-[^/]*$') || return 1
-    sources=$(dirname "$of_package")
-    cp -r bench/each/rayon "$folder/rayon_source"
-    cargo build --release --offline --quiet --manifest-path "$folder/rayon_source/Cargo.toml" --target-dir "$folder/rayon" \
-        --config 'source.crates-io.replace-with="debian"' --config "source.debian.directory=\"$sources\"" > "$loader.log" 2>&1
-}
 rayon=
-if build_rayon; then rayon=$folder/rayon/release/each; else echo "no rayon (Debian: librust-rayon-dev): it is left out"; fi
+if build_rayon each; then rayon=$folder/rayon/release/each; else echo "no rayon (Debian: librust-rayon-dev): it is left out"; fi
 
 # time_one NAME PROGRAM QUERY WORKERS ROWS: the milliseconds; the answer must be the same for all.
 time_one() {

@@ -83,7 +83,7 @@ build_others() {
     else
         echo "no JDK: java is left out"
     fi
-    if build_rayon; then
+    if build_rayon jobs; then
         program_of[rayon]=$folder/rayon/release/jobs
     else
         echo "no rayon (Debian: librust-rayon-dev): it is left out"
@@ -93,17 +93,6 @@ build_others() {
     else
         echo "no oneTBB (Debian: libtbb-dev): tbb is left out"
     fi
-}
-
-# rayon as Debian has it, without a network.
-build_rayon() {
-    local of_package sources
-    command -v cargo > /dev/null || return 1
-    of_package=$(dpkg -L librust-rayon-dev 2> /dev/null | grep '/rayon-[^/]*$') || return 1
-    sources=$(dirname "$of_package")
-    cp -r bench/jobs/rayon "$folder/rayon_source"
-    cargo build --release --offline --quiet --manifest-path "$folder/rayon_source/Cargo.toml" --target-dir "$folder/rayon" \
-        --config 'source.crates-io.replace-with="debian"' --config "source.debian.directory=\"$sources\"" > "$loader.log" 2>&1
 }
 
 # run_once NAME WORD..: the microseconds of a whole run of a program. Its answer must be the one that is noted.

@@ -52,3 +52,14 @@ time_loader() {
         print ""
     }'
 }
+
+# build_rayon NAME: builds the program of bench/NAME/rayon over rayon as Debian has it, without a network, in `folder`, to rayon/release/NAME.
+build_rayon() {
+    local of_package sources
+    command -v cargo > /dev/null || return 1
+    of_package=$(dpkg -L librust-rayon-dev 2> /dev/null | grep '/rayon-[^/]*$') || return 1
+    sources=$(dirname "$of_package")
+    cp -r "bench/$1/rayon" "$folder/rayon_source"
+    cargo build --release --offline --quiet --manifest-path "$folder/rayon_source/Cargo.toml" --target-dir "$folder/rayon" \
+        --config 'source.crates-io.replace-with="debian"' --config "source.debian.directory=\"$sources\"" > "$loader.log" 2>&1
+}
