@@ -11,7 +11,7 @@
 #include <time.h>
 
 enum { TASKS = 4096, EVENTS = 1048576, MAX_WORKERS = 32, MAX_QUEUES = 64, MAX_PENDING = 65535, HINTS = 16384, TWICE = 2 * TASKS };
-enum { EVENT_BYTES = 48 }; /* as an event of fj_model has */
+enum { EVENT_BYTES = 48 }; /* as an event of fj_rules has */
 static const uint32_t NO_CELL = UINT32_MAX, NO_QUEUE = UINT32_MAX;
 static const uint64_t NO_TASK = UINT64_MAX; /* at a key at which there is no record */
 

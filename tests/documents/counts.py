@@ -28,13 +28,13 @@ def constant(name):
 
 def differing_numbers():
     """What a document says of how many there are, and how many there are."""
-    samples = [text_of(it) for it in glob.glob("crates/fj_model/proofs/Samples/*.antt") if "AllowedTest" not in it and "/Scripts." not in it]
+    samples = [text_of(it) for it in glob.glob("crates/fj_rules/proofs/Samples/*.antt") if "AllowedTest" not in it and "/Scripts." not in it]
     laws = [law for it in samples for law in re.findall(r"^pub \w+\s*:\s*(\w+)", it, flags=re.M)]
-    refused = len(re.findall(r"^pub \w+ :", text_of("crates/fj_model/proofs/Samples/RefusedHistories.antt"), flags=re.M))
+    refused = len(re.findall(r"^pub \w+ :", text_of("crates/fj_rules/proofs/Samples/RefusedHistories.antt"), flags=re.M))
     replayed = laws.count("IsReplayed")
     others = len(laws) - replayed - refused
-    scripts = sum(int(it) for it in re.findall(r": (\d+)$", text_of("crates/fj_trials/stdout"), flags=re.M))
-    rows = int(re.search(r"const ROWS: \[&str; (\d+)\]", text_of("crates/fj_upgrade_trials/src/row_tests.rt"))[1])
+    scripts = sum(int(it) for it in re.findall(r": (\d+)$", text_of("crates/test_machine/stdout"), flags=re.M))
+    rows = int(re.search(r"const ROWS: \[&str; (\d+)\]", text_of("crates/test_cli/src/upgrade_row_tests.rt"))[1])
     limits = [constant(f"MAX_{it}") for it in ("WORKERS", "SUBMITTERS", "TASKS", "EVENTS")]
     pool = [*limits[:2], constant("MAX_TICKETS"), *limits[2:]]
     for page, said, there in [
@@ -42,7 +42,7 @@ def differing_numbers():
         ("docs/PROOFS.md", r"\| (\w+) small histories are refused", [refused]),
         ("docs/PROOFS.md", r"\| (\d+) scripts, by values from outside", [scripts]),
         ("docs/PROOFS.md", r"written of (\d+) scripts by an upgrade", [rows]),
-        ("crates/fj_model/README.md", r"computes (\d+) sample scripts .* and (\w+) small histories", [replayed + others, refused]),
+        ("crates/fj_rules/README.md", r"computes (\d+) sample scripts .* and (\w+) small histories", [replayed + others, refused]),
         ("README.md", r"Bounds: (\S+) workers, (\S+) submitters of (\S+) bodies each, (\S+) live tasks, (\S+) events", pool),
         ("docs/MODEL.md", r"1 to (\S+) workers, 1 to (\S+) submitters, 1 to (\S+) kept tasks and 1 to (\S+) events", limits),
         ("docs/POOL.md", r"1 to (\S+) workers and submitters, 1 to (\S+) tasks, 1 to (\S+) events", limits[1:]),
@@ -65,9 +65,8 @@ def missing_names():
     foreign = {it for _, below in names for it in below.split() if it not in dict(names)}
     trusted = text_of("docs/PROOFS.md").partition("## What is trusted")[2]
     yield from (f"docs/PROOFS.md, what is trusted: {it}" for it in sorted(foreign) if f"`{it}`" not in trusted)
-    for page in ("README.md", "CONTRIBUTING.md", "docs/ARCHITECTURE.md"):
-        known = re.sub(r"`fj_\*_trials`", " ".join(it for it, _ in names if it.endswith("_trials")), text_of(page))
-        yield from (f"{page}: {it}" for it, _ in names if not re.search(rf"\b{it}\b", known))
+    for page in ("CONTRIBUTING.md", "docs/ARCHITECTURE.md"):
+        yield from (f"{page}: {it}" for it, _ in names if not re.search(rf"\b{it}\b", text_of(page)))
     for crate, _ in names:
         if len(glob.glob(f"crates/{crate}/must-fail/*.edit")) > 30:
             yield f"crates/{crate}/must-fail: more than 30"
@@ -77,7 +76,7 @@ def missing_crates():
     """What a script does not copy of the crates on which those stand that it copies."""
     below = {it: rest.split() for it, rest in re.findall(r"^(\w+): ?(.*)$", text_of("crates.txt"), flags=re.M)}
     for script in [*glob.glob("bench/*.sh"), *glob.glob("tests/*/*.sh")]:
-        for listed in re.findall(r"^(?:crates=\(|(?:build|lay_out)_loader \w+ )((?:fj_\w+ ?)+)\)?$", text_of(script), flags=re.M):
+        for listed in re.findall(r"^(?:crates=\(|(?:build|lay_out)_loader \w+ )((?:(?:fj|ex)_\w+ ?)+)\)?$", text_of(script), flags=re.M):
             copied = listed.split()
             needed = {it for crate in copied for it in below[crate] if it in below}
             yield from (f"{script}: {it}" for it in sorted(needed - {*copied}))

@@ -1,8 +1,8 @@
 #!/usr/bin/env python3
-"""Looks up what the documents name: each file and heading to which a link leads, each name, `Type::method` and path in their text, in the tables of
-docs/PROOFS.md each function, clause, definition and test, and under "What is proved" of a crate's page each function and clause. So with paths from
-the top in comments of code. What a library exports has a doc comment, and is named on the page of its crate. Tells what is not there; the exit
-status is 1 if there is any.
+"""Looks up what the documents name: each file and heading to which a link leads, each name, `Type::method` and path in their text; in docs/PROOFS.md
+each function, whether it has the clauses named behind it, each definition in its file, and each test; under "What is proved" of a crate's page each
+name. So with paths from the top in comments of code. What a library exports has a doc comment, and is named on the page of its crate. Tells what
+is not there; the exit status is 1 if there is any.
 """
 import glob
 import os
@@ -12,10 +12,12 @@ import sys
 TOP = os.path.dirname(os.path.dirname(os.path.dirname(os.path.realpath(__file__))))
 # What is made by a build, and is no part of the repository.
 MADE = {"out", "target", ".git"}
-# What docs/PROOFS.md names of the standard library.
-STANDARD = {"Display", "From", "Hash", "Iterator", "spawn"}
+# What docs/PROOFS.md and the pages of crates name of the standard library.
+STANDARD = {"AllocError", "Display", "From", "Hash", "Iterator", "Read::read", "Write::flush", "Write::write", "position", "spawn", "usize"}
 # What the text of a document names that is of no file here: of Java, of the toolchain, or no name.
-ELSEWHERE = {"ManagedBlocker", "Throwable", "chunks_from", "in_italics"}
+ELSEWHERE = {"ManagedBlocker", "Throwable", "chunks_from"}
+# Definitions with their file, as docs/PROOFS.md names them.
+DEFINED = re.compile(r"((?:`[^`]+`(?:, )?)+) \((\w+)\)")
 
 
 def files(folder, *endings):
@@ -62,6 +64,10 @@ class Names:
         self.constants = set(re.findall(r"\bconst (\w+)", code))
         # Clauses, invariants of types, and what a trait or a ghost declaration names.
         self.clauses = set(re.findall(r"\b(?:ensures|requires|ghost|law) (\w+)", code))
+        # The clauses of each function: those between its name and the next one.
+        self.contracts = {}
+        for name, contract in re.findall(r"\bfn (\w+)(.*?)(?=\bfn \w|\Z)", code, flags=re.S):
+            self.contracts.setdefault(name, set()).update(re.findall(r"\b(?:ensures|requires) (\w+)", contract))
         self.fields = set(re.findall(r"^\s*(?:pub(?:\(crate\))? )?(\w+):", code, flags=re.M))
         self.variants = set(re.findall(r"^\s+([A-Z]\w*)(?:\(|\s*\{|,|$)", code, flags=re.M))
         self.definitions = {}
@@ -83,28 +89,26 @@ def code_words(cell):
     return [it for it in re.findall(r"`([^`]+)`", cell) if re.fullmatch(r"[\w:/.]+", it)]
 
 
-def unknown_in_row(cells, crate, names):
-    """The words of the contract and of the definitions of a row that nothing declares."""
-    for word in code_words(cells[1]):
-        of, plain = ("fj_ledger", word[2:]) if word.startswith("L/") else (crate, word)
-        if plain.endswith(".rt"):
-            if plain not in names[of].files and not any(plain in names[it].files for it in names):
-                yield f"{word}: no such file"
-        elif plain in names or plain in STANDARD or plain.endswith("/"):
-            continue
-        elif not any(names[it].has(plain) for it in ([of] + sorted(names))):
-            yield f"{word}: not declared"
-    for words, file in re.findall(r"((?:`[^`]+`(?:, )?)+) \(([^()`]+?)(?:,? of `?\w+`?)?\)", cells[2]):
-        folder, _, file = file.rpartition("/")
-        file = os.path.basename(file)
-        crates = {"M": ["fj_model"], "L": ["fj_ledger"]}.get(folder[:1], sorted(names))
-        for word in re.findall(r"`([^`]+)`", words):
-            if not any(word in names[it].definitions.get(file, ()) for it in crates):
-                yield f"{word}: not in {file}"
+def unknown_in_part(part, own, others):
+    """The functions, clauses and definitions in a part of docs/PROOFS.md, a cell or a paragraph on a crate, that neither it nor the others have."""
+    for words, file in DEFINED.findall(part):
+        there = {word for it in others for word in it.definitions.get(file, ())} | own.definitions.get(file, set())
+        yield from (f"{it}: not in {file}" for it in re.findall(r"`([^`]+)`", words) if it not in there)
+    for piece in DEFINED.sub("", part).replace(")", "; ").split("; "):
+        head, _, clauses = piece.partition("`: `")
+        functions = [it.rpartition("::")[2] for it in re.findall(r"`([\w:]+)", head)]
+        known = {clause for name in functions for clause in own.contracts.get(name, ())} or own.clauses
+        if clauses and "the same" not in head:
+            yield from (f"{it}: no clause of {', '.join(functions)}" for it in code_words(f"`{clauses}") if it not in known)
+        for word in code_words(piece):
+            is_name = "/" not in word and not word.startswith("fj_") and not word.endswith(".rt") and word not in STANDARD
+            if is_name and not any(it.has(word) for it in [own, *others]):
+                yield f"{word}: not declared"
 
 
 def unknown_tests(cells, names, trials):
     """The files and the tests of a row of what is only tested that are not there. `trials` are the texts of those below `tests/`."""
+    yield from (f"{it}: no such crate" for it in re.findall(r"\bfj_\w+", cells[1]) if it not in names)
     for word in code_words(cells[1]):
         if word.endswith(".rt") and not any(word in it.files for it in names.values()):
             yield f"{word}: no such file"
@@ -148,7 +152,7 @@ def unknown_in_text(path, text, names):
     places = [TOP, os.path.dirname(path), *(f"{TOP}/crates/{crate}/{it}" for crate in names for it in inside)]
     for word in re.findall(r"`((?:\w+/)+[\w.*]*)`", prose):
         parts = word.split("/")
-        is_left_out = parts[0] in {"M", "L", *MADE} or any(it.isupper() for it in parts)
+        is_left_out = parts[0] in MADE or any(it.isupper() for it in parts)
         if not is_left_out and not any(glob.glob(f"{it}/{word}") or os.path.exists(f"{it}/{word}.antt") for it in places):
             yield f"{word}: no such path"
 
@@ -160,16 +164,13 @@ def unknown_in_code(text):
             yield f"{word}: no such path"
 
 
-def unknown_on_page(text, of, names):
-    """The functions and the clauses that the page of a crate lists as proved and that are not there."""
+def unknown_on_page(text, names):
+    """What the page of a crate names under "What is proved", functions, clauses, types and definitions, and no crate declares."""
     proved = text.partition("## What is proved")[2].partition("\n## ")[0]
-    for block in re.findall(r"^```text\n(.*?)^```", proved, flags=re.M | re.S):
-        for line in block.split("\n"):
-            heads = re.findall(r"(?:^fn |, )(?:\w+::)?(\w+)(?=\(|<\w+:)", line) if line.startswith("fn ") else []
-            yield from (f"{it}: no such function" for it in heads if it not in of.functions)
-            for word in re.findall(r"(?:^ +|  )(\w+): ", line):
-                if not of.has(word) and not any(it.has(word) for it in names.values()):
-                    yield f"{word}: no such clause"
+    for word in code_words(re.sub(r"^```.*?^```", "", proved, flags=re.M | re.S)):
+        is_file = "/" in word or "." in word
+        if not is_file and word not in STANDARD and word not in names and not any(it.has(word) for it in names.values()):
+            yield f"{word}: not declared"
 
 
 def unnamed_exports(crate, page):
@@ -201,8 +202,11 @@ def main():
     for path in files("", ".rt", ".rt.in", ".antt"):
         told += [f"{os.path.relpath(path, TOP)}: {it}" for it in unknown_in_code(text_of(path))]
     for crate in crates:
+        if not os.path.exists(f"{TOP}/crates/{crate}/README.md"):
+            told.append(f"crates/{crate}: no README.md")
+            continue
         page = text_of(f"{TOP}/crates/{crate}/README.md")
-        unknown = [*unknown_on_page(page, names[crate], names)]
+        unknown = [*unknown_on_page(page, names)]
         if os.path.exists(f"{TOP}/crates/{crate}/src/lib.rt"):
             unknown += unnamed_exports(crate, page)
         told += [f"crates/{crate}/README.md: {it}" for it in unknown]
@@ -212,11 +216,13 @@ def main():
         if line.startswith("## "):
             crate = {"The headline": "fj_machine"}.get(line[3:], line[3:] if line[3:] in crates else "")
             is_tested = line == "## What is only tested"
-        cells = line.strip("| ").split(" | ")
-        if is_tested and line.startswith("| ") and len(cells) == 3:
-            told += [f"docs/PROOFS.md:{number}: {it}" for it in unknown_tests(cells, names, trials)]
-        if crate and line.startswith("| ") and len(cells) >= 4 and not line.startswith("| Promise"):
-            told += [f"docs/PROOFS.md:{number}: {it}" for it in unknown_in_row(cells, crate, names)]
+        cells = line.strip("| ").split(" | ") if line.startswith("| ") else []
+        unknown = unknown_tests(cells, names, trials) if is_tested and len(cells) == 3 else []
+        if crate and not line.startswith("#"):
+            # The second cell names what the crate has, and definitions of fj_rules; the others name what any crate has.
+            parts = [(it, [names["fj_rules"]] if it is cells[1] else names.values()) for it in cells[1:]] or [(line, names.values())]
+            unknown = [word for it, others in parts for word in unknown_in_part(it, names[crate], others)]
+        told += [f"docs/PROOFS.md:{number}: {it}" for it in unknown]
     print("\n".join(told) or "each name in the documents is there")
     sys.exit(1 if told else 0)
 

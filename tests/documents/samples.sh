@@ -2,17 +2,17 @@
 # Replays the sample scripts of the documents, which are their blocks with the word `script`: each reply must be the one that stands there.
 # Runs the commands of their blocks with the word `console`, which stand behind `$ `: each must tell what stands below it, on standard output
 # or standard error, and end with 0, or with the status of the line `status N`.
-# Needs the built programs, crates/fj_trials/out/fj_trials and crates/fj/out/fj. Usage: tests/documents/samples.sh
+# Needs the built programs, crates/test_machine/out/test_machine and crates/fj/out/fj. Usage: tests/documents/samples.sh
 set -euo pipefail
 cd "$(dirname "${BASH_SOURCE[0]}")/../.."
 
-replays=crates/fj_trials/out/fj_trials
-[[ -x $replays ]] || { echo "$replays is not built: (cd crates/fj_trials && rt run -- data/*.txt)" >&2; exit 1; }
+replays=crates/test_machine/out/test_machine
+[[ -x $replays ]] || { echo "$replays is not built: (cd crates/test_machine && rt run -- data/*.txt)" >&2; exit 1; }
 
 # The documents that have scripts, and no others.
 expected="scripts in README.md: 1
 scripts in crates/fj/README.md: 1
-scripts in crates/fj_scripts/README.md: 1
+scripts in crates/test_machine/README.md: 1
 scripts in docs/MANUAL.md: 19
 scripts in docs/SCRIPT.md: 2"
 

@@ -6,8 +6,8 @@ cd "$(dirname "${BASH_SOURCE[0]}")/../.."
 
 . bench/loader.sh
 . bench/unproved.sh
-lay_out_loader serve fj_model fj_queues fj_tree fj_ledger fj_machine fj_gate fj_lane fj_shelf fj_store fj_core fj_waiting fj_agreement fj_pool \
-    fj_crew fj_serve
+lay_out_loader serve fj_rules fj_queues fj_tree fj_ledger fj_machine fj_gate fj_lane fj_slots fj_bodies fj_core fj_sleep fj_agreement fj_pool \
+    fj_run fj_serve
 optimise_loader
 
 # peak_of COUNT: the peak memory in KiB. The program fails where an outcome is wrong.

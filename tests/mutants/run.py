@@ -24,6 +24,8 @@ FUNCTION = re.compile(r"(\s*)(?:pub(?:\([^)]*\))? )?(?:const |unsafe )*fn (\w+)"
 FORM = re.compile(r"has no field|is not in scope|has no `|was not admitted")
 # what is said of a function that waits for the proof of another
 WAITS = re.compile(r"(no proof|not proved)[:;] it (calls|waits)")
+# where the mutants of a crate stand: those that `rt ci` tries, and all others
+KEPT, MORE = f"{TOP}/crates/%s/must-fail", f"{TOP}/tests/mutants/%s"
 
 
 def functions(crate, file, lines):
@@ -77,6 +79,12 @@ class Mutant:
         """Returns whether no mutant of the batch changes a function or a line of this one."""
         mine = self.functions | self.lines.keys()
         return None not in mine and not any(None in it.functions or mine & (it.functions | it.lines.keys()) for it in batch)
+
+
+def mutants_in(place):
+    """Returns the mutants that stand in this place, of all crates."""
+    crates = [it for it in sorted(os.listdir(f"{TOP}/crates")) if os.path.isdir(place % it)]
+    return [Mutant(crate, f"{place % crate}/{it}") for crate in crates for it in sorted(os.listdir(place % crate)) if it.endswith(".edit")]
 
 
 def check(room, crate, jobs, mutants):
@@ -156,12 +164,9 @@ def main():
     words.add_argument("--jobs", default="1")
     words.add_argument("crates", nargs="*")
     asked = words.parse_args()
-    place, jobs = f"{TOP}/crates/%s/must-fail" if asked.kept else f"{TOP}/tests/mutants/%s", ["--jobs", asked.jobs]
-    edits = {it: sorted(os.listdir(place % it)) for it in sorted(os.listdir(f"{TOP}/crates")) if os.path.isdir(place % it)}
-    all_names = {f"{crate}/{it[: -len('.edit')]}" for crate in edits for it in edits[crate]}
-    if unknown := [it for it in asked.crates if it not in edits and it not in all_names]:
+    mutants, jobs = mutants_in(KEPT if asked.kept else MORE), ["--jobs", asked.jobs]
+    if unknown := [it for it in asked.crates if not any(it in (mutant.name, mutant.name.split("/")[0]) for mutant in mutants)]:
         words.error(f"no such crate or mutant: {unknown[0]}")
-    mutants = [Mutant(crate, f"{place % crate}/{it}") for crate in edits for it in edits[crate] if it.endswith(".edit")]
     mutants = [it for it in mutants if not asked.crates or it.name in asked.crates or it.name.split("/")[0] in asked.crates]
     with tempfile.TemporaryDirectory(prefix="mutants-") as room:
         shutil.copytree(TOP, room, ignore=shutil.ignore_patterns(".git", "bench", "incremental"), dirs_exist_ok=True)

@@ -5,7 +5,7 @@
 #   tests/workers/run.sh
 set -euo pipefail
 cd "$(dirname "${BASH_SOURCE[0]}")/../.."
-crates=(fj_model fj_streams fj_queues fj_tree fj_ledger fj_machine fj_gate fj_lane fj_shelf fj_store fj_core fj_waiting fj_agreement fj_pool fj_jobs fj_crew fj_lazy fj_invoke fj_fold)
+crates=(fj_rules fj_lines fj_streams fj_queues fj_tree fj_ledger fj_machine fj_gate fj_lane fj_slots fj_bodies fj_core fj_sleep fj_agreement fj_pool fj_jobs fj_run fj_lazy fj_invoke fj_trees fj_fold)
 build_limit=900
 
 folder=$(mktemp -d)
@@ -37,13 +37,13 @@ is_told() {
     echo "told by $(grep -c '^test .* \.\.\. FAILED' "$folder/log") of $(grep -c '^test .* \.\.\. ' "$folder/log") tests of $1, $2 among them"
 }
 
-lay_out fj_invoke_trials
+lay_out test_jobs
 replace fj_invoke/src/invocation.rt '    let key = job.key();' '    Ok(fj_jobs::compute(job))'
-is_told fj_invoke_trials worker_tests::two_workers_run_the_halves_beside_each_other
+is_told test_jobs worker_tests::two_workers_run_the_halves_beside_each_other
 
-lay_out fj_fold_trials
-replace fj_fold/src/folding.rt '    let _nodes = nodes.as_slice();' '    match fj_jobs::tree_values(alloc, nodes) {
+lay_out test_jobs
+replace fj_fold/src/folding.rt '    let _nodes = nodes.as_slice();' '    match fj_trees::tree_values(alloc, nodes) {
         Ok(values) => values.first().copied().ok_or(Refusal::OutOfMemory),
         Err(_) => Err(Refusal::OutOfMemory),
     }'
-is_told fj_fold_trials pool_tests::two_children_begin_at_once
+is_told test_jobs pool_tests::two_children_begin_at_once

@@ -6,7 +6,7 @@ mod compiler;
 
 use crate::compiler::Compiler;
 use anyhow::{Context, Result};
-use fj_graph::{Fate, Graph, NodeId, Policy, Settings, Stop, run_graph};
+use fj_graph::{Fate, Graph, NodeId, Policy, Settings, StopFlag, run_graph};
 
 fn main(rt: HostRuntime) -> Result<()> {
     let alloc = rt.alloc();
@@ -28,7 +28,7 @@ fn main(rt: HostRuntime) -> Result<()> {
     }
     let compiler = Compiler { efforts };
     let settings = Settings::available(&rt);
-    let stop = Stop::new();
+    let stop = StopFlag::new();
     let ran = run_graph(
         &rt,
         alloc,

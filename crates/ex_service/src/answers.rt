@@ -1,5 +1,5 @@
 use crate::event::Event;
-use fj_serve::{Sink, Told};
+use fj_serve::{Reported, Sink};
 
 /// What the handlers have answered.
 #[derive(Drop)]
@@ -11,9 +11,9 @@ pub struct Answers {
 }
 
 impl Sink<Event> for Answers {
-    fn hear(&mut self, _nth: u64, told: Told<u32, u64>) {
+    fn hear(&mut self, _nth: u64, told: Reported<u32, u64>) {
         let kept = match told {
-            Told::Result(_, answer) => self.answers.push(answer).is_ok(),
+            Reported::Result(_, answer) => self.answers.push(answer).is_ok(),
             _ => false,
         };
         self.lost = self.lost || !kept;

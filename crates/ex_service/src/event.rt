@@ -1,4 +1,4 @@
-use fj_crew::{Ask, Body, Heard};
+use fj_run::{Ask, Body, Heard};
 
 /// An event: its handler squares its number.
 #[derive(Drop)]
@@ -9,7 +9,7 @@ pub struct Event {
 
 impl Body for Event {
     ghost use Rattle.std.specs.Prelude.{◌≡◌, ◌*◌, ℕ, Option, None};
-    ghost use Rattle.fj_store.specs.Turns.{HeardRight, AskRight, Nearer};
+    ghost use Rattle.fj_bodies.specs.Turns.{HeardRight, AskRight, Nearer};
 
     type Key = u32;
 

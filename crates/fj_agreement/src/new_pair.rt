@@ -3,7 +3,7 @@ ghost use Rattle.std.specs.Prelude.{◌≡◌, IfOk};
 use crate::end::End;
 use crate::values::Known;
 use crate::word::{Half, Word};
-use fj_model::OutOfMemory;
+use fj_rules::OutOfMemory;
 use std::alloc::Global;
 use std::sync::Arc;
 

@@ -1,7 +1,7 @@
 ghost use Rattle.std.specs.Prelude.{◌≡◌, IfOk};
 
 use super::*;
-use fj_model::OutOfMemory;
+use fj_rules::OutOfMemory;
 use std::alloc::Global;
 use std::marker::Brand;
 use std::test::*;

@@ -1,7 +1,7 @@
 -- What the end of a command says of its exit status.
 use Rattle.std.proofs.Common.{ℕ, ◌≡◌, ◌≢◌, ◌⊎◌, refl, sym, subst, inl, inr, ⊎_elim, arith, List, Option}
-use Rattle.fj_jobs.specs.declared.tree_fault.TreeFault.{TreeFault}
-use Rattle.fj_jobs.specs.declared.tree_fault.TreeFault.TheVariants.{Line, Memory, Read}
+use Rattle.fj_trees.specs.declared.tree_fault.TreeFault.{TreeFault}
+use Rattle.fj_trees.specs.declared.tree_fault.TreeFault.TheVariants.{Line, Memory, Read}
 use Rattle.fj_cli.specs.declared.command_line.options.RangeOptions.{RangeOptions}
 use Rattle.fj_cli.specs.declared.command_line.Subcommand.{Subcommand}
 use Rattle.fj_cli.specs.declared.command_line.Subcommand.TheVariants.{Replay, Upgrade, Sum, Min, Find, Tree}

@@ -5,8 +5,8 @@ use Rattle.std.specs.Io.KnownBytes.{Keeps}
 use Rattle.fj_streams.proofs.Bytes.{appends_keeps}
 use Rattle.fj_replay.specs.declared.fault.ReplayFault.{ReplayFault}
 use Rattle.fj_replay.specs.declared.fault.ReplayFault.TheVariants.{Line, Limits, Memory, Read, Write}
-use Rattle.fj_replay.specs.declared.stage.Stage.{Stage}
-use Rattle.fj_replay.specs.declared.stage.Stage.TheVariants.{Start, Old}
+use Rattle.fj_replay.specs.declared.script_stage.ScriptStage.{ScriptStage}
+use Rattle.fj_replay.specs.declared.script_stage.ScriptStage.TheVariants.{Start, Old}
 use Rattle.fj_replay.specs.Faults.{EndsFrom, FaultOf, Replays, Upgrades}
 use Rattle.fj_replay.specs.Tells.{Seen, Stops, StopsUpgrade}
 use Rattle.fj_replay.proofs.Begun.{begun_whole, begun_fault, upgrade_begun_whole, upgrade_begun_fault}
@@ -39,19 +39,19 @@ module _ (before ahead start now flushed : Option (List ℕ)) (kept : Keeps now 
   pub upgrades_kept : Upgrades before ahead start now → Upgrades before ahead start flushed
   upgrades_kept r = (r.0, record { read = r.1.read; whole = r.1.whole; script = r.1.script; written = appends_keeps start now flushed _ r.1.written kept })
 
-  fault_kept : (first : Stage) (fault : ReplayFault) (b : List ℕ) → FaultOf first fault b ahead start now → FaultOf first fault b ahead start flushed
+  fault_kept : (first : ScriptStage) (fault : ReplayFault) (b : List ℕ) → FaultOf first fault b ahead start now → FaultOf first fault b ahead start flushed
   fault_kept first (Line n) b f = (f.0, appends_keeps start now flushed _ f.1 kept)
   fault_kept first Limits b f = (f.0, appends_keeps start now flushed _ f.1 kept)
   fault_kept first Memory b f = (f.0, appends_keeps start now flushed _ f.1 kept)
   fault_kept first Read b f = (f.0, appends_keeps start now flushed _ f.1 kept)
   fault_kept first Write b f = (f.0, appends_keeps start now flushed _ f.1 kept)
 
-  pub ends_kept : (first : Stage) (fault : ReplayFault) (b : List ℕ) → EndsFrom first fault b before ahead start now → EndsFrom first fault b before ahead start flushed
+  pub ends_kept : (first : ScriptStage) (fault : ReplayFault) (b : List ℕ) → EndsFrom first fault b before ahead start now → EndsFrom first fault b before ahead start flushed
   ends_kept first fault b e = record { read = e.read; means = fault_kept first fault b e.means }
 
 -- ---- the exit status
 
-module _ (first : Stage) (Done Begun : Type 0) (before ahead start now : Option (List ℕ)) where
+module _ (first : ScriptStage) (Done Begun : Type 0) (before ahead start now : Option (List ℕ)) where
   -- the same fault with its own status
   with_status : (fault : ReplayFault) (status wanted : ℕ) → (b : List ℕ) × EndsFrom first fault b before ahead start now → (status ≡ 5) ⊎ (status ≡ status_of fault) → status ≡ wanted → wanted < 5 → EndsBy first wanted before ahead start now
   with_status fault status wanted e is want less =

@@ -3,7 +3,7 @@ use Rattle.std.specs.Prelude.{ℕ, Bool, true, false, [], ◌∷◌, codes, Some
 use Rattle.clap.specs.Words.{App, Rule, Text, new_app, new_rule, with_rule}
 use Rattle.clap.specs.declared.builder.action.ArgAction.TheVariants.{Set, SetTrue}
 use Rattle.clap.specs.declared.builder.value_parser.ValueParser.TheVariants.{Unsigned}
-use Rattle.fj_model.specs.declared.limits.TheConstants.{MAX_WORKERS}
+use Rattle.fj_rules.specs.declared.limits.TheConstants.{MAX_WORKERS}
 
 -- an option with a number in this range
 abbrev pub required_rule : Text → ℕ → ℕ → Bool → Rule

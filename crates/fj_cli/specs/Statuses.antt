@@ -9,8 +9,8 @@ use Rattle.fj_cli.specs.declared.command_line.Subcommand.{Subcommand}
 use Rattle.fj_cli.specs.declared.command_line.Subcommand.TheVariants.{Replay, Upgrade, Sum, Min, Find, Tree}
 use Rattle.fj_cli.specs.Answers.{EndsRange, EndsTree, hit_line, hit_of, least_line, least_of, number_line, sum_of}
 use Rattle.fj_cli.specs.Commands.{Asks, AsksToShow, IsAtFault, NamesNoScript, replay_words, upgrade_words}
-use Rattle.fj_replay.specs.declared.stage.Stage.{Stage}
-use Rattle.fj_replay.specs.declared.stage.Stage.TheVariants.{Start, Old}
+use Rattle.fj_replay.specs.declared.script_stage.ScriptStage.{ScriptStage}
+use Rattle.fj_replay.specs.declared.script_stage.ScriptStage.TheVariants.{Start, Old}
 use Rattle.fj_replay.specs.Faults.{Begins, BeginsUpgrade, EndsFrom, Replays, Upgrades}
 
 -- the exit status of a fault: 3 for the input, 4 for memory, 5 for a read or a write
@@ -26,7 +26,7 @@ abbrev pub IsEndOf : {A : Type 0} → Result A ReplayFault → ℕ → Type 0
 IsEndOf ended status = (status ≡ 5) ⊎ MatchResult ended (λ _. status ≡ 0) (λ fault. status ≡ status_of fault)
 
 -- a script that stood here before its first line ended by a fault of this status
-abbrev pub EndsBy : Stage → ℕ → Option (List ℕ) → Option (List ℕ) → Option (List ℕ) → Option (List ℕ) → Type 0
+abbrev pub EndsBy : ScriptStage → ℕ → Option (List ℕ) → Option (List ℕ) → Option (List ℕ) → Option (List ℕ) → Type 0
 EndsBy first status before ahead start now =
     (fault : ReplayFault) × (b : List ℕ) × (status ≡ status_of fault) × EndsFrom first fault b before ahead start now
 
@@ -40,7 +40,7 @@ pub record EndsKnown (words : List Text) (status : ℕ) (before ahead start now 
   pub upgraded : words ≡ upgrade_words → status ≡ 0 → Upgrades before ahead start now
 
 -- a script that stood here before its first line ended with this exit status
-pub record EndsScript (first : Stage) (status : ℕ) (Done Begun : Type 0) (before ahead start now : Option (List ℕ)) : Type 0 where
+pub record EndsScript (first : ScriptStage) (status : ℕ) (Done Begun : Type 0) (before ahead start now : Option (List ℕ)) : Type 0 where
   pub known : (status ≡ 0) ⊎ ((status ≡ 3) ⊎ ((status ≡ 4) ⊎ (status ≡ 5)))
   pub done : status ≡ 0 → Done
   pub fault : status ≡ 3 → EndsBy first 3 before ahead start now

@@ -4,7 +4,7 @@ ghost use Rattle.std.specs.Io.KnownBytes.{Appends};
 ghost use Rattle.fj_streams.specs.Beginnings.{AppendsSome};
 ghost use Rattle.fj_cli.specs.Answers.{EndsJob, status_of_refusal};
 
-use fj_model::Refusal;
+use fj_rules::Refusal;
 use fj_streams::{flush_whole, write_whole};
 use std::alloc::AllocError;
 use std::io::{self, Write};

@@ -1,7 +1,7 @@
 //! The commands that do a job over a range: each starts a pool of its own, and writes the value of its job.
 ghost use Rattle.std.specs.Prelude.{◌≡◌, ◌<◌, ◌≤◌, IfNone, IfOk, IfSome};
-ghost use Rattle.fj_model.specs.declared.limits.TheConstants.{MAX_EVENTS, MAX_TASKS};
-ghost use Rattle.fj_model.specs.Bounds.{bounds};
+ghost use Rattle.fj_rules.specs.declared.limits.TheConstants.{MAX_EVENTS, MAX_TASKS};
+ghost use Rattle.fj_rules.specs.Bounds.{bounds};
 ghost use Rattle.fj_cli.specs.declared.job_commands.TheConstants.{MAX_BLOCKS};
 ghost use Rattle.fj_cli.specs.Answers.{EndsRange, blocks_of, count_of, hit_line, hit_of, least_line, least_of, number_line, sum_of};
 
@@ -11,7 +11,7 @@ use fj_invoke::{
     BlockedRange, Divide, FirstHit, LinearMod, Open, RangeMin, RangeSum, Settings, invoke,
     invoke_lazily,
 };
-use fj_model::{Limits, MAX_EVENTS, MAX_TASKS, Mode, Refusal};
+use fj_rules::{Limits, MAX_EVENTS, MAX_TASKS, Mode, Refusal};
 use std::alloc::Global;
 use std::io::Write;
 use std::sync::Wait;

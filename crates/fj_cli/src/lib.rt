@@ -15,7 +15,7 @@ mod script_end;
 mod tree_command;
 mod upgrade_command;
 
-pub use fj_fold::{Family, Node, Nodes, Tree, TreeFault, TreeFold, fold_tree, read_tree};
+pub use fj_fold::{Family, NamedTree, Node, Nodes, TreeFault, TreeFold, fold_tree, read_tree};
 pub use fj_invoke::{
     BlockedRange, Divide, FirstHit, Interval, Limits, LinearMod, Mode, Open, RangeMin, RangeSum,
     Recursive, Refusal, Serial, Settings, Turnstile, WorkerId, compute, invoke, invoke_lazily,

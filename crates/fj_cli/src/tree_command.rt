@@ -1,7 +1,7 @@
 //! The command that folds a tree.
 ghost use Rattle.std.specs.Prelude.{◌≡◌};
-ghost use Rattle.fj_jobs.specs.Trees.{IsTree};
-ghost use Rattle.fj_jobs.specs.TreeValues.{node_value};
+ghost use Rattle.fj_trees.specs.Trees.{IsTree};
+ghost use Rattle.fj_trees.specs.TreeValues.{node_value};
 ghost use Rattle.fj_cli.specs.Answers.{EndsJob, EndsTree, number_line, status_of_fault};
 
 use crate::answer::{answered, refused};

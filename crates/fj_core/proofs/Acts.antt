@@ -1,36 +1,36 @@
 -- What each action of a body leaves of the core, and of the hand.
 use Rattle.std.proofs.Common.{ℕ, ◌≡◌, Bool, true, false, inl, inr, Option, Some, None, refl, ap, sym, ◌∙◌, subst}
 use Rattle.std.specs.Prelude.{◌⊎◌, Result, Ok, Err, is_some}
-use Rattle.fj_model.specs.declared.refusal.Refusal.{Refusal}
-use Rattle.fj_model.specs.declared.refusal.Refusal.TheVariants.{Unknown, NotDone}
-use Rattle.fj_model.specs.declared.step.Ending.{Ending}
-use Rattle.fj_model.specs.declared.step.Ending.TheVariants as ending
-use Rattle.fj_model.specs.declared.step.Step.{Step}
-use Rattle.fj_model.specs.declared.step.Step.TheVariants as step
-use Rattle.fj_model.specs.declared.said.Said.{Said}
-use Rattle.fj_model.specs.declared.said.Said.TheVariants as says
-use Rattle.fj_model.specs.Runs.{Steps}
-use Rattle.fj_shelf.specs.Hands.{HandState, hook_number, with_next_word}
-use Rattle.fj_store.specs.declared.body.Ask.{Ask}
-use Rattle.fj_store.specs.declared.body.Ask.TheVariants as asks
-use Rattle.fj_store.specs.declared.body.Heard.TheVariants as hears
-use Rattle.fj_store.specs.declared.body.Told.{Told}
-use Rattle.fj_store.specs.declared.body.Told.TheVariants as told
-use Rattle.fj_store.specs.Stores.{StoreState}
-use Rattle.fj_store.specs.Releases.{Releases}
-use Rattle.fj_store.specs.Accepting.{Accepts}
-use Rattle.fj_store.specs.Choosing.{WasStuck, GetsStuck, Helps, Joins}
-use Rattle.fj_store.specs.Results.{Keeps, KeepsUnless, LetsGo, TakesOut, TakesResult, Marks}
-use Rattle.fj_store.specs.Asking.{Drops, Adds, QuietsRoot, Settles, Shows}
-use Rattle.fj_store.specs.Endings.{EndsOk, EndsBody, LeftOver}
-use Rattle.fj_store.specs.HookEndings.{EndsHook}
-use Rattle.fj_model.specs.Inside.{IsInside, is_outside_step}
+use Rattle.fj_rules.specs.declared.refusal.Refusal.{Refusal}
+use Rattle.fj_rules.specs.declared.refusal.Refusal.TheVariants.{Unknown, NotDone}
+use Rattle.fj_rules.specs.declared.step.Ending.{Ending}
+use Rattle.fj_rules.specs.declared.step.Ending.TheVariants as ending
+use Rattle.fj_rules.specs.declared.step.Step.{Step}
+use Rattle.fj_rules.specs.declared.step.Step.TheVariants as step
+use Rattle.fj_rules.specs.declared.said.Said.{Said}
+use Rattle.fj_rules.specs.declared.said.Said.TheVariants as says
+use Rattle.fj_rules.specs.Runs.{Steps}
+use Rattle.fj_slots.specs.Hands.{HandState, hook_number, with_next_word}
+use Rattle.fj_bodies.specs.declared.body.Ask.{Ask}
+use Rattle.fj_bodies.specs.declared.body.Ask.TheVariants as asks
+use Rattle.fj_bodies.specs.declared.body.Heard.TheVariants as hears
+use Rattle.fj_bodies.specs.declared.body.Told.{Told}
+use Rattle.fj_bodies.specs.declared.body.Told.TheVariants as told
+use Rattle.fj_bodies.specs.Stores.{StoreState}
+use Rattle.fj_bodies.specs.Releases.{Releases}
+use Rattle.fj_bodies.specs.Accepting.{Accepts}
+use Rattle.fj_bodies.specs.Choosing.{WasStuck, GetsStuck, Helps, Joins}
+use Rattle.fj_bodies.specs.Results.{Keeps, KeepsUnless, LetsGo, TakesOut, TakesResult, Marks}
+use Rattle.fj_bodies.specs.Asking.{Drops, Adds, QuietsRoot, Settles, Shows}
+use Rattle.fj_bodies.specs.Endings.{EndsOk, EndsBody, LeftOver}
+use Rattle.fj_bodies.specs.HookEndings.{EndsHook}
+use Rattle.fj_rules.specs.Inside.{IsInside, is_outside_step}
 use Rattle.fj_core.specs.Cancels.{CancelsTask}
 use Rattle.fj_core.specs.Cores.{StaysInside}
 use Rattle.fj_core.specs.Acting.{ActsInBody, ActsInHook, ActsWhere, Acts}
-use Rattle.fj_model.proofs.Steps.Inside.{same_inside}
+use Rattle.fj_rules.proofs.Steps.Inside.{same_inside}
 use Rattle.fj_core.proofs.Frames.{same_stays, then_stays, step_stays, sticks_stay, releases_stay, hands_out_stays, skips_stay, moves_stay}
-use Rattle.fj_model.proofs.Steps.KeepsHands.{KeepsHands, is_bare, step_keeps, releases_keep, same_keeps, then_keeps}
+use Rattle.fj_rules.proofs.Steps.KeepsHands.{KeepsHands, is_bare, step_keeps, releases_keep, same_keeps, then_keeps}
 
 -- a hook is there where its number is
 pub hook_there : {B : Type 0} (hook : Option (ℕ × B)) → is_some hook ≡ is_some (hook_number hook)

@@ -1,9 +1,9 @@
 -- A hand fits as before, where each worker holds what it held.
 use Rattle.std.proofs.Common.{◌<◌, sym, ◌∙◌, subst}
-use Rattle.fj_model.specs.Pasts.{Past}
-use Rattle.fj_model.proofs.Steps.KeepsHands.{KeepsHands}
-use Rattle.fj_shelf.specs.Hands.{HandState}
-use Rattle.fj_store.specs.Fitting.{Fits}
+use Rattle.fj_rules.specs.Pasts.{Past}
+use Rattle.fj_rules.proofs.Steps.KeepsHands.{KeepsHands}
+use Rattle.fj_slots.specs.Hands.{HandState}
+use Rattle.fj_bodies.specs.Fitting.{Fits}
 
 -- a hand fits as before
 pub still_fits : {B : Type 0} (past past' : Past) (hand : HandState B) → KeepsHands past past' → Fits past hand → Fits past' hand

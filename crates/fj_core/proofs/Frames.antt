@@ -1,25 +1,25 @@
 -- What a call of the store leaves of the core.
 use Rattle.std.proofs.Common.{ℕ, ◌≡◌, Bool, true, false, inl, inr, List, length, Option, Some, None, refl, ap, sym, ◌∙◌, subst}
 use Rattle.std.specs.Prelude.{Result, Ok, Err}
-use Rattle.fj_model.specs.declared.refusal.Refusal.{Refusal}
-use Rattle.fj_model.specs.declared.said.Said.{Said}
-use Rattle.fj_model.specs.declared.step.Step.{Step}
-use Rattle.fj_model.specs.declared.step.Step.TheVariants as ask
-use Rattle.fj_model.specs.Runs.{Steps}
+use Rattle.fj_rules.specs.declared.refusal.Refusal.{Refusal}
+use Rattle.fj_rules.specs.declared.said.Said.{Said}
+use Rattle.fj_rules.specs.declared.step.Step.{Step}
+use Rattle.fj_rules.specs.declared.step.Step.TheVariants as ask
+use Rattle.fj_rules.specs.Runs.{Steps}
 use Rattle.fj_lane.specs.Ends.{DrainState}
-use Rattle.fj_shelf.specs.Hands.{HandState, with_next_word}
-use Rattle.fj_store.specs.declared.body.Told.{Told}
-use Rattle.fj_store.specs.declared.body.Told.TheVariants as told
-use Rattle.fj_store.specs.declared.outcomes.Outcome.{Outcome}
-use Rattle.fj_store.specs.Stores.{StoreState}
-use Rattle.fj_store.specs.Releases.{Releases, Rests}
-use Rattle.fj_store.specs.Choosing.{Polls, HandsOut, Skips, Moves}
-use Rattle.fj_store.specs.Results.{Collects}
+use Rattle.fj_slots.specs.Hands.{HandState, with_next_word}
+use Rattle.fj_bodies.specs.declared.body.Told.{Told}
+use Rattle.fj_bodies.specs.declared.body.Told.TheVariants as told
+use Rattle.fj_bodies.specs.declared.outcomes.Outcome.{Outcome}
+use Rattle.fj_bodies.specs.Stores.{StoreState}
+use Rattle.fj_bodies.specs.Releases.{Releases, Rests}
+use Rattle.fj_bodies.specs.Choosing.{Polls, HandsOut, Skips, Moves}
+use Rattle.fj_bodies.specs.Results.{Collects}
 use Rattle.fj_core.specs.declared.booking.Booking.{Booking}
-use Rattle.fj_core.specs.declared.closing.Closing.{Closing}
+use Rattle.fj_core.specs.declared.cutoff.Cutoff.{Cutoff}
 use Rattle.fj_core.specs.Cores.{IsCore, StaysInside}
-use Rattle.fj_model.specs.Inside.{IsInside, is_outside_step}
-use Rattle.fj_model.proofs.Steps.Inside.{step_inside, releases_inside, same_inside, then_inside}
+use Rattle.fj_rules.specs.Inside.{IsInside, is_outside_step}
+use Rattle.fj_rules.proofs.Steps.Inside.{step_inside, releases_inside, same_inside, then_inside}
 use Rattle.fj_core.proofs.Lanes.{same_booked}
 use Rattle.fj_core.proofs.Reached.{closing_stays}
 
@@ -79,7 +79,7 @@ module _ {B K O : Type 0} where
 
   -- ---- the core
 
-  pub core_stays : (old new : StoreState B K O) (lanes : List (DrainState B)) (bookings : List Booking) (closing : Closing) → StaysInside old new → IsCore old lanes bookings closing → IsCore new lanes bookings closing
+  pub core_stays : (old new : StoreState B K O) (lanes : List (DrainState B)) (bookings : List Booking) (closing : Cutoff) → StaysInside old new → IsCore old lanes bookings closing → IsCore new lanes bookings closing
   core_stays old new lanes bookings closing stays is = record {
     booked = same_booked old.past new.past lanes bookings (record { pool = stays.past.pool; pushes = stays.past.pushes }) is.booked;
     closes = closing_stays old.past.events new.past.events (length bookings) closing old.stuck new.stuck stays.past.closed stays.past.stopped stays.stuck is.closes;

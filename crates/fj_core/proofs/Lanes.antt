@@ -8,13 +8,13 @@ use Rattle.std.proofs.lemmas.List.{length-set, append-nil, map-append}
 use Rattle.std.proofs.lemmas.List.Sums.{sum_by-set, sum_by-cons}
 use Rattle.std.proofs.lemmas.List.Elements.{filter-append, All-set}
 use Rattle.std.proofs.lemmas.Option.{slice_get_within, get_or_from_slice_get}
-use Rattle.fj_model.specs.declared.event.Event.{Event}
-use Rattle.fj_model.specs.declared.event.Event.TheVariants.{Acc}
-use Rattle.fj_model.specs.declared.owner.Owner.TheVariants.{Sub}
-use Rattle.fj_model.specs.declared.kind.Kind.{Kind}
-use Rattle.fj_model.specs.Queues.{pushed}
-use Rattle.fj_model.specs.Pasts.{Past, grown}
-use Rattle.fj_model.proofs.Events.Growth.{pushed_more}
+use Rattle.fj_rules.specs.declared.event.Event.{Event}
+use Rattle.fj_rules.specs.declared.event.Event.TheVariants.{Acc}
+use Rattle.fj_rules.specs.declared.owner.Owner.TheVariants.{Sub}
+use Rattle.fj_rules.specs.declared.kind.Kind.{Kind}
+use Rattle.fj_rules.specs.Queues.{pushed}
+use Rattle.fj_rules.specs.Pasts.{Past, grown}
+use Rattle.fj_rules.proofs.Events.Growth.{pushed_more}
 use Rattle.fj_lane.specs.declared.parcel.Parcel.{Parcel}
 use Rattle.fj_lane.specs.Ends.{DrainState}
 use Rattle.fj_core.specs.declared.booking.Booking.{Booking}

@@ -20,3 +20,5 @@ mod Acts
 mod Parts
 -- what an action leaves of the hands of the other workers
 pub mod Others
+-- That it may go to another thread.
+pub mod Crossing

@@ -1,34 +1,34 @@
 -- What an action on the core leaves of the hands of the other workers.
 use Rattle.std.proofs.Common.{ℕ, ◌≡◌, ◌≢◌, ◌+◌, ◌<◌, Bool, true, false, inl, inr, List, length, Option, Some, None, refl, ap, sym, ◌∙◌, subst}
 use Rattle.std.specs.Prelude.{◌⊎◌, ⊤, is_some, Result, Ok, Err}
-use Rattle.fj_model.specs.declared.refusal.Refusal.{Refusal}
-use Rattle.fj_model.specs.declared.step.Ending.{Ending}
-use Rattle.fj_model.specs.declared.step.Ending.TheVariants as ending
-use Rattle.fj_model.specs.declared.step.Step.{Step}
-use Rattle.fj_model.specs.declared.step.Step.TheVariants as step
-use Rattle.fj_model.specs.declared.said.Said.{Said}
-use Rattle.fj_model.specs.declared.said.Said.TheVariants as says
-use Rattle.fj_model.specs.Pasts.{Past}
-use Rattle.fj_model.specs.Epochs.{IsPast}
-use Rattle.fj_model.specs.Runs.{Steps}
-use Rattle.fj_model.proofs.Steps.KeepsHands.{KeepsHands, releases_keep}
-use Rattle.fj_shelf.specs.Hands.{HandState, with_next_word}
-use Rattle.fj_store.specs.declared.body.Ask.{Ask}
-use Rattle.fj_store.specs.declared.body.Ask.TheVariants as asks
-use Rattle.fj_store.specs.declared.body.Heard.TheVariants as hears
-use Rattle.fj_store.specs.declared.body.Told.{Told}
-use Rattle.fj_store.specs.declared.body.Told.TheVariants as told
-use Rattle.fj_store.specs.declared.outcomes.Outcome.{Outcome}
-use Rattle.fj_store.specs.Fitting.{Fits}
-use Rattle.fj_store.specs.Stores.{StoreState}
-use Rattle.fj_store.specs.Releases.{Releases}
-use Rattle.fj_store.specs.Choosing.{HandsOut, Skips, Moves, WasStuck, GetsStuck, Polls, Helps, Joins}
-use Rattle.fj_store.specs.Results.{Keeps, KeepsUnless, Marks, Collects}
-use Rattle.fj_store.specs.Asking.{Drops}
-use Rattle.fj_store.specs.Endings.{EndsOk, EndsBody}
-use Rattle.fj_store.specs.HookEndings.{EndsHook}
-use Rattle.fj_store.proofs.Others.{Stays, PassesBy, step_stays, end_stays, hook_done_stays}
-use Rattle.fj_core.specs.declared.closing.Closing.{Closing}
+use Rattle.fj_rules.specs.declared.refusal.Refusal.{Refusal}
+use Rattle.fj_rules.specs.declared.step.Ending.{Ending}
+use Rattle.fj_rules.specs.declared.step.Ending.TheVariants as ending
+use Rattle.fj_rules.specs.declared.step.Step.{Step}
+use Rattle.fj_rules.specs.declared.step.Step.TheVariants as step
+use Rattle.fj_rules.specs.declared.said.Said.{Said}
+use Rattle.fj_rules.specs.declared.said.Said.TheVariants as says
+use Rattle.fj_rules.specs.Pasts.{Past}
+use Rattle.fj_rules.specs.Epochs.{IsPast}
+use Rattle.fj_rules.specs.Runs.{Steps}
+use Rattle.fj_rules.proofs.Steps.KeepsHands.{KeepsHands, releases_keep}
+use Rattle.fj_slots.specs.Hands.{HandState, with_next_word}
+use Rattle.fj_bodies.specs.declared.body.Ask.{Ask}
+use Rattle.fj_bodies.specs.declared.body.Ask.TheVariants as asks
+use Rattle.fj_bodies.specs.declared.body.Heard.TheVariants as hears
+use Rattle.fj_bodies.specs.declared.body.Told.{Told}
+use Rattle.fj_bodies.specs.declared.body.Told.TheVariants as told
+use Rattle.fj_bodies.specs.declared.outcomes.Outcome.{Outcome}
+use Rattle.fj_bodies.specs.Fitting.{Fits}
+use Rattle.fj_bodies.specs.Stores.{StoreState}
+use Rattle.fj_bodies.specs.Releases.{Releases}
+use Rattle.fj_bodies.specs.Choosing.{HandsOut, Skips, Moves, WasStuck, GetsStuck, Polls, Helps, Joins}
+use Rattle.fj_bodies.specs.Results.{Keeps, KeepsUnless, Marks, Collects}
+use Rattle.fj_bodies.specs.Asking.{Drops}
+use Rattle.fj_bodies.specs.Endings.{EndsOk, EndsBody}
+use Rattle.fj_bodies.specs.HookEndings.{EndsHook}
+use Rattle.fj_bodies.proofs.Others.{Stays, PassesBy, step_stays, end_stays, hook_done_stays}
+use Rattle.fj_core.specs.declared.cutoff.Cutoff.{Cutoff}
 use Rattle.fj_core.specs.declared.taken_in.Intake.{Intake}
 use Rattle.fj_core.specs.declared.taken_in.Intake.TheVariants as intake
 use Rattle.fj_core.specs.Acting.{Acts, ActsInBody, ActsInHook, ActsWhere}
@@ -240,7 +240,7 @@ module _ {B K O : Type 0} where
   dues_keep v true stopping old new (inr (free, (false, shuts))) = same_past v old.past new.past (ap (λ (s : StoreState B K O). s.past) shuts.1)
 
   -- the closing number is set: `close_at`, `stop_at`
-  pub shuts_hands : (old new : CoreState B K O) (closing : Closing) → ShutsAt old closing new → (v : ℕ) → KeepsHand v old.store.past new.store.past
+  pub shuts_hands : (old new : CoreState B K O) (closing : Cutoff) → ShutsAt old closing new → (v : ℕ) → KeepsHand v old.store.past new.store.past
   shuts_hands old new closing is v = dues_keep v (is_due closing.number (length old.bookings)) closing.stopping old.store new.store is.due
 
   readies_keep : (v : ℕ) (old new : StoreState B K O) (s : ℕ) (r : Refusal) → Readies old s (Some (intake.Full r)) new → KeepsHand v old.past new.past

@@ -1,14 +1,14 @@
 -- The parts that a core keeps stay those of its history.
 use Rattle.std.proofs.Common.{◌≡◌, Bool, true, false, inl, inr, List, [], ◌∷◌, ◌++◌, refl, ap, sym, ◌∙◌, subst, append_assoc, append-nil}
-use Rattle.fj_model.specs.declared.epoch.Sealed.{Sealed}
-use Rattle.fj_model.specs.declared.event.Event.{Event}
-use Rattle.fj_model.specs.Pasts.{Past, grown, sealed_now}
-use Rattle.fj_model.specs.Places.{gone}
+use Rattle.fj_rules.specs.declared.epoch.Sealed.{Sealed}
+use Rattle.fj_rules.specs.declared.event.Event.{Event}
+use Rattle.fj_rules.specs.Pasts.{Past, grown, sealed_now}
+use Rattle.fj_rules.specs.Places.{gone}
 use Rattle.fj_lane.specs.Ends.{DrainState}
-use Rattle.fj_store.specs.Stores.{StoreState}
-use Rattle.fj_store.specs.Sealing.{HandsPart}
+use Rattle.fj_bodies.specs.Stores.{StoreState}
+use Rattle.fj_bodies.specs.Sealing.{HandsPart}
 use Rattle.fj_core.specs.declared.booking.Booking.{Booking}
-use Rattle.fj_core.specs.declared.closing.Closing.{Closing}
+use Rattle.fj_core.specs.declared.cutoff.Cutoff.{Cutoff}
 use Rattle.fj_core.specs.Archives.{Archived}
 use Rattle.fj_core.specs.Closes.{Dues}
 use Rattle.fj_core.specs.Cores.{AreParts, IsCore, StaysInside}
@@ -71,7 +71,7 @@ module _ {B K O : Type 0} where
       (then_keeps old.past mid.past new.past (grown_keeps old.past mid.past es (grew ∙ ap (λ (s : StoreState B K O). grown s.past es) same)) (dues_keep due stopping mid new made)) are
 
   -- the core after a seal
-  pub sealed_core : (old new : StoreState B K O) (lanes : List (DrainState B)) (bookings : List Booking) (closing : Closing) (part : Sealed) → HandsPart old part new → IsCore old lanes bookings closing → IsCore new lanes bookings closing
+  pub sealed_core : (old new : StoreState B K O) (lanes : List (DrainState B)) (bookings : List Booking) (closing : Cutoff) (part : Sealed) → HandsPart old part new → IsCore old lanes bookings closing → IsCore new lanes bookings closing
   sealed_core old new lanes bookings closing part hands is =
       subst (λ s. IsCore s lanes bookings closing) (sym hands.others)
       (record { booked = same_booked old.past (sealed_now old.past) lanes bookings (record { pool = refl; pushes = λ s. refl }) is.booked; closes = is.closes })

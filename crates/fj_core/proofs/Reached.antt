@@ -1,9 +1,9 @@
 -- Where the closing number is reached.
 use Rattle.std.proofs.Common.{ℕ, ◌≡◌, ◌+◌, Bool, true, false, List, [], Option, Some, None, refl, ap, sym, ◌∙◌, arith}
 use Rattle.std.proofs.lemmas.Bool.{le-leb, leb-true}
-use Rattle.fj_model.specs.declared.event.Event.{Event}
-use Rattle.fj_model.specs.Allowed.{is_closed, is_stopped}
-use Rattle.fj_core.specs.declared.closing.Closing.{Closing}
+use Rattle.fj_rules.specs.declared.event.Event.{Event}
+use Rattle.fj_rules.specs.Allowed.{is_closed, is_stopped}
+use Rattle.fj_core.specs.declared.cutoff.Cutoff.{Cutoff}
 use Rattle.fj_core.specs.Closings.{IsClosing, IsReached, first_set, is_due, is_over}
 
 pub due_there : (number : Option ℕ) (k : ℕ) → IsReached number k → is_due number k ≡ true
@@ -18,7 +18,7 @@ over_same : (h h' : List Event) → is_closed h' ≡ is_closed h → is_stopped 
 over_same h h' closed stopped = rw (closed, stopped) refl
 
 -- no Close and no Stop was made
-pub closing_stays : (h h' : List Event) (k : ℕ) (closing : Closing) (stuck stuck' : Bool) → is_closed h' ≡ is_closed h → is_stopped h' ≡ is_stopped h → (stuck' ≡ false → stuck ≡ false)
+pub closing_stays : (h h' : List Event) (k : ℕ) (closing : Cutoff) (stuck stuck' : Bool) → is_closed h' ≡ is_closed h → is_stopped h' ≡ is_stopped h → (stuck' ≡ false → stuck ≡ false)
     → IsClosing h k closing stuck → IsClosing h' k closing stuck'
 closing_stays h h' k closing stuck stuck' closed stopped stays is =
     let same : is_over h' ≡ is_over h = over_same h h' closed stopped in
@@ -43,7 +43,7 @@ pub only_same : (h h' : List Event) (k : ℕ) (number : Option ℕ) → is_close
 only_same h h' k number closed stopped only over = only (sym (over_same h h' closed stopped) ∙ over)
 
 -- nothing has happened, and there is no number
-pub new_closing : (h : List Event) (k : ℕ) (closing : Closing) (stuck : Bool) → h ≡ [] → closing.number ≡ None → IsClosing h k closing stuck
+pub new_closing : (h : List Event) (k : ℕ) (closing : Cutoff) (stuck : Bool) → h ≡ [] → closing.number ≡ None → IsClosing h k closing stuck
 unfolding is_closed is_stopped
 new_closing h k closing stuck none unset = record {
   only = λ over. absurd (let no : false ≡ true = sym (ap is_over none) ∙ over in cc);

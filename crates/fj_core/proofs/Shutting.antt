@@ -2,25 +2,25 @@
 use Rattle.std.proofs.Common.{ℕ, ◌≡◌, Bool, true, false, inl, inr, List, [], ◌∷◌, ◌++◌, length, refl, ap, sym, ◌∙◌, subst}
 use Rattle.std.specs.Prelude.{if◌then◌else◌, ◌||◌}
 use Rattle.std.proofs.lemmas.List.{append-nil}
-use Rattle.fj_model.specs.declared.event.Event.TheVariants as event
-use Rattle.fj_model.specs.declared.owner.Owner.TheVariants.{Sub}
-use Rattle.fj_model.specs.declared.said.Said.TheVariants as says
-use Rattle.fj_model.specs.Queues.{pushed}
-use Rattle.fj_model.specs.Allowed.{is_closed, is_stopped}
-use Rattle.fj_model.specs.Answers.{answer, events_of}
-use Rattle.fj_model.specs.Pasts.{Past, grown}
-use Rattle.fj_model.specs.Runs.{Steps}
-use Rattle.fj_model.proofs.Events.Growth.{pushed_more}
-use Rattle.fj_model.proofs.Events.Closing.{closed_more, stopped_more}
+use Rattle.fj_rules.specs.declared.event.Event.TheVariants as event
+use Rattle.fj_rules.specs.declared.owner.Owner.TheVariants.{Sub}
+use Rattle.fj_rules.specs.declared.said.Said.TheVariants as says
+use Rattle.fj_rules.specs.Queues.{pushed}
+use Rattle.fj_rules.specs.Allowed.{is_closed, is_stopped}
+use Rattle.fj_rules.specs.Answers.{answer, events_of}
+use Rattle.fj_rules.specs.Pasts.{Past, grown}
+use Rattle.fj_rules.specs.Runs.{Steps}
+use Rattle.fj_rules.proofs.Events.Growth.{pushed_more}
+use Rattle.fj_rules.proofs.Events.Closing.{closed_more, stopped_more}
 use Rattle.fj_lane.specs.Ends.{DrainState}
-use Rattle.fj_store.specs.Stores.{StoreState}
-use Rattle.fj_model.proofs.Steps.Answered.{Answered, Refuses, Makes, answered}
+use Rattle.fj_bodies.specs.Stores.{StoreState}
+use Rattle.fj_rules.proofs.Steps.Answered.{Answered, Refuses, Makes, answered}
 use Rattle.fj_core.specs.declared.booking.Booking.{Booking}
-use Rattle.fj_core.specs.declared.closing.Closing.{Closing}
+use Rattle.fj_core.specs.declared.cutoff.Cutoff.{Cutoff}
 use Rattle.fj_core.specs.Closings.{IsClosing, first_set, is_due, is_over}
 use Rattle.fj_core.specs.Closes.{Dues, shut_step}
 use Rattle.fj_core.specs.Cores.{IsCore}
-use Rattle.fj_model.specs.Inside.{IsInside}
+use Rattle.fj_rules.specs.Inside.{IsInside}
 use Rattle.fj_core.proofs.Frames.{releases_stay}
 use Rattle.fj_core.proofs.Lanes.{PushesNone, same_booked}
 use Rattle.fj_core.proofs.Reached.{OnlyReached, due_there, due_reached, only_set}
@@ -86,7 +86,7 @@ both : (b : Bool) → b ≡ true → b ≡ false → ⊥
 both b so not_so = let no : true ≡ false = sym so ∙ not_so in cc
 
 -- the number of a closing that is this one
-pub number_of : (closing same : Closing) → closing ≡ same → closing.number ≡ same.number
+pub number_of : (closing same : Cutoff) → closing ≡ same → closing.number ≡ same.number
 number_of closing same is = ap (λ c. c.number) is
 
 nothing_pushed : (past : Past) → PushesNone past past
@@ -101,7 +101,7 @@ module _ {B K O : Type 0} where
   due_pushes_none true stopping old new (inr (free, (false, shuts))) = subst (λ s. PushesNone old.past s.past) (sym shuts.1) (nothing_pushed old.past)
 
   -- after what is due was made, the clauses on the close hold
-  pub due_closes : (k : ℕ) (closing : Closing) (due : Bool) (old new : StoreState B K O) → is_due closing.number k ≡ due → OnlyReached old.past.events k closing.number → Dues due closing.stopping old new
+  pub due_closes : (k : ℕ) (closing : Cutoff) (due : Bool) (old new : StoreState B K O) → is_due closing.number k ≡ due → OnlyReached old.past.events k closing.number → Dues due closing.stopping old new
       → IsClosing new.past.events k closing new.stuck
   due_closes k closing false old new at only is = record {
     only = subst (λ s. OnlyReached s.past.events k closing.number) (sym is) only;
@@ -129,7 +129,7 @@ module _ {B K O : Type 0} where
   -- ---- the core
 
   -- the number is set, and what is due is made
-  pub shut_core : (old new : StoreState B K O) (lanes : List (DrainState B)) (bookings : List Booking) (closing closing' : Closing) (number k : ℕ) → closing'.number ≡ first_set closing.number number → k ≡ length bookings
+  pub shut_core : (old new : StoreState B K O) (lanes : List (DrainState B)) (bookings : List Booking) (closing closing' : Cutoff) (number k : ℕ) → closing'.number ≡ first_set closing.number number → k ≡ length bookings
       → Dues (is_due closing'.number k) closing'.stopping old new → IsCore old lanes bookings closing → IsCore new lanes bookings closing'
   shut_core old new lanes bookings closing closing' number k set all due is = record {
     booked = same_booked old.past new.past lanes bookings (due_pushes_none (is_due closing'.number k) closing'.stopping old new due) is.booked;

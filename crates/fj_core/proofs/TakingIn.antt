@@ -1,36 +1,36 @@
 -- An intake.
 use Rattle.std.proofs.Common.{ℕ, ◌≡◌, ◌+◌, ◌≤◌, Bool, true, false, inl, inr, List, [], ◌∷◌, ◌++◌, length, Option, Some, None, refl, ap, sym, ◌∙◌, subst, length-append}
 use Rattle.std.specs.Prelude.{◌||◌, slice_get, slice_set}
-use Rattle.fj_model.specs.declared.event.Event.{Event}
-use Rattle.fj_model.specs.declared.event.Event.TheVariants.{Acc}
-use Rattle.fj_model.specs.declared.owner.Owner.TheVariants.{Sub}
-use Rattle.fj_model.specs.declared.kind.Kind.{Kind}
-use Rattle.fj_model.specs.declared.refusal.Refusal.{Refusal}
-use Rattle.fj_model.specs.declared.refusal.Refusal.TheVariants.{LogFull, Closed}
-use Rattle.fj_model.specs.declared.kind.SubmittedKind.{SubmittedKind}
-use Rattle.fj_model.specs.declared.said.Said.TheVariants as says
-use Rattle.fj_model.specs.declared.step.Step.TheVariants.{Submit}
-use Rattle.fj_model.specs.Allowed.{is_closed, is_stopped}
-use Rattle.fj_model.specs.Answers.{refusal_of}
-use Rattle.fj_model.specs.Runs.{Steps}
-use Rattle.fj_model.specs.Tasks.{accepted, submitted_kind}
-use Rattle.fj_model.specs.Pasts.{Past, grown}
-use Rattle.fj_model.proofs.Events.Closing.{closed_more, stopped_more}
+use Rattle.fj_rules.specs.declared.event.Event.{Event}
+use Rattle.fj_rules.specs.declared.event.Event.TheVariants.{Acc}
+use Rattle.fj_rules.specs.declared.owner.Owner.TheVariants.{Sub}
+use Rattle.fj_rules.specs.declared.kind.Kind.{Kind}
+use Rattle.fj_rules.specs.declared.refusal.Refusal.{Refusal}
+use Rattle.fj_rules.specs.declared.refusal.Refusal.TheVariants.{LogFull, Closed}
+use Rattle.fj_rules.specs.declared.kind.SubmittedKind.{SubmittedKind}
+use Rattle.fj_rules.specs.declared.said.Said.TheVariants as says
+use Rattle.fj_rules.specs.declared.step.Step.TheVariants.{Submit}
+use Rattle.fj_rules.specs.Allowed.{is_closed, is_stopped}
+use Rattle.fj_rules.specs.Answers.{refusal_of}
+use Rattle.fj_rules.specs.Runs.{Steps}
+use Rattle.fj_rules.specs.Tasks.{accepted, submitted_kind}
+use Rattle.fj_rules.specs.Pasts.{Past, grown}
+use Rattle.fj_rules.proofs.Events.Closing.{closed_more, stopped_more}
 use Rattle.fj_lane.specs.declared.parcel.Parcel.{Parcel}
 use Rattle.fj_lane.specs.Ends.{DrainState}
-use Rattle.fj_store.specs.Stores.{StoreState}
-use Rattle.fj_model.proofs.Steps.Answered.{submit_made}
+use Rattle.fj_bodies.specs.Stores.{StoreState}
+use Rattle.fj_rules.proofs.Steps.Answered.{submit_made}
 use Rattle.fj_core.specs.declared.booking.Booking.{Booking}
-use Rattle.fj_core.specs.declared.closing.Closing.{Closing}
+use Rattle.fj_core.specs.declared.cutoff.Cutoff.{Cutoff}
 use Rattle.fj_core.specs.declared.taken_in.Intake.{Intake}
 use Rattle.fj_core.specs.declared.taken_in.Intake.TheVariants as intake
 use Rattle.fj_core.specs.Booked.{AreBooked, Booked}
 use Rattle.fj_core.specs.Closings.{IsClosing, is_due}
 use Rattle.fj_core.specs.Closes.{Dues}
 use Rattle.fj_core.specs.Cores.{IsCore, StaysInside}
-use Rattle.fj_model.specs.Inside.{IsInside}
+use Rattle.fj_rules.specs.Inside.{IsInside}
 use Rattle.fj_core.specs.Intakes.{Readies, is_log_full, with_drained}
-use Rattle.fj_model.proofs.Steps.Inside.{same_inside}
+use Rattle.fj_rules.proofs.Steps.Inside.{same_inside}
 use Rattle.fj_core.proofs.Frames.{same_stays}
 use Rattle.fj_core.proofs.Lanes.{PushesNone, took_booked, missed_booked}
 use Rattle.fj_core.proofs.Reached.{OnlyReached, only_same, only_more}
@@ -81,12 +81,12 @@ module _ {B K O : Type 0} where
       (due_pushes_none due stopping mid new made).pool ∙ ap (λ (p : Past). p.pool) grew ∙ ap (λ (s : StoreState B K O). s.past.pool) same
 
   -- the core after the drain gave nothing
-  pub missed_core : (store : StoreState B K O) (lanes : List (DrainState B)) (bookings : List Booking) (closing : Closing) (s : ℕ) (d e : DrainState B) → slice_get lanes s ≡ Some d → e.drained ≡ d.drained → e.capacity ≡ d.capacity
+  pub missed_core : (store : StoreState B K O) (lanes : List (DrainState B)) (bookings : List Booking) (closing : Cutoff) (s : ℕ) (d e : DrainState B) → slice_get lanes s ≡ Some d → e.drained ≡ d.drained → e.capacity ≡ d.capacity
       → IsCore store lanes bookings closing → IsCore store (slice_set lanes s e) bookings closing
   missed_core store lanes bookings closing s d e at drained capacity is = record { booked = missed_booked store.past lanes bookings s d e at drained capacity is.booked; closes = is.closes }
 
   -- the core after a parcel was taken in, and what is due was made
-  pub took_core : (old mid new : StoreState B K O) (lanes : List (DrainState B)) (bookings bookings' : List Booking) (closing : Closing) (s t k : ℕ) (kind : Kind) (d e : DrainState B) (p : Parcel B)
+  pub took_core : (old mid new : StoreState B K O) (lanes : List (DrainState B)) (bookings bookings' : List Booking) (closing : Cutoff) (s t k : ℕ) (kind : Kind) (d e : DrainState B) (p : Parcel B)
       → mid.past ≡ grown old.past (Acc t (Sub s) kind ∷ []) → slice_get lanes s ≡ Some d → e ≡ with_drained d p → length e.drained ≤ e.capacity
       → bookings' ≡ bookings ++ record { ticket = p.ticket; serial = t; by = s } ∷ [] → k ≡ length bookings' → Dues (is_due closing.number k) closing.stopping mid new → IsCore old lanes bookings closing
       → IsCore new (slice_set lanes s e) bookings' closing
@@ -105,7 +105,7 @@ module _ {B K O : Type 0} where
       count = long ∙ ap (λ (bs : List Booking). length bs) more ∙ length-append bookings (record { ticket = p.ticket; serial = t; by = s } ∷ [])
 
   -- the same, as an intake does it
-  pub intake_core : (old ready mid new : StoreState B K O) (lanes : List (DrainState B)) (before after : Booked) (closing : Closing) (s i t k : ℕ) (kind : Kind) (d e : DrainState B) (p : Parcel B)
+  pub intake_core : (old ready mid new : StoreState B K O) (lanes : List (DrainState B)) (before after : Booked) (closing : Cutoff) (s i t k : ℕ) (kind : Kind) (d e : DrainState B) (p : Parcel B)
       → i ≡ s → ready ≡ old → mid.past ≡ grown ready.past (Acc t (Sub s) kind ∷ []) → slice_get lanes i ≡ Some d → e ≡ with_drained d p → length e.drained ≤ e.capacity
       → after ≡ record before { bookings = before.bookings ++ record { ticket = p.ticket; serial = t; by = s } ∷ [] } → k ≡ length after.bookings → Dues (is_due closing.number k) closing.stopping mid new
       → IsCore old lanes before.bookings closing → IsCore new (slice_set lanes i e) after.bookings closing

@@ -1,21 +1,21 @@
 -- What a running body or a hook asks of the core.
 use Rattle.std.specs.Prelude.{◌≡◌, Bool, true, false, Option, Some, None, is_some}
-use Rattle.fj_model.specs.declared.refusal.Refusal.TheVariants.{NotIdle}
-use Rattle.fj_model.specs.declared.step.Ending.TheVariants as ending
-use Rattle.fj_model.specs.declared.step.Step.TheVariants as step
-use Rattle.fj_shelf.specs.Hands.{HandState}
-use Rattle.fj_store.specs.declared.body.Ask.{Ask}
-use Rattle.fj_store.specs.declared.body.Ask.TheVariants as asks
-use Rattle.fj_store.specs.declared.body.Heard.TheVariants as hears
-use Rattle.fj_store.specs.declared.body.Told.{Told}
-use Rattle.fj_store.specs.declared.body.Told.TheVariants as told
-use Rattle.fj_store.specs.Stores.{StoreState}
-use Rattle.fj_store.specs.Accepting.{Accepts}
-use Rattle.fj_store.specs.Choosing.{Joins, Helps}
-use Rattle.fj_store.specs.Results.{LetsGo, TakesResult}
-use Rattle.fj_store.specs.Asking.{Adds, QuietsRoot, Settles, Shows}
-use Rattle.fj_store.specs.Endings.{EndsOk, EndsBody}
-use Rattle.fj_store.specs.HookEndings.{EndsHook}
+use Rattle.fj_rules.specs.declared.refusal.Refusal.TheVariants.{NotIdle}
+use Rattle.fj_rules.specs.declared.step.Ending.TheVariants as ending
+use Rattle.fj_rules.specs.declared.step.Step.TheVariants as step
+use Rattle.fj_slots.specs.Hands.{HandState}
+use Rattle.fj_bodies.specs.declared.body.Ask.{Ask}
+use Rattle.fj_bodies.specs.declared.body.Ask.TheVariants as asks
+use Rattle.fj_bodies.specs.declared.body.Heard.TheVariants as hears
+use Rattle.fj_bodies.specs.declared.body.Told.{Told}
+use Rattle.fj_bodies.specs.declared.body.Told.TheVariants as told
+use Rattle.fj_bodies.specs.Stores.{StoreState}
+use Rattle.fj_bodies.specs.Accepting.{Accepts}
+use Rattle.fj_bodies.specs.Choosing.{Joins, Helps}
+use Rattle.fj_bodies.specs.Results.{LetsGo, TakesResult}
+use Rattle.fj_bodies.specs.Asking.{Adds, QuietsRoot, Settles, Shows}
+use Rattle.fj_bodies.specs.Endings.{EndsOk, EndsBody}
+use Rattle.fj_bodies.specs.HookEndings.{EndsHook}
 
 module _ {B K O : Type 0} where
   -- the body that comes with an ask

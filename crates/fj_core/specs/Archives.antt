@@ -1,6 +1,6 @@
 -- The sealed parts of a history: those that were handed out, and those behind them, which are kept.
 use Rattle.std.specs.Prelude.{ℕ, ◌<◌, List, [], ◌++◌, length, Option, Some, None}
-use Rattle.fj_model.specs.declared.epoch.Sealed.{Sealed}
+use Rattle.fj_rules.specs.declared.epoch.Sealed.{Sealed}
 
 -- the parts that were handed out, and those that are kept, the oldest first; and for how many of these there is room
 pub record Archived : Type 0 where

@@ -1,10 +1,10 @@
 -- What was taken in, and under which tickets.
 use Rattle.std.specs.Prelude.{ℕ, ◌≡◌, ◌<◌, ◌≤◌, ◌==◌, Bool, List, length, map, Option, Some, None, option_map, slice_get, slice_set, All}
 use Rattle.std.specs.List.{filter, find, sum_by}
-use Rattle.fj_model.specs.declared.event.Event.{Event}
-use Rattle.fj_model.specs.declared.owner.Owner.TheVariants.{Sub}
-use Rattle.fj_model.specs.Pasts.{Past}
-use Rattle.fj_model.specs.Queues.{pushed}
+use Rattle.fj_rules.specs.declared.event.Event.{Event}
+use Rattle.fj_rules.specs.declared.owner.Owner.TheVariants.{Sub}
+use Rattle.fj_rules.specs.Pasts.{Past}
+use Rattle.fj_rules.specs.Queues.{pushed}
 use Rattle.fj_lane.specs.Ends.{DrainState}
 use Rattle.fj_core.specs.declared.booking.Booking.{Booking}
 

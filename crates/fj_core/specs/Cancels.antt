@@ -1,12 +1,12 @@
 -- A submission is cancelled from outside.
 use Rattle.std.specs.Prelude.{ℕ, ◌≡◌, Bool, true, false, Option, Some, None, Result, Ok, Err}
-use Rattle.fj_model.specs.declared.refusal.Refusal.{Refusal}
-use Rattle.fj_model.specs.declared.refusal.Refusal.TheVariants.{LogFull, Unknown}
-use Rattle.fj_model.specs.declared.said.Said.TheVariants as says
-use Rattle.fj_model.specs.declared.step.Step.TheVariants.{Cancel}
-use Rattle.fj_store.specs.Asking.{Drops}
-use Rattle.fj_store.specs.Choosing.{Refuses}
-use Rattle.fj_store.specs.Stores.{StoreState}
+use Rattle.fj_rules.specs.declared.refusal.Refusal.{Refusal}
+use Rattle.fj_rules.specs.declared.refusal.Refusal.TheVariants.{LogFull, Unknown}
+use Rattle.fj_rules.specs.declared.said.Said.TheVariants as says
+use Rattle.fj_rules.specs.declared.step.Step.TheVariants.{Cancel}
+use Rattle.fj_bodies.specs.Asking.{Drops}
+use Rattle.fj_bodies.specs.Choosing.{Refuses}
+use Rattle.fj_bodies.specs.Stores.{StoreState}
 use Rattle.fj_core.specs.Booked.{booked_under}
 use Rattle.fj_core.specs.Cores.{ChangesStore, CoreState}
 

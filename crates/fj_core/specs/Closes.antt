@@ -1,12 +1,12 @@
 -- The closing number is set, and what is due is made.
 use Rattle.std.specs.Prelude.{ℕ, ◌≡◌, ◌⊎◌, ◌==◌, ◌&&◌, Bool, true, false, length, Option, Some, None}
-use Rattle.fj_model.specs.declared.step.Step.{Step}
-use Rattle.fj_model.specs.declared.step.Step.TheVariants.{Shutdown, Stop}
-use Rattle.fj_model.specs.Answers.{is_quiet}
-use Rattle.fj_store.specs.Stores.{StoreState}
-use Rattle.fj_store.specs.Choosing.{WasStuck}
-use Rattle.fj_store.specs.Asking.{Shuts}
-use Rattle.fj_core.specs.declared.closing.Closing.{Closing}
+use Rattle.fj_rules.specs.declared.step.Step.{Step}
+use Rattle.fj_rules.specs.declared.step.Step.TheVariants.{Shutdown, Stop}
+use Rattle.fj_rules.specs.Answers.{is_quiet}
+use Rattle.fj_bodies.specs.Stores.{StoreState}
+use Rattle.fj_bodies.specs.Choosing.{WasStuck}
+use Rattle.fj_bodies.specs.Asking.{Shuts}
+use Rattle.fj_core.specs.declared.cutoff.Cutoff.{Cutoff}
 use Rattle.fj_core.specs.Closings.{first_set, is_due, is_over}
 use Rattle.fj_core.specs.Cores.{CoreState}
 
@@ -20,10 +20,10 @@ is_number None n = false
 is_number (Some m) n = m == n
 
 -- by `close_at`, and by `stop_at`
-abbrev pub closed_at : Closing → ℕ → Closing
+abbrev pub closed_at : Cutoff → ℕ → Cutoff
 closed_at closing number = record closing { number = first_set closing.number number }
 
-abbrev pub stopped_at : Closing → ℕ → Closing
+abbrev pub stopped_at : Cutoff → ℕ → Cutoff
 stopped_at closing number = record { number = first_set closing.number number; stopping = true }
 
 module _ {B K O : Type 0} where
@@ -33,7 +33,7 @@ module _ {B K O : Type 0} where
   Dues true stopping old new = WasStuck old new ⊎ ((old.stuck ≡ false) × ((made : Bool) × Shuts old (shut_step stopping) made new))
 
   -- this is the closing number and the step from now on, and what is due then is made
-  pub record ShutsAt (old : CoreState B K O) (closing : Closing) (new : CoreState B K O) : Type 0 where
+  pub record ShutsAt (old : CoreState B K O) (closing : Cutoff) (new : CoreState B K O) : Type 0 where
     pub sets : new ≡ record old { store = new.store; closing = closing }
     pub due : Dues (is_due closing.number (length old.bookings)) closing.stopping old.store new.store
 

@@ -1,8 +1,8 @@
 -- The closing number, and which step is made where it is reached.
 use Rattle.std.specs.Prelude.{ℕ, ◌≡◌, ◌≤◌, Bool, true, false, ◌||◌, List, Option, Some, None, nat_le}
-use Rattle.fj_model.specs.declared.event.Event.{Event}
-use Rattle.fj_model.specs.Allowed.{is_closed, is_stopped}
-use Rattle.fj_core.specs.declared.closing.Closing.{Closing}
+use Rattle.fj_rules.specs.declared.event.Event.{Event}
+use Rattle.fj_rules.specs.Allowed.{is_closed, is_stopped}
+use Rattle.fj_core.specs.declared.cutoff.Cutoff.{Cutoff}
 
 -- whether so many submissions reach the number
 abbrev pub is_due : Option ℕ → ℕ → Bool
@@ -23,7 +23,7 @@ abbrev pub IsReached : Option ℕ → ℕ → Type 0
 IsReached number taken_in = (n : ℕ) × (number ≡ Some n) × (n ≤ taken_in)
 
 -- `Close` or `Stop` stands only where the number was reached; there one of them stands, `Stop` where it is to be made, unless the core is stuck
-pub record IsClosing (h : List Event) (taken_in : ℕ) (closing : Closing) (stuck : Bool) : Type 0 where
+pub record IsClosing (h : List Event) (taken_in : ℕ) (closing : Cutoff) (stuck : Bool) : Type 0 where
   pub only : is_over h ≡ true → IsReached closing.number taken_in
   pub there : stuck ≡ false → IsReached closing.number taken_in → is_over h ≡ true
   pub stop : stuck ≡ false → closing.stopping ≡ true → IsReached closing.number taken_in → is_stopped h ≡ true

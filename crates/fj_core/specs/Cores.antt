@@ -1,24 +1,24 @@
 -- What contracts see of a core.
 use Rattle.std.specs.Prelude.{ℕ, ◌≡◌, ◌+◌, ◌%◌, ◌^◌, ◌&&◌, Bool, true, false, not, List, [], length, map, Option, Some, None, Result, Err}
 use Rattle.std.specs.List.{range_with_len}
-use Rattle.fj_model.specs.declared.epoch.Sealed.{Sealed}
-use Rattle.fj_model.specs.declared.mode.Mode.{Mode}
-use Rattle.fj_model.specs.declared.refusal.Refusal.{Refusal}
-use Rattle.fj_model.specs.declared.refusal.Refusal.TheVariants.{LogFull, Unknown}
-use Rattle.fj_model.specs.Bounds.{Bounds}
-use Rattle.fj_model.specs.Parts.{Fits}
-use Rattle.fj_model.specs.Pasts.{Past, fresh}
-use Rattle.fj_model.specs.Inside.{IsInside}
-use Rattle.fj_model.specs.Statuses.{status, is_undone}
-use Rattle.fj_model.specs.Tasks.{is_kept}
+use Rattle.fj_rules.specs.declared.epoch.Sealed.{Sealed}
+use Rattle.fj_rules.specs.declared.mode.Mode.{Mode}
+use Rattle.fj_rules.specs.declared.refusal.Refusal.{Refusal}
+use Rattle.fj_rules.specs.declared.refusal.Refusal.TheVariants.{LogFull, Unknown}
+use Rattle.fj_rules.specs.Bounds.{Bounds}
+use Rattle.fj_rules.specs.Parts.{Fits}
+use Rattle.fj_rules.specs.Pasts.{Past, fresh}
+use Rattle.fj_rules.specs.Inside.{IsInside}
+use Rattle.fj_rules.specs.Statuses.{status, is_undone}
+use Rattle.fj_rules.specs.Tasks.{is_kept}
 use Rattle.fj_lane.specs.Ends.{DrainState}
-use Rattle.fj_shelf.specs.Shelves.{entries, no_entries}
-use Rattle.fj_shelf.specs.Hands.{HandState, new_hand}
-use Rattle.fj_store.specs.declared.outcomes.Outcome.{Outcome}
-use Rattle.fj_store.specs.Results.{Collects}
-use Rattle.fj_store.specs.Stores.{StoreState}
+use Rattle.fj_slots.specs.Shelves.{entries, no_entries}
+use Rattle.fj_slots.specs.Hands.{HandState, new_hand}
+use Rattle.fj_bodies.specs.declared.outcomes.Outcome.{Outcome}
+use Rattle.fj_bodies.specs.Results.{Collects}
+use Rattle.fj_bodies.specs.Stores.{StoreState}
 use Rattle.fj_core.specs.declared.booking.Booking.{Booking}
-use Rattle.fj_core.specs.declared.closing.Closing.{Closing}
+use Rattle.fj_core.specs.declared.cutoff.Cutoff.{Cutoff}
 use Rattle.fj_core.specs.Booked.{AreBooked, booked_under}
 use Rattle.fj_core.specs.Closings.{IsClosing, is_due}
 
@@ -32,7 +32,7 @@ pub record CoreState (B K O : Type 0) : Type 0 where
   pub store : StoreState B K O
   pub lanes : List (DrainState B)
   pub bookings : List Booking
-  pub closing : Closing
+  pub closing : Cutoff
   pub handed : List Sealed
   pub parts : List Sealed
 
@@ -42,7 +42,7 @@ first_hands workers start = map (λ w. new_hand w ((start + w) % 2 ^ 32)) (range
 
 module _ {B K O : Type 0} where
   -- what holds of every core
-  pub record IsCore (store : StoreState B K O) (lanes : List (DrainState B)) (bookings : List Booking) (closing : Closing) : Type 0 where
+  pub record IsCore (store : StoreState B K O) (lanes : List (DrainState B)) (bookings : List Booking) (closing : Cutoff) : Type 0 where
     pub booked : AreBooked store.past lanes bookings
     pub closes : IsClosing store.past.events (length bookings) closing store.stuck
 

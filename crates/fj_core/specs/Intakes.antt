@@ -1,18 +1,18 @@
 -- A parcel is taken in.
 use Rattle.std.specs.Prelude.{ℕ, ◌≡◌, ◌+◌, ◌⊎◌, ◌&&◌, Bool, true, false, [], ◌∷◌, ◌++◌, length, Option, Some, None, slice_get, slice_set}
-use Rattle.fj_model.specs.declared.kind.SubmittedKind.{SubmittedKind}
-use Rattle.fj_model.specs.declared.kind.SubmittedKind.TheVariants as submitted
-use Rattle.fj_model.specs.declared.refusal.Refusal.{Refusal}
-use Rattle.fj_model.specs.declared.refusal.Refusal.TheVariants.{LogFull}
-use Rattle.fj_model.specs.declared.step.Step.TheVariants as ask
-use Rattle.fj_model.specs.declared.said.Said.TheVariants as says
-use Rattle.fj_model.specs.Answers.{is_quiet, refusal_of}
-use Rattle.fj_model.specs.Pasts.{Past}
-use Rattle.fj_model.specs.Runs.{Steps}
+use Rattle.fj_rules.specs.declared.kind.SubmittedKind.{SubmittedKind}
+use Rattle.fj_rules.specs.declared.kind.SubmittedKind.TheVariants as submitted
+use Rattle.fj_rules.specs.declared.refusal.Refusal.{Refusal}
+use Rattle.fj_rules.specs.declared.refusal.Refusal.TheVariants.{LogFull}
+use Rattle.fj_rules.specs.declared.step.Step.TheVariants as ask
+use Rattle.fj_rules.specs.declared.said.Said.TheVariants as says
+use Rattle.fj_rules.specs.Answers.{is_quiet, refusal_of}
+use Rattle.fj_rules.specs.Pasts.{Past}
+use Rattle.fj_rules.specs.Runs.{Steps}
 use Rattle.fj_lane.specs.declared.parcel.Parcel.{Parcel}
 use Rattle.fj_lane.specs.Ends.{DrainState}
-use Rattle.fj_shelf.specs.Shelves.{entries, with_entry}
-use Rattle.fj_store.specs.Stores.{StoreState}
+use Rattle.fj_slots.specs.Shelves.{entries, with_entry}
+use Rattle.fj_bodies.specs.Stores.{StoreState}
 use Rattle.fj_core.specs.declared.taken_in.Intake.{Intake}
 use Rattle.fj_core.specs.declared.taken_in.Intake.TheVariants as intake
 use Rattle.fj_core.specs.Closings.{is_due, is_over}

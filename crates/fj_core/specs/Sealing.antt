@@ -1,12 +1,12 @@
 -- The history of a core is sealed, and the part kept.
 use Rattle.std.specs.Prelude.{◌≡◌, ◌⊎◌, ◌&&◌, not, ⊤, Bool, true, false, Result, Ok, Err, [], ◌∷◌, ◌++◌}
-use Rattle.fj_model.specs.declared.epoch.Sealed.{Sealed}
-use Rattle.fj_model.specs.declared.refusal.Refusal.{Refusal}
-use Rattle.fj_model.specs.declared.refusal.Refusal.TheVariants.{LogFull, OutOfMemory}
-use Rattle.fj_model.specs.Answers.{is_quiet}
-use Rattle.fj_model.specs.Epochs.{RefusesSeal}
-use Rattle.fj_model.specs.Pasts.{Past}
-use Rattle.fj_store.specs.Sealing.{HandsPart, is_half_full}
+use Rattle.fj_rules.specs.declared.epoch.Sealed.{Sealed}
+use Rattle.fj_rules.specs.declared.refusal.Refusal.{Refusal}
+use Rattle.fj_rules.specs.declared.refusal.Refusal.TheVariants.{LogFull, OutOfMemory}
+use Rattle.fj_rules.specs.Answers.{is_quiet}
+use Rattle.fj_rules.specs.Epochs.{RefusesSeal}
+use Rattle.fj_rules.specs.Pasts.{Past}
+use Rattle.fj_bodies.specs.Sealing.{HandsPart, is_half_full}
 use Rattle.fj_core.specs.Closings.{is_over}
 use Rattle.fj_core.specs.Cores.{CoreState}
 

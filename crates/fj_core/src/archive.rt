@@ -1,6 +1,6 @@
 ghost use Rattle.std.specs.Prelude.{◌≡◌, ◌<◌, ◌∷◌, [], ◌++◌, length, OnOk};
 
-use fj_model::Sealed;
+use fj_rules::Sealed;
 use std::alloc::{AllocError, Global};
 use std::marker::Model;
 use std::mem;

@@ -1,5 +1,5 @@
 use fj_gate::Ticket;
-use fj_model::{Serial, SubId};
+use fj_rules::{Serial, SubId};
 
 /// A submission that was taken in: the ticket of its parcel, the number of its task, and its submitter. Java has no counterpart.
 #[derive(Clone, Copy, Debug, PartialEq)]

@@ -3,7 +3,7 @@ ghost use Rattle.fj_core.specs.Booked.{HasTask, booked_under, marked};
 
 use crate::booking::Booking;
 use fj_gate::Ticket;
-use fj_model::{OutOfMemory, Serial};
+use fj_rules::{OutOfMemory, Serial};
 use std::alloc::Global;
 use std::marker::Model;
 

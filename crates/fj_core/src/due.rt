@@ -1,12 +1,12 @@
 ghost use Rattle.fj_core.specs.Closes.{Dues, shut_step};
 ghost use Rattle.fj_core.specs.Closings.{is_due};
-ghost use Rattle.fj_store.specs.Asking.{Shuts};
+ghost use Rattle.fj_bodies.specs.Asking.{Shuts};
 
-use crate::closing::Closing;
-use fj_store::{Body, Store};
+use crate::cutoff::Cutoff;
+use fj_bodies::{Body, Store};
 
 /// Makes the Shutdown or the Stop, if so many submissions reach the closing number, unless the store is stuck.
-pub fn make_due<B: Body>(store: &mut Store<B>, closing: Closing, taken_in: usize)
+pub fn make_due<B: Body>(store: &mut Store<B>, closing: Cutoff, taken_in: usize)
     ensures { Dues (is_due closing.number taken_in) closing.stopping store.old store.new }
 {
     if closing.is_due(taken_in) && !store.is_stuck() {

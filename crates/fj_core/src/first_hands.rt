@@ -1,8 +1,8 @@
 ghost use Rattle.std.specs.Prelude.{◌≡◌, IfOk};
 ghost use Rattle.fj_core.specs.Cores.{first_hands};
 
-use fj_model::WorkerId;
-use fj_shelf::Hand;
+use fj_rules::WorkerId;
+use fj_slots::Hand;
 use std::alloc::{AllocError, Global};
 
 /// The empty hand of each worker. Worker w scans from `start + w` on.

@@ -4,7 +4,7 @@
 mod archive;
 mod booking;
 mod bookings;
-mod closing;
+mod cutoff;
 mod due;
 mod first_hands;
 mod pool_core;
@@ -13,6 +13,6 @@ mod taken_in;
 pub use archive::Archive;
 pub use booking::Booking;
 pub use bookings::Bookings;
-pub use closing::Closing;
+pub use cutoff::Cutoff;
 pub use pool_core::{Core, Remains};
 pub use taken_in::Intake;

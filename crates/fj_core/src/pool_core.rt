@@ -1,11 +1,11 @@
 ghost use Rattle.std.specs.Prelude.{◌≡◌, ◌≤◌, ◌&&◌, [], None, true, All, IfOk, vec_len};
 ghost use Rattle.fj_lane.specs.declared.new_lane.TheConstants.{MAX_CAPACITY};
-ghost use Rattle.fj_model.specs.Bounds.{IsWithin};
-ghost use Rattle.fj_model.specs.Epochs.{IsPast};
-ghost use Rattle.fj_model.specs.Statuses.{status, is_undone};
-ghost use Rattle.fj_model.specs.Tasks.{is_kept};
-ghost use Rattle.fj_store.specs.Choosing.{Polls};
-ghost use Rattle.fj_store.specs.Fitting.{Fits};
+ghost use Rattle.fj_rules.specs.Bounds.{IsWithin};
+ghost use Rattle.fj_rules.specs.Epochs.{IsPast};
+ghost use Rattle.fj_rules.specs.Statuses.{status, is_undone};
+ghost use Rattle.fj_rules.specs.Tasks.{is_kept};
+ghost use Rattle.fj_bodies.specs.Choosing.{Polls};
+ghost use Rattle.fj_bodies.specs.Fitting.{Fits};
 ghost use Rattle.fj_core.specs.Booked.{HasTask, booked_under};
 ghost use Rattle.fj_core.specs.Cancels.{CancelsTicket};
 ghost use Rattle.fj_core.specs.Cores.{ChangesStore, CollectsTicket, IsNew, StaysInside, first_hands, is_awaited};
@@ -18,14 +18,14 @@ mod seal;
 
 use crate::archive::Archive;
 use crate::bookings::Bookings;
-use crate::closing::Closing;
+use crate::cutoff::Cutoff;
 use crate::first_hands::new_hands;
+use fj_bodies::{Body, Heard, Outcome, Store, Told};
 use fj_gate::Ticket;
 use fj_lane::Drain;
 use fj_machine::Machine;
-use fj_model::{Limits, Mode, OutOfMemory, Refusal, Serial};
-use fj_shelf::Hand;
-use fj_store::{Body, Heard, Outcome, Store, Told};
+use fj_rules::{Limits, Mode, OutOfMemory, Refusal, Serial};
+use fj_slots::Hand;
 pub use remains::Remains;
 use std::alloc::Global;
 use std::marker::Model;
@@ -37,7 +37,7 @@ pub struct Core<B: Body> {
     store: Store<B>,
     drains: Vec<Drain<B>>,
     bookings: Bookings,
-    closing: Closing,
+    closing: Cutoff,
     archive: Archive,
 }
 
@@ -83,7 +83,7 @@ impl<B: Body> Core<B> {
             store,
             drains,
             bookings,
-            closing: Closing::new(),
+            closing: Cutoff::new(),
             archive: Archive::new(alloc),
         };
         Ok((core, hands))
@@ -190,9 +190,8 @@ impl<B: Body> Core<B> {
 
     /// Whether the outcome under a ticket is still to come: the core is not stuck, and the task that was taken in first under it is undone;
     /// or nothing was taken in under it, and fewer submissions were taken in than there will be.
-    pub fn is_awaited(&mut self, ticket: Ticket) -> bool
-        ensures awaited { result ≡ is_awaited self.old ticket }
-        ensures same { self.new ≡ self.old }
+    pub fn is_awaited(&self, ticket: Ticket) -> bool
+        ensures { result ≡ is_awaited self.now ticket }
     {
         if self.store.is_stuck() {
             return false;
@@ -204,9 +203,8 @@ impl<B: Body> Core<B> {
     }
 
     /// Whether a task is kept and undone: not `ForkJoinTask.isDone`. It also serves where the core is stuck.
-    pub fn is_undone(&mut self, t: Serial) -> bool
-        ensures undone { result ≡ is_kept self.old.store.past.events t && is_undone (status self.old.store.past.events t) }
-        ensures same { self.new ≡ self.old }
+    pub fn is_undone(&self, t: Serial) -> bool
+        ensures { result ≡ is_kept self.now.store.past.events t && is_undone (status self.now.store.past.events t) }
     {
         self.store.is_undone(t)
     }

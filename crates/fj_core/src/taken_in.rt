@@ -1,4 +1,4 @@
-use fj_model::{Refusal, Serial};
+use fj_rules::{Refusal, Serial};
 
 /// What an intake did. Java has no counterpart: its submitters take the lock themselves.
 #[derive(Clone, Copy, Debug, PartialEq)]

@@ -1,5 +1,5 @@
 ghost use Rattle.std.specs.Prelude.{◌≤◌, IfErr};
-ghost use Rattle.fj_crew.specs.Runs.{RefusesRun};
+ghost use Rattle.fj_run.specs.Runs.{RefusesRun};
 
 use crate::block::Block;
 use crate::each::Each;

@@ -4,10 +4,10 @@ use Rattle.std.proofs.Common.{ℕ, zero, suc, ◌≡◌, ◌+◌, ◌-◌, ◌<�
 use Rattle.std.specs.List.{filter, range_with_len}
 use Rattle.std.proofs.lemmas.Bool.{eq-eqb}
 use Rattle.std.proofs.lemmas.Bool.Decides.{nat_tests}
-use Rattle.fj_jobs.specs.declared.node.Node.{Node}
-use Rattle.fj_jobs.specs.Trees.{AreNodes}
-use Rattle.fj_jobs.specs.TreeValues.{node_at, names, children_from}
-use Rattle.fj_jobs.proofs.TreeValues.{children_step, children_end, good_at}
+use Rattle.fj_trees.specs.declared.node.Node.{Node}
+use Rattle.fj_trees.specs.Trees.{AreNodes}
+use Rattle.fj_trees.specs.TreeValues.{node_at, names, children_from}
+use Rattle.fj_trees.proofs.TreeValues.{children_step, children_end, good_at}
 use Rattle.fj_fold.specs.Families.{IsChild, child_from}
 use Rattle.fj_fold.specs.Tallies.{from_child, numbers_from}
 

@@ -3,13 +3,12 @@ use Rattle.std.specs.Prelude.{Some, None, slice_set}
 use Rattle.std.proofs.Common.{ℕ, ◌≡◌, ◌≢◌, ◌+◌, ◌-◌, ◌<◌, ◌≤◌, ◌∙◌, inl, inr, List, [], ◌∷◌, length, map, refl, sym, ap, arith}
 use Rattle.std.proofs.Math.ListN.{get_or-map}
 use Rattle.std.proofs.Math.Seq.{map-set_same}
-use Rattle.std.proofs.lemmas.Bool.{eq-eqb}
+use Rattle.std.proofs.lemmas.Bool.{cases_eq, eq-eqb, ne_eqb}
 use Rattle.std.proofs.lemmas.List.{get_or-set_same, get_or-set_other, length-set, length-map}
-use Rattle.fj_jobs.specs.declared.node.Node.{Node}
-use Rattle.fj_jobs.specs.Trees.{AreNodes, IsTree}
-use Rattle.fj_jobs.specs.TreeValues.{node_at, children_from}
-use Rattle.fj_jobs.proofs.Residues.{same_or_not, not-eqb}
-use Rattle.fj_jobs.proofs.TreeValues.{children_step, children_end, good_at}
+use Rattle.fj_trees.specs.declared.node.Node.{Node}
+use Rattle.fj_trees.specs.Trees.{AreNodes, IsTree}
+use Rattle.fj_trees.specs.TreeValues.{node_at, children_from}
+use Rattle.fj_trees.proofs.TreeValues.{children_step, children_end, good_at}
 use Rattle.fj_fold.proofs.Children.{few_children}
 use Rattle.fj_fold.specs.declared.member.Member.{Member}
 use Rattle.fj_fold.specs.Families.{IsJoined, alone, before_sibling, member_at, nodes_of, with_child, with_joined}
@@ -80,7 +79,7 @@ joined_root nodes i members lt root at =
       all = at.all;
       children = λ p within. rw (same p) (at.children p within);
       first = λ p within. rw (same p) (at.first p within);
-      next = λ c p le within named. elim (same_or_not c i) [
+      next = λ c p le within named. elim (cases_eq c i) [
         | inl here ↦ absurd (let other : (node_at nodes i).parent ≡ Some p = rw here at named in cc)
         | inr other ↦ at.next c p (omega arith) within named
       ];
@@ -91,7 +90,7 @@ joined_child : (nodes : List Node) (i q : ℕ) (members : List Member) → i < l
 joined_child nodes i q members lt below child at =
     let all : length members ≡ length nodes = sym (length-map members (λ m. m.node)) ∙ ap length at.all in
     let mine : children_from nodes i q ≡ i ∷ children_from nodes (i + 1) q = children_step nodes i q lt ∙ rw (child, eq-eqb q q refl) refl in
-    let others : (p : ℕ) → p ≢ q → children_from nodes i p ≡ children_from nodes (i + 1) p = λ p other. children_step nodes i p lt ∙ rw (child, not-eqb p q other) refl in
+    let others : (p : ℕ) → p ≢ q → children_from nodes i p ≡ children_from nodes (i + 1) p = λ p other. children_step nodes i p lt ∙ rw (child, ne_eqb p q other) refl in
     let apart : i ≢ q = (λ e. omega arith) in
     let inside : q < length members = omega arith in
     let here : i < length members = omega arith in
@@ -100,21 +99,21 @@ joined_child nodes i q members lt below child at =
     let self = child_at members q i here apart in
     record {
       all = nodes_kept members q i (λ e. apart (sym e)) ∙ at.all;
-      children = λ p within. elim (same_or_not p q) [
+      children = λ p within. elim (cases_eq p q) [
         | inl same ↦ rw (same, above, mine) (let count = at.children q has in omega arith)
-        | inr other ↦ elim (same_or_not p i) [
+        | inr other ↦ elim (cases_eq p i) [
           | inl same ↦ rw (same, self, others i apart) (at.children i lt)
           | inr away ↦ rw (other_at members q i p other away, others p other) (at.children p within)
         ]
       ];
-      first = λ p within. elim (same_or_not p q) [
+      first = λ p within. elim (cases_eq p q) [
         | inl same ↦ rw (same, above, mine) refl
-        | inr other ↦ elim (same_or_not p i) [
+        | inr other ↦ elim (cases_eq p i) [
           | inl same ↦ rw (same, self, others i apart) (at.first i lt)
           | inr away ↦ rw (other_at members q i p other away, others p other) (at.first p within)
         ]
       ];
-      next = λ c p le within named. elim (same_or_not c i) [
+      next = λ c p le within named. elim (cases_eq c i) [
         | inl same ↦
             let other : (node_at nodes i).parent ≡ Some p = rw same at named in
             let whose : p ≡ q = cc in

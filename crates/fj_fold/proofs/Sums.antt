@@ -2,11 +2,11 @@
 use Rattle.std.specs.Prelude.{Option, Some, None, IfSome}
 use Rattle.std.proofs.Common.{ℕ, ◌≡◌, ◌+◌, ◌*◌, ◌%◌, ◌<◌, ◌≤◌, ◌∙◌, List, length, map, sym, ap, arith}
 use Rattle.std.proofs.Math.Nat.{mod-add-mod, mod-lt, add_assoc, mul-le-mul_right}
-use Rattle.fj_jobs.specs.declared.node.Node.{Node}
-use Rattle.fj_jobs.specs.Trees.{IsTree}
-use Rattle.fj_jobs.specs.TreeValues.{node_at, children_from, node_value, weighted}
-use Rattle.fj_jobs.proofs.TreeValues.{good_at, value_combined}
-use Rattle.fj_fold.specs.declared.tally.Tally.{Tally}
+use Rattle.fj_trees.specs.declared.node.Node.{Node}
+use Rattle.fj_trees.specs.Trees.{IsTree}
+use Rattle.fj_trees.specs.TreeValues.{node_at, children_from, node_value, weighted}
+use Rattle.fj_trees.proofs.TreeValues.{good_at, value_combined}
+use Rattle.fj_fold.specs.declared.child_sum.ChildSum.{ChildSum}
 use Rattle.fj_fold.specs.Families.{IsChild, child_from}
 use Rattle.fj_fold.specs.Tallies.{IsTally, from_child, numbers_from}
 use Rattle.fj_fold.proofs.Children.{parent_below, children_at, first_from, from_first, fewer_behind}
@@ -29,7 +29,7 @@ one_more : (a k v r whole : ℕ) → (a + (k * v + r)) % 1000000007 ≡ whole �
 one_more a k v r whole e = mod-add-mod (a + k * v) 1000000007 r ∙ ap (λ n. n % 1000000007) (add_assoc a (k * v) r) ∙ e
 
 -- one child more
-pub tally_more : (nodes : List Node) (t : Tally) (c v w s : ℕ) (next : Option ℕ) → IsTally nodes t → t.child ≡ Some c → v ≡ node_value nodes c → ((p : ℕ) → (node_at nodes c).parent ≡ Some p → next ≡ child_from nodes (c + 1) p) → w ≡ t.weight + 1
+pub tally_more : (nodes : List Node) (t : ChildSum) (c v w s : ℕ) (next : Option ℕ) → IsTally nodes t → t.child ≡ Some c → v ≡ node_value nodes c → ((p : ℕ) → (node_at nodes c).parent ≡ Some p → next ≡ child_from nodes (c + 1) p) → w ≡ t.weight + 1
     → s ≡ (t.sum + t.weight * v) % 1000000007 → IsTally nodes (record { node = t.node; child = next; weight = w; sum = s })
 tally_more nodes t c v w s next tally is value behind more sum =
     let child : IsChild nodes t.node c × (t.weight ≤ c) = rw is at tally.child in
@@ -47,7 +47,7 @@ tally_more nodes t c v w s next tally is value behind more sum =
     }
 
 -- a weight is small, and so is what a value comes to with it
-pub weight_small : (nodes : List Node) (t : Tally) (c : ℕ) → IsTree nodes → IsTally nodes t → t.child ≡ Some c → t.weight < 4000
+pub weight_small : (nodes : List Node) (t : ChildSum) (c : ℕ) → IsTree nodes → IsTally nodes t → t.child ≡ Some c → t.weight < 4000
 weight_small nodes t c tree tally is =
     let child : IsChild nodes t.node c × (t.weight ≤ c) = rw is at tally.child in
     let few = (good_at nodes c tree.0 child.0.0).0 in
@@ -60,7 +60,7 @@ product_small k v few small =
     omega arith
 
 -- behind it fewer are left
-pub fewer_left : (nodes : List Node) (t : Tally) (c : ℕ) (next : Option ℕ) → IsTally nodes t → t.child ≡ Some c → ((p : ℕ) → (node_at nodes c).parent ≡ Some p → next ≡ child_from nodes (c + 1) p)
+pub fewer_left : (nodes : List Node) (t : ChildSum) (c : ℕ) (next : Option ℕ) → IsTally nodes t → t.child ≡ Some c → ((p : ℕ) → (node_at nodes c).parent ≡ Some p → next ≡ child_from nodes (c + 1) p)
     → numbers_from (length nodes) next < numbers_from (length nodes) t.child
 fewer_left nodes t c next tally is behind =
     let child : IsChild nodes t.node c × (t.weight ≤ c) = rw is at tally.child in

@@ -1,17 +1,17 @@
 -- What the body of a node asks.
 use Rattle.std.specs.Prelude.{ℕ, ◌≡◌, ⊤, true, List, length, Option, Some, None, IfSome}
-use Rattle.fj_model.specs.declared.kind.Kind.{Kind}
-use Rattle.fj_model.specs.declared.kind.Kind.TheVariants.{Completer}
-use Rattle.fj_model.specs.declared.refusal.Refusal.TheVariants.{OutOfMemory}
-use Rattle.fj_model.specs.Replies.{refusal_number}
-use Rattle.fj_store.specs.declared.body.Heard.{Heard}
-use Rattle.fj_store.specs.declared.body.Heard.TheVariants.{Start}
-use Rattle.fj_store.specs.declared.body.Ask.{Ask}
-use Rattle.fj_store.specs.declared.body.Ask.TheVariants.{Fork, Take, Add, Try, Fail, HookDone}
-use Rattle.fj_jobs.specs.declared.node.Node.{Node}
-use Rattle.fj_jobs.specs.TreeValues.{children}
-use Rattle.fj_fold.specs.declared.course.Stage.{Stage}
-use Rattle.fj_fold.specs.declared.course.Stage.TheVariants.{Adding, Forking}
+use Rattle.fj_rules.specs.declared.kind.Kind.{Kind}
+use Rattle.fj_rules.specs.declared.kind.Kind.TheVariants.{Completer}
+use Rattle.fj_rules.specs.declared.refusal.Refusal.TheVariants.{OutOfMemory}
+use Rattle.fj_rules.specs.Refusals.{refusal_number}
+use Rattle.fj_bodies.specs.declared.body.Heard.{Heard}
+use Rattle.fj_bodies.specs.declared.body.Heard.TheVariants.{Start}
+use Rattle.fj_bodies.specs.declared.body.Ask.{Ask}
+use Rattle.fj_bodies.specs.declared.body.Ask.TheVariants.{Fork, Take, Add, Try, Fail, HookDone}
+use Rattle.fj_trees.specs.declared.node.Node.{Node}
+use Rattle.fj_trees.specs.TreeValues.{children}
+use Rattle.fj_fold.specs.declared.fold_progress.FoldStage.{FoldStage}
+use Rattle.fj_fold.specs.declared.fold_progress.FoldStage.TheVariants.{Adding, Forking}
 
 -- a completer of some parent that waits for nothing yet, and passes a code on
 abbrev pub IsChildKind : Kind → Type 0
@@ -28,18 +28,18 @@ AsksAsNode nodes p (Fail code) = code ≡ refusal_number OutOfMemory
 AsksAsNode nodes p _ = ⊥
 
 -- the task of a body that adds or forks
-abbrev pub task_in : Stage → Option ℕ
+abbrev pub task_in : FoldStage → Option ℕ
 task_in (Adding me) = Some me
 task_in (Forking me) = Some me
 task_in _ = None
 
 -- the same once this is heard: the first turn tells it
-abbrev pub own_task : {B K O : Type 0} → Stage → Heard B K O → Option ℕ
+abbrev pub own_task : {B K O : Type 0} → FoldStage → Heard B K O → Option ℕ
 own_task stage (Start me) = Some me
 own_task stage _ = task_in stage
 
 -- the task that it has is this one, if it has one
-abbrev pub HasTask : Option ℕ → Stage → Type 0
+abbrev pub HasTask : Option ℕ → FoldStage → Type 0
 HasTask own stage = IfSome (task_in stage) (λ me. own ≡ Some me)
 
 -- it forks the body of the child that is next, and tries to end where none is left

@@ -1,24 +1,24 @@
 -- How far a body has come that folds a node.
 use Rattle.std.specs.Prelude.{ℕ, ◌+◌, ◌*◌, List, Option, IfSome}
-use Rattle.fj_jobs.specs.declared.node.Node.{Node}
-use Rattle.fj_fold.specs.declared.course.Stage.{Stage}
-use Rattle.fj_fold.specs.declared.course.Stage.TheVariants.{New, Adding, Forking, Ended, Taking}
-use Rattle.fj_fold.specs.declared.course.Course.{Course}
+use Rattle.fj_trees.specs.declared.node.Node.{Node}
+use Rattle.fj_fold.specs.declared.fold_progress.FoldStage.{FoldStage}
+use Rattle.fj_fold.specs.declared.fold_progress.FoldStage.TheVariants.{New, Adding, Forking, Ended, Taking}
+use Rattle.fj_fold.specs.declared.fold_progress.FoldProgress.{FoldProgress}
 use Rattle.fj_fold.specs.Families.{IsChild}
 use Rattle.fj_fold.specs.Tallies.{IsTally, numbers_from}
 
 -- what is summed is right, and who is forked next is a child
-pub record IsCourse (nodes : List Node) (course : Course) : Type 0 where
+pub record IsCourse (nodes : List Node) (course : FoldProgress) : Type 0 where
   pub tally : IsTally nodes course.tally
   pub next : IfSome course.next (λ c. IsChild nodes course.tally.node c)
 
 -- how many turns are left at most, in a tree of so many nodes
-abbrev pub turns_in : ℕ → Stage → Option ℕ → Option ℕ → ℕ
+abbrev pub turns_in : ℕ → FoldStage → Option ℕ → Option ℕ → ℕ
 turns_in count New next child = 2 * count + 3
 turns_in count (Adding me) next child = 2 * count + 2
 turns_in count (Forking me) next child = count + 1 + numbers_from count next
 turns_in count Ended next child = count + 1
 turns_in count Taking next child = numbers_from count child
 
-abbrev pub turns_left : ℕ → Course → ℕ
+abbrev pub turns_left : ℕ → FoldProgress → ℕ
 turns_left count course = turns_in count course.stage course.next course.tally.child

@@ -1,8 +1,8 @@
 -- The nodes of a tree with their first children and their next siblings.
 use Rattle.std.specs.Prelude.{ℕ, ◌≡◌, ◌+◌, ◌<◌, ◌≤◌, List, length, map, Option, Some, None, get_or, slice_get, slice_set}
-use Rattle.fj_jobs.specs.declared.node.Node.{Node}
-use Rattle.fj_jobs.specs.Trees.{IsTree}
-use Rattle.fj_jobs.specs.TreeValues.{node_at, children, children_from}
+use Rattle.fj_trees.specs.declared.node.Node.{Node}
+use Rattle.fj_trees.specs.Trees.{IsTree}
+use Rattle.fj_trees.specs.TreeValues.{node_at, children, children_from}
 use Rattle.fj_fold.specs.declared.member.Member.{Member}
 
 -- the first child of p with a number from i on

@@ -1,8 +1,8 @@
 -- How far the value of a node is summed.
 use Rattle.std.specs.Prelude.{ℕ, ◌≡◌, ◌+◌, ◌-◌, ◌%◌, ◌<◌, ◌≤◌, List, [], length, map, Option, Some, None, IfSome}
-use Rattle.fj_jobs.specs.declared.node.Node.{Node}
-use Rattle.fj_jobs.specs.TreeValues.{children_from, node_value, weighted}
-use Rattle.fj_fold.specs.declared.tally.Tally.{Tally}
+use Rattle.fj_trees.specs.declared.node.Node.{Node}
+use Rattle.fj_trees.specs.TreeValues.{children_from, node_value, weighted}
+use Rattle.fj_fold.specs.declared.child_sum.ChildSum.{ChildSum}
 use Rattle.fj_fold.specs.Families.{IsChild}
 
 -- the children of p from this one on
@@ -11,7 +11,7 @@ from_child nodes p None = []
 from_child nodes p (Some c) = children_from nodes c p
 
 -- the sum, and the weighted values of the children that are still to come, make the value of the node
-pub record IsTally (nodes : List Node) (tally : Tally) : Type 0 where
+pub record IsTally (nodes : List Node) (tally : ChildSum) : Type 0 where
   pub node : tally.node < length nodes
   pub weight : 1 ≤ tally.weight
   pub child : IfSome tally.child (λ c. IsChild nodes tally.node c × (tally.weight ≤ c))

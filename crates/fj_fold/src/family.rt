@@ -1,12 +1,12 @@
 ghost use Rattle.std.specs.Prelude.{◌≡◌, ◌+◌, ◌<◌, ℕ, length, Some, IfOk};
-ghost use Rattle.fj_jobs.specs.Trees.{IsTree};
-ghost use Rattle.fj_jobs.specs.TreeValues.{children, node_at};
+ghost use Rattle.fj_trees.specs.Trees.{IsTree};
+ghost use Rattle.fj_trees.specs.TreeValues.{children, node_at};
 ghost use Rattle.fj_fold.specs.Families.{IsMember, child_from};
 
 use crate::joining::{each_alone, join};
 use crate::member::Member;
-use fj_jobs::Nodes;
-use fj_model::OutOfMemory;
+use fj_rules::OutOfMemory;
+use fj_trees::Nodes;
 use std::alloc::Global;
 use std::marker::Model;
 
@@ -19,7 +19,7 @@ pub struct Family {
 
 impl Model for Family {
     ghost use Rattle.std.specs.Prelude.{List};
-    ghost use Rattle.fj_jobs.specs.declared.node.Node.{Node};
+    ghost use Rattle.fj_trees.specs.declared.node.Node.{Node};
     ghost use Rattle.fj_fold.specs.Families.{IsFamily, nodes_of};
 
     ghost Value = { List Node };

@@ -1,15 +1,15 @@
 ghost use Rattle.std.specs.Prelude.{◌≡◌, ◌<◌, ◌≤◌, IfErr, IfOk, length};
-ghost use Rattle.fj_model.specs.declared.limits.TheConstants.{MAX_EVENTS, MAX_TASKS, MAX_WORKERS};
-ghost use Rattle.fj_model.specs.Bounds.{bounds};
-ghost use Rattle.fj_jobs.specs.TreeValues.{node_value};
-ghost use Rattle.fj_crew.specs.Runs.{RefusesRun};
+ghost use Rattle.fj_rules.specs.declared.limits.TheConstants.{MAX_EVENTS, MAX_TASKS, MAX_WORKERS};
+ghost use Rattle.fj_rules.specs.Bounds.{bounds};
+ghost use Rattle.fj_trees.specs.TreeValues.{node_value};
+ghost use Rattle.fj_run.specs.Runs.{RefusesRun};
 
 use crate::family::Family;
-use crate::tree::Tree;
+use crate::named_tree::NamedTree;
 use crate::tree_fold::TreeFold;
-use fj_crew::{Settings, Turnstile, result_in, run_alone};
-use fj_jobs::Nodes;
-use fj_model::{Limits, MAX_EVENTS, MAX_TASKS, Mode, Refusal};
+use fj_rules::{Limits, MAX_EVENTS, MAX_TASKS, Mode, Refusal};
+use fj_run::{Settings, Turnstile, result_in, run_alone};
+use fj_trees::Nodes;
 use std::alloc::{AllocError, Global};
 use std::marker::Brand;
 use std::sync::Wait;
@@ -41,7 +41,7 @@ pub fn fold_tree<R: Threads + Wait + Sync, T: Turnstile + Sync>(
 }
 
 /// The same for the family of a tree. Preconditions: it is that of the tree that the type names, which has a root; 1 to 32 workers.
-fn fold_in<F: Tree + Send, R: Threads + Wait + Sync, T: Turnstile + Sync>(
+fn fold_in<F: NamedTree + Send, R: Threads + Wait + Sync, T: Turnstile + Sync>(
     rt: &R,
     alloc: Global,
     workers: u32,

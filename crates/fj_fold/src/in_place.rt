@@ -1,8 +1,8 @@
 ghost use Rattle.std.specs.Prelude.{◌≡◌, ◌<◌, length};
-ghost use Rattle.fj_jobs.specs.TreeValues.{node_value};
+ghost use Rattle.fj_trees.specs.TreeValues.{node_value};
 
+use crate::child_sum::ChildSum;
 use crate::family::Family;
-use crate::tally::Tally;
 
 /// The value of a node, without a pool and without memory: from its children's, which are computed so too. It recurses as deep as the tree
 /// below the node. Precondition: there is such a node.
@@ -10,7 +10,7 @@ pub(crate) fn value_in_place(family: &Family, node: u32) -> u64
     requires { node < length family.now }
     ensures { result ≡ node_value family.now node }
 {
-    let mut tally = Tally::new(family, node);
+    let mut tally = ChildSum::new(family, node);
     while let Some(child) = tally.child {
         let value = value_in_place(family, child);
         tally = tally.add(family, child, value);

@@ -1,11 +1,11 @@
 //! The nodes of a tree are joined to their children.
 ghost use Rattle.std.specs.Prelude.{◌≡◌, ◌<◌, length, map, IfOk};
-ghost use Rattle.fj_jobs.specs.Trees.{IsTree};
+ghost use Rattle.fj_trees.specs.Trees.{IsTree};
 ghost use Rattle.fj_fold.specs.Families.{IsFamily, IsJoined, alone, member_at, nodes_of, with_joined};
 
 use crate::member::Member;
-use fj_jobs::Node;
-use fj_model::OutOfMemory;
+use fj_rules::OutOfMemory;
+use fj_trees::Node;
 use std::alloc::Global;
 
 /// The nodes, each alone.

@@ -7,21 +7,21 @@
 //! ```
 #![tactic(auto)]
 
-mod course;
+mod child_sum;
 mod family;
+mod fold_progress;
 mod folding;
 mod in_place;
 mod joining;
 mod member;
-mod tally;
-mod tree;
+mod named_tree;
 mod tree_fold;
 
 pub use family::Family;
-pub use fj_crew::{Open, Turnstile};
-pub use fj_jobs::{Node, Nodes, TreeFault, read_tree};
-pub use fj_model::Refusal;
-pub use fj_store::{Ask, Body, Heard};
+pub use fj_bodies::{Ask, Body, Heard};
+pub use fj_rules::Refusal;
+pub use fj_run::{Open, Turnstile};
+pub use fj_trees::{Node, Nodes, TreeFault, read_tree};
 pub use folding::fold_tree;
-pub use tree::Tree;
+pub use named_tree::NamedTree;
 pub use tree_fold::TreeFold;

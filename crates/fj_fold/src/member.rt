@@ -1,7 +1,7 @@
 ghost use Rattle.std.specs.Prelude.{◌≡◌, ◌<◌};
 ghost use Rattle.fj_fold.specs.Families.{alone, before_sibling, with_child};
 
-use fj_jobs::Node;
+use fj_trees::Node;
 
 /// A node of a tree, with what leads to its children.
 #[derive(Clone, Copy)]

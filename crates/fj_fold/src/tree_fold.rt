@@ -1,21 +1,21 @@
 ghost use Rattle.std.specs.Prelude.{◌≡◌, ◌⊎◌, ◌+◌, ◌-◌, ◌<◌, ℕ, Option, Some, None, IfOk, IfSome, length, slice_get};
-ghost use Rattle.fj_model.specs.Replies.{refusal_number};
-ghost use Rattle.fj_jobs.specs.TreeValues.{node_value};
-ghost use Rattle.fj_store.specs.Turns.{AskRight, HeardRight, Nearer};
-ghost use Rattle.fj_crew.specs.Asks.{AsksUnder};
+ghost use Rattle.fj_rules.specs.Refusals.{refusal_number};
+ghost use Rattle.fj_trees.specs.TreeValues.{node_value};
+ghost use Rattle.fj_bodies.specs.Turns.{AskRight, HeardRight, Nearer};
+ghost use Rattle.fj_run.specs.Asks.{AsksUnder};
 ghost use Rattle.fj_fold.specs.Asks.{AsksAsNode, ForksNext, HasTask, own_task, task_in};
 ghost use Rattle.fj_fold.specs.Families.{child_from};
 ghost use Rattle.fj_fold.specs.Courses.{IsCourse, turns_left};
 ghost use Rattle.fj_fold.specs.Tallies.{numbers_from};
 ghost use Rattle.std.proofs.Props.{props};
 
-use crate::course::{Course, Stage};
+use crate::child_sum::ChildSum;
 use crate::family::Family;
+use crate::fold_progress::{FoldProgress, FoldStage};
 use crate::in_place::value_in_place;
-use crate::tally::Tally;
-use crate::tree::Tree;
-use fj_model::{Kind, Refusal, Serial};
-use fj_store::{Ask, Body, Heard};
+use crate::named_tree::NamedTree;
+use fj_bodies::{Ask, Body, Heard};
+use fj_rules::{Kind, Refusal, Serial};
 use std::alloc::{AllocError, Global};
 use std::marker::PhantomData;
 
@@ -23,15 +23,15 @@ use std::marker::PhantomData;
 /// tree. It borrows the family, so it is as small for a node with 4,000 children as for a leaf until it forks them. It stands in a box, since a
 /// pool moves a body several times.
 #[derive(Drop)]
-pub struct TreeFold<'a, F: Tree> {
-    inside: Box<Inside<'a, F>>,
+pub struct TreeFold<'a, F: NamedTree> {
+    inside: Box<FoldState<'a, F>>,
 }
 
 /// What the body of a node has.
 #[derive(Drop)]
-pub struct Inside<'a, F: Tree> {
+pub struct FoldState<'a, F: NamedTree> {
     family: &'a Family,
-    course: Course,
+    course: FoldProgress,
     /// The numbers of the tasks of its children, the first child's first.
     forked: Vec<u64>,
     of: PhantomData<F>,
@@ -39,7 +39,7 @@ pub struct Inside<'a, F: Tree> {
     ghost right: { IsCourse F.nodes course } by { Prim.hlevel props },
 }
 
-impl<'a, F: Tree> TreeFold<'a, F> {
+impl<'a, F: NamedTree> TreeFold<'a, F> {
     /// The body of a node. An error where memory is refused. Preconditions: the family is that of the tree that the type names, and has such a
     /// node.
     pub fn new(
@@ -51,12 +51,12 @@ impl<'a, F: Tree> TreeFold<'a, F> {
         requires there { number < length F.nodes }
         ensures { IfOk result (λ body. body.inside.value.course.tally.node ≡ number) }
     {
-        let course = Course {
-            stage: Stage::New,
+        let course = FoldProgress {
+            stage: FoldStage::New,
             next: family.first_child(number),
-            tally: Tally::new(family, number),
+            tally: ChildSum::new(family, number),
         };
-        let inside = Inside {
+        let inside = FoldState {
             family,
             course,
             forked: Vec::new(alloc),
@@ -69,7 +69,7 @@ impl<'a, F: Tree> TreeFold<'a, F> {
     }
 }
 
-impl<'a, F: Tree> Inside<'a, F> {
+impl<'a, F: NamedTree> FoldState<'a, F> {
     /// Its first turn, as this task: raises its pending count by the number of its children.
     fn begin(&mut self, me: u64) -> Ask<TreeFold<'a, F>>
         ensures key { self.new.course.tally.node ≡ self.old.course.tally.node }
@@ -79,10 +79,10 @@ impl<'a, F: Tree> Inside<'a, F> {
         ensures own { AsksUnder (Some me) result }
         ensures stays { HasTask (Some me) self.new.course.stage }
     {
-        let Stage::New = self.course.stage else {
+        let FoldStage::New = self.course.stage else {
             return self.go_on_without();
         };
-        self.course.stage = Stage::Adding(me);
+        self.course.stage = FoldStage::Adding(me);
         Ask::Add(Serial(me), self.family.children(self.course.tally.node))
     }
 
@@ -95,7 +95,7 @@ impl<'a, F: Tree> Inside<'a, F> {
         ensures own { AsksUnder (task_in self.old.course.stage) result }
         ensures stays { HasTask (task_in self.old.course.stage) self.new.course.stage }
     {
-        let Stage::Adding(me) = self.course.stage else {
+        let FoldStage::Adding(me) = self.course.stage else {
             return self.go_on_without();
         };
         self.fork(me)
@@ -110,7 +110,7 @@ impl<'a, F: Tree> Inside<'a, F> {
         ensures own { AsksUnder (task_in self.old.course.stage) result }
         ensures stays { HasTask (task_in self.old.course.stage) self.new.course.stage }
     {
-        let Stage::Forking(me) = self.course.stage else {
+        let FoldStage::Forking(me) = self.course.stage else {
             return self.go_on_without();
         };
         match self.forked.push(child) {
@@ -128,10 +128,10 @@ impl<'a, F: Tree> Inside<'a, F> {
         ensures own { AsksUnder None result }
         ensures stays { HasTask None self.new.course.stage }
     {
-        if let Stage::Taking = self.course.stage {
+        if let FoldStage::Taking = self.course.stage {
             return self.go_on_without();
         }
-        self.course.stage = Stage::Taking;
+        self.course.stage = FoldStage::Taking;
         self.take()
     }
 
@@ -145,7 +145,7 @@ impl<'a, F: Tree> Inside<'a, F> {
         ensures own { AsksUnder None result }
         ensures stays { HasTask None self.new.course.stage }
     {
-        let Stage::Taking = self.course.stage else {
+        let FoldStage::Taking = self.course.stage else {
             return self.go_on_without();
         };
         let Some(child) = self.course.tally.child else {
@@ -167,7 +167,7 @@ impl<'a, F: Tree> Inside<'a, F> {
         ensures own { AsksUnder None result }
         ensures stays { HasTask None self.new.course.stage }
     {
-        let Stage::Taking = self.course.stage else {
+        let FoldStage::Taking = self.course.stage else {
             return self.fail();
         };
         let Some(child) = self.course.tally.child else {
@@ -188,7 +188,7 @@ impl<'a, F: Tree> Inside<'a, F> {
         ensures next { (result ≡ Ask.Fail (refusal_number Refusal.OutOfMemory)) ⊎ ForksNext (λ b. b.inside.value.course.tally.node) self.old.course.next result }
     {
         let Some(child) = self.course.next else {
-            self.course.stage = Stage::Ended;
+            self.course.stage = FoldStage::Ended;
             return Ask::Try;
         };
         match TreeFold::new(*self.forked.allocator(), self.family, child) {
@@ -210,7 +210,7 @@ impl<'a, F: Tree> Inside<'a, F> {
         ensures next { ForksNext (λ b. b.inside.value.course.tally.node) self.old.course.next result }
         ensures goes_on { IfSome self.old.course.next (λ c. self.new.course.next ≡ child_from F.nodes (c + 1) self.old.course.tally.node) }
     {
-        self.course.stage = Stage::Forking(me);
+        self.course.stage = FoldStage::Forking(me);
         self.course.next = self.family.next_sibling(child);
         let kind = Kind::Completer {
             relay: true,
@@ -222,7 +222,7 @@ impl<'a, F: Tree> Inside<'a, F> {
 
     /// Takes the result of the next child, or ends with the sum where none is left. Precondition: it is in its completion action.
     fn take(&mut self) -> Ask<TreeFold<'a, F>>
-        requires { self.old.course.stage ≡ Stage.Taking }
+        requires { self.old.course.stage ≡ FoldStage.Taking }
         ensures key { self.new.course.tally.node ≡ self.old.course.tally.node }
         ensures right { AskRight (λ k o. o ≡ node_value F.nodes k) self.old.course.tally.node result }
         ensures nearer { Nearer (turns_left (length F.nodes) self.new.course) (numbers_from (length F.nodes) self.old.course.tally.child + 1) result }
@@ -244,7 +244,7 @@ impl<'a, F: Tree> Inside<'a, F> {
 
     /// Adds the value of the next child. Preconditions: it is in its completion action, this is the next child, and its value.
     fn add(&mut self, child: u32, value: u64) -> Ask<TreeFold<'a, F>>
-        requires stage { self.old.course.stage ≡ Stage.Taking }
+        requires stage { self.old.course.stage ≡ FoldStage.Taking }
         requires child { self.old.course.tally.child ≡ Some child }
         requires value { value ≡ node_value F.nodes child }
         ensures key { self.new.course.tally.node ≡ self.old.course.tally.node }
@@ -268,7 +268,7 @@ impl<'a, F: Tree> Inside<'a, F> {
         ensures stays { HasTask None self.new.course.stage }
         ensures fails { result ≡ Ask.Fail (refusal_number Refusal.OutOfMemory) }
     {
-        self.course.stage = Stage::Ended;
+        self.course.stage = FoldStage::Ended;
         Ask::Fail(Refusal::OutOfMemory.number())
     }
 
@@ -294,7 +294,7 @@ impl<'a, F: Tree> Inside<'a, F> {
     }
 }
 
-impl<'a, F: Tree> Body for TreeFold<'a, F> {
+impl<'a, F: NamedTree> Body for TreeFold<'a, F> {
     type Key = u32;
 
     type Out = u64;

@@ -1,8 +1,8 @@
 -- What a job gave, or why it gave nothing.
 use Rattle.std.specs.Prelude.{⊤, Result, Ok, Err}
-use Rattle.fj_crew.specs.Runs.{RefusesRun}
-use Rattle.fj_crew.specs.declared.results.NoResult.{NoResult}
-use Rattle.fj_crew.specs.declared.results.NoResult.TheVariants as none
+use Rattle.fj_run.specs.Runs.{RefusesRun}
+use Rattle.fj_run.specs.declared.results.NoResult.{NoResult}
+use Rattle.fj_run.specs.declared.results.NoResult.TheVariants as none
 use Rattle.fj_free.specs.declared.unfinished.Unfinished.{Unfinished}
 use Rattle.fj_free.specs.declared.unfinished.Unfinished.TheVariants.{Refused, Failed, Missing}
 

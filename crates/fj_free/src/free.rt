@@ -1,7 +1,7 @@
 ghost use Rattle.std.specs.Prelude.{◌≡◌, ◌+◌, ◌^◌};
 
 use crate::turns::Turns;
-use fj_crew::{Ask, Body, Heard};
+use fj_run::{Ask, Body, Heard};
 
 /// The code with which a job fails that has taken all its turns. It is the greatest that there is: a job's own codes can be lower ones, and those that
 /// are numbers of refusals are 1 to 14.
@@ -61,8 +61,8 @@ impl<J> Free<J> {
 
 impl<J: Turns> Body for Free<J> {
     ghost use Rattle.std.specs.Prelude.{ℕ, ⊤, Option, None};
-    ghost use Rattle.fj_store.specs.Turns.{HeardRight, AskRight, Nearer};
-    ghost use Rattle.fj_store.specs.declared.body.Ask.TheVariants.{Fail as AskFail};
+    ghost use Rattle.fj_bodies.specs.Turns.{HeardRight, AskRight, Nearer};
+    ghost use Rattle.fj_bodies.specs.declared.body.Ask.TheVariants.{Fail as AskFail};
     ghost use Rattle.fj_free.specs.declared.free.TheConstants.{SPENT};
 
     type Key = ();

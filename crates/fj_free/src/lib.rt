@@ -12,7 +12,7 @@ mod tests;
 mod turns;
 mod unfinished;
 
-pub use fj_crew::{
+pub use fj_run::{
     Ask, Body, Heard, Kind, Limits, Mode, Naming, Open, Outcome, Play, Played, Record, Refusal,
     Running, Serial, Settings, SubId, Ticket, Turnstile, WorkerId, run_alone, with_pool,
 };

@@ -1,11 +1,11 @@
 ghost use Rattle.std.specs.Prelude.{◌≡◌, IfErr};
-ghost use Rattle.fj_crew.specs.Results.{result_in};
+ghost use Rattle.fj_run.specs.Results.{result_in};
 ghost use Rattle.fj_free.specs.Results.{out_in, IsTold};
 
 use crate::free::Free;
 use crate::turns::Turns;
 use crate::unfinished::Unfinished;
-use fj_crew::{NoResult, Open, Outcome, Settings, result_in, run_alone};
+use fj_run::{NoResult, Open, Outcome, Settings, result_in, run_alone};
 use std::alloc::Global;
 use std::sync::Wait;
 use std::thread::Threads;

@@ -1,5 +1,5 @@
 use crate::free::Free;
-use fj_crew::{Ask, Heard};
+use fj_run::{Ask, Heard};
 
 /// A job in turns, of which nothing is promised.
 pub trait Turns: Drop + Sized {

@@ -1,4 +1,4 @@
-use fj_crew::Refusal;
+use fj_run::Refusal;
 use thiserror::Error;
 
 /// Why a job has given nothing.

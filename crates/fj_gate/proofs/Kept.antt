@@ -2,7 +2,7 @@
 use Rattle.std.proofs.Common.{◌≡◌, ◌⊎◌, inl, inr, ℕ, ◌+◌, ◌*◌, ◌<◌, ◌≤◌, ◌==◌, cond, nat_lt, List, [], ◌∷◌, ◌++◌, length, set, Some, sym, refl, ap, ◌∙◌, subst, arith, length-append, sum_by}
 use mathlib.Core.Option.{some}
 use lib.ListN.{get_elem?}
-use Rattle.fj_model.specs.Lists.{times_in}
+use Rattle.fj_rules.specs.Lists.{times_in}
 use Rattle.fj_gate.specs.Numbers.{IsNumbersBelow}
 use Rattle.fj_gate.specs.Rule.{joined, admitted, turned_away, IsUntold, IsOpen, IsClosed, Fits, IsGate}
 use Rattle.fj_gate.specs.Steps.{fresh, drew, turned, heard_closed, saw, closed_at}
@@ -10,7 +10,7 @@ use Rattle.fj_gate.specs.declared.word.View.{View}
 use Rattle.std.proofs.lemmas.List.Sums.{count_by-le-length}
 use Rattle.fj_gate.proofs.Lists.{times_in-one, times_in-joined, length-joined, sum_by-set, sum_by-bound, joined-set_same, one_more}
 use Rattle.fj_gate.proofs.Seats.{EachSeat-set, first_after, first_set, parts_of}
-use Rattle.fj_model.proofs.Lists.Members.{times_in_append}
+use Rattle.fj_rules.proofs.Lists.Members.{times_in_append}
 
 module _ (word : ℕ) (views : List View) (r : IsGate word views) (seat : ℕ) (v : View) (at : get_elem? views seat ≡ some v) where
   -- an open gate, and room in the seat for one ticket more

@@ -5,10 +5,10 @@ use Rattle.std.proofs.lemmas.List.Sums.{sum_by-cons}
 use Rattle.std.proofs.lemmas.List.Concat.{length-flat_map}
 use mathlib.Core.Option.{some, some-injective, some-ne-none}
 use lib.ListN.{get_elem?}
-use Rattle.fj_model.specs.Lists.{times_in}
+use Rattle.fj_rules.specs.Lists.{times_in}
 use Rattle.fj_gate.specs.Rule.{joined}
 use Rattle.fj_gate.specs.declared.word.View.{View}
-use Rattle.fj_model.proofs.Lists.Members.{times_in_append}
+use Rattle.fj_rules.proofs.Lists.Members.{times_in_append}
 
 pub times_in-one : (x y : ℕ) → times_in x (y ∷ []) ≡ cond (y == x) 1 0
 times_in-one x y = omega (arith, sum_by-cons (λ z. cond (z == x) 1 0) y [])

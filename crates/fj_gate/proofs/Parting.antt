@@ -6,13 +6,13 @@ use mathlib.Core.Option.{some, some-injective, some-ne-none}
 use lib.ListN.{get_elem?}
 use Rattle.atomic_table.specs.Table.{Splits, Joins}
 use Rattle.atomic_table.proofs.Lists.{set_else, at_longer, at_set}
-use Rattle.fj_model.specs.Lists.{times_in}
+use Rattle.fj_rules.specs.Lists.{times_in}
 use Rattle.fj_gate.specs.Rule.{joined, admitted, turned_away, IsUntold, IsOpen, IsClosed, Fits, IsGate, IsRuled}
 use Rattle.fj_gate.specs.Steps.{fresh, less_one, together}
 use Rattle.fj_gate.specs.declared.word.View.{View}
 use Rattle.fj_gate.proofs.Lists.{times_in-joined, length-joined, sum_by-set}
 use Rattle.fj_gate.proofs.Seats.{EachSeat-set, EachSeat-push, first_set, knows, parts_of}
-use Rattle.fj_model.proofs.Lists.Members.{times_in_append}
+use Rattle.fj_rules.proofs.Lists.Members.{times_in_append}
 
 -- the gate at its start
 pub begins : IsRuled (record { words = 0 ∷ []; homes = []; views = fresh 32 ∷ [] })

@@ -1,6 +1,6 @@
 -- The numbers below a bound.
 use Rattle.std.specs.Prelude.{◌≡◌, ℕ, nat_lt, if◌then◌else◌, List, length}
-use Rattle.fj_model.specs.Lists.{times_in}
+use Rattle.fj_rules.specs.Lists.{times_in}
 
 -- the list has the numbers below n, each once, in some order, and nothing else
 abbrev pub IsNumbersBelow : ℕ → List ℕ → Type 0

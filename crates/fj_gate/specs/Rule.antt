@@ -3,7 +3,7 @@ use Rattle.std.specs.Prelude.{◌≡◌, ◌⊎◌, ℕ, ◌+◌, ◌*◌, ◌�
 use mathlib.Core.Option.{some}
 use lib.ListN.{get_elem?}
 use Rattle.atomic_table.specs.Table.{State}
-use Rattle.fj_model.specs.declared.limits.TheConstants.{MAX_SUBMITTERS}
+use Rattle.fj_rules.specs.declared.limits.TheConstants.{MAX_SUBMITTERS}
 use Rattle.fj_gate.specs.declared.new_gate.TheConstants.{MAX_TICKETS}
 use Rattle.fj_gate.specs.Numbers.{IsNumbersBelow}
 use Rattle.fj_gate.specs.declared.word.View.{View}

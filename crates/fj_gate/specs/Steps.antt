@@ -1,7 +1,7 @@
 -- What a seat knows, and what each step on the word tells it. The word found is twice a count while the gate is open, and odd once it is closed.
 use Rattle.std.specs.Prelude.{◌≡◌, ◌≢◌, ℕ, ◌+◌, ◌-◌, ◌/◌, ◌%◌, ◌≤◌, max, [], ◌∷◌, ◌++◌, Some, None, IfSome, IsSome}
 use Rattle.atomic_table.specs.Table.{Me, Step}
-use Rattle.fj_model.specs.declared.limits.TheConstants.{MAX_SUBMITTERS}
+use Rattle.fj_rules.specs.declared.limits.TheConstants.{MAX_SUBMITTERS}
 use Rattle.fj_gate.specs.Numbers.{IsNumbersBelow}
 use Rattle.fj_gate.specs.declared.word.View.{View}
 

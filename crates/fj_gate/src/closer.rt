@@ -28,7 +28,7 @@ pub struct Closer {
 impl Model for Closer {
     ghost use Rattle.std.specs.Prelude.{◌≡◌, ◌-◌, ◌≤◌, []};
     ghost use Rattle.std.specs.Arc.{arc_value};
-    ghost use Rattle.fj_model.specs.declared.limits.TheConstants.{MAX_SUBMITTERS};
+    ghost use Rattle.fj_rules.specs.declared.limits.TheConstants.{MAX_SUBMITTERS};
     ghost use Rattle.fj_gate.specs.Ends.{CloserState};
 
     ghost Value = { CloserState };

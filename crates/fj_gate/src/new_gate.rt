@@ -1,13 +1,13 @@
 ghost use Rattle.std.specs.Prelude.{◌≡◌, ◌≤◌, ◌+◌, ℕ, [], All, IfOk, vec_len};
 ghost use Rattle.std.specs.Arc.{arc_value};
-ghost use Rattle.fj_model.specs.declared.limits.TheConstants.{MAX_SUBMITTERS};
+ghost use Rattle.fj_rules.specs.declared.limits.TheConstants.{MAX_SUBMITTERS};
 ghost use Rattle.fj_gate.specs.Ends.{new_entrant, new_closer};
 ghost use Rattle.fj_gate.specs.Steps.{fresh, less_one};
 
 use crate::closer::Closer;
 use crate::entrant::Entrant;
 use crate::word::{Part, Token, Word};
-use fj_model::OutOfMemory;
+use fj_rules::OutOfMemory;
 use std::alloc::{AllocError, Global};
 use std::sync::Arc;
 

@@ -16,6 +16,6 @@ impl Model for Ticket {
     ghost inverse = { λ n. record { 0 = n } };
 }
 
-/// The gate is closed. It stays so. To a submitter this is refusal 1, `Closed` of `fj_model::Refusal`.
+/// The gate is closed. It stays so. To a submitter this is refusal 1, `Closed` of `fj_rules::Refusal`.
 #[derive(Clone, Copy, Debug, PartialEq)]
 pub struct Closed;

@@ -39,7 +39,7 @@ pub struct View {
 pub struct GateRule;
 
 impl TableRule<(), View, ()> for GateRule {
-    ghost use Rattle.fj_model.specs.declared.limits.TheConstants.{MAX_SUBMITTERS};
+    ghost use Rattle.fj_rules.specs.declared.limits.TheConstants.{MAX_SUBMITTERS};
     ghost use Rattle.fj_gate.specs.Rule.{IsRuled};
     ghost use Rattle.fj_gate.specs.Steps.{fresh};
 

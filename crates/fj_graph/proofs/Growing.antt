@@ -3,6 +3,7 @@ use Rattle.std.specs.Prelude.{◌⊎◌, Bool, slice_index, slice_set, true, ltb
 use Rattle.std.specs.List.{list_all}
 use Rattle.std.proofs.Common.{ℕ, ◌≡◌, ◌≢◌, ◌+◌, ◌<◌, ◌∙◌, inl, inr, List, [], ◌∷◌, ◌++◌, length, get_or, map, sym, ap, arith}
 use Rattle.std.proofs.Math.Seq.{map-set_same, get_or-append_seam}
+use Rattle.std.proofs.lemmas.Bool.{cases_eq}
 use Rattle.std.proofs.lemmas.Bool.Decides.{nat_tests}
 use Rattle.std.proofs.lemmas.Grind.{common_steps}
 use Rattle.std.proofs.lemmas.List.{map-set, map-append, get_or-map, length-map, length-set, length-append, get_or-set_same, get_or-set_other, get_or_append_left}
@@ -10,9 +11,6 @@ use Rattle.std.proofs.lemmas.List.Folds.{list_all-map, list_all_at}
 use Rattle.fj_graph.specs.declared.node.Node.{Node}
 use Rattle.fj_graph.specs.declared.node.NodeId.{NodeId}
 use Rattle.fj_graph.specs.Graphs.{AreNodes, IsAbove, graph_of, inputs_at, number_of, with_input}
-
-pub same_or_not : (m n : ℕ) → (m ≡ n) ⊎ (m ≢ n)
-same_or_not m n = grind (arith, nat_tests)
 
 -- a node with the same inputs stands for another one
 pub graph_kept : (nodes : List Node) (i : ℕ) (node old : Node) → old ≡ get_or nodes i old → node.inputs.items ≡ old.inputs.items → graph_of (slice_set nodes i node) ≡ graph_of nodes
@@ -27,7 +25,7 @@ graph_with nodes n node old input at lt items =
     map-set (λ n. map number_of n.inputs.items) nodes n node ∙ ap (λ xs. slice_set (graph_of nodes) n xs) after
 
 all_below : (xs : List ℕ) (i bound : ℕ) → ((k : ℕ) → k < length xs → slice_index xs k < bound) → i < bound → (k : ℕ) → k < length (xs ++ i ∷ []) → slice_index (xs ++ i ∷ []) k < bound
-all_below xs i bound each small k lt = elim (same_or_not k (length xs)) [
+all_below xs i bound each small k lt = elim (cases_eq k (length xs)) [
   | inl same ↦ rw (same, get_or-append_seam xs i [] 0) small
   | inr other ↦
       let count = length-append xs (i ∷ []) in
@@ -40,7 +38,7 @@ nodes_with graph n i lt small nodes =
     let count : length (with_input graph n i) ≡ length graph = length-set graph n (inputs_at graph n ++ i ∷ []) in
     record {
       few = rw count nodes.few;
-      inputs = λ m k. elim (same_or_not m n) [
+      inputs = λ m k. elim (cases_eq m n) [
         | inl same ↦ rw (count, same, get_or-set_same graph n (inputs_at graph n ++ i ∷ []) [] lt) (all_below (inputs_at graph n) i (length graph) (nodes.inputs n) small k)
         | inr other ↦ rw (count, get_or-set_other graph n m (inputs_at graph n ++ i ∷ []) [] other) (nodes.inputs m k)
       ];

@@ -1,16 +1,16 @@
-use crate::call::Call;
 use crate::node::NodeId;
+use crate::node_call::NodeCall;
 use crate::policy::Policy;
-use crate::stop::Stop;
+use crate::stop_flag::StopFlag;
 
 /// What all bodies of a run share.
 #[derive(Drop)]
 pub(crate) struct Calls<'a, W> {
     pub(crate) work: &'a W,
     /// The flag of the caller.
-    pub(crate) stop: &'a Stop,
+    pub(crate) stop: &'a StopFlag,
     /// The flag of this run, which a failure sets.
-    pub(crate) own: &'a Stop,
+    pub(crate) own: &'a StopFlag,
     pub(crate) policy: Policy,
 }
 
@@ -21,8 +21,8 @@ impl<'a, W> Calls<'a, W> {
     }
 
     /// The body of a node.
-    pub(crate) fn call(&self, node: NodeId) -> Call<'a, W> {
-        Call {
+    pub(crate) fn call(&self, node: NodeId) -> NodeCall<'a, W> {
+        NodeCall {
             node,
             calls: Calls {
                 work: self.work,

@@ -3,8 +3,8 @@ use crate::node::NodeId;
 use std::alloc::{AllocError, Global};
 use std::collections::VecDeque;
 
-/// Which nodes to look at next: those whose inputs are all done, as far as counts tell. Nothing is proved of it, so whoever takes one looks at its
-/// inputs again.
+/// Which nodes to look at next: those whose inputs are all done, by their counts. Nothing is proved of it: the inputs of a node that is taken
+/// are looked at again.
 #[derive(Drop)]
 pub(crate) struct Frontier {
     /// How many inputs each node still waits for.

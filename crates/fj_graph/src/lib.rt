@@ -6,18 +6,19 @@
 //! let object = graph.node()?;
 //! // The work of the object begins when that of its source is done.
 //! graph.needs(object, source)?;
-//! let ran = run_graph(&rt, alloc, Settings::workers(4)?, Policy::KeepGoing, graph, &compiler, &Stop::new())?;
+//! let ran = run_graph(&rt, alloc, Settings::workers(4)?, Policy::KeepGoing, graph, &compiler, &StopFlag::new())?;
 //! ```
 #![tactic(auto)]
 
-mod call;
 mod calls;
 mod fate;
 mod fault;
 mod frontier;
 mod graph;
-mod named;
+mod graph_step;
+mod named_graph;
 mod node;
+mod node_call;
 mod node_state;
 mod order;
 mod player;
@@ -25,8 +26,7 @@ mod policy;
 mod progress;
 mod refused;
 mod running;
-mod step;
-mod stop;
+mod stop_flag;
 #[cfg(test)]
 mod tests;
 mod under_way;
@@ -36,12 +36,12 @@ mod work;
 
 pub use fate::Fate;
 pub use fault::GraphFault;
-pub use fj_crew::{Limits, Refusal, Settings};
+pub use fj_run::{Limits, Refusal, Settings};
 pub use graph::Graph;
+pub use graph_step::GraphStep;
 pub use node::NodeId;
 pub use policy::Policy;
 pub use refused::GraphRefused;
 pub use running::{Ran, run_graph};
-pub use step::Step;
-pub use stop::Stop;
+pub use stop_flag::StopFlag;
 pub use work::Work;

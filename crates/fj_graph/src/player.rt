@@ -1,23 +1,23 @@
 ghost use Rattle.std.specs.Prelude.{◌≡◌, IfSome};
 ghost use Rattle.fj_graph.specs.Courses.{AreFates, MayBegin};
 
-use crate::call::Call;
 use crate::calls::Calls;
 use crate::fate::Fate;
 use crate::frontier::Frontier;
 use crate::graph::Graph;
-use crate::named::Named;
+use crate::named_graph::NamedGraph;
 use crate::node::NodeId;
+use crate::node_call::NodeCall;
 use crate::progress::Progress;
 use crate::under_way::UnderWay;
 use crate::work::Work;
-use fj_crew::{Naming, Outcome, Play, Refusal, Running, SubId, Ticket, result_in};
+use fj_run::{Naming, Outcome, Play, Refusal, Running, SubId, Ticket, result_in};
 use std::alloc::{AllocError, Global};
 use std::sync::Wait;
 
 /// What runs a graph: it alone knows how far each node has come. The workers call work, and nothing else.
 #[derive(Drop)]
-pub(crate) struct Player<'a, W, G: Named> {
+pub(crate) struct Player<'a, W, G: NamedGraph> {
     graph: &'a Graph,
     calls: Calls<'a, W>,
     pub(crate) progress: Progress<G>,
@@ -34,7 +34,7 @@ pub(crate) struct Player<'a, W, G: Named> {
     ghost same: { graph.now ≡ G.graph },
 }
 
-impl<'a, W, G: Named> Player<'a, W, G> {
+impl<'a, W, G: NamedGraph> Player<'a, W, G> {
     /// Nothing was begun. Precondition: the graph is that which the type names.
     pub(crate) fn new(
         alloc: Global,
@@ -113,9 +113,12 @@ impl<'a, W, G: Named> Player<'a, W, G> {
     }
 }
 
-impl<'a, W: Work, G: Named> Player<'a, W, G> {
+impl<'a, W: Work, G: NamedGraph> Player<'a, W, G> {
     /// Looks at the next node, and submits its body if it may begin. Whether there may be more to submit.
-    fn feed<N: Naming, R: Wait>(&mut self, pool: &mut Running<'_, '_, Call<'a, W>, N, R>) -> bool {
+    fn feed<N: Naming, R: Wait>(
+        &mut self,
+        pool: &mut Running<'_, '_, NodeCall<'a, W>, N, R>,
+    ) -> bool {
         let Some(node) = self.frontier.take() else {
             return false;
         };
@@ -144,7 +147,7 @@ impl<'a, W: Work, G: Named> Player<'a, W, G> {
     }
 
     /// Fills the window, unless it cannot go on.
-    fn fill<N: Naming, R: Wait>(&mut self, pool: &mut Running<'_, '_, Call<'a, W>, N, R>) {
+    fn fill<N: Naming, R: Wait>(&mut self, pool: &mut Running<'_, '_, NodeCall<'a, W>, N, R>) {
         for _body in 0..u64::MAX {
             let has_room = self.under_way.len() < self.window;
             if self.stopped || self.refusal.is_some() || !has_room || !self.feed(pool) {
@@ -154,7 +157,10 @@ impl<'a, W: Work, G: Named> Player<'a, W, G> {
     }
 
     /// Waits for an outcome, and notes it. Whether there was one.
-    fn hear<N: Naming, R: Wait>(&mut self, pool: &mut Running<'_, '_, Call<'a, W>, N, R>) -> bool {
+    fn hear<N: Naming, R: Wait>(
+        &mut self,
+        pool: &mut Running<'_, '_, NodeCall<'a, W>, N, R>,
+    ) -> bool {
         let Some((node, outcome)) = self.under_way.wait(pool) else {
             return false;
         };
@@ -166,18 +172,20 @@ impl<'a, W: Work, G: Named> Player<'a, W, G> {
     }
 }
 
-/// What an outcome tells of its node.
-fn fate_in<'a, W: Work>(outcome: Result<Outcome<Call<'a, W>>, Refusal>) -> Result<Fate, Refusal> {
+/// What became of a node, by the outcome of its body.
+fn fate_in<'a, W: Work>(
+    outcome: Result<Outcome<NodeCall<'a, W>>, Refusal>,
+) -> Result<Fate, Refusal> {
     match result_in(outcome?) {
         Ok((_, fate)) => Ok(fate),
         Err(none) => Err(none.refusal()),
     }
 }
 
-impl<'a, W: Work, G: Named> Play<Call<'a, W>> for Player<'a, W, G> {
+impl<'a, W: Work, G: NamedGraph> Play<NodeCall<'a, W>> for Player<'a, W, G> {
     type Out = ();
 
-    fn play<N: Naming, R: Wait>(&mut self, pool: &mut Running<'_, '_, Call<'a, W>, N, R>) {
+    fn play<N: Naming, R: Wait>(&mut self, pool: &mut Running<'_, '_, NodeCall<'a, W>, N, R>) {
         self.lane = SubId(0);
         for _round in 0..u64::MAX {
             self.fill(pool);

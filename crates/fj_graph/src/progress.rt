@@ -5,17 +5,17 @@ ghost use Rattle.fj_graph.specs.Courses.{AreFates, AreStates, IsCourse, IsFate, 
 
 use crate::fate::Fate;
 use crate::graph::Graph;
-use crate::named::Named;
+use crate::graph_step::GraphStep;
+use crate::named_graph::NamedGraph;
 use crate::node::NodeId;
 use crate::node_state::NodeState;
-use crate::step::Step;
 use std::alloc::{AllocError, Global};
 use std::marker::PhantomData;
 
 /// The steps of a run so far, and how far each node has come by them.
 #[derive(Drop)]
-pub(crate) struct Progress<G: Named> {
-    pub(crate) course: Vec<Step>,
+pub(crate) struct Progress<G: NamedGraph> {
+    pub(crate) course: Vec<GraphStep>,
     states: Vec<NodeState>,
     /// What became of each node, once the run is over.
     pub(crate) fates: Vec<Fate>,
@@ -25,7 +25,7 @@ pub(crate) struct Progress<G: Named> {
     ghost tied: { AreStates course.items states.items } by { Prim.hlevel props },
 }
 
-impl<G: Named> Progress<G> {
+impl<G: NamedGraph> Progress<G> {
     /// Nothing was begun. It has room for all steps. Precondition: the graph is that which the type names.
     pub(crate) fn new(alloc: Global, graph: &Graph) -> Result<Progress<G>, AllocError>
         requires same { graph.now ≡ G.graph }
@@ -43,7 +43,7 @@ impl<G: Named> Progress<G> {
     }
 
     /// The steps, and what became of each node.
-    pub(crate) fn into_lists(self) -> (Vec<Step>, Vec<Fate>)
+    pub(crate) fn into_lists(self) -> (Vec<GraphStep>, Vec<Fate>)
         ensures course { result.0 ≡ self.course }
         ensures fates { result.1 ≡ self.fates }
     {
@@ -98,7 +98,7 @@ impl<G: Named> Progress<G> {
     pub(crate) fn begin(&mut self, node: NodeId) -> Result<(), AllocError>
         requires { MayBegin G.graph self.old.course.items node.0 }
     {
-        if self.course.push(Step::Begun(node)).is_err() {
+        if self.course.push(GraphStep::Begun(node)).is_err() {
             return Err(AllocError);
         }
         self.states[node.0 as usize] = NodeState::UnderWay;
@@ -110,7 +110,7 @@ impl<G: Named> Progress<G> {
         let NodeState::UnderWay = self.state(node) else {
             return Err(AllocError);
         };
-        if self.course.push(Step::Ended(node, fate)).is_err() {
+        if self.course.push(GraphStep::Ended(node, fate)).is_err() {
             return Err(AllocError);
         }
         self.states[node.0 as usize] = NodeState::Ended(fate);

@@ -1,5 +1,5 @@
 use crate::node::NodeId;
-use fj_crew::Refusal;
+use fj_run::Refusal;
 use thiserror::Error;
 
 /// Why a graph was not run to its end.

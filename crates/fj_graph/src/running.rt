@@ -1,5 +1,5 @@
 ghost use Rattle.std.specs.Prelude.{◌≡◌, IfErr, IfOk, OnOk};
-ghost use Rattle.fj_crew.specs.Runs.{RefusesRun};
+ghost use Rattle.fj_run.specs.Runs.{RefusesRun};
 ghost use Rattle.fj_graph.specs.Courses.{AreFates, IsCourse};
 ghost use Rattle.fj_graph.specs.Graphs.{IsAcyclic};
 ghost use Rattle.fj_graph.specs.Refusals.{RefusesGraph};
@@ -7,14 +7,14 @@ ghost use Rattle.fj_graph.specs.Refusals.{RefusesGraph};
 use crate::calls::Calls;
 use crate::fate::Fate;
 use crate::graph::Graph;
-use crate::named::Named;
+use crate::graph_step::GraphStep;
+use crate::named_graph::NamedGraph;
 use crate::player::Player;
 use crate::policy::Policy;
 use crate::refused::GraphRefused;
-use crate::step::Step;
-use crate::stop::Stop;
+use crate::stop_flag::StopFlag;
 use crate::work::Work;
-use fj_crew::{Open, Refusal, Settings, with_pool};
+use fj_run::{Open, Refusal, Settings, with_pool};
 use std::alloc::Global;
 use std::marker::Brand;
 use std::sync::Wait;
@@ -30,7 +30,7 @@ pub struct Ran {
     /// What became of each node, by its number.
     pub fates: Vec<Fate>,
     /// What began and what ended, in the order in which it was told.
-    pub course: Vec<Step>,
+    pub course: Vec<GraphStep>,
     /// Whether something was not called since a flag was set.
     pub stopped: bool,
 }
@@ -49,7 +49,7 @@ pub fn run_graph<'a, W: Work + Sync, R: Threads + Wait + Sync>(
     policy: Policy,
     graph: Graph,
     work: &'a W,
-    stop: &'a Stop,
+    stop: &'a StopFlag,
 ) -> Result<Ran, GraphRefused>
     ensures course { IfOk result (λ ran. IsCourse graph ran.course.items) }
     ensures fates { IfOk result (λ ran. AreFates graph ran.stopped ran.course.items ran.fates.items) }
@@ -61,7 +61,7 @@ pub fn run_graph<'a, W: Work + Sync, R: Threads + Wait + Sync>(
         Ok(Some(node)) => return Err(GraphRefused::Cycle(node)),
         Err(_) => return Err(GraphRefused::Refused(Refusal::OutOfMemory)),
     }
-    let own = Stop::new();
+    let own = StopFlag::new();
     let calls = Calls {
         work,
         stop,
@@ -75,7 +75,7 @@ pub fn run_graph<'a, W: Work + Sync, R: Threads + Wait + Sync>(
 }
 
 /// The same for the graph that the type names, without a cycle. Precondition: it is that one.
-fn run_in<'a, G: Named, W: Work + Sync, R: Threads + Wait + Sync>(
+fn run_in<'a, G: NamedGraph, W: Work + Sync, R: Threads + Wait + Sync>(
     rt: &R,
     alloc: Global,
     settings: Settings,

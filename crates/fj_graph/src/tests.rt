@@ -130,9 +130,13 @@ fn a_flag_stops_a_run(rt: HostRuntime) -> Result<(), Fail> {
     assert!(rt;
         ran.course
             .as_slice()
-            .contains(&Step::Ended(NodeId(10), Fate::Done))
+            .contains(&GraphStep::Ended(NodeId(10), Fate::Done))
     );
-    assert!(rt; !ran.course.as_slice().contains(&Step::Begun(NodeId(11))));
+    assert!(rt;
+        !ran.course
+            .as_slice()
+            .contains(&GraphStep::Begun(NodeId(11)))
+    );
     Ok(())
 }
 
@@ -179,7 +183,7 @@ fn the_page_of_the_user(rt: HostRuntime) -> Result<(), Fail> {
         Policy::KeepGoing,
         graph,
         &compiler,
-        &Stop::new(),
+        &StopFlag::new(),
     )?;
     assert_eq!(rt; ran.fates.as_slice(), [Fate::Done, Fate::Done].as_slice());
     Ok(())

@@ -42,7 +42,7 @@ pub(crate) struct Watch {
     calls: Vec<AtomicU64>,
     early: AtomicU64,
     fails: u32,
-    stop: Stop,
+    stop: StopFlag,
 }
 
 impl Watch {
@@ -64,7 +64,7 @@ impl Watch {
             calls,
             early: AtomicU64::new(0),
             fails,
-            stop: Stop::new(),
+            stop: StopFlag::new(),
         })
     }
 
@@ -83,7 +83,7 @@ impl Watch {
     }
 
     /// The flag.
-    pub(crate) fn stop(&self) -> &Stop {
+    pub(crate) fn stop(&self) -> &StopFlag {
         &self.stop
     }
 

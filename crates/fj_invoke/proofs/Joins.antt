@@ -3,12 +3,12 @@ use Rattle.std.specs.Prelude.{ℕ, filter_map}
 use Rattle.std.proofs.Common.{◌≡◌, List, [], ◌∷◌, ◌++◌, refl, ap, ◌∙◌, Option, Some, None}
 use Rattle.std.proofs.lemmas.List.{append-nil}
 use Rattle.std.proofs.lemmas.List.Elements.{filter_map-append}
-use Rattle.fj_store.specs.declared.body.Ask.{Ask}
-use Rattle.fj_store.specs.declared.body.Heard.{Heard}
-use Rattle.fj_store.specs.declared.body.Heard.TheVariants as hears
-use Rattle.fj_invoke.specs.declared.stage.Left.{Left}
-use Rattle.fj_invoke.specs.declared.stage.Left.TheVariants.{Forked, Done}
-use Rattle.fj_invoke.specs.declared.stage.Stage.TheVariants.{Waiting}
+use Rattle.fj_bodies.specs.declared.body.Ask.{Ask}
+use Rattle.fj_bodies.specs.declared.body.Heard.{Heard}
+use Rattle.fj_bodies.specs.declared.body.Heard.TheVariants as hears
+use Rattle.fj_invoke.specs.declared.recursive_stage.Left.{Left}
+use Rattle.fj_invoke.specs.declared.recursive_stage.Left.TheVariants.{Forked, Done}
+use Rattle.fj_invoke.specs.declared.recursive_stage.RecursiveStage.TheVariants.{Waiting}
 use Rattle.fj_invoke.specs.Asks.{JoinsLast, forked_by, forked_in, task_of}
 
 filtered_none : {L : Type 0} (f : L → Option ℕ) (x : L) → f x ≡ None → filter_map f (x ∷ []) ≡ []

@@ -1,10 +1,10 @@
 -- The answer of a job, by the outcome of its body.
 use Rattle.std.specs.Prelude.{◌≡◌, Bool, false, Result, Ok, Err}
-use Rattle.fj_model.specs.declared.refusal.Refusal.{Refusal}
-use Rattle.fj_model.specs.declared.refusal.Refusal.TheVariants.{OutOfMemory}
-use Rattle.fj_store.specs.declared.outcomes.Outcome.{Outcome}
-use Rattle.fj_crew.specs.declared.results.NoResult.{NoResult}
-use Rattle.fj_crew.specs.Results.{refusal_of, result_in}
+use Rattle.fj_rules.specs.declared.refusal.Refusal.{Refusal}
+use Rattle.fj_rules.specs.declared.refusal.Refusal.TheVariants.{OutOfMemory}
+use Rattle.fj_bodies.specs.declared.outcomes.Outcome.{Outcome}
+use Rattle.fj_run.specs.declared.results.NoResult.{NoResult}
+use Rattle.fj_run.specs.Results.{refusal_of, result_in}
 
 -- a result is refused only where it stands under another key
 abbrev pub RefusesResult : {K O : Type 0} → (K → K → Bool) → K → Result (K × O) NoResult → Refusal → Type 0

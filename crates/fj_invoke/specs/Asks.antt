@@ -1,13 +1,13 @@
 -- What the body of a job joins, and what it lets go.
 use Rattle.std.specs.Prelude.{ℕ, ◌≡◌, ⊤, List, [], ◌∷◌, ◌++◌, Option, Some, None, filter_map}
-use Rattle.fj_store.specs.declared.body.Heard.{Heard}
-use Rattle.fj_store.specs.declared.body.Heard.TheVariants as hears
-use Rattle.fj_store.specs.declared.body.Ask.{Ask}
-use Rattle.fj_store.specs.declared.body.Ask.TheVariants.{Join, Release, Ok as AskOk, Fail}
-use Rattle.fj_invoke.specs.declared.stage.Left.{Left}
-use Rattle.fj_invoke.specs.declared.stage.Left.TheVariants.{Forked, Done}
-use Rattle.fj_invoke.specs.declared.stage.Stage.{Stage}
-use Rattle.fj_invoke.specs.declared.stage.Stage.TheVariants.{Forking, Waiting}
+use Rattle.fj_bodies.specs.declared.body.Heard.{Heard}
+use Rattle.fj_bodies.specs.declared.body.Heard.TheVariants as hears
+use Rattle.fj_bodies.specs.declared.body.Ask.{Ask}
+use Rattle.fj_bodies.specs.declared.body.Ask.TheVariants.{Join, Release, Ok as AskOk, Fail}
+use Rattle.fj_invoke.specs.declared.recursive_stage.Left.{Left}
+use Rattle.fj_invoke.specs.declared.recursive_stage.Left.TheVariants.{Forked, Done}
+use Rattle.fj_invoke.specs.declared.recursive_stage.RecursiveStage.{RecursiveStage}
+use Rattle.fj_invoke.specs.declared.recursive_stage.RecursiveStage.TheVariants.{Forking, Waiting}
 
 -- the task of a left half, if it was forked
 abbrev pub task_of : {J K O : Type 0} → Left J K O → Option ℕ
@@ -19,7 +19,7 @@ abbrev pub forked_in : {J K O : Type 0} → List (Left J K O) → List ℕ
 forked_in lefts = filter_map task_of lefts
 
 -- the same once this is heard
-abbrev pub forked_by : {B J K O : Type 0} → List (Left J K O) → Stage J K O → Heard B K O → List ℕ
+abbrev pub forked_by : {B J K O : Type 0} → List (Left J K O) → RecursiveStage J K O → Heard B K O → List ℕ
 forked_by lefts (Forking j k) (hears.Task t) = forked_in lefts ++ t ∷ []
 forked_by lefts (Waiting t k v) (hears.Got heard out) = forked_in lefts
 forked_by lefts (Waiting t k v) _ = forked_in lefts ++ t ∷ []

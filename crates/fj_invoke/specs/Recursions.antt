@@ -1,9 +1,9 @@
 -- What a body of a job has in hand.
 use Rattle.std.specs.Prelude.{ℕ, Bool, false, ◌≡◌, ◌+◌, ◌*◌, ⊤, List, [], ◌∷◌, Option, None, Some, map, MatchOption}
-use Rattle.fj_invoke.specs.declared.stage.Left.{Left}
-use Rattle.fj_invoke.specs.declared.stage.Left.TheVariants.{Forked, Done}
-use Rattle.fj_invoke.specs.declared.stage.Stage.{Stage}
-use Rattle.fj_invoke.specs.declared.stage.Stage.TheVariants.{Going, Forking, Waiting, Leaving, Over}
+use Rattle.fj_invoke.specs.declared.recursive_stage.Left.{Left}
+use Rattle.fj_invoke.specs.declared.recursive_stage.Left.TheVariants.{Forked, Done}
+use Rattle.fj_invoke.specs.declared.recursive_stage.RecursiveStage.{RecursiveStage}
+use Rattle.fj_invoke.specs.declared.recursive_stage.RecursiveStage.TheVariants.{Going, Forking, Waiting, Leaving, Over}
 
 -- the value of a left half
 abbrev pub left_value : {J K O : Type 0} → (K → O) → Left J K O → O
@@ -16,7 +16,7 @@ tail_value combined [] v = v
 tail_value combined (x ∷ xs) v = combined x (tail_value combined xs v)
 
 -- the value of everything right of the left halves
-abbrev pub rest_value : {J K O : Type 0} → (J → K) → (K → O) → (O → O → O) → Stage J K O → Option O
+abbrev pub rest_value : {J K O : Type 0} → (J → K) → (K → O) → (O → O → O) → RecursiveStage J K O → Option O
 rest_value key_of value combined (Going j) = Some (value (key_of j))
 rest_value key_of value combined (Forking j k) = Some (combined (value k) (value (key_of j)))
 rest_value key_of value combined (Waiting t k v) = Some (combined (value k) v)
@@ -24,17 +24,17 @@ rest_value key_of value combined (Leaving code) = None
 rest_value key_of value combined Over = None
 
 -- the left halves, and everything right of them, give the value w
-abbrev pub Gives : {J K O : Type 0} → (J → K) → (K → O) → (O → O → O) → List (Left J K O) → Stage J K O → O → Type 0
+abbrev pub Gives : {J K O : Type 0} → (J → K) → (K → O) → (O → O → O) → List (Left J K O) → RecursiveStage J K O → O → Type 0
 Gives key_of value combined lefts stage w =
     MatchOption (rest_value key_of value combined stage) ⊤ (λ v. tail_value combined (map (left_value value) lefts) v ≡ w)
 
 -- no job with this key is still to be begun
-abbrev pub NotUnder : {J K O : Type 0} → (J → K) → (K → K → Bool) → Stage J K O → K → Type 0
+abbrev pub NotUnder : {J K O : Type 0} → (J → K) → (K → K → Bool) → RecursiveStage J K O → K → Type 0
 NotUnder key_of eq (Going j) key = eq (key_of j) key ≡ false
 NotUnder key_of eq _ key = ⊤
 
 -- how many turns are left, at most
-abbrev pub turns_of : {J K O : Type 0} → (J → ℕ) → ℕ → Stage J K O → ℕ
+abbrev pub turns_of : {J K O : Type 0} → (J → ℕ) → ℕ → RecursiveStage J K O → ℕ
 turns_of size waiting (Going j) = 4 * size j + 2 * waiting + 2
 turns_of size waiting (Forking j k) = 4 * size j + 2 * waiting + 5
 turns_of size waiting (Waiting t k v) = 2 * waiting + 1

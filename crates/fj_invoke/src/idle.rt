@@ -1,6 +1,6 @@
-use fj_crew::Turnstile;
 use fj_lazy::Signals;
-use fj_model::{Serial, WorkerId};
+use fj_rules::{Serial, WorkerId};
+use fj_run::Turnstile;
 
 /// Tells the bodies of a job which workers have nothing to do.
 #[derive(Drop)]

@@ -1,12 +1,12 @@
 ghost use Rattle.std.specs.Prelude.{◌≡◌, IfOk, IfErr};
-ghost use Rattle.fj_crew.specs.Runs.{RefusesRun};
+ghost use Rattle.fj_run.specs.Runs.{RefusesRun};
 ghost use Rattle.fj_invoke.specs.Answers.{RefusesOutcome};
 
 use crate::recursive::Recursive;
-use fj_crew::{Settings, Turnstile, result_in, run_alone};
+use fj_bodies::Outcome;
 use fj_jobs::Divide;
-use fj_model::{Limits, Mode, Refusal};
-use fj_store::Outcome;
+use fj_rules::{Limits, Mode, Refusal};
+use fj_run::{Settings, Turnstile, result_in, run_alone};
 use std::alloc::Global;
 use std::sync::Wait;
 use std::thread::Threads;

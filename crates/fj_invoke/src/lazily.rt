@@ -1,13 +1,13 @@
 ghost use Rattle.std.specs.Prelude.{◌≡◌, IfOk, IfErr};
-ghost use Rattle.fj_crew.specs.Runs.{RefusesRun};
+ghost use Rattle.fj_run.specs.Runs.{RefusesRun};
 ghost use Rattle.fj_invoke.specs.Answers.{RefusesOutcome};
 
 use crate::idle::IdleWorkers;
-use fj_crew::{Open, Settings, Turnstile, result_in, run_alone};
+use fj_bodies::Outcome;
 use fj_jobs::Divide;
 use fj_lazy::{Lazy, Signals};
-use fj_model::Refusal;
-use fj_store::Outcome;
+use fj_rules::Refusal;
+use fj_run::{Open, Settings, Turnstile, result_in, run_alone};
 use std::alloc::Global;
 use std::sync::Wait;
 use std::thread::Threads;

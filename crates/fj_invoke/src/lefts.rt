@@ -2,9 +2,9 @@ ghost use Rattle.std.specs.Prelude.{◌≡◌, ◌<◌, ◌++◌, ◌∷◌, [],
 ghost use Rattle.fj_invoke.specs.Asks.{forked_in};
 ghost use Rattle.fj_invoke.specs.Recursions.{left_value, tail_value};
 
-use crate::stage::Left;
+use crate::recursive_stage::Left;
 use fj_jobs::Divide;
-use fj_model::Serial;
+use fj_rules::Serial;
 
 /// Combines the values of the last left halves with everything right of them, up to the last one that was forked: that is given, as its
 /// task with its key, and with the value of everything right of it. Without one the whole value is given.

@@ -12,13 +12,13 @@ mod invocation;
 mod lazily;
 mod lefts;
 mod recursive;
-mod stage;
+mod recursive_stage;
 
-pub use fj_crew::{Open, Settings, Turnstile};
 pub use fj_jobs::{
     BlockedRange, Divide, FirstHit, Interval, LinearMod, RangeMin, RangeSum, compute,
 };
-pub use fj_model::{Limits, Mode, Refusal, Serial, WorkerId};
+pub use fj_rules::{Limits, Mode, Refusal, Serial, WorkerId};
+pub use fj_run::{Open, Settings, Turnstile};
 pub use invocation::invoke;
 pub use lazily::{invoke_lazily, invoke_lazily_observed};
 pub use recursive::Recursive;

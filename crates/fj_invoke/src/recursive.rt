@@ -1,6 +1,6 @@
 ghost use Rattle.std.specs.Prelude.{◌≡◌, ◌⊎◌, ℕ, ◌+◌, ◌*◌, ◌<◌, ◌≤◌, ◌++◌, ◌∷◌, [], Option, None, IfOk, IfSome, IfNone, true, false, map, vec_len};
-ghost use Rattle.fj_model.specs.Replies.{refusal_number};
-ghost use Rattle.fj_store.specs.Turns.{HeardRight, AskRight, Nearer};
+ghost use Rattle.fj_rules.specs.Refusals.{refusal_number};
+ghost use Rattle.fj_bodies.specs.Turns.{HeardRight, AskRight, Nearer};
 ghost use Rattle.fj_invoke.specs.Recursions.{Gives, NotUnder, turns_of, left_value, tail_value};
 ghost use Rattle.fj_lazy.specs.Asks.{AsksAsJob};
 ghost use Rattle.fj_lazy.specs.Failures.{code_heard, is_want_of_room};
@@ -8,10 +8,10 @@ ghost use Rattle.fj_invoke.specs.Asks.{JoinsLast, forked_by, forked_in};
 ghost use Rattle.fj_invoke.specs.Failures.{AsksFailing, Leaves};
 
 use crate::lefts::{fold_done, last_forked};
-use crate::stage::{Left, Stage};
+use crate::recursive_stage::{Left, RecursiveStage};
+use fj_bodies::{Ask, Body, Heard};
 use fj_jobs::{Divide, compute};
-use fj_model::{Kind, Refusal, Serial};
-use fj_store::{Ask, Body, Heard};
+use fj_rules::{Kind, Refusal, Serial};
 use std::alloc::{AllocError, Global};
 use std::mem;
 
@@ -19,16 +19,16 @@ use std::mem;
 /// It is submitted as a plain task, with the key of its job: `RecursiveTask`. It stands in a box, since a pool moves a body several times.
 #[derive(Drop)]
 pub struct Recursive<J: Divide> {
-    inside: Box<Inside<J>>,
+    inside: Box<RecursiveState<J>>,
 }
 
 /// What a recursive body has.
 #[derive(Drop)]
-pub struct Inside<J: Divide> {
+pub struct RecursiveState<J: Divide> {
     key: J::Key,
     /// What it forked, or had to compute in place, from left to right.
     lefts: Vec<Left<J>>,
-    stage: Stage<J>,
+    stage: RecursiveStage<J>,
     ghost total: { ∥ Gives J.key_of J.value J.combined lefts.items stage (J.value key) ∥₁ },
 }
 
@@ -68,10 +68,10 @@ impl<J: Divide> Recursive<J> {
     pub fn new(alloc: Global, job: J) -> Result<Recursive<J>, AllocError>
         ensures { IfOk result (λ body. body.inside.value.key ≡ J.key_of job) }
     {
-        let inside = Inside {
+        let inside = RecursiveState {
             key: job.key(),
             lefts: Vec::new(alloc),
-            stage: Stage::Going(job),
+            stage: RecursiveStage::Going(job),
         };
         match Box::new(alloc, inside) {
             Ok(inside) => Ok(Recursive { inside }),
@@ -85,12 +85,12 @@ impl<J: Divide> Recursive<J> {
         ensures none { IfNone result (NotUnder J.key_of J.Key.eq self.inside.value.stage key) }
     {
         let Recursive { inside } = self;
-        let Inside {
+        let RecursiveState {
             key: _,
             lefts: _,
             stage,
         } = Box::into_inner(inside);
-        let Stage::Going(job) = stage else {
+        let RecursiveStage::Going(job) = stage else {
             return None;
         };
         if job.key() != key {
@@ -100,7 +100,7 @@ impl<J: Divide> Recursive<J> {
     }
 }
 
-impl<J: Divide> Inside<J> {
+impl<J: Divide> RecursiveState<J> {
     /// Lets go what it forked, the last one first, and then ends with this code.
     fn leave(&mut self, code: u32) -> Ask<Recursive<J>>
         ensures key { self.new.key ≡ self.old.key }
@@ -110,7 +110,7 @@ impl<J: Divide> Inside<J> {
         ensures asks { AsksAsJob result }
         ensures joins { JoinsLast (forked_in self.old.lefts.items) result }
     {
-        self.stage = Stage::Leaving(code);
+        self.stage = RecursiveStage::Leaving(code);
         match last_forked(&mut self.lefts) {
             Some(task) => Ask::Release(task),
             None => Ask::Fail(code),
@@ -139,7 +139,7 @@ impl<J: Divide> Inside<J> {
     {
         match left {
             Left::Forked(task, _) => {
-                self.stage = Stage::Leaving(Refusal::OutOfMemory.number());
+                self.stage = RecursiveStage::Leaving(Refusal::OutOfMemory.number());
                 Ask::Release(task)
             }
             Left::Done(_) => self.give_up(),
@@ -147,7 +147,7 @@ impl<J: Divide> Inside<J> {
     }
 }
 
-impl<J: Divide> Inside<J> {
+impl<J: Divide> RecursiveState<J> {
     /// Everything right of the left halves has this value. Precondition: with theirs it gives the value of the whole.
     #[inline(always)]
     fn finish(&mut self, tail: J::Out) -> Ask<Recursive<J>>
@@ -158,11 +158,11 @@ impl<J: Divide> Inside<J> {
         ensures asks { AsksAsJob result }
         ensures joins { JoinsLast (forked_in self.old.lefts.items) result }
     {
-        self.stage = Stage::Over;
+        self.stage = RecursiveStage::Over;
         match fold_done(&mut self.lefts, tail) {
             Ok(value) => Ask::Ok(value),
             Err((task, key, tail)) => {
-                self.stage = Stage::Waiting(task, key, tail);
+                self.stage = RecursiveStage::Waiting(task, key, tail);
                 Ask::Join(task)
             }
         }
@@ -178,13 +178,13 @@ impl<J: Divide> Inside<J> {
         ensures asks { AsksAsJob result }
         ensures joins { JoinsLast (forked_in self.old.lefts.items) result }
     {
-        self.stage = Stage::Over;
+        self.stage = RecursiveStage::Over;
         match job.split() {
             Ok((left, right)) => {
                 let key = left.key();
                 match Recursive::new(*self.lefts.allocator(), left) {
                     Ok(body) => {
-                        self.stage = Stage::Forking(right, key);
+                        self.stage = RecursiveStage::Forking(right, key);
                         Ask::Fork(body, Kind::Plain)
                     }
                     Err(_) => self.give_up(),
@@ -208,7 +208,7 @@ impl<J: Divide> Inside<J> {
         ensures asks { AsksAsJob result }
         ensures joins { JoinsLast (forked_in (self.old.lefts.items ++ left ∷ [])) result }
     {
-        self.stage = Stage::Over;
+        self.stage = RecursiveStage::Over;
         if self.lefts.reserve(1).is_err() {
             return self.give_up_with(left);
         }
@@ -217,7 +217,7 @@ impl<J: Divide> Inside<J> {
     }
 }
 
-impl<J: Divide> Inside<J> {
+impl<J: Divide> RecursiveState<J> {
     /// The first turn. Precondition: the job has the value of the whole, with the left halves.
     #[inline(always)]
     fn begin(&mut self, job: J, heard: Heard<Recursive<J>>) -> Ask<Recursive<J>>
@@ -225,7 +225,7 @@ impl<J: Divide> Inside<J> {
         ensures key { self.new.key ≡ self.old.key }
         ensures right { AskRight (λ k o. o ≡ J.value k) self.new.key result }
         ensures nearer { Nearer (turns_of J.size (vec_len self.new.lefts) self.new.stage) (4 * J.size job + 2 * vec_len self.old.lefts + 2) result }
-        ensures failing { AsksFailing J.Key.eq (Stage.Going job) heard self.new.stage result }
+        ensures failing { AsksFailing J.Key.eq (RecursiveStage.Going job) heard self.new.stage result }
         ensures asks { AsksAsJob result }
         ensures joins { JoinsLast (forked_in self.old.lefts.items) result }
     {
@@ -242,9 +242,9 @@ impl<J: Divide> Inside<J> {
         ensures key { self.new.key ≡ self.old.key }
         ensures right { AskRight (λ k o. o ≡ J.value k) self.new.key result }
         ensures nearer { Nearer (turns_of J.size (vec_len self.new.lefts) self.new.stage) (4 * J.size job + 2 * vec_len self.old.lefts + 5) result }
-        ensures failing { AsksFailing J.Key.eq (Stage.Forking job key) heard self.new.stage result }
+        ensures failing { AsksFailing J.Key.eq (RecursiveStage.Forking job key) heard self.new.stage result }
         ensures asks { AsksAsJob result }
-        ensures joins { JoinsLast (forked_by self.old.lefts.items (Stage.Forking job key) heard) result }
+        ensures joins { JoinsLast (forked_by self.old.lefts.items (RecursiveStage.Forking job key) heard) result }
     {
         match heard {
             Heard::Task(task) => self.forked(job, Left::Forked(task, key)),
@@ -271,9 +271,9 @@ impl<J: Divide> Inside<J> {
         ensures key { self.new.key ≡ self.old.key }
         ensures right { AskRight (λ k o. o ≡ J.value k) self.new.key result }
         ensures nearer { Nearer (turns_of J.size (vec_len self.new.lefts) self.new.stage) (2 * vec_len self.old.lefts + 1) result }
-        ensures failing { AsksFailing J.Key.eq (Stage.Waiting task key tail) heard self.new.stage result }
+        ensures failing { AsksFailing J.Key.eq (RecursiveStage.Waiting task key tail) heard self.new.stage result }
         ensures asks { AsksAsJob result }
-        ensures joins { JoinsLast (forked_by self.old.lefts.items (Stage.Waiting task key tail) heard) result }
+        ensures joins { JoinsLast (forked_by self.old.lefts.items (RecursiveStage.Waiting task key tail) heard) result }
     {
         match heard {
             Heard::Got(heard_key, out) => {
@@ -283,7 +283,7 @@ impl<J: Divide> Inside<J> {
                 self.finish(J::combine(out, tail))
             }
             other => {
-                self.stage = Stage::Leaving(failure_code(&other));
+                self.stage = RecursiveStage::Leaving(failure_code(&other));
                 Ask::Release(task)
             }
         }
@@ -300,12 +300,12 @@ impl<J: Divide> Inside<J> {
         ensures asks { AsksAsJob result }
         ensures joins { JoinsLast (forked_by self.old.lefts.items self.old.stage heard) result }
     {
-        match mem::replace(&mut self.stage, Stage::Over) {
-            Stage::Going(job) => self.begin(job, heard),
-            Stage::Forking(job, key) => self.after_fork(job, key, heard),
-            Stage::Waiting(task, key, tail) => self.after_join(task, key, tail, heard),
-            Stage::Leaving(code) => self.leave(code),
-            Stage::Over => self.leave(failure_code(&heard)),
+        match mem::replace(&mut self.stage, RecursiveStage::Over) {
+            RecursiveStage::Going(job) => self.begin(job, heard),
+            RecursiveStage::Forking(job, key) => self.after_fork(job, key, heard),
+            RecursiveStage::Waiting(task, key, tail) => self.after_join(task, key, tail, heard),
+            RecursiveStage::Leaving(code) => self.leave(code),
+            RecursiveStage::Over => self.leave(failure_code(&heard)),
         }
     }
 }
@@ -329,7 +329,7 @@ impl<J: Divide> Body for Recursive<J> {
 
     fn into_key(self) -> J::Key {
         let Recursive { inside } = self;
-        let Inside {
+        let RecursiveState {
             key,
             lefts: _,
             stage: _,

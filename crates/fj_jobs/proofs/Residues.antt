@@ -6,7 +6,7 @@ use Rattle.std.specs.List.{range_with_len}
 use Rattle.std.specs.Option.{option_or}
 use Rattle.std.specs.Prelude.{◌==◌, if◌then◌else◌}
 use Rattle.std.proofs.lemmas.List.Folds.{find-append}
-use Rattle.std.proofs.lemmas.Bool.{cases_lt, lt-ltb, le-ltb, eq-eqb}
+use Rattle.std.proofs.lemmas.Bool.{cases_eq, cases_lt, eq-eqb, le-ltb, lt-ltb, ne_eqb}
 use Rattle.std.proofs.Math.Numerals.{suc-eq-add-one}
 use Rattle.fj_jobs.specs.Ranges.{IsAmong, pick, better, least, residue, residues_least, IsLeast, first_hit, residues_hit, IsFirst}
 use Rattle.fj_jobs.proofs.Stretches.{range-append}
@@ -23,18 +23,6 @@ first_or_later a n y in_range = elim (cases_lt a y) [
   | inl lt ↦ inr (omega arith, let high = in_range.1 in omega arith)
   | inr le ↦ inl (let low = in_range.0 in omega arith)
 ]
-
-pub same_or_not : (m n : ℕ) → (m ≡ n) ⊎ (m ≢ n)
-same_or_not m n = elim (cases_lt m n) [
-  | inl lt ↦ inr (λ e. omega arith)
-  | inr le ↦ elim (cases_lt n m) [
-    | inl lt ↦ inr (λ e. omega arith)
-    | inr other ↦ inl (omega arith)
-  ]
-]
-
-pub not-eqb : (m n : ℕ) → m ≢ n → (m == n) ≡ false
-not-eqb m n other = grind (arith, nat_tests)
 
 -- ---- least values
 
@@ -133,13 +121,13 @@ first_behind f want a n (Some x) other later = record {
 -- what is computed is the first number with the value
 first_is : (f : ℕ → ℕ) (want a n : ℕ) → IsFirst f want a n (first_hit f want a n)
 first_is f want a zero = λ y in_range e. absurd (let low = in_range.0 in let high = in_range.1 in omega arith)
-first_is f want a (suc n) = elim (same_or_not (f a) want) [
+first_is f want a (suc n) = elim (cases_eq (f a) want) [
   | inl same ↦ rw (eq-eqb (f a) want same) (record {
     among = (omega arith, omega arith);
     value = same;
     smallest = λ y in_range e. in_range.0;
   })
-  | inr other ↦ rw (not-eqb (f a) want other, suc-eq-add-one n) (first_behind f want a n (first_hit f want (a + 1) n) other (first_is f want (a + 1) n))
+  | inr other ↦ rw (ne_eqb (f a) want other, suc-eq-add-one n) (first_behind f want a n (first_hit f want (a + 1) n) other (first_is f want (a + 1) n))
 ]
 
 pub hit_is_first : (u v w k a n : ℕ) (r : Option ℕ) → r ≡ residues_hit u v w k a n → IsFirst (residue u v w) k a n r

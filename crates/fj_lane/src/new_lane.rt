@@ -7,7 +7,7 @@ use crate::misses::Misses;
 use crate::parcel::Parcel;
 use crate::rule::{Ends, LaneRule, View};
 use crossbeam_deque::Worker;
-use fj_model::OutOfMemory;
+use fj_rules::OutOfMemory;
 use std::alloc::Global;
 
 /// The most parcels that may be pushed into one lane.

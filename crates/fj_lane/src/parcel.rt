@@ -11,6 +11,6 @@ pub struct Parcel<B> {
 
 /// The lane has taken as many parcels as its capacity. It stays so: a take makes no room.
 ///
-/// To a submitter this is refusal 11, `LaneSpent` of `fj_model::Refusal`. Java knows no such limit.
+/// To a submitter this is refusal 11, `LaneSpent` of `fj_rules::Refusal`. Java knows no such limit.
 #[derive(Clone, Copy, Debug, PartialEq)]
 pub struct LaneSpent;

@@ -2,7 +2,7 @@ ghost use Rattle.std.specs.Prelude.{◌≡◌, ◌<◌, ◌↔◌, length, IsTru
 
 use super::*;
 use fj_gate::Ticket;
-use fj_model::OutOfMemory;
+use fj_rules::OutOfMemory;
 use std::alloc::{AllocError, Global};
 use std::test::*;
 

@@ -2,7 +2,7 @@
 use Rattle.std.specs.Prelude.{zero, suc, Option, Some, None}
 use Rattle.std.specs.Option.{option_to_list}
 use Rattle.std.proofs.Common.{ℕ, ◌≡◌, ◌+◌, ◌<◌, ◌≤◌, List, [], ◌∷◌, ◌++◌, refl, ap, ◌∙◌, sym, arith}
-use Rattle.fj_lazy.specs.Parts.{around, inside, weigh, branches}
+use Rattle.fj_lazy.specs.PartsAside.{around, inside, weigh, branches}
 
 -- one more part within the others
 pub around-snoc : {P O : Type 0} (f : P → O → O) (ps : List P) (p : P) (v : O) → around f (ps ++ p ∷ []) v ≡ around f ps (f p v)

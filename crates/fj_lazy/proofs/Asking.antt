@@ -1,9 +1,9 @@
 -- What is asked, and the turns that are left.
 use Rattle.std.specs.Prelude.{Result, Ok, Err, IfOk}
 use Rattle.std.proofs.Common.{ℕ, ◌≤◌, arith}
-use Rattle.fj_store.specs.declared.body.Ask.{Ask}
-use Rattle.fj_store.specs.declared.body.Ask.TheVariants as asks
-use Rattle.fj_store.specs.Turns.{Nearer}
+use Rattle.fj_bodies.specs.declared.body.Ask.{Ask}
+use Rattle.fj_bodies.specs.declared.body.Ask.TheVariants as asks
+use Rattle.fj_bodies.specs.Turns.{Nearer}
 
 -- from further away an ask brings a body nearer to its ending, too
 pub nearer_more : {B K O : Type 0} (new b c : ℕ) (ask : Ask B K O) → Nearer new b ask → b ≤ c → Nearer new c ask

@@ -1,10 +1,10 @@
 -- What is joined, with one more part.
 use Rattle.std.proofs.Common.{ℕ, ◌≡◌, ◌≤◌, ◌+◌, List, [], ◌∷◌, ◌++◌, ap, arith, length, length-append, refl}
-use Rattle.fj_store.specs.declared.body.Ask.{Ask}
+use Rattle.fj_bodies.specs.declared.body.Ask.{Ask}
 use Rattle.fj_lazy.specs.declared.part.Outer.{Outer}
 use Rattle.fj_lazy.specs.declared.part.Outer.TheVariants.{Done, Forked}
 use Rattle.fj_lazy.specs.Asks.{JoinsOwn}
-use Rattle.fj_lazy.specs.Parts.{forked_in, task_of}
+use Rattle.fj_lazy.specs.PartsAside.{forked_in, task_of}
 use Rattle.fj_lazy.proofs.Joins.{forked_more, forked_same}
 
 pub joins_forked : {B J K O : Type 0} (outers : List (Outer J K O)) (t : ℕ) (k : K) (news : List ℕ) (ask : Ask B K O) → JoinsOwn (forked_in (outers ++ Forked t k ∷ [])) news ask → JoinsOwn (forked_in outers ++ t ∷ []) news ask

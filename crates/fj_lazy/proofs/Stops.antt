@@ -2,12 +2,12 @@
 use Rattle.std.specs.Prelude.{Option, Some, None}
 use Rattle.std.proofs.Common.{ℕ, ◌≡◌, ◌+◌, ◌<◌, ◌≤◌, List, [], ◌∷◌, ◌++◌, ◌∙◌, ap, arith}
 use Rattle.fj_lazy.specs.declared.part.Inner.{Inner}
-use Rattle.fj_lazy.specs.declared.part.Stop.{Stop}
-use Rattle.fj_lazy.specs.declared.part.Stop.TheVariants.{Leaf, Deep}
-use Rattle.fj_lazy.specs.Parts.{StopsAt, beside, branches, weigh, weight}
+use Rattle.fj_lazy.specs.declared.part.DescentEnd.{DescentEnd}
+use Rattle.fj_lazy.specs.declared.part.DescentEnd.TheVariants.{Leaf, Deep}
+use Rattle.fj_lazy.specs.PartsAside.{StopsAt, beside, branches, weigh, weight}
 use Rattle.fj_lazy.proofs.Around.{branches_halves, inside_taken, weigh_taken}
 
-pub stops_around : {J K O : Type 0} (key_of : J → K) (value : K → O) (leaf_of : J → O) (combined : O → O → O) (news parts : List (Inner J K O)) (p : Inner J K O) (v w : O) (stop : Option (Stop J K O)) → StopsAt key_of value leaf_of combined parts v stop → news ≡ parts ++ p ∷ [] → beside key_of value combined p v ≡ w → StopsAt key_of value leaf_of combined news w stop
+pub stops_around : {J K O : Type 0} (key_of : J → K) (value : K → O) (leaf_of : J → O) (combined : O → O → O) (news parts : List (Inner J K O)) (p : Inner J K O) (v w : O) (stop : Option (DescentEnd J K O)) → StopsAt key_of value leaf_of combined parts v stop → news ≡ parts ++ p ∷ [] → beside key_of value combined p v ≡ w → StopsAt key_of value leaf_of combined news w stop
 stops_around key_of value leaf_of combined news parts p v w None h e i = h
 stops_around key_of value leaf_of combined news parts p v w (Some (Leaf j)) h e i = (inside_taken (beside key_of value combined) news parts p (value (key_of j)) e ∙ ap (beside key_of value combined p) h.0 ∙ i, h.1)
 stops_around key_of value leaf_of combined news parts p v w (Some (Deep j)) h e i = inside_taken (beside key_of value combined) news parts p (value (key_of j)) e ∙ ap (beside key_of value combined p) h ∙ i

@@ -1,15 +1,15 @@
 -- What a lazy body asks.
 use Rattle.std.specs.Prelude.{ℕ, ◌≡◌, ⊤, List, [], ◌∷◌, ◌++◌}
-use Rattle.fj_model.specs.declared.kind.Kind.TheVariants.{Plain}
-use Rattle.fj_store.specs.declared.body.Heard.{Heard}
-use Rattle.fj_store.specs.declared.body.Heard.TheVariants as hears
-use Rattle.fj_store.specs.declared.body.Ask.{Ask}
-use Rattle.fj_store.specs.declared.body.Ask.TheVariants.{Fork, Join, Release, Ok as AskOk, Fail}
+use Rattle.fj_rules.specs.declared.kind.Kind.TheVariants.{Plain}
+use Rattle.fj_bodies.specs.declared.body.Heard.{Heard}
+use Rattle.fj_bodies.specs.declared.body.Heard.TheVariants as hears
+use Rattle.fj_bodies.specs.declared.body.Ask.{Ask}
+use Rattle.fj_bodies.specs.declared.body.Ask.TheVariants.{Fork, Join, Release, Ok as AskOk, Fail}
 use Rattle.fj_lazy.specs.declared.part.Inner.{Inner}
 use Rattle.fj_lazy.specs.declared.part.Outer.{Outer}
-use Rattle.fj_lazy.specs.declared.part.Stage.{Stage}
-use Rattle.fj_lazy.specs.declared.part.Stage.TheVariants.{Forking, Waiting}
-use Rattle.fj_lazy.specs.Parts.{forked_in}
+use Rattle.fj_lazy.specs.declared.part.LazyStage.{LazyStage}
+use Rattle.fj_lazy.specs.declared.part.LazyStage.TheVariants.{Forking, Waiting}
+use Rattle.fj_lazy.specs.PartsAside.{forked_in}
 
 -- only this: to fork a plain task, to join a task or let it go, to end with a result or by a code
 abbrev pub AsksAsJob : {B K O : Type 0} → Ask B K O → Type 0
@@ -21,7 +21,7 @@ AsksAsJob (Fail code) = ⊤
 AsksAsJob _ = ⊥
 
 -- the tasks that were forked, and are neither joined nor let go, once this is heard
-abbrev pub forked_by : {B J K O : Type 0} → List (Outer J K O) → Stage J K O → Heard B K O → List ℕ
+abbrev pub forked_by : {B J K O : Type 0} → List (Outer J K O) → LazyStage J K O → Heard B K O → List ℕ
 forked_by parts (Forking k j) (hears.Task t) = forked_in parts ++ t ∷ []
 forked_by parts (Waiting t k v) (hears.Got heard out) = forked_in parts
 forked_by parts (Waiting t k v) _ = forked_in parts ++ t ∷ []

@@ -1,9 +1,9 @@
 ghost use Rattle.std.specs.Prelude.{◌≡◌, ◌+◌, ◌<◌, ◌≤◌, ◌++◌, [], Some, IfOk, IfErr, IfSome, IfNone, vec_len, vec_capacity};
 ghost use Rattle.std.specs.Option.{option_to_list};
 ghost use Rattle.fj_lazy.specs.declared.descent.TheConstants.{LEVELS};
-ghost use Rattle.fj_lazy.specs.Parts.{StopsAt, branches, inside, beside, deep_weight, weigh, weight};
+ghost use Rattle.fj_lazy.specs.PartsAside.{StopsAt, branches, inside, beside, deep_weight, weigh, weight};
 
-use crate::part::{Inner, Stop};
+use crate::part::{DescentEnd, Inner};
 use crate::signals::Signals;
 use fj_jobs::Divide;
 use std::alloc::{AllocError, Global};
@@ -21,7 +21,7 @@ pub struct Descent<'s, J: Divide> {
     /// The parts around the place where it stopped, the innermost first.
     around: Vec<Inner<J>>,
     /// Where it stopped.
-    stop: Option<Stop<J>>,
+    stop: Option<DescentEnd<J>>,
     ghost room: { LEVELS ≤ vec_capacity around },
 }
 
@@ -47,7 +47,7 @@ impl<'s, J: Divide> Descent<'s, J> {
     }
 
     /// The value of a job; or where it stops, with what is put aside around that.
-    pub fn run(&mut self, job: J) -> Result<J::Out, Stop<J>>
+    pub fn run(&mut self, job: J) -> Result<J::Out, DescentEnd<J>>
         ensures value { IfOk result (λ v. v ≡ J.value (J.key_of job)) }
         ensures stop { IfErr result (λ s. StopsAt J.key_of J.value J.leaf_of J.combined self.new.around.items (J.value (J.key_of job)) (Some s)) }
         ensures weight { IfErr result (λ s. weigh (weight J.size) self.new.around.items < branches (J.size job)) }
@@ -75,7 +75,7 @@ impl<'s, J: Divide> Descent<'s, J> {
         ensures levels { vec_len self.new.around ≤ levels }
     {
         if levels == 0 {
-            self.stop = Some(Stop::Deep(job));
+            self.stop = Some(DescentEnd::Deep(job));
             return None;
         }
         match job.split() {
@@ -95,7 +95,7 @@ impl<'s, J: Divide> Descent<'s, J> {
             }
             Err(leaf) => {
                 if self.signals.call(self.place) {
-                    self.stop = Some(Stop::Leaf(leaf));
+                    self.stop = Some(DescentEnd::Leaf(leaf));
                     return None;
                 }
                 Some(leaf.leaf())

@@ -1,20 +1,20 @@
 ghost use Rattle.std.specs.Prelude.{◌≡◌, ℕ, ◌+◌, ◌*◌, ◌<◌, ◌≤◌, ◌++◌, ◌∷◌, [], Option, None, IfOk, IfErr, IfSome, true, vec_len, vec_capacity};
 ghost use Rattle.std.specs.VecDeque.{deque_len, deque_capacity};
-ghost use Rattle.fj_model.specs.Replies.{refusal_number};
-ghost use Rattle.fj_store.specs.Turns.{AskRight, Nearer};
-ghost use Rattle.fj_lazy.specs.Parts.{around, beside, branches, forked_in, outside, weigh, weight, whole};
+ghost use Rattle.fj_rules.specs.Refusals.{refusal_number};
+ghost use Rattle.fj_bodies.specs.Turns.{AskRight, Nearer};
+ghost use Rattle.fj_lazy.specs.PartsAside.{around, beside, branches, forked_in, outside, weigh, weight, whole};
 ghost use Rattle.fj_lazy.specs.Splits.{Gives, HasRoom, turns_left, turns_of, turns_to_leave};
 ghost use Rattle.fj_lazy.specs.Asks.{AsksAsJob, HoldsNothing, JoinsOwn};
 ghost use Rattle.fj_lazy.specs.Failures.{Leaves};
 
 use crate::descent::Descent;
-use crate::part::{Climb, Stage, Stop};
-use crate::parts::Parts;
+use crate::part::{Climb, DescentEnd, LazyStage};
+use crate::parts_aside::PartsAside;
 use crate::signals::Signals;
 use crate::span::Span;
+use fj_bodies::Ask;
 use fj_jobs::Divide;
-use fj_model::{Kind, Refusal, WorkerId};
-use fj_store::Ask;
+use fj_rules::{Kind, Refusal, WorkerId};
 use std::alloc::{AllocError, Global};
 
 mod turns;
@@ -24,8 +24,8 @@ mod turns;
 #[derive(Drop)]
 pub struct Lazy<'s, J: Divide> {
     key: J::Key,
-    parts: Parts<J>,
-    stage: Stage<J>,
+    parts: PartsAside<J>,
+    stage: LazyStage<J>,
     descent: Descent<'s, J>,
     span: Span,
     /// How many forks it may ask for yet: more than any history has room for, so that its turns are bounded whatever is refused.
@@ -39,13 +39,13 @@ impl<'s, J: Divide> Lazy<'s, J> {
     pub fn new(alloc: Global, job: J, signals: &'s Signals) -> Result<Lazy<'s, J>, AllocError>
         ensures { IfOk result (λ body. body.key ≡ J.key_of job) }
     {
-        let parts = Parts::new(alloc)?;
+        let parts = PartsAside::new(alloc)?;
         let descent = Descent::new(alloc, Span::ALL.first, signals)?;
         Ok(Lazy::at(job, Span::ALL, parts, descent))
     }
 
     /// The same at these places, with this memory.
-    fn at(job: J, span: Span, parts: Parts<J>, descent: Descent<'s, J>) -> Lazy<'s, J>
+    fn at(job: J, span: Span, parts: PartsAside<J>, descent: Descent<'s, J>) -> Lazy<'s, J>
         requires outer { parts.outer.items ≡ [] }
         requires inner { parts.inner.items ≡ [] }
         ensures { result.key ≡ J.key_of job }
@@ -53,7 +53,7 @@ impl<'s, J: Divide> Lazy<'s, J> {
         Lazy {
             key: job.key(),
             parts,
-            stage: Stage::Going(job),
+            stage: LazyStage::Going(job),
             descent,
             span,
             forks: u32::MAX,
@@ -70,7 +70,7 @@ impl<'s, J: Divide> Lazy<'s, J> {
         ensures forks { self.new.forks ≡ self.old.forks }
     {
         let alloc = *self.parts.outer.allocator();
-        let Ok(parts) = Parts::new(alloc) else {
+        let Ok(parts) = PartsAside::new(alloc) else {
             return Err(half);
         };
         let (left, right) = self.span.halves();
@@ -91,7 +91,7 @@ impl<'s, J: Divide> Lazy<'s, J> {
         ensures joins { JoinsOwn (forked_in self.old.parts.outer.items) (forked_in self.new.parts.outer.items) result }
         ensures free { HoldsNothing self.new.parts.inner.items result }
     {
-        self.stage = Stage::Leaving(code);
+        self.stage = LazyStage::Leaving(code);
         match self.parts.last_forked() {
             Some(task) => Ask::Release(task),
             None => Ask::Fail(code),
@@ -128,16 +128,16 @@ impl<'s, J: Divide> Lazy<'s, J> {
         ensures forked { IfOk result (λ j. forked_in self.old.parts.outer.items ≡ forked_in self.new.parts.outer.items) }
         ensures forks { IfOk result (λ j. self.new.forks ≡ self.old.forks) }
     {
-        self.stage = Stage::Over;
+        self.stage = LazyStage::Over;
         match self.parts.climb(value) {
             Climb::Next(job) => Ok(job),
             Climb::Join(task, key, left) => {
-                self.stage = Stage::Waiting(task, key, left);
+                self.stage = LazyStage::Waiting(task, key, left);
                 Err(Ask::Join(task))
             }
             Climb::Skip(task, left) => {
                 self.descent.signals().finish(self.span.last);
-                self.stage = Stage::Skipping(left);
+                self.stage = LazyStage::Skipping(left);
                 Err(Ask::Release(task))
             }
             Climb::Whole(value) => {
@@ -166,7 +166,7 @@ impl<'s, J: Divide> Lazy<'s, J> {
         ensures forked { IfOk result (λ j. forked_in self.old.parts.outer.items ≡ forked_in self.new.parts.outer.items) }
         ensures forks { IfOk result (λ j. self.new.forks ≡ self.old.forks) }
     {
-        self.stage = Stage::Over;
+        self.stage = LazyStage::Over;
         self.descent.signals().give_fork_back();
         self.parts.put_back(half);
         self.step_up(leaf.leaf())
@@ -189,12 +189,12 @@ impl<'s, J: Divide> Lazy<'s, J> {
         ensures forked { IfOk result (λ j. forked_in self.old.parts.outer.items ≡ forked_in self.new.parts.outer.items) }
         ensures forks { IfOk result (λ j. self.new.forks ≡ self.old.forks) }
     {
-        self.stage = Stage::Over;
+        self.stage = LazyStage::Over;
         let key = half.key();
         match self.body_of(half) {
             Ok(body) => {
                 self.forks -= 1;
-                self.stage = Stage::Forking(key, leaf);
+                self.stage = LazyStage::Forking(key, leaf);
                 Err(Ask::Fork(body, Kind::Plain))
             }
             Err(half) => self.keep(half, leaf),
@@ -229,7 +229,7 @@ impl<'s, J: Divide> Lazy<'s, J> {
         ensures forked { IfOk result (λ j. forked_in self.old.parts.outer.items ≡ forked_in self.new.parts.outer.items) }
         ensures forks { IfOk result (λ j. self.new.forks ≡ self.old.forks) }
     {
-        self.stage = Stage::Over;
+        self.stage = LazyStage::Over;
         if self.descent.signals().is_over(self.span.first) {
             return Err(self.give_up());
         }
@@ -262,13 +262,13 @@ impl<'s, J: Divide> Lazy<'s, J> {
         ensures forked { IfOk result (λ j. forked_in self.old.parts.outer.items ≡ forked_in self.new.parts.outer.items) }
         ensures forks { IfOk result (λ j. self.new.forks ≡ self.old.forks) }
     {
-        self.stage = Stage::Over;
+        self.stage = LazyStage::Over;
         match self.descent.run(job) {
             Ok(value) => self.step_up(value),
             Err(stop) => match self.parts.put_in(&mut self.descent) {
                 Ok(()) => match stop {
-                    Stop::Leaf(leaf) => self.share(leaf),
-                    Stop::Deep(job) => Ok(job),
+                    DescentEnd::Leaf(leaf) => self.share(leaf),
+                    DescentEnd::Deep(job) => Ok(job),
                 },
                 Err(_) => Err(self.give_up()),
             },

@@ -11,7 +11,7 @@
 mod descent;
 mod lazy;
 mod part;
-mod parts;
+mod parts_aside;
 mod signals;
 mod span;
 

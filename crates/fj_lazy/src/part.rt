@@ -1,5 +1,5 @@
 use fj_jobs::Divide;
-use fj_model::Serial;
+use fj_rules::Serial;
 
 /// A part of a job, beside the part that is computed.
 #[derive(Drop)]
@@ -21,7 +21,7 @@ pub enum Outer<J: Divide> {
 
 /// Where a descent stops.
 #[derive(Drop)]
-pub enum Stop<J: Divide> {
+pub enum DescentEnd<J: Divide> {
     /// Before this leaf, since somebody called.
     Leaf(J),
     /// Before this job, which stands too deep for the thread's stack.
@@ -43,7 +43,7 @@ pub enum Climb<J: Divide> {
 
 /// What a lazy body does, beside the parts that it has put aside.
 #[derive(Drop)]
-pub enum Stage<J: Divide> {
+pub enum LazyStage<J: Divide> {
     /// It goes on with this job.
     Going(J),
     /// It forks a right half with this key, which stands between the outer and the inner parts, and goes on with this leaf within these.

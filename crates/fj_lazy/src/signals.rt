@@ -1,4 +1,4 @@
-use fj_model::WorkerId;
+use fj_rules::WorkerId;
 use std::sync::atomic::{AtomicU64, Ordering};
 
 /// What the bodies of one job share: the workers that ask for work, and where a final value stands. Whatever it says, the value of the job is the

@@ -8,3 +8,5 @@ pub mod Recorded
 pub mod Paths
 -- Lists that are kept.
 pub mod Lists
+-- That it may go to another thread.
+pub mod Crossing

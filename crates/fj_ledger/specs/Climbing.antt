@@ -1,9 +1,9 @@
 -- Where a climb without hooks ends, as the history says it.
 use Rattle.std.specs.Prelude.{ℕ, ◌≡◌, List, [], ◌∷◌, Option, Some, length, drop}
-use Rattle.fj_model.specs.declared.event.Event.{Event}
-use Rattle.fj_model.specs.Climbs.{Arrival, arrival, path, passed}
-use Rattle.fj_model.specs.Climbs as climb
-use Rattle.fj_model.specs.Answers.{root_of}
+use Rattle.fj_rules.specs.declared.event.Event.{Event}
+use Rattle.fj_rules.specs.Climbs.{Arrival, arrival, path, passed}
+use Rattle.fj_rules.specs.Climbs as climb
+use Rattle.fj_rules.specs.Answers.{root_of}
 use Rattle.fj_tree.specs.declared.pass.PassHow.{PassHow}
 use Rattle.fj_tree.specs.declared.pass.PassHow.TheVariants as how
 use Rattle.fj_tree.specs.Passes.{PassEnd}

@@ -1,9 +1,9 @@
 -- How many tasks there are, of one kind or another.
 use Rattle.std.specs.Prelude.{ℕ, List, length}
 use Rattle.std.specs.List.{range_with_len, sum_by}
-use Rattle.fj_model.specs.declared.event.Event.{Event}
-use Rattle.fj_model.specs.Bounds.{Bounds, owner_at, queues_in}
-use Rattle.fj_model.specs.Queues.{queue}
+use Rattle.fj_rules.specs.declared.event.Event.{Event}
+use Rattle.fj_rules.specs.Bounds.{Bounds, owner_at, queues_in}
+use Rattle.fj_rules.specs.Queues.{queue}
 
 -- how many tasks are queued, for all owners
 abbrev pub queued : Bounds → List Event → ℕ

@@ -1,22 +1,22 @@
 -- What a machine keeps beside its history is what the history says.
 use Rattle.std.specs.Prelude.{ℕ, ◌≡◌, ◌≤◌, ◌<◌, ◌+◌, Bool, true, false, List, [], ◌++◌, length, map, Option, Some, None, IsSome, option_map, get_or}
 use Rattle.std.specs.List.{list_any}
-use Rattle.fj_model.specs.declared.event.Event.{Event}
-use Rattle.fj_model.specs.declared.event.How.{How}
-use Rattle.fj_model.specs.declared.event.How.TheVariants.{Zero, Complete}
-use Rattle.fj_model.specs.declared.status.Status.{Status}
-use Rattle.fj_model.specs.Bounds.{Bounds, Pool, IsWithin, queues_in, owner_at}
-use Rattle.fj_model.specs.Lists.{is_in, times_in}
-use Rattle.fj_model.specs.Tasks.{tasks, accepted, is_kept, live, kind, parent}
-use Rattle.fj_model.specs.Queues.{queue}
-use Rattle.fj_model.specs.Stacks.{stack}
-use Rattle.fj_model.specs.Hooks.{hooks, hand}
-use Rattle.fj_model.specs.Statuses.{status}
-use Rattle.fj_model.specs.Completers.{pending, fires_or_passes}
-use Rattle.fj_model.specs.Places.{place, open_tasks, gone}
-use Rattle.fj_model.specs.Climbs.{ClimbsCompleters}
-use Rattle.fj_model.specs.Allowed.{AllowedFrom, is_fired_by_complete}
-use Rattle.fj_model.specs.declared.epoch.TheConstants.{MAX_EVENTS_AND_SEALS}
+use Rattle.fj_rules.specs.declared.event.Event.{Event}
+use Rattle.fj_rules.specs.declared.event.How.{How}
+use Rattle.fj_rules.specs.declared.event.How.TheVariants.{Zero, Complete}
+use Rattle.fj_rules.specs.declared.status.Status.{Status}
+use Rattle.fj_rules.specs.Bounds.{Bounds, Pool, IsWithin, queues_in, owner_at}
+use Rattle.fj_rules.specs.Lists.{is_in, times_in}
+use Rattle.fj_rules.specs.Tasks.{tasks, accepted, is_kept, live, kind, parent}
+use Rattle.fj_rules.specs.Queues.{queue}
+use Rattle.fj_rules.specs.Stacks.{stack}
+use Rattle.fj_rules.specs.Hooks.{hooks, hand}
+use Rattle.fj_rules.specs.Statuses.{status}
+use Rattle.fj_rules.specs.Completers.{pending, fires_or_passes}
+use Rattle.fj_rules.specs.Places.{place, open_tasks, gone}
+use Rattle.fj_rules.specs.Climbs.{ClimbsCompleters}
+use Rattle.fj_rules.specs.Allowed.{AllowedFrom, is_fired_by_complete}
+use Rattle.fj_rules.specs.declared.epoch.TheConstants.{MAX_EVENTS_AND_SEALS}
 use Rattle.fj_queues.specs.Queues.{Lists as Waiting, queue_at}
 use Rattle.fj_tree.specs.declared.record.Record.{Record}
 use Rattle.fj_tree.specs.Records.{Records, record_at, handle_of, count}

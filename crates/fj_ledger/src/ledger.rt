@@ -1,14 +1,14 @@
 ghost use Rattle.std.specs.Prelude.{◌≡◌, ◌≤◌, ◌<◌, ◌+◌, ◌↔◌, [], IfOk, IfSome, IsTrue, nat_lt, option_map, MatchOption, length, true, false, Some, option_copied, is_none, ◌||◌};
 ghost use Rattle.std.specs.List.{list_all};
-ghost use Rattle.fj_model.specs.Queues.{queue};
-ghost use Rattle.fj_model.specs.Stacks.{stack};
-ghost use Rattle.fj_model.specs.Places.{open_tasks};
-ghost use Rattle.fj_model.specs.Tasks.{is_kept, live, parent};
-ghost use Rattle.fj_model.specs.Climbs.{path};
-ghost use Rattle.fj_model.specs.Hooks.{hand};
-ghost use Rattle.fj_model.specs.Answers.{running, is_quiet, root_of};
-ghost use Rattle.fj_model.specs.Allowed.{AllowedFrom, is_closed, is_stopped};
-ghost use Rattle.fj_model.specs.Pasts.{fresh, limit, present, gone_since};
+ghost use Rattle.fj_rules.specs.Queues.{queue};
+ghost use Rattle.fj_rules.specs.Stacks.{stack};
+ghost use Rattle.fj_rules.specs.Places.{open_tasks};
+ghost use Rattle.fj_rules.specs.Tasks.{is_kept, live, parent};
+ghost use Rattle.fj_rules.specs.Climbs.{path};
+ghost use Rattle.fj_rules.specs.Hooks.{hand};
+ghost use Rattle.fj_rules.specs.Answers.{running, is_quiet, root_of};
+ghost use Rattle.fj_rules.specs.Allowed.{AllowedFrom, is_closed, is_stopped};
+ghost use Rattle.fj_rules.specs.Pasts.{fresh, limit, present, gone_since};
 ghost use Rattle.fj_ledger.specs.Counts.{queued};
 ghost use Rattle.fj_ledger.specs.Holds.{IsLawful, TellsOf, TellsHook};
 
@@ -29,8 +29,8 @@ pub use crate::ledger::hook::Hook;
 use crate::log::Log;
 use crate::open::OpenTasks;
 use crate::stacks::Stacks;
-use fj_model::{Event, Limits, Mode, OutOfMemory, Owner, Serial, SubId, WorkerId};
 use fj_queues::{Numbers, Queues};
+use fj_rules::{Event, Limits, Mode, OutOfMemory, Owner, Serial, SubId, WorkerId};
 use fj_tree::{Handle, Record, Tree};
 use std::alloc::Global;
 use std::marker::Model;
@@ -53,8 +53,8 @@ pub struct Ledger {
 
 impl Model for Ledger {
     ghost use Rattle.std.specs.Prelude.{◌≡◌, ◌≤◌, ◌+◌, ◌++◌, vec_capacity};
-    ghost use Rattle.fj_model.specs.Places.{gone};
-    ghost use Rattle.fj_model.specs.Pasts.{Past};
+    ghost use Rattle.fj_rules.specs.Places.{gone};
+    ghost use Rattle.fj_rules.specs.Pasts.{Past};
     ghost use Rattle.fj_ledger.specs.Holds.{Holds};
 
     ghost Value = { Past };

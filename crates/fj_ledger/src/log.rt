@@ -1,7 +1,7 @@
 ghost use Rattle.std.specs.Prelude.{◌≡◌, ◌<◌, ◌≤◌, ◌+◌, ◌∷◌, [], ◌++◌, length, nat_lt, vec_capacity, IfOk, OnOk, OnErr};
-ghost use Rattle.fj_model.specs.Allowed.{is_close, is_stop, is_closed, is_stopped};
+ghost use Rattle.fj_rules.specs.Allowed.{is_close, is_stop, is_closed, is_stopped};
 
-use fj_model::{Event, How, Kind, MAX_EVENTS_AND_SEALS, Owner, Serial, Status, SubId, WorkerId};
+use fj_rules::{Event, How, Kind, MAX_EVENTS_AND_SEALS, Owner, Serial, Status, SubId, WorkerId};
 use std::alloc::{AllocError, Global};
 use std::marker::Model;
 use std::mem;
@@ -25,8 +25,8 @@ pub struct Log {
 
 impl Model for Log {
     ghost use Rattle.std.specs.Prelude.{◌≡◌, ◌≤◌, ◌+◌, ◌++◌, length, vec_capacity, option_map};
-    ghost use Rattle.fj_model.specs.declared.epoch.TheConstants.{MAX_EVENTS_AND_SEALS};
-    ghost use Rattle.fj_model.specs.Allowed.{is_closed, is_stopped};
+    ghost use Rattle.fj_rules.specs.declared.epoch.TheConstants.{MAX_EVENTS_AND_SEALS};
+    ghost use Rattle.fj_rules.specs.Allowed.{is_closed, is_stopped};
     ghost use Rattle.fj_ledger.specs.Logs.{Logged, sealed_in, seals_in};
 
     ghost Value = { Logged };

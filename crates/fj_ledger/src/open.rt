@@ -1,10 +1,10 @@
 ghost use Rattle.std.specs.Prelude.{◌≡◌, ◌==◌, ◌<◌, ◌≤◌, ◌∷◌, [], ◌++◌, length, false, IfOk, MatchOption, slice_get, Some};
 ghost use Rattle.std.specs.List.{position};
-ghost use Rattle.fj_model.specs.Lists.{is_in, times_in, without};
+ghost use Rattle.fj_rules.specs.Lists.{is_in, times_in, without};
 
 use crate::stamps::Stamps;
 use crate::window::Window;
-use fj_model::Serial;
+use fj_rules::Serial;
 use std::alloc::{AllocError, Global};
 use std::marker::Model;
 

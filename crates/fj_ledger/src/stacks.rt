@@ -1,9 +1,9 @@
 ghost use Rattle.std.specs.Prelude.{◌≡◌, ◌<◌, ◌∷◌, [], ◌++◌, length, IfOk, replicate, ◌-◌, take};
 ghost use Rattle.fj_ledger.specs.Stacks.{stack_at, with_stack};
-ghost use Rattle.fj_model.specs.Lists.{is_empty};
+ghost use Rattle.fj_rules.specs.Lists.{is_empty};
 ghost use Rattle.std.specs.List.{list_all};
 
-use fj_model::Serial;
+use fj_rules::Serial;
 use std::alloc::{AllocError, Global};
 use std::marker::Model;
 

@@ -4,3 +4,5 @@ pub mod Outcomes
 pub mod ByStep
 -- One step or move more of a run.
 pub mod MoreSteps
+-- That it may go to another thread.
+pub mod Crossing

@@ -1,13 +1,13 @@
 -- Which events and which gone tasks stand in which part of a run with seals.
 use Rattle.std.specs.Prelude.{ℕ, List, [], ◌∷◌}
-use Rattle.fj_model.specs.declared.event.Event.{Event}
-use Rattle.fj_model.specs.declared.epoch.Sealed.{Sealed as Part}
-use Rattle.fj_model.specs.declared.epoch.Move.{Move}
-use Rattle.fj_model.specs.declared.epoch.Move.TheVariants.{Step, Seal}
-use Rattle.fj_model.specs.declared.epoch.Answer.{Answer}
-use Rattle.fj_model.specs.declared.epoch.Answer.TheVariants.{Said, Sealed, Refused}
-use Rattle.fj_model.specs.Answers.{answer}
-use Rattle.fj_model.specs.Pasts.{Past, grown, present, gone_since, sealed_now}
+use Rattle.fj_rules.specs.declared.event.Event.{Event}
+use Rattle.fj_rules.specs.declared.epoch.Sealed.{Sealed as Part}
+use Rattle.fj_rules.specs.declared.epoch.Move.{Move}
+use Rattle.fj_rules.specs.declared.epoch.Move.TheVariants.{Step, Seal}
+use Rattle.fj_rules.specs.declared.epoch.Answer.{Answer}
+use Rattle.fj_rules.specs.declared.epoch.Answer.TheVariants.{Said, Sealed, Refused}
+use Rattle.fj_rules.specs.Answers.{answer}
+use Rattle.fj_rules.specs.Pasts.{Past, grown, present, gone_since, sealed_now}
 
 -- what a part has: its events, and its gone tasks
 abbrev pub shown : Part → List Event × List ℕ

@@ -1,23 +1,23 @@
 -- What a check and a step come to: something found or said, or a refusal.
 use Rattle.std.specs.Prelude.{ℕ, ◌≡◌, ◌≤◌, ◌<◌, ◌+◌, Bool, true, not, List, [], ◌∷◌, Option, Some, None, Result, Ok, Err, length, map}
-use Rattle.fj_model.specs.declared.event.Event.{Event}
-use Rattle.fj_model.specs.declared.event.Event.TheVariants as event
-use Rattle.fj_model.specs.declared.status.Status.TheVariants.{Exceptional}
-use Rattle.fj_model.specs.declared.refusal.Refusal.{Refusal}
-use Rattle.fj_model.specs.declared.refusal.Refusal.TheVariants.{LogFull, NotCompleter, NotIdle, Unknown}
-use Rattle.fj_model.specs.declared.said.Said.{Said}
-use Rattle.fj_model.specs.declared.said.Said.TheVariants as says
-use Rattle.fj_model.specs.declared.step.Step.{Step}
-use Rattle.fj_model.specs.declared.step.Ending.{Ending}
-use Rattle.fj_model.specs.declared.step.Ending.TheVariants as ends
-use Rattle.fj_model.specs.declared.step.Step.TheVariants.{End}
-use Rattle.fj_model.specs.Lists.{is_empty}
-use Rattle.fj_model.specs.Stacks.{stack}
-use Rattle.fj_model.specs.Choices.{choice}
-use Rattle.fj_model.specs.Climbs.{relayed}
-use Rattle.fj_model.specs.Answers.{first_that_stands, refusals_of, hook_in_hand, is_plain_parent, is_unknown_parent, no_such_worker, nothing_running, running, taking, taking_says}
-use Rattle.fj_model.specs.Pasts.{limit}
-use Rattle.fj_model.specs.Runs.{Past, Steps, grown}
+use Rattle.fj_rules.specs.declared.event.Event.{Event}
+use Rattle.fj_rules.specs.declared.event.Event.TheVariants as event
+use Rattle.fj_rules.specs.declared.status.Status.TheVariants.{Exceptional}
+use Rattle.fj_rules.specs.declared.refusal.Refusal.{Refusal}
+use Rattle.fj_rules.specs.declared.refusal.Refusal.TheVariants.{LogFull, NotCompleter, NotIdle, Unknown}
+use Rattle.fj_rules.specs.declared.said.Said.{Said}
+use Rattle.fj_rules.specs.declared.said.Said.TheVariants as says
+use Rattle.fj_rules.specs.declared.step.Step.{Step}
+use Rattle.fj_rules.specs.declared.step.Ending.{Ending}
+use Rattle.fj_rules.specs.declared.step.Ending.TheVariants as ends
+use Rattle.fj_rules.specs.declared.step.Step.TheVariants.{End}
+use Rattle.fj_rules.specs.Lists.{is_empty}
+use Rattle.fj_rules.specs.Stacks.{stack}
+use Rattle.fj_rules.specs.Choices.{choice}
+use Rattle.fj_rules.specs.Climbs.{relayed}
+use Rattle.fj_rules.specs.Answers.{first_that_stands, refusals_of, hook_in_hand, is_plain_parent, is_unknown_parent, no_such_worker, nothing_running, running, taking, taking_says}
+use Rattle.fj_rules.specs.Pasts.{limit}
+use Rattle.fj_rules.specs.Runs.{Past, Steps, grown}
 use Rattle.fj_tree.specs.Handles.{Handle}
 use Rattle.fj_ledger.specs.Holds.{IsLawful}
 

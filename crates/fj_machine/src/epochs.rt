@@ -1,14 +1,14 @@
 ghost use Rattle.std.specs.Prelude.{◌≡◌, ◌++◌, ◌∷◌, [], length, map, IfOk, OnOk};
 ghost use Rattle.std.specs.List.{filter_map};
-ghost use Rattle.fj_model.specs.Places.{gone};
-ghost use Rattle.fj_model.specs.Pasts.{fresh, present, gone_since};
-ghost use Rattle.fj_model.specs.Epochs.{Moves, MovesFrom, reply_in};
-ghost use Rattle.fj_model.specs.Headline.{IsInOnePlace, IsHandedOutOnce, LeftInOrder, NoneAfterShutdown, IsFiredOnce, FiredAtZero, FiresByCompleteOnlyOwn, RepliesTell};
-ghost use Rattle.fj_model.specs.Parts.{Fits, events_in, gone_in};
+ghost use Rattle.fj_rules.specs.Places.{gone};
+ghost use Rattle.fj_rules.specs.Pasts.{fresh, present, gone_since};
+ghost use Rattle.fj_rules.specs.Epochs.{Moves, MovesFrom, reply_in};
+ghost use Rattle.fj_rules.specs.Headline.{IsInOnePlace, IsHandedOutOnce, LeftInOrder, NoneAfterShutdown, IsFiredOnce, FiredAtZero, FiresByCompleteOnlyOwn, RepliesTell};
+ghost use Rattle.fj_rules.specs.Parts.{Fits, events_in, gone_in};
 ghost use Rattle.fj_machine.specs.Handed.{handed, shown};
 
 use crate::machine::Machine;
-use fj_model::{
+use fj_rules::{
     Answer, Limits, Mode, Move, OutOfMemory, Owner, Place, Refusal, Said, Sealed, Serial, Status,
     SubId, WorkerId,
 };

@@ -1,24 +1,25 @@
-ghost use Rattle.std.specs.Prelude.{◌≡◌, ◌<◌, ◌&&◌, not, IfOk, OnOk, IfErr, OnErr, ◌∷◌, [], ◌++◌, None, List, true};
-ghost use Rattle.fj_model.specs.Queues.{queue};
-ghost use Rattle.fj_model.specs.Stacks.{stack};
-ghost use Rattle.fj_model.specs.Bounds.{IsWithin};
-ghost use Rattle.fj_model.specs.Hooks.{hand};
-ghost use Rattle.fj_model.specs.Tasks.{is_kept, is_completer, live, parent};
-ghost use Rattle.fj_model.specs.Places.{open_tasks};
-ghost use Rattle.fj_model.specs.Allowed.{AllowedFrom};
-ghost use Rattle.fj_model.specs.Answers.{answer, refusal_of};
-ghost use Rattle.fj_model.specs.Pasts.{fresh, present, gone_since, sealed_now};
-ghost use Rattle.fj_model.specs.Runs.{Steps};
-ghost use Rattle.fj_model.specs.Epochs.{IsPast, seal_refusal, RefusesSeal};
-ghost use Rattle.fj_model.specs.Parts.{Fits};
-ghost use Rattle.fj_model.specs.Headline.{Headline, RepliesTell};
+ghost use Rattle.std.specs.Prelude.{◌≡◌, ◌<◌, ◌&&◌, not, IfOk, OnOk, IfErr, OnErr, ◌∷◌, [], ◌++◌, ◌||◌, None, List, MatchOption, false, true};
+ghost use Rattle.fj_rules.specs.Queues.{queue};
+ghost use Rattle.fj_rules.specs.Stacks.{stack};
+ghost use Rattle.fj_rules.specs.Bounds.{IsWithin};
+ghost use Rattle.fj_rules.specs.Hooks.{hand};
+ghost use Rattle.fj_rules.specs.Tasks.{is_kept, is_completer, live, parent};
+ghost use Rattle.fj_rules.specs.Places.{open_tasks, place};
+ghost use Rattle.fj_rules.specs.Statuses.{status};
+ghost use Rattle.fj_rules.specs.Allowed.{AllowedFrom, is_closed, is_stopped};
+ghost use Rattle.fj_rules.specs.Answers.{answer, is_quiet, refusal_of};
+ghost use Rattle.fj_rules.specs.Pasts.{fresh, present, gone_since, sealed_now};
+ghost use Rattle.fj_rules.specs.Runs.{Steps};
+ghost use Rattle.fj_rules.specs.Epochs.{IsPast, seal_refusal, RefusesSeal};
+ghost use Rattle.fj_rules.specs.Parts.{Fits};
+ghost use Rattle.fj_rules.specs.Headline.{Headline, RepliesTell};
 ghost use Rattle.fj_ledger.specs.Counts.{queued};
 ghost use Rattle.fj_machine.specs.InHands.{HooksApart};
 ghost use Rattle.fj_machine.specs.Outcomes.{Makes, said_by};
-ghost use Rattle.fj_model.specs.declared.step.Step.TheVariants.{Submit};
-ghost use Rattle.fj_model.specs.declared.epoch.Sealed.{Sealed as Part};
-ghost use Rattle.fj_model.specs.declared.owner.Owner.{Owner as OwnerCase};
-ghost use Rattle.fj_model.specs.declared.refusal.Refusal.{Refusal as RefusalCase};
+ghost use Rattle.fj_rules.specs.declared.step.Step.TheVariants.{Submit};
+ghost use Rattle.fj_rules.specs.declared.epoch.Sealed.{Sealed as Part};
+ghost use Rattle.fj_rules.specs.declared.owner.Owner.{Owner as OwnerCase};
+ghost use Rattle.fj_rules.specs.declared.refusal.Refusal.{Refusal as RefusalCase};
 
 use crate::steps::accept::{fork, submit, submit_refusal, trigger};
 use crate::steps::completer::{add, quiet_root};
@@ -30,10 +31,11 @@ use crate::steps::settle::{cancel, fault};
 use crate::steps::shut::{shutdown, stop};
 use crate::steps::take::{help, join, poll};
 use fj_ledger::Ledger;
-use fj_model::{
-    Event, Limits, Mode, Owner, Refusal, Said, Sealed, Serial, Step, SubId, SubmittedKind, WorkerId,
-};
 use fj_queues::Numbers;
+use fj_rules::{
+    Event, Limits, Mode, Owner, Place, Refusal, Said, Sealed, Serial, Status, Step, SubId,
+    SubmittedKind, WorkerId,
+};
 use std::alloc::Global;
 use std::marker::Model;
 
@@ -46,8 +48,8 @@ pub struct Machine {
 }
 
 impl Model for Machine {
-    ghost use Rattle.fj_model.specs.Pasts.{Past};
-    ghost use Rattle.fj_model.specs.Epochs.{IsPast};
+    ghost use Rattle.fj_rules.specs.Pasts.{Past};
+    ghost use Rattle.fj_rules.specs.Epochs.{IsPast};
 
     ghost Value = { Past };
 
@@ -148,6 +150,34 @@ impl Machine {
             Some(record) => !record.kind.is_completer(),
             None => false,
         }
+    }
+
+    /// How far a task has come. None if it was never accepted, or was released.
+    pub fn status(&self, t: Serial) -> Option<Status>
+        ensures { MatchOption result (is_kept self.now.events t ≡ false) (λ s. (is_kept self.now.events t ≡ true) × (s ≡ status self.now.events t)) }
+    {
+        Some(self.ledger.find(t)?.status)
+    }
+
+    /// Where a task is. None if it was never accepted, or was released.
+    pub fn place(&self, t: Serial) -> Option<Place>
+        ensures { MatchOption result (is_kept self.now.events t ≡ false) (λ p. (is_kept self.now.events t ≡ true) × (p ≡ place self.now.events t)) }
+    {
+        Some(self.ledger.find(t)?.place)
+    }
+
+    /// Whether submissions are refused, since there was a shutdown or a stop: `ForkJoinPool.isShutdown`.
+    pub fn is_shut(&self) -> bool
+        ensures { result ≡ (is_closed self.now.events || is_stopped self.now.events) }
+    {
+        self.ledger.is_shut()
+    }
+
+    /// Whether nothing is queued or held and no completion action is in a hand: `ForkJoinPool.isQuiescent`.
+    pub fn is_quiescent(&self) -> bool
+        ensures { result ≡ is_quiet self.now.pool.limits self.now.events }
+    {
+        self.ledger.is_quiet()
     }
 
     /// How large the pool may grow.

@@ -1,44 +1,12 @@
-//! The words of a fork-join pool: its tasks, events, steps, replies, refusals and limits.
-//!
-//! A history is a list of [`Event`]s. All that can be asked about a pool, as what stands in a queue or how far a task has come,
-//! is a definition over its history, in `specs/`; the laws that hold of every history are in `proofs/`.
+//! The public names of `fj_rules` and `fj_lines` in one crate: types of histories and steps, and the lines of scripts.
 #![tactic(auto)]
 
-mod epoch;
-mod event;
-mod ids;
-mod kind;
-mod limits;
-mod line2;
-mod memory;
-mod mode;
-mod name;
-mod owner;
-mod place;
-mod read;
-mod refusal;
-mod reply;
-mod said;
-mod status;
-mod step;
-mod write;
-
-pub use epoch::{Answer, MAX_EVENTS_AND_SEALS, Move, Sealed};
-pub use event::{Event, How};
-pub use ids::{Serial, SubId, WorkerId};
-pub use kind::{Kind, SubmittedKind};
-pub use limits::{Limits, MAX_EVENTS, MAX_PENDING, MAX_SUBMITTERS, MAX_TASKS, MAX_WORKERS};
-pub use line2::{Line2, NamedKind};
-pub use memory::OutOfMemory;
-pub use mode::Mode;
-pub use name::{MAX_NAME, Name};
-pub use owner::Owner;
-pub use place::Place;
-pub use read::{
-    LINE_FEED, LineFault, MAX_LINE, MAX_LINE2, read_head, read_line2, read_number, read_step,
+pub use fj_lines::{
+    ForkedKind, LINE_FEED, Line, Line2, LineFault, MAX_LINE, MAX_LINE2, MAX_NAME, Name, NamedKind,
+    Reply, read_head, read_line2, read_number, read_step,
 };
-pub use refusal::Refusal;
-pub use reply::Reply;
-pub use said::Said;
-pub use status::Status;
-pub use step::{Ending, Step};
+pub use fj_rules::{
+    Answer, Ending, Event, How, Kind, Limits, MAX_EVENTS, MAX_EVENTS_AND_SEALS, MAX_PENDING,
+    MAX_SUBMITTERS, MAX_TASKS, MAX_WORKERS, Mode, Move, OutOfMemory, Owner, Place, Refusal, Said,
+    Sealed, Serial, Status, Step, SubId, SubmittedKind, WorkerId,
+};

@@ -2,7 +2,7 @@
 use Rattle.std.proofs.Common.{ℕ, ◌≡◌, List, [], ◌∷◌, length, Option, Some, None, IsSome, refl, arith}
 use Rattle.std.specs.Prelude.{◌-◌, IfSome, slice_get}
 use Rattle.std.proofs.lemmas.Option.{slice_get-get_or}
-use Rattle.fj_shelf.specs.Hands.{HandState, asker}
+use Rattle.fj_slots.specs.Hands.{HandState, asker}
 
 module _ {B : Type 0} where
   newest_there : (stack : List (ℕ × B)) (x : ℕ × B) (xs : List (ℕ × B)) → stack ≡ x ∷ xs → IsSome (slice_get stack (length stack - 1))

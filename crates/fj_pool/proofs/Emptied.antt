@@ -10,8 +10,8 @@ use Rattle.fj_lane.specs.declared.parcel.Parcel.{Parcel}
 use Rattle.fj_lane.specs.Ends.{DrainState}
 use Rattle.fj_core.specs.Closes.{is_number}
 use Rattle.fj_core.specs.Closings.{is_over}
-use Rattle.fj_model.specs.Answers.{is_quiet}
-use Rattle.fj_model.specs.Pasts.{Past}
+use Rattle.fj_rules.specs.Answers.{is_quiet}
+use Rattle.fj_rules.specs.Pasts.{Past}
 use Rattle.fj_pool.specs.Seats.{IsSeat, SeatState}
 use Rattle.fj_pool.specs.Winding.{AreEmpty, HaveMet, has_terminated, submissions, tickets_of}
 

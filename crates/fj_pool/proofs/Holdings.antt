@@ -8,18 +8,18 @@ use Rattle.std.proofs.lemmas.List.FromFn.{get_or-map-range_with_len, length-map-
 use Rattle.std.proofs.lemmas.Option.{get_or_from_slice_get, slice_get-get_or, slice_get-map, slice_get_within}
 use Rattle.atomic_table.specs.Seated.{TableId}
 use Rattle.fj_agreement.specs.Ends.{EndState}
-use Rattle.fj_model.specs.declared.mode.Mode.{Mode}
-use Rattle.fj_model.specs.declared.refusal.Refusal.{Refusal}
-use Rattle.fj_model.specs.Bounds.{Bounds}
-use Rattle.fj_model.specs.Pasts.{Past, fresh}
-use Rattle.fj_model.specs.Stacks.{stack as held}
-use Rattle.fj_model.specs.Hooks.{hand as hook_of, hooks}
-use Rattle.fj_shelf.specs.Hands.{HandState, new_hand}
-use Rattle.fj_store.specs.declared.outcomes.Outcome.{Outcome}
-use Rattle.fj_store.specs.Fitting.{Fits}
-use Rattle.fj_store.specs.Results.{Collects}
-use Rattle.fj_store.specs.Stores.{StoreState}
-use Rattle.fj_core.specs.declared.closing.Closing.{Closing}
+use Rattle.fj_rules.specs.declared.mode.Mode.{Mode}
+use Rattle.fj_rules.specs.declared.refusal.Refusal.{Refusal}
+use Rattle.fj_rules.specs.Bounds.{Bounds}
+use Rattle.fj_rules.specs.Pasts.{Past, fresh}
+use Rattle.fj_rules.specs.Stacks.{stack as held}
+use Rattle.fj_rules.specs.Hooks.{hand as hook_of, hooks}
+use Rattle.fj_slots.specs.Hands.{HandState, new_hand}
+use Rattle.fj_bodies.specs.declared.outcomes.Outcome.{Outcome}
+use Rattle.fj_bodies.specs.Fitting.{Fits}
+use Rattle.fj_bodies.specs.Results.{Collects}
+use Rattle.fj_bodies.specs.Stores.{StoreState}
+use Rattle.fj_core.specs.declared.cutoff.Cutoff.{Cutoff}
 use Rattle.fj_core.specs.Booked.{booked_under}
 use Rattle.fj_core.specs.Closes.{ShutsAt}
 use Rattle.fj_core.specs.Closings.{is_due}
@@ -129,7 +129,7 @@ module _ {B K O : Type 0} where
       (takes_keep_hands rooted_as is.mid new is.taken is.takes)
 
   -- the closing number is set
-  pub shuts_keep : (old new : CoreState B K O) (closing : Closing) → ShutsAt old closing new → KeepsHands old.store.past new.store.past
+  pub shuts_keep : (old new : CoreState B K O) (closing : Cutoff) → ShutsAt old closing new → KeepsHands old.store.past new.store.past
   shuts_keep old new closing is =
       record { pool = dues_same (is_due closing.number (length old.bookings)) closing.stopping old.store new.store is.due; hands = shuts_hands old new closing is }
 

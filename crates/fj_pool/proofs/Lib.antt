@@ -18,3 +18,5 @@ mod Looking
 mod Workers
 -- what calls leave of what the workers hold, and what their ends know of it
 mod Holdings
+-- That it may go to another thread.
+pub mod Crossing

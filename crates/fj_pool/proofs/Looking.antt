@@ -1,11 +1,11 @@
 -- What a look at the lanes leaves: the pool is that of before, and so are its lanes.
 use Rattle.std.proofs.Common.{ℕ, ◌≡◌, ◌+◌, ◌<◌, zero, suc, Bool, true, false, Option, Some, None, inl, inr, refl, sym, ap, ◌∙◌, subst, add-one}
 use Rattle.std.specs.Option.{IfSome, option_or, unwrap_or}
-use Rattle.fj_model.specs.declared.step.Step.{Step}
-use Rattle.fj_model.specs.Bounds.{Pool}
-use Rattle.fj_model.specs.Pasts.{Past}
-use Rattle.fj_store.specs.Stores.{StoreState}
-use Rattle.fj_store.specs.Asking.{Shuts}
+use Rattle.fj_rules.specs.declared.step.Step.{Step}
+use Rattle.fj_rules.specs.Bounds.{Pool}
+use Rattle.fj_rules.specs.Pasts.{Past}
+use Rattle.fj_bodies.specs.Stores.{StoreState}
+use Rattle.fj_bodies.specs.Asking.{Shuts}
 use Rattle.fj_core.specs.declared.taken_in.Intake.{Intake}
 use Rattle.fj_core.specs.declared.taken_in.Intake.TheVariants as intake
 use Rattle.fj_core.specs.Closes.{Dues, shut_step}

@@ -5,9 +5,9 @@ use Rattle.std.specs.Option.{option_eq}
 use Rattle.std.proofs.Math.Dec.{eqb}
 use Rattle.std.proofs.lemmas.List.{append-nil, reverse-append}
 use Rattle.std.proofs.lemmas.Grind.{flat_map-append}
-use Rattle.fj_model.specs.declared.event.Event.{Event}
-use Rattle.fj_model.specs.Lists.{times_in}
-use Rattle.fj_model.proofs.Lists.Members.{times_in_append}
+use Rattle.fj_rules.specs.declared.event.Event.{Event}
+use Rattle.fj_rules.specs.Lists.{times_in}
+use Rattle.fj_rules.proofs.Lists.Members.{times_in_append}
 use Rattle.fj_gate.specs.Ends.{EntrantState, drawn_by}
 use Rattle.fj_gate.specs.Numbers.{IsNumbersBelow}
 use Rattle.fj_lane.specs.declared.parcel.Parcel.{Parcel}

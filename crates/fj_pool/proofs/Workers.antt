@@ -1,18 +1,18 @@
 -- An action leaves a hand with its worker.
 use Rattle.std.proofs.Common.{ℕ, ◌≡◌, Bool, true, false, Some, None, inl, inr, ap, sym, ◌∙◌}
 use Rattle.std.specs.Prelude.{is_some}
-use Rattle.fj_model.specs.declared.step.Ending.{Ending}
-use Rattle.fj_model.specs.declared.step.Ending.TheVariants as ending
-use Rattle.fj_shelf.specs.Hands.{HandState, HasOnTop}
-use Rattle.fj_store.specs.declared.body.Ask.{Ask}
-use Rattle.fj_store.specs.declared.body.Ask.TheVariants as asks
-use Rattle.fj_store.specs.declared.body.Heard.TheVariants as hears
-use Rattle.fj_store.specs.declared.body.Told.{Told}
-use Rattle.fj_store.specs.declared.body.Told.TheVariants as told
-use Rattle.fj_store.specs.Stores.{StoreState}
-use Rattle.fj_store.specs.Choosing.{Polls, Helps, Joins}
-use Rattle.fj_store.specs.Endings.{EndsOk, EndsBody}
-use Rattle.fj_store.specs.HookEndings.{EndsHook}
+use Rattle.fj_rules.specs.declared.step.Ending.{Ending}
+use Rattle.fj_rules.specs.declared.step.Ending.TheVariants as ending
+use Rattle.fj_slots.specs.Hands.{HandState, HasOnTop}
+use Rattle.fj_bodies.specs.declared.body.Ask.{Ask}
+use Rattle.fj_bodies.specs.declared.body.Ask.TheVariants as asks
+use Rattle.fj_bodies.specs.declared.body.Heard.TheVariants as hears
+use Rattle.fj_bodies.specs.declared.body.Told.{Told}
+use Rattle.fj_bodies.specs.declared.body.Told.TheVariants as told
+use Rattle.fj_bodies.specs.Stores.{StoreState}
+use Rattle.fj_bodies.specs.Choosing.{Polls, Helps, Joins}
+use Rattle.fj_bodies.specs.Endings.{EndsOk, EndsBody}
+use Rattle.fj_bodies.specs.HookEndings.{EndsHook}
 use Rattle.fj_core.specs.Acting.{Acts, ActsInBody, ActsInHook, ActsWhere}
 
 module _ {B : Type 0} where

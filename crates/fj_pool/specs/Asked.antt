@@ -1,7 +1,7 @@
 -- What is asked from outside, of one ticket or of several.
 use Rattle.std.specs.Prelude.{ℕ, ◌≡◌, ◌<◌, Bool, List, Option, Some, None, Result, slice_get}
-use Rattle.fj_model.specs.declared.refusal.Refusal.{Refusal}
-use Rattle.fj_store.specs.declared.outcomes.Outcome.{Outcome}
+use Rattle.fj_rules.specs.declared.refusal.Refusal.{Refusal}
+use Rattle.fj_bodies.specs.declared.outcomes.Outcome.{Outcome}
 use Rattle.fj_core.specs.Cancels.{CancelsTicket}
 use Rattle.fj_core.specs.Cores.{CollectsTicket, CoreState}
 use Rattle.fj_pool.specs.declared.guarded.outside.TakenIn.{TakenIn}

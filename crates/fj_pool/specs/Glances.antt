@@ -1,12 +1,12 @@
 -- What a pool does at one moment.
 use Rattle.std.specs.Prelude.{ℕ, zero, suc, ◌≡◌, ◌+◌, ◌||◌, Bool, true, false, not, is_some, List, length}
-use Rattle.fj_model.specs.declared.event.Event.{Event}
-use Rattle.fj_model.specs.Hooks.{hand}
-use Rattle.fj_model.specs.Lists.{is_empty}
-use Rattle.fj_model.specs.Pasts.{Past, present}
-use Rattle.fj_model.specs.Places.{open_tasks}
-use Rattle.fj_model.specs.Stacks.{stack}
-use Rattle.fj_model.specs.Tasks.{live}
+use Rattle.fj_rules.specs.declared.event.Event.{Event}
+use Rattle.fj_rules.specs.Hooks.{hand}
+use Rattle.fj_rules.specs.Lists.{is_empty}
+use Rattle.fj_rules.specs.Pasts.{Past, present}
+use Rattle.fj_rules.specs.Places.{open_tasks}
+use Rattle.fj_rules.specs.Stacks.{stack}
+use Rattle.fj_rules.specs.Tasks.{live}
 use Rattle.fj_ledger.specs.Counts.{queued}
 use Rattle.fj_pool.specs.declared.glance.Glance.{Glance}
 

@@ -2,11 +2,11 @@
 use Rattle.std.specs.Prelude.{ℕ, ◌≡◌, ◌≢◌, All, List, [], None, Some, length, map, slice_get}
 use Rattle.atomic_table.specs.Seated.{TableId}
 use Rattle.fj_agreement.specs.Ends.{EndState}
-use Rattle.fj_model.specs.Pasts.{Past}
-use Rattle.fj_model.specs.Stacks.{stack as held}
-use Rattle.fj_model.specs.Hooks.{hand as hook_of}
-use Rattle.fj_shelf.specs.Aside.{numbers}
-use Rattle.fj_shelf.specs.Hands.{HandState, hook_number}
+use Rattle.fj_rules.specs.Pasts.{Past}
+use Rattle.fj_rules.specs.Stacks.{stack as held}
+use Rattle.fj_rules.specs.Hooks.{hand as hook_of}
+use Rattle.fj_slots.specs.Aside.{numbers}
+use Rattle.fj_slots.specs.Hands.{HandState, hook_number}
 use Rattle.fj_core.specs.Hands.{KeepsHand}
 use Rattle.fj_pool.specs.declared.holding.Holding.{Holding}
 

@@ -1,7 +1,7 @@
 -- What the lanes show is taken in.
 use Rattle.std.specs.Prelude.{ℕ, ◌≡◌, ◌+◌, ⊤, zero, suc, Bool, true, false, if◌then◌else◌, nat_lt, Option, Result}
-use Rattle.fj_model.specs.declared.refusal.Refusal.{Refusal}
-use Rattle.fj_model.specs.Answers.{is_quiet}
+use Rattle.fj_rules.specs.declared.refusal.Refusal.{Refusal}
+use Rattle.fj_rules.specs.Answers.{is_quiet}
 use Rattle.fj_core.specs.declared.taken_in.Intake.{Intake}
 use Rattle.fj_core.specs.declared.taken_in.Intake.TheVariants.{Took}
 use Rattle.fj_core.specs.Cores.{CoreState}

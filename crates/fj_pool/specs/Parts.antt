@@ -1,14 +1,14 @@
 -- The parts of a pool, before it is opened.
 use Rattle.std.specs.Prelude.{ℕ, ◌≡◌, ◌<◌, ◌≤◌, ◌⊎◌, List, Some, length, map, slice_get}
 use Rattle.atomic_table.specs.Seated.{TableId}
-use Rattle.fj_model.specs.declared.mode.Mode.{Mode}
-use Rattle.fj_model.specs.declared.refusal.Refusal.{Refusal}
-use Rattle.fj_model.specs.declared.refusal.Refusal.TheVariants.{BadLimits, OutOfMemory}
-use Rattle.fj_model.specs.Bounds.{Bounds}
+use Rattle.fj_rules.specs.declared.mode.Mode.{Mode}
+use Rattle.fj_rules.specs.declared.refusal.Refusal.{Refusal}
+use Rattle.fj_rules.specs.declared.refusal.Refusal.TheVariants.{BadLimits, OutOfMemory}
+use Rattle.fj_rules.specs.Bounds.{Bounds}
 use Rattle.fj_gate.specs.Ends.{CloserState, EntrantState, new_closer}
 use Rattle.fj_lane.specs.declared.new_lane.TheConstants.{MAX_CAPACITY}
 use Rattle.fj_lane.specs.Ends.{LaneId, DrainState, new_drain}
-use Rattle.fj_shelf.specs.Hands.{HandState}
+use Rattle.fj_slots.specs.Hands.{HandState}
 use Rattle.fj_core.specs.Cores.{CoreState, IsNew, first_hands}
 use Rattle.fj_pool.specs.Seats.{SeatState, seats_for, seats_from}
 

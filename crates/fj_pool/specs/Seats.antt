@@ -1,8 +1,8 @@
 -- A submitter's ends: of the gate, and of its lane.
 use Rattle.std.specs.Prelude.{ℕ, ◌≡◌, ◌+◌, ◌<◌, true, List, [], ◌∷◌, Some, length, map, slice_get}
 use Rattle.atomic_table.specs.Seated.{TableId}
-use Rattle.fj_model.specs.declared.refusal.Refusal.{Refusal}
-use Rattle.fj_model.specs.declared.refusal.Refusal.TheVariants.{Closed, LaneSpent}
+use Rattle.fj_rules.specs.declared.refusal.Refusal.{Refusal}
+use Rattle.fj_rules.specs.declared.refusal.Refusal.TheVariants.{Closed, LaneSpent}
 use Rattle.fj_gate.specs.Ends.{EntrantState, new_entrant, Draws}
 use Rattle.fj_lane.specs.declared.parcel.Parcel.{Parcel}
 use Rattle.fj_lane.specs.Ends.{LaneId, FeedState, new_feed, Pushes}

@@ -1,10 +1,10 @@
 -- What a body asks and hears, and why a worker leaves.
 use Rattle.std.specs.Prelude.{ℕ, ◌≡◌, ◌⊎◌, ⊤, true, [], IfSome, IsSome, Option, Some, None, Result, Ok, Err}
-use Rattle.fj_model.specs.declared.refusal.Refusal.{Refusal}
-use Rattle.fj_model.specs.declared.refusal.Refusal.TheVariants.{LogFull}
-use Rattle.fj_shelf.specs.Hands.{HandState, HasOnTop, asker, with_body, with_hook}
-use Rattle.fj_store.specs.declared.body.Ask.{Ask}
-use Rattle.fj_store.specs.Turns.{AskRight, HeardRight}
+use Rattle.fj_rules.specs.declared.refusal.Refusal.{Refusal}
+use Rattle.fj_rules.specs.declared.refusal.Refusal.TheVariants.{LogFull}
+use Rattle.fj_slots.specs.Hands.{HandState, HasOnTop, asker, with_body, with_hook}
+use Rattle.fj_bodies.specs.declared.body.Ask.{Ask}
+use Rattle.fj_bodies.specs.Turns.{AskRight, HeardRight}
 use Rattle.fj_core.specs.Closes.{is_finished}
 use Rattle.fj_core.specs.Cores.{CoreState}
 use Rattle.fj_pool.specs.declared.next.Next.{Next}

@@ -1,19 +1,19 @@
 -- What is left of a pool that is wound up.
 use Rattle.std.specs.Prelude.{ℕ, ◌≡◌, ◌&&◌, All, Bool, List, [], ◌∷◌, ◌++◌, Option, Some, length, map, slice_get}
 use Rattle.std.specs.List.{range_with_len, sum_by}
-use Rattle.fj_model.specs.declared.event.Event.{Event}
-use Rattle.fj_model.specs.declared.owner.Owner.TheVariants.{Sub}
-use Rattle.fj_model.specs.Answers.{is_quiet}
-use Rattle.fj_model.specs.Pasts.{Past}
-use Rattle.fj_model.specs.Queues.{pushed}
+use Rattle.fj_rules.specs.declared.event.Event.{Event}
+use Rattle.fj_rules.specs.declared.owner.Owner.TheVariants.{Sub}
+use Rattle.fj_rules.specs.Answers.{is_quiet}
+use Rattle.fj_rules.specs.Pasts.{Past}
+use Rattle.fj_rules.specs.Queues.{pushed}
 use Rattle.fj_gate.specs.Ends.{drawn_by}
 use Rattle.fj_lane.specs.declared.parcel.Parcel.{Parcel}
 use Rattle.fj_lane.specs.Ends.{DrainState}
 use Rattle.fj_core.specs.declared.booking.Booking.{Booking}
-use Rattle.fj_model.specs.Statuses.{status}
-use Rattle.fj_shelf.specs.Shelves.{Entries}
-use Rattle.fj_store.specs.declared.outcomes.Outcome.{Outcome}
-use Rattle.fj_store.specs.Results.{outcome_of}
+use Rattle.fj_rules.specs.Statuses.{status}
+use Rattle.fj_slots.specs.Shelves.{Entries}
+use Rattle.fj_bodies.specs.declared.outcomes.Outcome.{Outcome}
+use Rattle.fj_bodies.specs.Results.{outcome_of}
 use Rattle.fj_core.specs.Booked.{booked_by, booked_under}
 use Rattle.fj_core.specs.Closings.{is_over}
 use Rattle.fj_core.specs.Closes.{is_number}

@@ -1,14 +1,14 @@
 -- What a worker does in one holding of the lock, and what it does next.
 use Rattle.std.specs.Prelude.{ℕ, ◌≡◌, ⊤, zero, suc, Bool, true, false, Option, Some, None, is_some, [], Ok, Err}
-use Rattle.fj_model.specs.declared.refusal.Refusal.TheVariants.{LogFull}
-use Rattle.fj_shelf.specs.Hands.{HandState, newest_note, with_note}
-use Rattle.fj_store.specs.declared.body.Ask.{Ask}
-use Rattle.fj_store.specs.declared.body.Ask.TheVariants as asks
-use Rattle.fj_store.specs.declared.body.Heard.TheVariants as hears
-use Rattle.fj_store.specs.declared.body.Told.{Told}
-use Rattle.fj_store.specs.declared.body.Told.TheVariants as told
-use Rattle.fj_store.specs.Choosing.{Polls}
-use Rattle.fj_store.specs.Stores.{StoreState}
+use Rattle.fj_rules.specs.declared.refusal.Refusal.TheVariants.{LogFull}
+use Rattle.fj_slots.specs.Hands.{HandState, newest_note, with_note}
+use Rattle.fj_bodies.specs.declared.body.Ask.{Ask}
+use Rattle.fj_bodies.specs.declared.body.Ask.TheVariants as asks
+use Rattle.fj_bodies.specs.declared.body.Heard.TheVariants as hears
+use Rattle.fj_bodies.specs.declared.body.Told.{Told}
+use Rattle.fj_bodies.specs.declared.body.Told.TheVariants as told
+use Rattle.fj_bodies.specs.Choosing.{Polls}
+use Rattle.fj_bodies.specs.Stores.{StoreState}
 use Rattle.fj_core.specs.Acting.{Acts}
 use Rattle.fj_core.specs.Closes.{is_finished}
 use Rattle.fj_core.specs.Cores.{ChangesStore, CoreState}

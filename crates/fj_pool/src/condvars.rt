@@ -1,7 +1,7 @@
 ghost use Rattle.std.specs.Prelude.{◌≡◌, IfOk, vec_len};
 
-use crate::waits::Due;
-use fj_waiting::{MAX_PLACES, Places};
+use crate::waits::ToWake;
+use fj_sleep::{MAX_PLACES, Places};
 use std::alloc::{AllocError, Global};
 use std::sync::Condvar;
 
@@ -38,7 +38,7 @@ impl Condvars {
     }
 
     /// Wakes those.
-    pub fn wake(&self, due: &Due) {
+    pub fn wake(&self, due: &ToWake) {
         if let Some(places) = &due.workers {
             notify(&self.workers, places);
         }

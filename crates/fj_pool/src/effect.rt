@@ -1,6 +1,6 @@
-use fj_model::Serial;
-use fj_shelf::Hand;
-use fj_store::{Ask, Body, Heard, Told};
+use fj_bodies::{Ask, Body, Heard, Told};
+use fj_rules::Serial;
+use fj_slots::Hand;
 
 /// What it may change for those who wait that something is asked.
 pub enum Effect {

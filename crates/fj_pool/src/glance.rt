@@ -2,7 +2,7 @@ ghost use Rattle.std.specs.Prelude.{◌≡◌, ◌≤◌, ◌<◌};
 ghost use Rattle.fj_pool.specs.Glances.{IsGlance, busy_below, is_busy};
 
 use fj_machine::Machine;
-use fj_model::WorkerId;
+use fj_rules::WorkerId;
 
 /// What a pool does at one moment. Java tells the same one by one (`ForkJoinPool.getQueuedTaskCount`, `getActiveThreadCount` and others), each of
 /// another moment.

@@ -1,5 +1,5 @@
 ghost use Rattle.std.specs.Prelude.{◌≡◌, ◌≤◌, [], IfOk, length, vec_capacity};
-ghost use Rattle.fj_waiting.specs.declared.places.TheConstants.{MAX_PLACES};
+ghost use Rattle.fj_sleep.specs.declared.places.TheConstants.{MAX_PLACES};
 ghost use Rattle.fj_pool.specs.Lanes.{lanes_of};
 
 mod outside;
@@ -8,11 +8,11 @@ mod waiting;
 
 use crate::naming::Naming;
 use crate::waits::Waits;
+use fj_bodies::Body;
 use fj_core::Core;
 use fj_gate::Entrant;
 use fj_lane::Rest;
-use fj_model::SubId;
-use fj_store::Body;
+use fj_rules::SubId;
 use std::alloc::{AllocError, Global};
 use std::marker::{Model, PhantomData};
 

@@ -11,7 +11,7 @@ use std::marker::{Model, PhantomData};
 /// under the lock. So nothing is compared when its worker gets the lock.
 #[derive(Drop)]
 pub struct Hand<B, N: Naming> {
-    pub(crate) held: fj_shelf::Hand<B>,
+    pub(crate) held: fj_slots::Hand<B>,
     pub(crate) end: End<Holding>,
     pub(crate) unneeded: Unneeded<B>,
     pub(crate) of: PhantomData<N>,
@@ -19,7 +19,7 @@ pub struct Hand<B, N: Naming> {
 
 impl<B, N: Naming> Model for Hand<B, N> {
     ghost use Rattle.std.specs.Prelude.{◌≡◌, Some, slice_get};
-    ghost use Rattle.fj_shelf.specs.Hands.{HandState};
+    ghost use Rattle.fj_slots.specs.Hands.{HandState};
     ghost use Rattle.fj_pool.specs.Holdings.{holding_of};
 
     ghost Value = { HandState B };

@@ -1,7 +1,7 @@
 //! What is agreed on of a worker's hand.
 use fj_agreement::{Known, Tells};
-use fj_model::Serial;
-use fj_shelf::Hand;
+use fj_rules::Serial;
+use fj_slots::Hand;
 use std::collections::LinkedList;
 
 /// What a worker holds: the numbers of its bodies, the oldest first, and that of its hook. It exists in proofs alone.

@@ -32,13 +32,13 @@ mod turnstile;
 mod waits;
 
 pub use closer::Closer;
+pub use fj_bodies::{Ask, Body, Heard, KeptResult, Outcome, Told};
 pub use fj_core::{Archive, Booking, Bookings, Core, Intake};
 pub use fj_gate::{Closing, Ticket};
 pub use fj_lane::{Parcel, Rest};
 pub use fj_machine::Machine;
-pub use fj_model::{Kind, Limits, Mode, Refusal, Sealed, Serial, SubId, WorkerId};
-pub use fj_shelf::Shelf;
-pub use fj_store::{Ask, Body, Heard, Kept, Outcome, Told};
+pub use fj_rules::{Kind, Limits, Mode, Refusal, Sealed, Serial, SubId, WorkerId};
+pub use fj_slots::SerialMap;
 pub use glance::Glance;
 pub use hand::Hand;
 pub use naming::Naming;

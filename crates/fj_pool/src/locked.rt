@@ -2,7 +2,7 @@
 ghost use Rattle.std.specs.Prelude.{◌≡◌, ◌++◌, [], IfNone, IfSome};
 ghost use Rattle.fj_core.specs.Closes.{ShutsAt, closed_at, is_finished, stopped_at};
 ghost use Rattle.fj_core.specs.Cores.{CollectsTicket};
-ghost use Rattle.fj_store.specs.Fitting.{Fits};
+ghost use Rattle.fj_bodies.specs.Fitting.{Fits};
 ghost use Rattle.fj_pool.specs.Asked.{CancelsBehind, CollectsAny};
 ghost use Rattle.fj_pool.specs.Glances.{IsGlance};
 ghost use Rattle.fj_pool.specs.Holdings.{AreKept};
@@ -16,11 +16,11 @@ use crate::hand::Hand;
 use crate::holding::Holding;
 use crate::naming::Naming;
 use crate::next::Next;
-use crate::waits::{Due, place_of};
+use crate::waits::{ToWake, place_of};
 use fj_agreement::End;
+use fj_bodies::{Ask, Body, Outcome};
 use fj_gate::Ticket;
-use fj_model::{Refusal, Sealed, WorkerId};
-use fj_store::{Ask, Body, Outcome};
+use fj_rules::{Refusal, Sealed, WorkerId};
 use std::alloc::Global;
 use std::marker::Model;
 
@@ -87,7 +87,7 @@ impl<B: Body, N: Naming> Locked<B, N> {
 
     /// Puts into `due` whose wait may have ended since this was asked last, if that is anybody.
     #[inline(always)]
-    pub fn take_due(&mut self, due: &mut Due)
+    pub fn take_due(&mut self, due: &mut ToWake)
         ensures { self.new ≡ self.old }
     {
         self.guarded.take_due(due);
@@ -180,16 +180,15 @@ impl<B: Body, N: Naming> Locked<B, N> {
     }
 
     /// Whether the pool has terminated.
-    pub fn is_terminated(&mut self) -> bool
-        ensures terminated { result ≡ is_finished self.old }
-        ensures same { self.new ≡ self.old }
+    pub fn is_terminated(&self) -> bool
+        ensures { result ≡ is_finished self.now }
     {
         self.guarded.is_terminated()
     }
 }
 
 /// Where the end of the worker of a hand stands.
-fn end_of<B: Drop>(hand: &fj_shelf::Hand<B>) -> usize
+fn end_of<B: Drop>(hand: &fj_slots::Hand<B>) -> usize
     ensures { result ≡ hand.now.worker }
 {
     hand.worker().0 as usize

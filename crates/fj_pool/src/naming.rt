@@ -7,7 +7,7 @@ pub trait Naming {
     ghost use Rattle.std.specs.Prelude.{List};
     ghost use Rattle.atomic_table.specs.Seated.{TableId};
     ghost use Rattle.fj_lane.specs.Ends.{LaneId};
-    ghost use Rattle.fj_model.specs.Bounds.{Pool};
+    ghost use Rattle.fj_rules.specs.Bounds.{Pool};
 
     ghost gate: { TableId };
 

@@ -1,5 +1,5 @@
-use fj_model::{Refusal, Serial};
-use fj_store::{Body, Heard};
+use fj_bodies::{Body, Heard};
+use fj_rules::{Refusal, Serial};
 use std::alloc::{AllocError, Global};
 
 /// What a worker does once it has let the lock go.

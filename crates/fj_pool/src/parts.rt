@@ -1,5 +1,5 @@
 ghost use Rattle.std.specs.Prelude.{◌≡◌, ◌≤◌, All, IfOk, IfErr, vec_len};
-ghost use Rattle.fj_model.specs.declared.limits.TheConstants.{MAX_SUBMITTERS};
+ghost use Rattle.fj_rules.specs.declared.limits.TheConstants.{MAX_SUBMITTERS};
 ghost use Rattle.fj_lane.specs.declared.new_lane.TheConstants.{MAX_CAPACITY};
 ghost use Rattle.fj_gate.specs.Ends.{new_entrant};
 ghost use Rattle.fj_pool.specs.Parts.{AreNew, AreSeated, RefusesPool};
@@ -8,11 +8,11 @@ use crate::holding::Holding;
 use crate::seat::Seat;
 use crate::tied::{Tied, tie_all};
 use fj_agreement::End;
+use fj_bodies::Body;
 use fj_core::Core;
 use fj_gate::{Entrant, gate};
 use fj_lane::{Drain, MAX_CAPACITY, lane};
-use fj_model::{Limits, Mode, OutOfMemory, Refusal, SubId};
-use fj_store::Body;
+use fj_rules::{Limits, Mode, OutOfMemory, Refusal, SubId};
 use std::alloc::Global;
 use std::marker::Model;
 

@@ -1,5 +1,5 @@
 ghost use Rattle.std.specs.Prelude.{◌≡◌, ◌≤◌, [], All, IfOk, length, vec_capacity, vec_len};
-ghost use Rattle.fj_waiting.specs.declared.places.TheConstants.{MAX_PLACES};
+ghost use Rattle.fj_sleep.specs.declared.places.TheConstants.{MAX_PLACES};
 ghost use Rattle.fj_pool.specs.Holdings.{IsTied, hands_of};
 ghost use Rattle.fj_pool.specs.Lanes.{lanes_of};
 ghost use Rattle.fj_pool.specs.Seats.{IsNamed};
@@ -20,9 +20,9 @@ use crate::parts::Parts;
 use crate::seat::Seat;
 use crate::submitter::Submitter;
 use crate::tied::Tied;
-use crate::waits::Due;
-use fj_model::OutOfMemory;
-use fj_store::Body;
+use crate::waits::ToWake;
+use fj_bodies::Body;
+use fj_rules::OutOfMemory;
 use std::alloc::{AllocError, Global};
 use std::marker::PhantomData;
 use std::sync::Mutex;
@@ -85,10 +85,10 @@ impl<B: Body, N: Naming> Pool<B, N> {
 
     /// Wakes those, if there are any. From then on it is nobody.
     #[inline(always)]
-    fn wake_due(&self, due: &mut Due) {
+    fn wake_due(&self, due: &mut ToWake) {
         if !due.is_nobody() {
             self.condvars.wake(due);
-            *due = Due::nobody();
+            *due = ToWake::nobody();
         }
     }
 }

@@ -1,10 +1,10 @@
 ghost use Rattle.std.specs.Prelude.{◌≡◌, ◌≤◌, ◌↔◌, [], ◌++◌, All, IfSome, IsTrue, true, length, map, reverse, vec_len, vec_capacity};
 ghost use Rattle.fj_gate.specs.Numbers.{IsNumbersBelow};
-ghost use Rattle.fj_model.specs.Epochs.{IsPast};
+ghost use Rattle.fj_rules.specs.Epochs.{IsPast};
 ghost use Rattle.fj_core.specs.Cores.{AreParts};
 ghost use Rattle.fj_pool.specs.Lanes.{lanes_of};
 ghost use Rattle.fj_pool.specs.Seats.{IsSeat};
-ghost use Rattle.fj_shelf.specs.Shelves.{entries};
+ghost use Rattle.fj_slots.specs.Shelves.{entries};
 ghost use Rattle.fj_pool.specs.Winding.{AreAll, AreEmpty, AreSettled, HaveMet, IsLeft, has_terminated, submissions, tickets_of};
 
 use crate::closer::Closer;
@@ -14,13 +14,12 @@ use crate::naming::Naming;
 use crate::pool::Pool;
 use crate::seat::Seat;
 use crate::submitter::Submitter;
+use fj_bodies::{Body, KeptResult, Outcome, told_outcome};
 use fj_core::{Archive, Bookings, Remains};
 use fj_gate::{Entrant, Ticket, meet as meet_gate};
 use fj_lane::{Drain, Rest, meet};
 use fj_machine::Machine;
-use fj_model::{Owner, Place, Refusal, Said, Serial, Step, SubId, WorkerId};
-use fj_shelf::Shelf;
-use fj_store::{Body, Kept, Outcome, told_outcome};
+use fj_slots::SerialMap;
 
 /// What is left of a pool. Java has no counterpart.
 #[derive(Drop)]
@@ -28,7 +27,7 @@ pub struct Record<B: Body> {
     /// The machine, with what happened since the last seal.
     pub machine: Machine,
     /// The results that were not taken, each under its task's number.
-    pub results: Shelf<Kept<B>>,
+    pub results: SerialMap<KeptResult<B>>,
     /// What was taken in, in that order.
     pub bookings: Bookings,
     /// The sealed parts of the history that were not handed out, the oldest first.
@@ -49,13 +48,9 @@ impl<B: Body> Record<B> {
     pub fn take_outcome(&mut self, ticket: Ticket) -> Option<Outcome<B>>
         ensures { IfSome result (λ outcome. IsLeft self.old.machine.events self.old.bookings.bookings (entries self.old.results) ticket outcome) }
     {
-        // The check wants each type inside a reply to be named where one is moved.
-        let _inside: Option<(Place, Owner, Refusal, Serial, SubId, WorkerId)> = None;
-        // Tells that the past is that of a run.
-        let _run = self.machine.history();
         let t = self.bookings.find(ticket)?;
-        match self.machine.step(&Step::State { t }) {
-            Said::State(_, status) if !status.is_undone() => {
+        match self.machine.status(t) {
+            Some(status) if !status.is_undone() => {
                 let kept = self.results.take(t);
                 Some(told_outcome(status, kept))
             }
@@ -88,7 +83,7 @@ impl<B: Body, N: Naming> Pool<B, N> {
         ensures emptied { result.terminated ≡ true → AreEmpty result.lanes.items }
     {
         let Guarded {
-            mut core,
+            core,
             waits: _,
             entrants,
             rests,

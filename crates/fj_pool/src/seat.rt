@@ -5,7 +5,7 @@ ghost use Rattle.fj_pool.specs.Seats.{IsSeat, RefusesSubmission, Submits, new_se
 
 use fj_gate::{Entrant, Ticket};
 use fj_lane::{Feed, Parcel};
-use fj_model::{Refusal, SubId};
+use fj_rules::{Refusal, SubId};
 use std::marker::Model;
 
 /// The ends of gate and lane that belong together, by the number of their submitter.

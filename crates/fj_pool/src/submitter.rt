@@ -4,7 +4,7 @@ ghost use Rattle.fj_pool.specs.Seats.{IsNamed, IsSeat, RefusesSubmission, Submit
 use crate::naming::Naming;
 use crate::seat::Seat;
 use fj_gate::Ticket;
-use fj_model::{Refusal, SubId};
+use fj_rules::{Refusal, SubId};
 use std::marker::{Model, PhantomData};
 
 /// Hands bodies in. There is one for each submitter of a pool. Java has no counterpart: there any thread may submit.

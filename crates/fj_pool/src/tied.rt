@@ -4,8 +4,8 @@ ghost use Rattle.fj_pool.specs.Holdings.{AreTied, holding_of, nothing};
 
 use crate::holding::Holding;
 use fj_agreement::{End, pair};
-use fj_model::OutOfMemory;
-use fj_shelf::Hand;
+use fj_rules::OutOfMemory;
+use fj_slots::Hand;
 use std::alloc::Global;
 use std::marker::Model;
 

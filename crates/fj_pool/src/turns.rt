@@ -1,15 +1,15 @@
 ghost use Rattle.std.specs.Prelude.{IfSome};
-ghost use Rattle.fj_store.specs.Turns.{HeardRight};
+ghost use Rattle.fj_bodies.specs.Turns.{HeardRight};
 ghost use Rattle.fj_pool.specs.Turning.{MayAsk, TakesTurn};
 
 use crate::hand::Hand;
 use crate::naming::Naming;
 use crate::turnstile::Turnstile;
-use fj_store::{Ask, Body, Heard};
+use fj_bodies::{Ask, Body, Heard};
 
 /// The hook of a hand, or else its running body, takes a turn. None of an empty hand.
 #[inline(always)]
-pub fn take_turn<B: Body>(hand: &mut fj_shelf::Hand<B>, heard: Heard<B>) -> Option<Ask<B>>
+pub fn take_turn<B: Body>(hand: &mut fj_slots::Hand<B>, heard: Heard<B>) -> Option<Ask<B>>
     requires { HeardRight B.right heard }
     ensures takes { TakesTurn B.key_of hand.old result hand.new }
     ensures asks { IfSome result (λ ask. MayAsk B.right B.key_of hand.new ask) }

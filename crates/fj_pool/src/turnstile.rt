@@ -1,4 +1,4 @@
-use fj_model::{Serial, WorkerId};
+use fj_rules::{Serial, WorkerId};
 
 /// Observes the workers of a pool, outside the lock: it may hold the one that calls it, for as long as it likes. Java has no counterpart;
 /// `ForkJoinWorkerThread.onStart` comes once for each thread.

@@ -1,14 +1,14 @@
 ghost use Rattle.std.specs.Prelude.{◌≡◌, ◌≤◌};
-ghost use Rattle.fj_waiting.specs.declared.places.TheConstants.{MAX_PLACES};
+ghost use Rattle.fj_sleep.specs.declared.places.TheConstants.{MAX_PLACES};
 
 use fj_gate::Ticket;
-use fj_model::{Serial, WorkerId};
-use fj_waiting::{MAX_PLACES, Places, Sleepers, Wanted};
+use fj_rules::{Serial, WorkerId};
+use fj_sleep::{MAX_PLACES, Places, Sleepers, Wanted};
 use std::alloc::{AllocError, Global};
 
 /// Who is to be woken once the lock is free.
 #[derive(Drop)]
-pub struct Due {
+pub struct ToWake {
     /// Workers, by their numbers.
     pub workers: Option<Places>,
     /// Those who await outcomes, by their seats.
@@ -17,10 +17,10 @@ pub struct Due {
     pub crowd: bool,
 }
 
-impl Due {
+impl ToWake {
     /// Nobody.
-    pub fn nobody() -> Due {
-        Due {
+    pub fn nobody() -> ToWake {
+        ToWake {
             workers: None,
             seats: None,
             crowd: false,
@@ -67,7 +67,7 @@ impl Waits {
 
     /// Puts into `due` who is to be woken, where anybody is. From then on nobody is.
     #[inline(always)]
-    pub fn take_due(&mut self, due: &mut Due) {
+    pub fn take_due(&mut self, due: &mut ToWake) {
         if self.workers.may_be_due() || self.seats.may_be_due() || self.crowd_due {
             self.take_all_due(due);
         }
@@ -75,7 +75,7 @@ impl Waits {
 
     /// The same, where somebody may be due.
     #[inline(never)]
-    fn take_all_due(&mut self, due: &mut Due) {
+    fn take_all_due(&mut self, due: &mut ToWake) {
         due.workers = self.workers.take_due();
         due.seats = self.seats.take_due();
         due.crowd = self.crowd_due;

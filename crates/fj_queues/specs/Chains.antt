@@ -1,6 +1,6 @@
 -- Cells that are linked in both directions.
 use Rattle.std.specs.Prelude.{◌≡◌, ◌≤◌, ◌<◌, ℕ, zero, suc, List, [], ◌∷◌, ◌++◌, length, Option, Some, None}
-use Rattle.fj_model.specs.Lists.{times_in}
+use Rattle.fj_rules.specs.Lists.{times_in}
 use Rattle.fj_queues.specs.declared.cells.Cell.{Cell}
 use Rattle.fj_queues.specs.declared.ends.Ends.{Ends}
 use Rattle.fj_queues.specs.Cells.{serial_at, older_at, newer_at}

@@ -1,7 +1,7 @@
 -- One queue of task numbers for each owner, oldest numbers first.
 use Rattle.std.specs.Prelude.{ℕ, ◌+◌, ◌-◌, ◌%◌, List, [], ◌∷◌, length, get_or, slice_set, drop, take, map, Option, Some, None, if◌then◌else◌}
 use Rattle.std.specs.List.{range_with_len, sum_by}
-use Rattle.fj_model.specs.Lists.{is_empty}
+use Rattle.fj_rules.specs.Lists.{is_empty}
 
 -- the queues, and how many numbers may stand in all of them together
 pub record Lists : Type 0 where

@@ -1,7 +1,7 @@
 -- A table in which each cell is in one queue, or is free.
 use Rattle.std.specs.Prelude.{◌≡◌, ◌≤◌, ◌<◌, ◌+◌, ℕ, List, [], length, Option, None, get_or, map}
 use Rattle.std.specs.List.{sum_by}
-use Rattle.fj_model.specs.Lists.{times_in}
+use Rattle.fj_rules.specs.Lists.{times_in}
 use Rattle.fj_queues.specs.declared.cells.Cell.{Cell}
 use Rattle.fj_queues.specs.declared.ends.Ends.{Ends}
 use Rattle.fj_queues.specs.Cells.{serial_at, newer_at}

@@ -1,6 +1,6 @@
 ghost use Rattle.std.specs.Prelude.{◌≡◌, ◌<◌, ◌≤◌, [], Some, None, length, IfOk, IfSome, vec_capacity};
 
-use fj_model::Serial;
+use fj_rules::Serial;
 use std::alloc::{AllocError, Global};
 
 /// A number in a queue, and the cells of its neighbours there.

@@ -2,7 +2,7 @@ ghost use Rattle.std.specs.Prelude.{◌≡◌, ℕ, List, []};
 ghost use Rattle.std.specs.Iterator.{YieldsFirst, item_count};
 
 use crate::cells::Cell;
-use fj_model::Serial;
+use fj_rules::Serial;
 use std::marker::Model;
 
 /// The numbers of one queue that are still to come, oldest first.

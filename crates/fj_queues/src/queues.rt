@@ -1,11 +1,11 @@
 ghost use Rattle.std.specs.Prelude.{◌≡◌, ◌+◌, ◌%◌, ◌<◌, ◌∷◌, [], ◌++◌, length, replicate, IfOk, IfSome, IfNone, MatchOption};
 ghost use Rattle.fj_queues.specs.Queues.{queue_at, with_queue, total, without_first, without_last, first_filled, places_from};
-ghost use Rattle.fj_model.specs.Lists.{first_of, last_of};
+ghost use Rattle.fj_rules.specs.Lists.{first_of, last_of};
 
 use crate::cells::{Cell, Cells};
 use crate::ends::Ends;
 use crate::numbers::Numbers;
-use fj_model::{OutOfMemory, Serial};
+use fj_rules::{OutOfMemory, Serial};
 use std::alloc::Global;
 use std::marker::Model;
 

@@ -6,8 +6,8 @@ use Rattle.std.specs.Io.KnownBytes.{Appends, Consumes, Keeps}
 use Rattle.fj_replay.specs.declared.fault.ReplayFault.{ReplayFault}
 use Rattle.fj_replay.specs.declared.fault.ReplayFault.TheVariants.{Line, Limits, Memory, Read, Write}
 use Rattle.fj_streams.specs.Beginnings.{AppendsSome}
-use Rattle.fj_replay.specs.declared.stage.Stage.{Stage}
-use Rattle.fj_replay.specs.declared.stage.Stage.TheVariants.{Start, Old}
+use Rattle.fj_replay.specs.declared.script_stage.ScriptStage.{ScriptStage}
+use Rattle.fj_replay.specs.declared.script_stage.ScriptStage.TheVariants.{Start, Old}
 use Rattle.fj_replay.specs.Cuts.{lines}
 use Rattle.fj_replay.specs.Scripts.{text, text_from, up}
 use Rattle.fj_replay.specs.Tells.{FaultTells}
@@ -23,7 +23,7 @@ all_some a b t p = (length t, rw (take-length t) p)
 some_keeps : (a b c : Option (List ℕ)) (t : List ℕ) → AppendsSome a b t → Keeps b c → AppendsSome a c t
 some_keeps a b c t p q = (p.0, appends_keeps a b c _ p.1 q)
 
-fault_some : (first : Stage) (fault : ReplayFault) (b : List ℕ) (ahead start now : Option (List ℕ)) → FaultOf first fault b ahead start now → AppendsSome start now (text_from first (lines b))
+fault_some : (first : ScriptStage) (fault : ReplayFault) (b : List ℕ) (ahead start now : Option (List ℕ)) → FaultOf first fault b ahead start now → AppendsSome start now (text_from first (lines b))
 fault_some first (Line n) b ahead start now f = all_some start now (text_from first (lines b)) f.1
 fault_some first Limits b ahead start now f = (0, f.1)
 fault_some first Memory b ahead start now f = f
@@ -81,5 +81,5 @@ appends_nothing None = tt
 appends_nothing (Some x) = rw append-nil refl
 
 -- out of memory before the first read
-pub stops_at_once : (first : Stage) (a n : Option (List ℕ)) (p q : Option Calls) → (b : List ℕ) × EndsFrom first Memory b a a n n × FaultTells Memory b p p q q
+pub stops_at_once : (first : ScriptStage) (a n : Option (List ℕ)) (p q : Option Calls) → (b : List ℕ) × EndsFrom first Memory b a a n n × FaultTells Memory b p p q q
 stops_at_once first a n p q = ([], record { read = consumes_nothing a; means = (0, appends_nothing n) }, (fine_self p, fine_self q))

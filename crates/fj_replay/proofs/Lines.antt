@@ -7,7 +7,7 @@ use Rattle.std.proofs.Math.ListN.{get_or}
 use Rattle.std.proofs.Math.Numerals.{add-one}
 use Rattle.std.proofs.lemmas.Bool.Decides.{nat_tests}
 use Rattle.memchr.specs.Find.{NoneBefore, Nowhere, Passes, is_byte}
-use Rattle.fj_model.specs.declared.read.TheConstants.{LINE_FEED}
+use Rattle.fj_lines.specs.declared.read.TheConstants.{LINE_FEED}
 use Rattle.fj_replay.specs.Cuts.{cut, left, lines}
 
 pub yes_or_no : (t : Bool) → (t ≡ true) ⊎ (t ≡ false)

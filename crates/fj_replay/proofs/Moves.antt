@@ -3,19 +3,19 @@ use Rattle.std.specs.Prelude.{Bool, true, false, if◌then◌else◌, option_map
 use Rattle.std.specs.List.{cons_option}
 use Rattle.std.specs.Option.{option_and_then, option_map_or}
 use Rattle.std.proofs.Common.{ℕ, ◌≡◌, List, [], ◌∷◌, Option, Some, None, refl, subst, inl}
-use Rattle.fj_model.specs.declared.epoch.Move.{Move}
-use Rattle.fj_model.specs.declared.epoch.Answer.{Answer}
-use Rattle.fj_model.specs.declared.refusal.Refusal.{Refusal}
-use Rattle.fj_model.specs.declared.step.Step.{Step}
-use Rattle.fj_model.specs.Answers.{answer}
-use Rattle.fj_model.specs.Pasts.{Past}
-use Rattle.fj_model.specs.Epochs.{Moves, seal_refusal}
-use Rattle.fj_model.proofs.Reading.PartLaws.{some_is}
+use Rattle.fj_rules.specs.declared.epoch.Move.{Move}
+use Rattle.fj_rules.specs.declared.epoch.Answer.{Answer}
+use Rattle.fj_rules.specs.declared.refusal.Refusal.{Refusal}
+use Rattle.fj_rules.specs.declared.step.Step.{Step}
+use Rattle.fj_rules.specs.Answers.{answer}
+use Rattle.fj_rules.specs.Pasts.{Past}
+use Rattle.fj_rules.specs.Epochs.{Moves, seal_refusal}
+use Rattle.fj_lines.proofs.Reading.PartLaws.{some_is}
 use Rattle.fj_replay.specs.declared.replied.Replied.TheVariants.{Said as Says, NameTaken}
 use Rattle.fj_replay.specs.declared.asked.Asked.{Asked}
 use Rattle.fj_replay.specs.declared.asked.Asked.TheVariants as ask
-use Rattle.fj_replay.specs.declared.stage.Stage.{Stage}
-use Rattle.fj_replay.specs.declared.stage.Stage.TheVariants.{Start, Titled, Plays, Old, Rewrites}
+use Rattle.fj_replay.specs.declared.script_stage.ScriptStage.{ScriptStage}
+use Rattle.fj_replay.specs.declared.script_stage.ScriptStage.TheVariants.{Start, Titled, Plays, Old, Rewrites}
 use Rattle.fj_replay.specs.Namings.{is_named}
 use Rattle.fj_replay.specs.Plays.{Play, asked_in, play_after, accepting, sealing, seal_reply, replied, move_told, moves_told, AreMoves}
 use Rattle.fj_replay.specs.Scripts.{stage_from}
@@ -50,28 +50,28 @@ then_moves old mid new (Some first) later leads made = (mid, leads, made)
 -- ---- many lines
 
 -- the moves of the lines lead to where the script then stands
-abbrev LeadTo : Past → List (Move × Answer) → Stage → Type 0
+abbrev LeadTo : Past → List (Move × Answer) → ScriptStage → Type 0
 LeadTo old made Start = Unit {0}
 LeadTo old made Titled = Unit {0}
 LeadTo old made (Plays play) = AreMoves old made play.past
 LeadTo old made Old = Unit {0}
 LeadTo old made (Rewrites past) = Unit {0}
 
-then_lead : (old mid : Past) (t : Stage) (first : Option (Move × Answer)) (later : List (Move × Answer)) → Leads old first mid → LeadTo mid later t → LeadTo old (cons_option first later) t
+then_lead : (old mid : Past) (t : ScriptStage) (first : Option (Move × Answer)) (later : List (Move × Answer)) → Leads old first mid → LeadTo mid later t → LeadTo old (cons_option first later) t
 then_lead old mid Start first later leads made = tt
 then_lead old mid Titled first later leads made = tt
 then_lead old mid (Plays play) first later leads made = then_moves old mid play.past first later leads made
 then_lead old mid Old first later leads made = tt
 then_lead old mid (Rewrites past) first later leads made = tt
 
-asked_lead : (play : Play) (o : Option Asked) (t : Stage) (ls : List (List ℕ)) → ((asked : Asked) → stage_from (Plays (play_after play asked)) ls ≡ Some t → LeadTo (play_after play asked).past (moves_told (play_after play asked) ls) t)
+asked_lead : (play : Play) (o : Option Asked) (t : ScriptStage) (ls : List (List ℕ)) → ((asked : Asked) → stage_from (Plays (play_after play asked)) ls ≡ Some t → LeadTo (play_after play asked).past (moves_told (play_after play asked) ls) t)
     → option_and_then (λ n. stage_from n ls) (option_map (λ asked. Plays (play_after play asked)) o) ≡ Some t
     → LeadTo play.past (option_map_or (λ asked. cons_option (move_told asked (replied play asked)) (moves_told (play_after play asked) ls)) o []) t
 asked_lead play None t ls each e = absurd cc
 asked_lead play (Some asked) t ls each e =
     then_lead play.past (play_after play asked).past t (move_told asked (replied play asked)) (moves_told (play_after play asked) ls) (line_leads play asked) (each asked e)
 
-lines_lead : (play : Play) (t : Stage) (ls : List (List ℕ)) → stage_from (Plays play) ls ≡ Some t → LeadTo play.past (moves_told play ls) t
+lines_lead : (play : Play) (t : ScriptStage) (ls : List (List ℕ)) → stage_from (Plays play) ls ≡ Some t → LeadTo play.past (moves_told play ls) t
 lines_lead play t [] e = subst (LeadTo play.past []) (some_is (Plays play) t e) refl
 lines_lead play t (l ∷ ls) e = asked_lead play (asked_in play.naming l) t ls (λ asked later. lines_lead (play_after play asked) t ls later) e
 

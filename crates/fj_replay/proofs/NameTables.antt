@@ -3,15 +3,15 @@ use Rattle.std.specs.Prelude.{position, unwrap_or, not, Result, OnOk}
 use Rattle.std.specs.List.{position_or_len}
 use Rattle.std.proofs.Common.{◌≡◌, ℕ, Bool, List, length, Option, None, [], ◌∷◌, ◌++◌, refl, ap, sym, ◌∙◌, arith, inl, inr}
 use Rattle.std.proofs.lemmas.Bool.{cases_lt, lt-ltb, le-ltb}
-use Rattle.fj_model.specs.declared.read.TheConstants.{LINE_FEED}
-use Rattle.fj_model.specs.declared.said.Said.{Said}
-use Rattle.fj_model.specs.declared.said.Said.TheVariants as said
-use Rattle.fj_model.specs.Bounds.{Bounds}
-use Rattle.fj_model.specs.Lines.{reply_line}
-use Rattle.fj_model.specs.Words.{joined}
-use Rattle.fj_model.specs.Replies.{reply_words}
-use Rattle.fj_replay.specs.declared.naming.Naming.{Naming}
-use Rattle.fj_replay.specs.declared.naming.Naming.TheVariants.{Numbers}
+use Rattle.fj_lines.specs.declared.read.TheConstants.{LINE_FEED}
+use Rattle.fj_rules.specs.declared.said.Said.{Said}
+use Rattle.fj_rules.specs.declared.said.Said.TheVariants as said
+use Rattle.fj_rules.specs.Bounds.{Bounds}
+use Rattle.fj_lines.specs.Lines.{reply_line}
+use Rattle.fj_lines.specs.Words.{joined}
+use Rattle.fj_lines.specs.Replies.{reply_words}
+use Rattle.fj_replay.specs.declared.task_naming.TaskNaming.{TaskNaming}
+use Rattle.fj_replay.specs.declared.task_naming.TaskNaming.TheVariants.{Numbers}
 use Rattle.fj_replay.specs.Namings.{name_of, task_told, words_by, said_words, said_line}
 use Rattle.std.proofs.lemmas.Result.{on_ok_weaker}
 use Rattle.std.proofs.lemmas.List.Sums.{prefix_len-le-length}
@@ -55,12 +55,12 @@ unfolding reply_line
 numbered_line limits reply = ap (λ (ws : List (List ℕ)). joined ws ++ LINE_FEED ∷ []) (sym (numbered_words limits reply))
 
 -- so has one that tells of no task, by whatever it would go
-untold_line : (naming : Naming) (limits : Bounds) (reply : Said) → task_told reply ≡ None → reply_line limits reply ≡ said_line naming limits reply
+untold_line : (naming : TaskNaming) (limits : Bounds) (reply : Said) → task_told reply ≡ None → reply_line limits reply ≡ said_line naming limits reply
 unfolding reply_line
 untold_line naming limits reply none = ap (λ (o : Option (List ℕ × ℕ)). joined (words_by (name_of naming) o (reply_words limits reply)) ++ LINE_FEED ∷ []) (sym none)
 
 pub numbered_said : {T E : Type 0} (r : Result T E) (limits : Bounds) (reply : Said) (old new : List ℕ) → OnOk r (new ≡ old ++ reply_line limits reply) → OnOk r (new ≡ old ++ said_line Numbers limits reply)
 numbered_said r limits reply old new told = on_ok_weaker r (λ e. e ∙ ap (λ (l : List ℕ). old ++ l) (numbered_line limits reply)) told
 
-pub untold_said : {T E : Type 0} (r : Result T E) (naming : Naming) (limits : Bounds) (reply : Said) (old new : List ℕ) → task_told reply ≡ None → OnOk r (new ≡ old ++ reply_line limits reply) → OnOk r (new ≡ old ++ said_line naming limits reply)
+pub untold_said : {T E : Type 0} (r : Result T E) (naming : TaskNaming) (limits : Bounds) (reply : Said) (old new : List ℕ) → task_told reply ≡ None → OnOk r (new ≡ old ++ reply_line limits reply) → OnOk r (new ≡ old ++ said_line naming limits reply)
 untold_said r naming limits reply old new none told = on_ok_weaker r (λ e. e ∙ ap (λ (l : List ℕ). old ++ l) (untold_line naming limits reply none)) told

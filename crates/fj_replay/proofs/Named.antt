@@ -12,30 +12,28 @@ use Rattle.std.proofs.lemmas.List.Elements.{filter_map-append}
 use Rattle.std.proofs.lemmas.List.Sums.{position_or_len_is, prefix_len_stops}
 use Rattle.std.proofs.lemmas.Option.{unwrap_or-slice_get}
 use Rattle.std.proofs.lemmas.Slice.Eq.{bytes_eq-Decides}
-use Rattle.fj_model.specs.declared.refusal.Refusal.{Refusal}
-use Rattle.fj_model.specs.declared.said.Said.TheVariants as says
-use Rattle.fj_model.specs.declared.step.Step.{Step}
-use Rattle.fj_model.specs.declared.line2.Line2.{Line2}
-use Rattle.fj_model.specs.declared.line2.Line2.TheVariants as line
-use Rattle.fj_model.specs.Lists.{is_in}
-use Rattle.fj_model.specs.Tasks.{accepted, accepted_by, tasks}
-use Rattle.fj_model.specs.Answers.{answer}
-use Rattle.fj_model.specs.Pasts.{Past, grown}
-use Rattle.fj_model.specs.Epochs.{IsPast, seal_refusal}
-use Rattle.fj_model.specs.Lines.{step_in}
-use Rattle.fj_model.specs.Lines2.{line2_in}
-use Rattle.fj_model.proofs.Events.Growth.{or_false}
-use Rattle.fj_model.proofs.Events.Lawful.{is_numbered}
-use Rattle.fj_model.proofs.Places.OnePlace.{never}
-use Rattle.fj_model.proofs.Reading.PartLaws.{some_is}
-use Rattle.fj_model.proofs.Steps.AnswersAllowed.{history_allowed}
-use Rattle.fj_model.proofs.Steps.Replies.{answer_tells}
-use Rattle.fj_replay.specs.declared.naming.Naming.{Naming}
-use Rattle.fj_replay.specs.declared.naming.Naming.TheVariants.{Numbers, Names}
+use Rattle.fj_rules.specs.declared.refusal.Refusal.{Refusal}
+use Rattle.fj_rules.specs.declared.said.Said.TheVariants as says
+use Rattle.fj_rules.specs.declared.step.Step.{Step}
+use Rattle.fj_lines.specs.declared.line.Line.TheVariants as line
+use Rattle.fj_rules.specs.Lists.{is_in}
+use Rattle.fj_rules.specs.Tasks.{accepted, accepted_by, tasks}
+use Rattle.fj_rules.specs.Answers.{answer}
+use Rattle.fj_rules.specs.Pasts.{Past, grown}
+use Rattle.fj_rules.specs.Epochs.{IsPast, seal_refusal}
+use Rattle.fj_lines.specs.Lines.{step_in, Line2, line2_in}
+use Rattle.fj_rules.proofs.Events.Growth.{or_false}
+use Rattle.fj_rules.proofs.Events.Lawful.{is_numbered}
+use Rattle.fj_rules.proofs.Places.OnePlace.{never}
+use Rattle.fj_lines.proofs.Reading.PartLaws.{some_is}
+use Rattle.fj_rules.proofs.Steps.AnswersAllowed.{history_allowed}
+use Rattle.fj_rules.proofs.Steps.Replies.{answer_tells}
+use Rattle.fj_replay.specs.declared.task_naming.TaskNaming.{TaskNaming}
+use Rattle.fj_replay.specs.declared.task_naming.TaskNaming.TheVariants.{Numbers, Names}
 use Rattle.fj_replay.specs.declared.asked.Asked.{Asked}
 use Rattle.fj_replay.specs.declared.asked.Asked.TheVariants as ask
 use Rattle.fj_replay.specs.declared.replied.Replied.TheVariants.{Said as Says, NameTaken}
-use Rattle.fj_replay.specs.declared.stage.Stage.TheVariants.{Start, Plays}
+use Rattle.fj_replay.specs.declared.script_stage.ScriptStage.TheVariants.{Start, Plays}
 use Rattle.fj_replay.specs.Cuts.{lines}
 use Rattle.fj_replay.specs.Namings.{number_of, is_taken, is_named, with_name, name_of, AreNamesOf, StandsFor}
 use Rattle.fj_replay.specs.Plays.{Play, asked_by, asked_in, play_after, accepting, replied, sealing, is_task}
@@ -94,7 +92,7 @@ own_more names name free own t low = ⊎_elim before last (cases_lt t (length na
 -- ---- a line
 
 -- a table has a name for each of so many tasks
-abbrev Fits : Naming → ℕ → Type 0
+abbrev Fits : TaskNaming → ℕ → Type 0
 Fits Numbers n = Unit {0}
 Fits (Names names) n = (length names ≡ n) × Own names
 
@@ -167,7 +165,7 @@ numbered_fits past None asked is = absurd cc
 numbered_fits past (Some wanted) asked is =
     subst (λ (a : Asked). Fits (play_after (record { past = past; naming = Numbers }) a).naming (accepted (play_after (record { past = past; naming = Numbers }) a).past.events)) (some_is _ asked is) tt
 
-more_fits : (naming : Naming) (past : Past) (text : List ℕ) (asked : Asked) → asked_in naming text ≡ Some asked → IsPast past → Fits naming (accepted past.events)
+more_fits : (naming : TaskNaming) (past : Past) (text : List ℕ) (asked : Asked) → asked_in naming text ≡ Some asked → IsPast past → Fits naming (accepted past.events)
     → Fits (play_after (record { past = past; naming = naming }) asked).naming (accepted (play_after (record { past = past; naming = naming }) asked).past.events)
 unfolding FitsAfter
 more_fits Numbers past text asked is run fits = numbered_fits past (step_in text) asked is
@@ -216,7 +214,7 @@ are_names b names past leads = record {
 -- ---- the line that gave a name
 
 -- the name is that of this task
-Stands : List ℕ → ℕ → Naming → Type 0
+Stands : List ℕ → ℕ → TaskNaming → Type 0
 Stands name t Numbers = ⊥
 Stands name t (Names names) = StandsFor names name t
 
@@ -236,7 +234,7 @@ stands_more names name other t stands = record {
     kept : number_of (names ++ other ∷ []) name ≡ t
     kept = position_or_len_push (bytes_eq name) names other ∙ rw apart stands.number
 
-naming_stands : (name other : List ℕ) (t : ℕ) (naming : Naming) (told : Bool) → Stands name t naming → Stands name t (if told then with_name naming other else naming)
+naming_stands : (name other : List ℕ) (t : ℕ) (naming : TaskNaming) (told : Bool) → Stands name t naming → Stands name t (if told then with_name naming other else naming)
 unfolding Stands
 naming_stands name other t Numbers told stands = absurd stands
 naming_stands name other t (Names names) true stands = stands_more names name other t stands
@@ -286,7 +284,7 @@ no_accept : (o : Option Step) (name : List ℕ) (wanted : Step) → option_map a
 no_accept None name wanted e = cc
 no_accept (Some asked) name wanted e = cc
 
-accept_stands : (naming : Naming) (past : Past) (text name : List ℕ) (wanted : Step) (t : ℕ) → asked_in naming text ≡ Some (ask.Accept name wanted)
+accept_stands : (naming : TaskNaming) (past : Past) (text name : List ℕ) (wanted : Step) (t : ℕ) → asked_in naming text ≡ Some (ask.Accept name wanted)
     → replied (record { past = past; naming = naming }) (ask.Accept name wanted) ≡ Says (says.Task t) → IsFit (record { past = past; naming = naming })
     → Keeps name t (play_after (record { past = past; naming = naming }) (ask.Accept name wanted))
 unfolding Keeps Stands

@@ -1,18 +1,18 @@
 -- What has happened in a play is the history of a run, with seals or without.
 use Rattle.std.specs.Prelude.{Bool, true, false, if◌then◌else◌}
 use Rattle.std.proofs.Common.{ℕ, ◌≡◌, List, [], refl, Option, Some, None}
-use Rattle.fj_model.specs.declared.step.Step.{Step}
-use Rattle.fj_model.specs.declared.refusal.Refusal.{Refusal}
-use Rattle.fj_model.specs.declared.epoch.Move.TheVariants as move
-use Rattle.fj_model.specs.declared.epoch.Answer.TheVariants as gives
-use Rattle.fj_model.specs.Answers.{answer}
-use Rattle.fj_model.specs.Pasts.{Past, grown, sealed_now}
-use Rattle.fj_model.specs.Epochs.{IsPast, seal_refusal}
-use Rattle.fj_model.proofs.Steps.AnswersAllowed.{past_more}
+use Rattle.fj_rules.specs.declared.step.Step.{Step}
+use Rattle.fj_rules.specs.declared.refusal.Refusal.{Refusal}
+use Rattle.fj_rules.specs.declared.epoch.Move.TheVariants as move
+use Rattle.fj_rules.specs.declared.epoch.Answer.TheVariants as gives
+use Rattle.fj_rules.specs.Answers.{answer}
+use Rattle.fj_rules.specs.Pasts.{Past, grown, sealed_now}
+use Rattle.fj_rules.specs.Epochs.{IsPast, seal_refusal}
+use Rattle.fj_rules.proofs.Steps.AnswersAllowed.{past_more}
 use Rattle.fj_replay.specs.declared.asked.Asked.{Asked}
 use Rattle.fj_replay.specs.declared.asked.Asked.TheVariants as ask
-use Rattle.fj_replay.specs.declared.stage.Stage.{Stage}
-use Rattle.fj_replay.specs.declared.stage.Stage.TheVariants.{Start, Titled, Plays, Old, Rewrites}
+use Rattle.fj_replay.specs.declared.script_stage.ScriptStage.{ScriptStage}
+use Rattle.fj_replay.specs.declared.script_stage.ScriptStage.TheVariants.{Start, Titled, Plays, Old, Rewrites}
 use Rattle.fj_replay.specs.Cuts.{lines}
 use Rattle.fj_replay.specs.Plays.{Play, play_after, accepting, sealing}
 use Rattle.fj_replay.specs.Scripts.{stage_from, IsRun}
@@ -42,7 +42,7 @@ HasRun play = IsPast play.past
 pub run_kept : IsKept HasRun
 run_kept = record { numbers = λ p. ([], [], refl); names = λ p. ([], [], refl); more = λ play line asked is run. play_past play asked run }
 
-is_run_at : (b : List ℕ) (t : Stage) → stage_from Start (lines b) ≡ Some t → Holds HasRun t → (t ≡ Start → ⊥) → (t ≡ Titled → ⊥) → IsRun b
+is_run_at : (b : List ℕ) (t : ScriptStage) → stage_from Start (lines b) ≡ Some t → Holds HasRun t → (t ≡ Start → ⊥) → (t ≡ Titled → ⊥) → IsRun b
 is_run_at b Start e run no_start no_title = absurd (no_start refl)
 is_run_at b Titled e run no_start no_title = absurd (no_title refl)
 is_run_at b (Plays play) e run no_start no_title = (play, e, run)
@@ -50,5 +50,5 @@ is_run_at b Old e run no_start no_title = absurd run
 is_run_at b (Rewrites past) e run no_start no_title = absurd run
 
 -- where the heading has come, there is a run
-pub is_run : (b : List ℕ) (t : Stage) → stage_from Start (lines b) ≡ Some t → (t ≡ Start → ⊥) → (t ≡ Titled → ⊥) → IsRun b
+pub is_run : (b : List ℕ) (t : ScriptStage) → stage_from Start (lines b) ≡ Some t → (t ≡ Start → ⊥) → (t ≡ Titled → ⊥) → IsRun b
 is_run b t e no_start no_title = is_run_at b t e (holds_of HasRun t (lines b) run_kept e) no_start no_title

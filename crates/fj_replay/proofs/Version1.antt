@@ -2,17 +2,17 @@
 use Rattle.std.specs.Prelude.{false, option_map}
 use Rattle.std.specs.Option.{option_map_or}
 use Rattle.std.proofs.Common.{ℕ, ◌≡◌, List, [], ◌∷◌, ◌++◌, refl, ap, sym, ◌∙◌, Option, Some, None}
-use Rattle.fj_model.specs.declared.step.Step.{Step}
-use Rattle.fj_model.specs.declared.said.Said.{Said}
-use Rattle.fj_model.specs.Bounds.{Bounds, Pool}
-use Rattle.fj_model.specs.Answers.{answer}
-use Rattle.fj_model.specs.Pasts.{Past, grown}
-use Rattle.fj_model.specs.Runs.{RunsFrom}
-use Rattle.fj_model.specs.Lines.{step_in, reply_line}
-use Rattle.fj_replay.specs.declared.naming.Naming.TheVariants.{Numbers}
+use Rattle.fj_rules.specs.declared.step.Step.{Step}
+use Rattle.fj_rules.specs.declared.said.Said.{Said}
+use Rattle.fj_rules.specs.Bounds.{Bounds, Pool}
+use Rattle.fj_rules.specs.Answers.{answer}
+use Rattle.fj_rules.specs.Pasts.{Past, grown}
+use Rattle.fj_rules.specs.Runs.{RunsFrom}
+use Rattle.fj_lines.specs.Lines.{step_in, reply_line}
+use Rattle.fj_replay.specs.declared.task_naming.TaskNaming.TheVariants.{Numbers}
 use Rattle.fj_replay.specs.declared.replied.Replied.TheVariants.{Said as Says}
 use Rattle.fj_replay.specs.declared.asked.Asked.TheVariants as ask
-use Rattle.fj_replay.specs.declared.stage.Stage.TheVariants.{Start, Plays}
+use Rattle.fj_replay.specs.declared.script_stage.ScriptStage.TheVariants.{Start, Plays}
 use Rattle.fj_replay.specs.Cuts.{lines}
 use Rattle.fj_replay.specs.Namings.{replied_line}
 use Rattle.fj_replay.specs.Plays.{Play, play_after, reply_text}

@@ -1,18 +1,18 @@
 -- A script that is whole, as a replay and as an upgrade tell it.
 use Rattle.std.proofs.Common.{ℕ, ◌≡◌, ◌∙◌, sym, ap, subst, List, Option, Some}
-use Rattle.fj_replay.specs.declared.stage.Stage.{Stage}
-use Rattle.fj_replay.specs.declared.stage.Stage.TheVariants.{Start, Titled, Old}
+use Rattle.fj_replay.specs.declared.script_stage.ScriptStage.{ScriptStage}
+use Rattle.fj_replay.specs.declared.script_stage.ScriptStage.TheVariants.{Start, Titled, Old}
 use Rattle.fj_replay.specs.Cuts.{lines}
 use Rattle.fj_replay.specs.Scripts.{stage_from}
 use Rattle.fj_replay.specs.Faults.{IsHeadless, Finishes, Replays, Upgrades}
 use Rattle.fj_replay.proofs.Stages.{some_stage, old_leads}
 use Rattle.fj_replay.proofs.Runs.{is_run}
 
-no_start : (t : Stage) → (IsHeadless t → ⊥) → t ≡ Start → ⊥
-no_start t headed is = headed (subst (λ (u : Stage). IsHeadless u) (sym is) tt)
+no_start : (t : ScriptStage) → (IsHeadless t → ⊥) → t ≡ Start → ⊥
+no_start t headed is = headed (subst (λ (u : ScriptStage). IsHeadless u) (sym is) tt)
 
-no_title : (t : Stage) → (IsHeadless t → ⊥) → t ≡ Titled → ⊥
-no_title t headed is = headed (subst (λ (u : Stage). IsHeadless u) (sym is) tt)
+no_title : (t : ScriptStage) → (IsHeadless t → ⊥) → t ≡ Titled → ⊥
+no_title t headed is = headed (subst (λ (u : ScriptStage). IsHeadless u) (sym is) tt)
 
 pub replays : (before ahead start now : Option (List ℕ)) → Finishes Start before ahead start now → Replays before ahead start now
 replays before ahead start now (b, f) = (

@@ -1,6 +1,6 @@
 -- The lines of bytes.
 use Rattle.std.specs.Prelude.{ℕ, ◌==◌, if◌then◌else◌, List, [], ◌∷◌, ◌++◌}
-use Rattle.fj_model.specs.declared.read.TheConstants.{LINE_FEED}
+use Rattle.fj_lines.specs.declared.read.TheConstants.{LINE_FEED}
 
 -- the lines that end with a line feed, where rest stands before the bytes on the first
 abbrev pub cut : List ℕ → List ℕ → List (List ℕ)

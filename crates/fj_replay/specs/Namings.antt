@@ -2,21 +2,21 @@
 use Rattle.std.specs.Prelude.{ℕ, ◌≡◌, Bool, true, false, List, [], ◌∷◌, ◌++◌, length, Option, Some, None, unwrap_or, slice_get, codes, decimal}
 use Rattle.std.specs.List.{list_any, position_or_len}
 use Rattle.std.specs.Str.{bytes_eq}
-use Rattle.fj_model.specs.declared.read.TheConstants.{LINE_FEED}
-use Rattle.fj_model.specs.declared.kind.Kind.{Kind}
-use Rattle.fj_model.specs.declared.kind.Kind.TheVariants as kind
-use Rattle.fj_model.specs.declared.line2.NamedKind.{NamedKind}
-use Rattle.fj_model.specs.declared.line2.NamedKind.TheVariants as named
-use Rattle.fj_model.specs.declared.said.Said.{Said}
-use Rattle.fj_model.specs.declared.said.Said.TheVariants as said
-use Rattle.fj_model.specs.declared.event.Event.{Event}
-use Rattle.fj_model.specs.Bounds.{Bounds}
-use Rattle.fj_model.specs.Lists.{is_in}
-use Rattle.fj_model.specs.Tasks.{accepted, tasks}
-use Rattle.fj_model.specs.Words.{joined}
-use Rattle.fj_model.specs.Replies.{reply_words}
-use Rattle.fj_replay.specs.declared.naming.Naming.{Naming}
-use Rattle.fj_replay.specs.declared.naming.Naming.TheVariants.{Numbers, Names}
+use Rattle.fj_lines.specs.declared.read.TheConstants.{LINE_FEED}
+use Rattle.fj_rules.specs.declared.kind.Kind.{Kind}
+use Rattle.fj_rules.specs.declared.kind.Kind.TheVariants as kind
+use Rattle.fj_lines.specs.Lines.{NamedKind}
+use Rattle.fj_lines.specs.declared.line.ForkedKind.TheVariants as named
+use Rattle.fj_rules.specs.declared.said.Said.{Said}
+use Rattle.fj_rules.specs.declared.said.Said.TheVariants as said
+use Rattle.fj_rules.specs.declared.event.Event.{Event}
+use Rattle.fj_rules.specs.Bounds.{Bounds}
+use Rattle.fj_rules.specs.Lists.{is_in}
+use Rattle.fj_rules.specs.Tasks.{accepted, tasks}
+use Rattle.fj_lines.specs.Words.{joined}
+use Rattle.fj_lines.specs.Replies.{reply_words}
+use Rattle.fj_replay.specs.declared.task_naming.TaskNaming.{TaskNaming}
+use Rattle.fj_replay.specs.declared.task_naming.TaskNaming.TheVariants.{Numbers, Names}
 use Rattle.fj_replay.specs.declared.replied.Replied.{Replied}
 use Rattle.fj_replay.specs.declared.replied.Replied.TheVariants.{Said as Says, NameTaken, Sealed, Epoch}
 
@@ -40,19 +40,19 @@ numbered_kind names named.Plain = kind.Plain
 numbered_kind names (named.Completer relay count parent) = kind.Completer relay count (numbered_parent names parent)
 
 -- whether the name belongs to a task, by this naming
-abbrev pub is_named : Naming → List ℕ → Bool
+abbrev pub is_named : TaskNaming → List ℕ → Bool
 is_named Numbers name = false
 is_named (Names names) name = is_taken names name
 
 -- with a name for the next task
-abbrev pub with_name : Naming → List ℕ → Naming
+abbrev pub with_name : TaskNaming → List ℕ → TaskNaming
 with_name Numbers name = Numbers
 with_name (Names names) name = Names (names ++ name ∷ [])
 
 -- ---- from numbers to names
 
 -- how a task is called
-abbrev pub name_of : Naming → ℕ → List ℕ
+abbrev pub name_of : TaskNaming → ℕ → List ℕ
 name_of Numbers t = decimal t
 name_of (Names names) t = unwrap_or (slice_get names t) []
 
@@ -87,10 +87,10 @@ words_by called None words = words
 words_by called (Some told) words = told.0 ∷ called told.1 ∷ []
 
 -- the words of a reply: a task in it goes by its name, and all else is as in version 1
-abbrev pub said_words : Naming → Bounds → Said → List (List ℕ)
+abbrev pub said_words : TaskNaming → Bounds → Said → List (List ℕ)
 said_words naming limits reply = words_by (name_of naming) (task_told reply) (reply_words limits reply)
 
-abbrev pub replied_words : Naming → Bounds → Replied → List (List ℕ)
+abbrev pub replied_words : TaskNaming → Bounds → Replied → List (List ℕ)
 replied_words naming limits (Says reply) = said_words naming limits reply
 replied_words naming limits NameTaken = codes "refused" ∷ codes "16" ∷ []
 replied_words naming limits (Sealed epoch events) = codes "sealed" ∷ decimal epoch ∷ decimal events ∷ []
@@ -101,9 +101,9 @@ abbrev pub told_line : List (List ℕ) → List ℕ → ℕ → List ℕ
 told_line names verb t = joined (verb ∷ name_of (Names names) t ∷ []) ++ LINE_FEED ∷ []
 
 -- the line of a reply of the machine
-abbrev pub said_line : Naming → Bounds → Said → List ℕ
+abbrev pub said_line : TaskNaming → Bounds → Said → List ℕ
 said_line naming limits reply = joined (said_words naming limits reply) ++ LINE_FEED ∷ []
 
 -- the line of a reply, with its line feed
-unfoldable pub replied_line : Naming → Bounds → Replied → List ℕ
+unfoldable pub replied_line : TaskNaming → Bounds → Replied → List ℕ
 replied_line naming limits reply = joined (replied_words naming limits reply) ++ LINE_FEED ∷ []

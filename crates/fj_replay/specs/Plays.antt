@@ -3,24 +3,22 @@ use Rattle.std.specs.Prelude.{ℕ, Bool, true, false, if◌then◌else◌, List,
 use Rattle.std.specs.List.{cons_option}
 use Rattle.std.specs.Option.{option_map_or}
 use Rattle.std.specs.Str.{bytes_eq}
-use Rattle.fj_model.specs.declared.step.Step.TheVariants as step
-use Rattle.fj_model.specs.declared.line2.Line2.{Line2}
-use Rattle.fj_model.specs.declared.line2.Line2.TheVariants as line
-use Rattle.fj_model.specs.declared.event.Event.{Event}
-use Rattle.fj_model.specs.declared.refusal.Refusal.{Refusal}
-use Rattle.fj_model.specs.declared.said.Said.{Said}
-use Rattle.fj_model.specs.declared.said.Said.TheVariants as said
-use Rattle.fj_model.specs.Answers.{answer}
-use Rattle.fj_model.specs.Pasts.{Past, grown, present, sealed_now}
-use Rattle.fj_model.specs.declared.epoch.Move.{Move}
-use Rattle.fj_model.specs.declared.epoch.Move.TheVariants as move
-use Rattle.fj_model.specs.declared.epoch.Answer.{Answer}
-use Rattle.fj_model.specs.declared.epoch.Answer.TheVariants as gives
-use Rattle.fj_model.specs.Epochs.{seal_refusal, MovesFrom}
-use Rattle.fj_model.specs.Lines.{step_in}
-use Rattle.fj_model.specs.Lines2.{line2_in}
-use Rattle.fj_replay.specs.declared.naming.Naming.{Naming}
-use Rattle.fj_replay.specs.declared.naming.Naming.TheVariants.{Numbers, Names}
+use Rattle.fj_rules.specs.declared.step.Step.TheVariants as step
+use Rattle.fj_lines.specs.declared.line.Line.TheVariants as line
+use Rattle.fj_rules.specs.declared.event.Event.{Event}
+use Rattle.fj_rules.specs.declared.refusal.Refusal.{Refusal}
+use Rattle.fj_rules.specs.declared.said.Said.{Said}
+use Rattle.fj_rules.specs.declared.said.Said.TheVariants as said
+use Rattle.fj_rules.specs.Answers.{answer}
+use Rattle.fj_rules.specs.Pasts.{Past, grown, present, sealed_now}
+use Rattle.fj_rules.specs.declared.epoch.Move.{Move}
+use Rattle.fj_rules.specs.declared.epoch.Move.TheVariants as move
+use Rattle.fj_rules.specs.declared.epoch.Answer.{Answer}
+use Rattle.fj_rules.specs.declared.epoch.Answer.TheVariants as gives
+use Rattle.fj_rules.specs.Epochs.{seal_refusal, MovesFrom}
+use Rattle.fj_lines.specs.Lines.{step_in, Line2, line2_in}
+use Rattle.fj_replay.specs.declared.task_naming.TaskNaming.{TaskNaming}
+use Rattle.fj_replay.specs.declared.task_naming.TaskNaming.TheVariants.{Numbers, Names}
 use Rattle.fj_replay.specs.declared.replied.Replied.{Replied}
 use Rattle.fj_replay.specs.declared.replied.Replied.TheVariants.{Said as Says, NameTaken, Sealed, Epoch}
 use Rattle.fj_replay.specs.declared.asked.Asked.{Asked}
@@ -30,7 +28,7 @@ use Rattle.fj_replay.specs.Namings.{number_of, numbered_kind, is_named, with_nam
 -- how far a script has come: what has happened to its machine, and by what its tasks go
 pub record Play : Type 0 where
   pub past : Past
-  pub naming : Naming
+  pub naming : TaskNaming
 
 -- ---- what a line asks for
 
@@ -66,7 +64,7 @@ asked_by names line.Seal = ask.Seal
 asked_by names line.Epoch = ask.Epoch
 
 -- what a line asks for, if it is one: by numbers it is a line of version 1, by names one of version 2
-abbrev pub asked_in : Naming → List ℕ → Option Asked
+abbrev pub asked_in : TaskNaming → List ℕ → Option Asked
 asked_in Numbers text = option_map ask.Step (step_in text)
 asked_in (Names names) text = option_map (asked_by names) (line2_in text)
 
@@ -77,7 +75,7 @@ is_task (said.Task t) = true
 is_task _ = false
 
 -- the name is the new task's, if the reply accepts one
-abbrev pub named_if : Naming → List ℕ → Said → Naming
+abbrev pub named_if : TaskNaming → List ℕ → Said → TaskNaming
 named_if naming name reply = if is_task reply then with_name naming name else naming
 
 -- after a step, which this name goes with

@@ -5,25 +5,25 @@
 -- version 1 the first.
 use Rattle.std.specs.Prelude.{ℕ, Bool, false, ◌≡◌, ◌&&◌, nat_le, if◌then◌else◌, List, [], ◌∷◌, ◌++◌, Option, Some, None, is_some, option_map, slice_index}
 use Rattle.std.specs.Option.{option_and_then, option_map_or}
-use Rattle.fj_model.specs.declared.limits.TheConstants.{MAX_WORKERS, MAX_SUBMITTERS, MAX_TASKS, MAX_EVENTS}
-use Rattle.fj_model.specs.declared.mode.Mode.{Mode}
-use Rattle.fj_model.specs.declared.step.Step.{Step}
-use Rattle.fj_model.specs.declared.said.Said.{Said}
-use Rattle.fj_model.specs.declared.said.Said.TheVariants.{Task}
-use Rattle.fj_model.specs.declared.event.Event.{Event}
-use Rattle.fj_model.specs.Bounds.{Bounds, Pool}
-use Rattle.fj_model.specs.Answers.{answer}
-use Rattle.fj_model.specs.Tasks.{accepted}
-use Rattle.fj_model.specs.Pasts.{Past, fresh, grown}
-use Rattle.fj_model.specs.Runs.{Runs}
-use Rattle.fj_model.specs.Epochs.{IsPast}
-use Rattle.fj_model.specs.Lines.{head_in, step_in, reply_line}
-use Rattle.fj_replay.specs.declared.naming.Naming.{Naming}
-use Rattle.fj_replay.specs.declared.naming.Naming.TheVariants.{Numbers, Names}
+use Rattle.fj_rules.specs.declared.limits.TheConstants.{MAX_WORKERS, MAX_SUBMITTERS, MAX_TASKS, MAX_EVENTS}
+use Rattle.fj_rules.specs.declared.mode.Mode.{Mode}
+use Rattle.fj_rules.specs.declared.step.Step.{Step}
+use Rattle.fj_rules.specs.declared.said.Said.{Said}
+use Rattle.fj_rules.specs.declared.said.Said.TheVariants.{Task}
+use Rattle.fj_rules.specs.declared.event.Event.{Event}
+use Rattle.fj_rules.specs.Bounds.{Bounds, Pool}
+use Rattle.fj_rules.specs.Answers.{answer}
+use Rattle.fj_rules.specs.Tasks.{accepted}
+use Rattle.fj_rules.specs.Pasts.{Past, fresh, grown}
+use Rattle.fj_rules.specs.Runs.{Runs}
+use Rattle.fj_rules.specs.Epochs.{IsPast}
+use Rattle.fj_lines.specs.Lines.{head_in, step_in, reply_line}
+use Rattle.fj_replay.specs.declared.task_naming.TaskNaming.{TaskNaming}
+use Rattle.fj_replay.specs.declared.task_naming.TaskNaming.TheVariants.{Numbers, Names}
 use Rattle.fj_replay.specs.declared.asked.Asked.TheVariants.{Accept}
 use Rattle.fj_replay.specs.declared.replied.Replied.TheVariants.{Said as Says}
-use Rattle.fj_replay.specs.declared.stage.Stage.{Stage}
-use Rattle.fj_replay.specs.declared.stage.Stage.TheVariants.{Start, Titled, Plays, Old, Rewrites}
+use Rattle.fj_replay.specs.declared.script_stage.ScriptStage.{ScriptStage}
+use Rattle.fj_replay.specs.declared.script_stage.ScriptStage.TheVariants.{Start, Titled, Plays, Old, Rewrites}
 use Rattle.fj_replay.specs.Cuts.{lines}
 use Rattle.fj_replay.specs.Namings.{AreNamesOf, StandsFor}
 use Rattle.fj_replay.specs.Plays.{Play, asked_in, play_after, replied, reply_text, moves_told, AreMoves, is_title}
@@ -62,17 +62,17 @@ start p = fresh p.mode p.limits
 -- ---- from line to line
 
 -- at its steps, where the heading has a pool
-abbrev pub opened : Naming → Option Pool → Option Stage
+abbrev pub opened : TaskNaming → Option Pool → Option ScriptStage
 opened naming None = None
 opened naming (Some p) = Some (Plays (record { past = start p; naming = naming }))
 
 -- at the steps of a script that is written as version 2, where the heading has a pool
-abbrev pub rewriting : Option Pool → Option Stage
+abbrev pub rewriting : Option Pool → Option ScriptStage
 rewriting None = None
 rewriting (Some p) = Some (Rewrites (start p))
 
 -- where a script stands after one line more, if this line may stand there
-abbrev pub stage_after : Stage → List ℕ → Option Stage
+abbrev pub stage_after : ScriptStage → List ℕ → Option ScriptStage
 stage_after Start line = if is_title line then Some Titled else opened Numbers (pool_in line)
 stage_after Titled line = opened (Names []) (pool_in line)
 stage_after (Plays play) line = option_map (λ asked. Plays (play_after play asked)) (asked_in play.naming line)
@@ -81,7 +81,7 @@ stage_after (Rewrites past) line = option_map (λ asked. Rewrites (grown past (a
 
 -- what is written at the line: the reply to it, or what it is in version 2, where the task that it may accept is called by the number of
 -- those that were accepted before
-abbrev pub line_text : Stage → List ℕ → List ℕ
+abbrev pub line_text : ScriptStage → List ℕ → List ℕ
 line_text Start line = []
 line_text Titled line = []
 line_text (Plays play) line = option_map_or (λ asked. reply_text play asked) (asked_in play.naming line) []
@@ -89,17 +89,17 @@ line_text Old line = titled_head line
 line_text (Rewrites past) line = option_map_or (λ asked. named_line (accepted past.events) asked) (step_in line) []
 
 -- where it stands after these lines, if each of them may stand where it does
-abbrev pub stage_from : Stage → List (List ℕ) → Option Stage
+abbrev pub stage_from : ScriptStage → List (List ℕ) → Option ScriptStage
 stage_from stage [] = Some stage
 stage_from stage (line ∷ later) = option_and_then (λ next. stage_from next later) (stage_after stage line)
 
 -- what is written at these lines, up to the first that may not stand where it does
-abbrev pub text_from : Stage → List (List ℕ) → List ℕ
+abbrev pub text_from : ScriptStage → List (List ℕ) → List ℕ
 text_from stage [] = []
 text_from stage (line ∷ later) = option_map_or (λ next. line_text stage line ++ text_from next later) (stage_after stage line) []
 
 -- whether each of the lines may stand where it does
-abbrev pub is_good : Stage → List (List ℕ) → Bool
+abbrev pub is_good : ScriptStage → List (List ℕ) → Bool
 is_good first ls = is_some (stage_from first ls)
 
 -- ---- from bytes to bytes

@@ -1,11 +1,11 @@
 -- What a session keeps, and what a line does to it.
 use Rattle.std.specs.Prelude.{ℕ, ⊤, ◌≡◌, ◌≢◌, ◌+◌, ◌<◌, ◌≤◌, ◌⊎◌, List, [], ◌++◌, Option, Some, None, true, is_some, unwrap_or, length}
 use Rattle.std.specs.Io.KnownBytes.{Appends}
-use Rattle.fj_model.specs.declared.read.line2.TheConstants.{MAX_LINE2}
-use Rattle.fj_model.specs.Lines.{head_in}
+use Rattle.fj_lines.specs.declared.read.line2.TheConstants.{MAX_LINE2}
+use Rattle.fj_lines.specs.Lines.{head_in}
 use Rattle.fj_replay.specs.declared.fault.ReplayFault.{ReplayFault}
 use Rattle.fj_replay.specs.declared.fault.ReplayFault.TheVariants.{Line, Limits, Memory, Read, Write}
-use Rattle.fj_replay.specs.declared.stage.Stage.{Stage}
+use Rattle.fj_replay.specs.declared.script_stage.ScriptStage.{ScriptStage}
 use Rattle.fj_streams.specs.Beginnings.{AppendsSome}
 use Rattle.fj_replay.specs.Cuts.{lines, rest}
 use Rattle.fj_replay.specs.Scripts.{pool_in, stage_after, stage_from, line_text, text_from}
@@ -15,14 +15,14 @@ use Rattle.fj_replay.specs.Faults.{FaultOf, IsFaulty, IsHeadless, IsOutOfLimits}
 pub record Kept : Type 0 where
   pub count : ℕ
   pub line : List ℕ
-  pub stage : Stage
+  pub stage : ScriptStage
 
 -- before anything was read
-abbrev pub nothing_kept : Stage → Kept
+abbrev pub nothing_kept : ScriptStage → Kept
 nothing_kept first = record { count = 0; line = []; stage = first }
 
 -- these bytes are good so far, this is kept of them, and their text was written
-pub record IsAt (first : Stage) (b : List ℕ) (v : Kept) (start now : Option (List ℕ)) : Type 0 where
+pub record IsAt (first : ScriptStage) (b : List ℕ) (v : Kept) (start now : Option (List ℕ)) : Type 0 where
   pub count : v.count ≡ length (lines b)
   pub line : v.line ≡ rest b
   pub short : length v.line ≤ MAX_LINE2
@@ -32,12 +32,12 @@ pub record IsAt (first : Stage) (b : List ℕ) (v : Kept) (start now : Option (L
 -- after any good bytes of which the old is kept, these bytes more are good too, and of them all the new is kept
 abbrev pub GoesOnBy : List ℕ → Kept → Kept → Option (List ℕ) → Option (List ℕ) → Type 0
 GoesOnBy bytes old new written now =
-    (first : Stage) (b : List ℕ) (start : Option (List ℕ)) → IsAt first b old start written → IsAt first (b ++ bytes) new start now
+    (first : ScriptStage) (b : List ℕ) (start : Option (List ℕ)) → IsAt first b old start written → IsAt first (b ++ bytes) new start now
 
 -- after any good bytes of which the old is kept, these bytes more are ended by this fault
 abbrev pub EndsInside : ReplayFault → List ℕ → Kept → Option (List ℕ) → Option (List ℕ) → Type 0
 EndsInside fault bytes old written now =
-    (first : Stage) (b : List ℕ) (start ahead : Option (List ℕ)) → IsAt first b old start written → FaultOf first fault (b ++ bytes) ahead start now
+    (first : ScriptStage) (b : List ℕ) (start ahead : Option (List ℕ)) → IsAt first b old start written → FaultOf first fault (b ++ bytes) ahead start now
 
 -- ---- one line
 
@@ -58,7 +58,7 @@ abbrev pub IsTooLong : ReplayFault → Kept → ℕ → Type 0
 IsTooLong fault v more = (fault ≡ Line (v.count + 1)) × (MAX_LINE2 < length v.line + more)
 
 -- what a fault at the end of a line says, which has this number
-abbrev pub FaultAtEnd : ReplayFault → ℕ → Stage → List ℕ → Option (List ℕ) → Option (List ℕ) → Type 0
+abbrev pub FaultAtEnd : ReplayFault → ℕ → ScriptStage → List ℕ → Option (List ℕ) → Option (List ℕ) → Type 0
 FaultAtEnd (Line n) number stage line old new = (n ≡ number) × IsFaulty stage line × Appends old new []
 FaultAtEnd Limits number stage line old new = IsHeadless stage × IsOutOfLimits line × Appends old new []
 FaultAtEnd Memory number stage line old new = (is_some (stage_after stage line) ≡ true) × AppendsSome old new (line_text stage line)

@@ -1,15 +1,13 @@
 -- How the numbered tasks of a script of version 1 are called in version 2, and what its lines are there.
 use Rattle.std.specs.Prelude.{ℕ, List, [], ◌∷◌, ◌++◌, option_map, codes, decimal}
-use Rattle.fj_model.specs.declared.read.TheConstants.{LINE_FEED}
-use Rattle.fj_model.specs.declared.kind.Kind.{Kind}
-use Rattle.fj_model.specs.declared.kind.Kind.TheVariants as kind
-use Rattle.fj_model.specs.declared.step.Step.{Step}
-use Rattle.fj_model.specs.declared.step.Step.TheVariants as step
-use Rattle.fj_model.specs.declared.line2.NamedKind.{NamedKind}
-use Rattle.fj_model.specs.declared.line2.NamedKind.TheVariants as named
-use Rattle.fj_model.specs.declared.line2.Line2.{Line2}
-use Rattle.fj_model.specs.declared.line2.Line2.TheVariants as line
-use Rattle.fj_model.specs.Lines2.{line2_text}
+use Rattle.fj_lines.specs.declared.read.TheConstants.{LINE_FEED}
+use Rattle.fj_rules.specs.declared.kind.Kind.{Kind}
+use Rattle.fj_rules.specs.declared.kind.Kind.TheVariants as kind
+use Rattle.fj_rules.specs.declared.step.Step.{Step}
+use Rattle.fj_rules.specs.declared.step.Step.TheVariants as step
+use Rattle.fj_lines.specs.declared.line.ForkedKind.TheVariants as named
+use Rattle.fj_lines.specs.declared.line.Line.TheVariants as line
+use Rattle.fj_lines.specs.Lines.{NamedKind, Line2, line2_text}
 
 -- the name of the task with this number
 abbrev pub task_name : ℕ → List ℕ

@@ -5,8 +5,8 @@ use Rattle.fj_replay.specs.declared.fault.ReplayFault.{ReplayFault}
 use Rattle.fj_replay.specs.declared.fault.ReplayFault.TheVariants.{Line, Limits, Memory, Read, Write}
 use Rattle.fj_replay.specs.declared.session.TheConstants.{CHUNK}
 use Rattle.fj_replay.specs.Cuts.{lines}
-use Rattle.fj_replay.specs.declared.stage.Stage.{Stage}
-use Rattle.fj_replay.specs.declared.stage.Stage.TheVariants.{Start, Old}
+use Rattle.fj_replay.specs.declared.script_stage.ScriptStage.{ScriptStage}
+use Rattle.fj_replay.specs.declared.script_stage.ScriptStage.TheVariants.{Start, Old}
 use Rattle.fj_replay.specs.Faults.{EndsFrom}
 
 -- what a fault says of the writer: it failed at `Write` alone
@@ -38,7 +38,7 @@ abbrev pub seen : {A : Type 0} → (A → Option (List ℕ)) → (A → Option C
 seen bytes calls old new = record { bytes = bytes old; bytes_after = bytes new; calls = calls old; calls_after = calls new }
 
 -- some bytes were read, and what was done with them ended by this fault, which tells too which calls failed
-abbrev pub StopsFrom : Stage → Seen → Seen → ReplayFault → Type 0
+abbrev pub StopsFrom : ScriptStage → Seen → Seen → ReplayFault → Type 0
 StopsFrom first r w fault =
     (b : List ℕ) × EndsFrom first fault b r.bytes r.bytes_after w.bytes w.bytes_after × FaultTells fault b r.calls r.calls_after w.calls w.calls_after
 

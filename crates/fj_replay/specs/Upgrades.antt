@@ -1,14 +1,14 @@
 -- A script of version 1 as version 2, by itself, and the replies to both.
 use Rattle.std.specs.Prelude.{ℕ, ◌≡◌, List, [], ◌∷◌, ◌++◌, Option, Some, None, decimal}
-use Rattle.fj_model.specs.declared.read.TheConstants.{LINE_FEED}
-use Rattle.fj_model.specs.declared.step.Step.{Step}
-use Rattle.fj_model.specs.declared.said.Said.{Said}
-use Rattle.fj_model.specs.Bounds.{Bounds, Pool}
-use Rattle.fj_model.specs.Words.{joined}
-use Rattle.fj_model.specs.Replies.{reply_words}
-use Rattle.fj_model.specs.Tasks.{accepted}
-use Rattle.fj_model.specs.Pasts.{Past, grown}
-use Rattle.fj_model.specs.Answers.{answer}
+use Rattle.fj_lines.specs.declared.read.TheConstants.{LINE_FEED}
+use Rattle.fj_rules.specs.declared.step.Step.{Step}
+use Rattle.fj_rules.specs.declared.said.Said.{Said}
+use Rattle.fj_rules.specs.Bounds.{Bounds, Pool}
+use Rattle.fj_lines.specs.Words.{joined}
+use Rattle.fj_lines.specs.Replies.{reply_words}
+use Rattle.fj_rules.specs.Tasks.{accepted}
+use Rattle.fj_rules.specs.Pasts.{Past, grown}
+use Rattle.fj_rules.specs.Answers.{answer}
 use Rattle.fj_replay.specs.Cuts.{lines}
 use Rattle.fj_replay.specs.Namings.{task_told, words_by}
 use Rattle.fj_replay.specs.TaskNames.{task_name, named_line, titled_head}

@@ -1,4 +1,5 @@
-use fj_model::{Name, Step};
+use fj_lines::Name;
+use fj_rules::Step;
 
 /// What a line of a script asks for, its names told apart.
 #[derive(Drop)]

@@ -1,6 +1,6 @@
 ghost use Rattle.std.specs.Prelude.{◌≡◌, ◌+◌, ◌≤◌, ◌^◌, length, Some};
 
-use fj_streams::{Source, Tally};
+use fj_streams::{CallCount, Source};
 use std::io::{self, Read};
 use std::mem;
 
@@ -8,7 +8,7 @@ use std::mem;
 #[derive(Drop)]
 pub struct InMemory<'a> {
     rest: &'a [u8],
-    again: Tally,
+    again: CallCount,
     ghost few: { again + length rest.now ≤ 2 ^ 63 },
 }
 
@@ -20,7 +20,7 @@ impl<'a> InMemory<'a> {
     {
         InMemory {
             rest: bytes,
-            again: Tally::new(),
+            again: CallCount::new(),
         }
     }
 }
@@ -33,7 +33,7 @@ impl Source for InMemory<'_> {
     fn pull(&mut self, buf: &mut [u8]) -> io::Result<usize> {
         let mut rest = self.rest;
         let n = rest.read(buf)?;
-        let mut again = mem::replace(&mut self.again, Tally::new());
+        let mut again = mem::replace(&mut self.again, CallCount::new());
         if n > 0 {
             again.add_one();
         }

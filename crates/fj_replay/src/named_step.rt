@@ -1,12 +1,11 @@
 //! The lines of steps in version 2.
 ghost use Rattle.std.specs.Prelude.{◌≡◌, ◌++◌, ◌∷◌, [], OnOk, string_bytes, codes, decimal};
-ghost use Rattle.fj_model.specs.Words.{joined};
-ghost use Rattle.fj_model.specs.Lines.{ending_words, relay_word, submitted_words};
-ghost use Rattle.fj_model.specs.Lines2.{named_kind_words};
-ghost use Rattle.fj_model.specs.declared.read.TheConstants.{LINE_FEED};
+ghost use Rattle.fj_lines.specs.Words.{joined};
+ghost use Rattle.fj_lines.specs.Lines.{ending_words, relay_word, submitted_words, named_kind_words};
+ghost use Rattle.fj_lines.specs.declared.read.TheConstants.{LINE_FEED};
 ghost use Rattle.fj_replay.specs.TaskNames.{named_kind, named_line, task_name};
 
-use fj_model::{Ending, Kind, Step, SubId, SubmittedKind, WorkerId};
+use fj_rules::{Ending, Kind, Step, SubId, SubmittedKind, WorkerId};
 use std::alloc::AllocError;
 
 /// Appends a step's line of version 2, with its line feed. `next` is the number of the task that it may accept. An error comes where the

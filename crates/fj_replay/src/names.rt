@@ -3,7 +3,8 @@ ghost use Rattle.fj_replay.specs.Namings.{number_of, is_taken, numbered_parent, 
 ghost use Rattle.fj_replay.specs.Plays.{asked_by};
 
 use crate::asked::Asked;
-use fj_model::{Kind, Line2, Name, NamedKind, Serial, Step};
+use fj_lines::{Line2, Name, NamedKind};
+use fj_rules::{Kind, Serial, Step};
 use indexmap::IndexSet;
 use std::alloc::{AllocError, Global};
 use std::marker::Model;

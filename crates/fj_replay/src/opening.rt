@@ -3,8 +3,9 @@ ghost use Rattle.fj_replay.specs.Scripts.{pool_in, start};
 ghost use Rattle.fj_replay.specs.Sessions.{IsHeadFault};
 
 use crate::fault::ReplayFault;
+use fj_lines::read_head;
 use fj_machine::Machine;
-use fj_model::{Limits, read_head};
+use fj_rules::Limits;
 use std::alloc::Global;
 
 /// A new machine, as the heading says, which stands at this line. `Line` where it is no heading, `Limits` where a limit is out of its

@@ -5,13 +5,13 @@ ghost use Rattle.fj_replay.specs.Tells.{Stops, seen};
 ghost use Rattle.fj_replay.specs.Cuts.{lines};
 ghost use Rattle.fj_replay.specs.Scripts.{AreRun, KeepsNames, MakesMoves, NamesTasks, is_titled, numbered_text, text};
 ghost use Rattle.fj_replay.specs.Faults.{IsScript, Replays, Ends};
-ghost use Rattle.fj_model.specs.Bounds.{Pool};
-ghost use Rattle.fj_model.specs.declared.step.Step.{Step};
+ghost use Rattle.fj_rules.specs.Bounds.{Pool};
+ghost use Rattle.fj_rules.specs.declared.step.Step.{Step};
 
 use crate::fault::ReplayFault;
 use crate::in_memory::InMemory;
 use crate::script_loop::run;
-use crate::stage::Stage;
+use crate::script_stage::ScriptStage;
 use fj_streams::{Sink, Source};
 use std::alloc::Global;
 
@@ -36,7 +36,7 @@ pub fn replay<R: Source, W: Sink>(alloc: Global, r: &mut R, w: &mut W) -> Result
     // It is the task that was accepted where the name was given.
     ensures given { (b : List ℕ) → KeepsNames b }
 {
-    run(alloc, Stage::Start, r, w)
+    run(alloc, ScriptStage::Start, r, w)
 }
 
 /// The replies to a script that lies in memory. At a fault the replies before it are lost. It is `Line`, `Limits` or `Memory`: nothing

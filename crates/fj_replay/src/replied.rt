@@ -1,4 +1,4 @@
-use fj_model::Said;
+use fj_rules::Said;
 
 /// What is replied to a line of a script.
 #[derive(Clone, Copy)]

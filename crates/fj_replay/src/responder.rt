@@ -1,6 +1,6 @@
 ghost use Rattle.std.specs.Prelude.{◌≡◌, Some, OnOk, OnErr, IfOk, IfErr};
 ghost use Rattle.std.specs.Io.KnownBytes.{Appends};
-ghost use Rattle.fj_model.specs.Words.{Reads};
+ghost use Rattle.fj_lines.specs.Words.{Reads};
 ghost use Rattle.fj_streams.specs.Calls.{IsFine};
 ghost use Rattle.fj_replay.specs.Tells.{WriterTells};
 ghost use Rattle.fj_streams.specs.Beginnings.{AppendsSome};
@@ -11,13 +11,14 @@ ghost use Rattle.fj_replay.specs.Sessions.{IsHeadFault, IsReplyFault};
 
 use crate::asked::Asked;
 use crate::fault::ReplayFault;
-use crate::naming::Naming;
 use crate::opening::open;
 use crate::replied::Replied;
+use crate::task_naming::TaskNaming;
 use crate::task_told::is_task;
 use crate::writing::write_all;
+use fj_lines::{LineFault, Name};
 use fj_machine::Machine;
-use fj_model::{Limits, LineFault, Name, OutOfMemory, Refusal, Said, Step};
+use fj_rules::{Limits, OutOfMemory, Refusal, Said, Step};
 use fj_streams::Sink;
 use std::alloc::Global;
 use std::marker::Model;
@@ -26,7 +27,7 @@ use std::marker::Model;
 #[derive(Drop)]
 pub struct Responder {
     machine: Machine,
-    naming: Naming,
+    naming: TaskNaming,
     limits: Limits,
     // the line of the last reply
     line: String,
@@ -50,7 +51,7 @@ impl Responder {
         alloc: Global,
         heading: &[u8],
         number: u64,
-        naming: Naming,
+        naming: TaskNaming,
     ) -> Result<Responder, ReplayFault>
         ensures pool { IfOk result (λ r. pool_in heading.now ≡ Some r.past.pool) }
         ensures fresh { IfOk result (λ r. r.past ≡ start r.past.pool) }

@@ -1,8 +1,8 @@
 ghost use Rattle.std.specs.Prelude.{◌≡◌, Some, OnOk, OnErr, IfOk, IfErr};
 ghost use Rattle.std.specs.Io.KnownBytes.{Appends};
-ghost use Rattle.fj_model.specs.Answers.{answer};
-ghost use Rattle.fj_model.specs.Pasts.{grown};
-ghost use Rattle.fj_model.specs.Tasks.{accepted};
+ghost use Rattle.fj_rules.specs.Answers.{answer};
+ghost use Rattle.fj_rules.specs.Pasts.{grown};
+ghost use Rattle.fj_rules.specs.Tasks.{accepted};
 ghost use Rattle.fj_streams.specs.Calls.{IsFine};
 ghost use Rattle.fj_streams.specs.Beginnings.{AppendsSome};
 ghost use Rattle.fj_replay.specs.TaskNames.{named_line};
@@ -16,7 +16,7 @@ use crate::opening::open;
 use crate::task_told::is_task;
 use crate::writing::write_all;
 use fj_machine::Machine;
-use fj_model::Step;
+use fj_rules::Step;
 use fj_streams::Sink;
 use std::alloc::Global;
 use std::marker::Model;
@@ -34,8 +34,8 @@ pub struct Rewriter {
 
 impl Model for Rewriter {
     ghost use Rattle.std.specs.Prelude.{◌≡◌, []};
-    ghost use Rattle.fj_model.specs.Pasts.{Past};
-    ghost use Rattle.fj_model.specs.Tasks.{accepted};
+    ghost use Rattle.fj_rules.specs.Pasts.{Past};
+    ghost use Rattle.fj_rules.specs.Tasks.{accepted};
 
     ghost Value = { Past };
 

@@ -7,8 +7,8 @@ ghost use Rattle.fj_replay.specs.Tells.{StopsFrom, seen};
 ghost use Rattle.fj_replay.specs.Faults.{Finishes};
 
 use crate::fault::ReplayFault;
+use crate::script_stage::ScriptStage;
 use crate::session::{CHUNK, Session};
-use crate::stage::Stage;
 use fj_streams::{Sink, Source, flush_whole};
 use std::alloc::Global;
 use std::io::ErrorKind;
@@ -16,7 +16,7 @@ use std::io::ErrorKind;
 /// Reads a script that stands at this stage, and writes what its lines give. What was written before a further read is flushed first.
 pub fn run<R: Source, W: Sink>(
     alloc: Global,
-    first: Stage,
+    first: ScriptStage,
     r: &mut R,
     w: &mut W,
 ) -> Result<(), ReplayFault>

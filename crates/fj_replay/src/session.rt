@@ -7,8 +7,8 @@ ghost use Rattle.fj_replay.specs.Sessions.{Kept, nothing_kept, continued, after_
 ghost use Rattle.fj_replay.specs.Scripts.{line_text};
 
 use crate::fault::ReplayFault;
-use crate::stage::Stage;
-use fj_model::{LINE_FEED, MAX_LINE2};
+use crate::script_stage::ScriptStage;
+use fj_lines::{LINE_FEED, MAX_LINE2};
 use fj_streams::Sink;
 use memchr::memchr;
 use std::alloc::{AllocError, Global};
@@ -24,12 +24,12 @@ pub struct Session {
     count: u64,
     // the line that goes on
     line: Vec<u8>,
-    stage: Stage,
+    stage: ScriptStage,
 }
 
 impl Model for Session {
     ghost use Rattle.std.specs.Prelude.{◌≤◌, vec_capacity, vec_len};
-    ghost use Rattle.fj_model.specs.declared.read.line2.TheConstants.{MAX_LINE2};
+    ghost use Rattle.fj_lines.specs.declared.read.line2.TheConstants.{MAX_LINE2};
     ghost use Rattle.fj_replay.specs.Sessions.{Kept};
 
     ghost Value = { Kept };
@@ -41,7 +41,7 @@ impl Model for Session {
 
 impl Session {
     /// A session that has read nothing, at this stage.
-    pub fn new(alloc: Global, first: Stage) -> Result<Session, AllocError>
+    pub fn new(alloc: Global, first: ScriptStage) -> Result<Session, AllocError>
         ensures { IfOk result (λ s. s ≡ nothing_kept first) }
     {
         let line = Vec::with_capacity(alloc, MAX_LINE2)?;
@@ -153,8 +153,10 @@ impl Session {
             return Err(ReplayFault::Line(self.count + 1));
         }
         match self.stage {
-            Stage::Start | Stage::Titled | Stage::Old => Err(ReplayFault::Line(self.count + 1)),
-            Stage::Plays(_) | Stage::Rewrites(_) => Ok(()),
+            ScriptStage::Start | ScriptStage::Titled | ScriptStage::Old => Err(ReplayFault::Line(
+                self.count + 1,
+            )),
+            ScriptStage::Plays(_) | ScriptStage::Rewrites(_) => Ok(()),
         }
     }
 }

@@ -2,7 +2,7 @@ ghost use Rattle.std.specs.Prelude.{◌≡◌, Some, None, MatchOption};
 ghost use Rattle.fj_replay.specs.Namings.{task_told};
 ghost use Rattle.fj_replay.specs.Plays.{is_task};
 
-use fj_model::{Said, Serial};
+use fj_rules::{Said, Serial};
 
 /// The first word of a reply that tells of a task, and the task.
 pub fn task_told(said: &Said) -> Option<(&'static str, Serial)>

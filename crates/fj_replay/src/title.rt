@@ -9,7 +9,7 @@ ghost use Rattle.fj_replay.specs.Plays.{is_title};
 
 use crate::fault::ReplayFault;
 use crate::writing::write_all;
-use fj_model::LINE_FEED;
+use fj_lines::LINE_FEED;
 use fj_streams::Sink;
 use std::alloc::{AllocError, Global};
 

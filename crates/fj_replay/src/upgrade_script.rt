@@ -10,7 +10,7 @@ ghost use Rattle.fj_replay.specs.Upgrades.{KeepsReplies, up_text, IsNotUpgraded}
 use crate::fault::ReplayFault;
 use crate::in_memory::InMemory;
 use crate::script_loop::run;
-use crate::stage::Stage;
+use crate::script_stage::ScriptStage;
 use fj_streams::{Sink, Source};
 use std::alloc::Global;
 
@@ -33,7 +33,7 @@ pub fn upgrade<R: Source, W: Sink>(alloc: Global, r: &mut R, w: &mut W) -> Resul
     // What is of version 2 already is not written at all.
     ensures titled { (b : List ℕ) → is_titled (lines b) ≡ true → IsNotUpgraded b }
 {
-    run(alloc, Stage::Old, r, w)
+    run(alloc, ScriptStage::Old, r, w)
 }
 
 /// A script of version 1 that lies in memory, as version 2. At a fault the lines before it are lost. It is `Line`, `Limits` or `Memory`:

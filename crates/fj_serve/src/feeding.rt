@@ -1,12 +1,12 @@
 ghost use Rattle.std.specs.Prelude.{◌≡◌, ◌+◌};
 ghost use Rattle.fj_serve.specs.UnderWays.{how_many};
 
+use crate::reported::told_of;
 use crate::sink::Sink;
 use crate::source::Source;
-use crate::told::told_of;
 use crate::under_way::UnderWay;
 use crate::window::Window;
-use fj_crew::{Body, Naming, Play, Refusal, Running, SubId};
+use fj_run::{Body, Naming, Play, Refusal, Running, SubId};
 use std::alloc::Global;
 use std::sync::Wait;
 

@@ -10,17 +10,17 @@
 mod feeding;
 mod numbered;
 mod pool_record;
+mod reported;
 mod serving;
 mod sink;
 mod source;
-mod told;
 mod under_way;
 mod window;
 
-pub use fj_crew::{Body, Limits, Open, Outcome, Record, Refusal, Sealed, Settings, Turnstile};
+pub use fj_run::{Body, Limits, Open, Outcome, Record, Refusal, Sealed, Settings, Turnstile};
 pub use pool_record::PoolRecord;
+pub use reported::Reported;
 pub use serving::{Served, Unserved, serve};
 pub use sink::Sink;
 pub use source::Source;
-pub use told::Told;
 pub use window::Window;

@@ -1,6 +1,6 @@
 ghost use Rattle.std.specs.Prelude.{◌≡◌, vec_len};
 
-use fj_crew::Ticket;
+use fj_run::Ticket;
 
 /// Tickets, and beside each as the how manyth its body came.
 #[derive(Drop)]

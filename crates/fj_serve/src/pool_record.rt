@@ -1,6 +1,6 @@
 use fj_core::Archive;
-use fj_crew::{Body, Record};
 use fj_machine::Machine;
+use fj_run::{Body, Record};
 
 /// What is left of a pool that has served: its record, without bodies and results.
 #[derive(Drop)]

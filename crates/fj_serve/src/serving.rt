@@ -3,7 +3,7 @@ use crate::pool_record::of_record;
 use crate::sink::Sink;
 use crate::source::Source;
 use crate::window::Window;
-use fj_crew::{Body, Played, Record, Refusal, Settings, Turnstile, with_pool};
+use fj_run::{Body, Played, Record, Refusal, Settings, Turnstile, with_pool};
 use std::alloc::Global;
 use std::sync::Wait;
 use std::thread::Threads;

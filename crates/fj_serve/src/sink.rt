@@ -1,11 +1,11 @@
 use crate::pool_record::PoolRecord;
-use crate::told::Told;
-use fj_crew::{Body, Sealed};
+use crate::reported::Reported;
+use fj_run::{Body, Sealed};
 
 /// Where the outcomes of a service go.
 pub trait Sink<B: Body> {
     /// What became of the nth body that came, counted from 0: told once of each.
-    fn hear(&mut self, nth: u64, told: Told<B::Key, B::Out>);
+    fn hear(&mut self, nth: u64, told: Reported<B::Key, B::Out>);
 
     /// A part of the history of the pool that serves now, sealed. All parts of a pool come in order, before its record.
     fn take_part(&mut self, _part: Sealed) {}

@@ -4,7 +4,7 @@ ghost use Rattle.fj_serve.specs.UnderWays.{HasRoom, how_many};
 
 use crate::numbered::Numbered;
 use crate::window::Window;
-use fj_crew::{Body, Naming, Outcome, Refusal, Running, Ticket};
+use fj_run::{Body, Naming, Outcome, Refusal, Running, Ticket};
 use std::alloc::{AllocError, Global};
 use std::collections::VecDeque;
 use std::sync::Wait;
@@ -19,7 +19,7 @@ pub enum UnderWay {
 }
 
 /// An outcome, and as the how manyth its body came.
-pub type Told<B> = (u64, Result<Outcome<B>, Refusal>);
+pub type Reported<B> = (u64, Result<Outcome<B>, Refusal>);
 
 impl UnderWay {
     /// Nothing is under way.
@@ -79,7 +79,7 @@ impl UnderWay {
         &mut self,
         pool: &mut Running<'_, '_, B, N, R>,
         told: u64,
-    ) -> Option<Told<B>>
+    ) -> Option<Reported<B>>
         ensures some { IfSome result (λ told. how_many self.new + 1 ≡ how_many self.old) }
         ensures none { IfNone result (how_many self.new ≡ how_many self.old) }
     {

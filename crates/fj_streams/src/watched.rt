@@ -1,16 +1,16 @@
 ghost use Rattle.std.specs.Prelude.{◌≡◌, Some, ◌+◌};
 ghost use Rattle.fj_streams.specs.Calls.{ErrorCounts};
 
+use crate::call_count::CallCount;
 use crate::streams::{Sink, Source};
-use crate::tally::Tally;
 use std::io::{self, ErrorKind, Read, Write};
 
 /// A reader or a writer, with what contracts alone see of its calls: how many failed, and how many left the caller to call again.
 #[derive(Drop)]
 pub struct Watched<T> {
     inner: T,
-    failed: Tally,
-    again: Tally,
+    failed: CallCount,
+    again: CallCount,
 }
 
 impl<T> Watched<T> {
@@ -22,8 +22,8 @@ impl<T> Watched<T> {
     {
         Watched {
             inner,
-            failed: Tally::new(),
-            again: Tally::new(),
+            failed: CallCount::new(),
+            again: CallCount::new(),
         }
     }
 }

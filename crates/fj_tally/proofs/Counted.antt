@@ -1,6 +1,6 @@
 -- What has been counted so far.
 use Rattle.std.proofs.Common.{◌≡◌, List, count_by}
-use Rattle.fj_model.specs.declared.event.Event.{Event}
+use Rattle.fj_rules.specs.declared.event.Event.{Event}
 use Rattle.fj_tally.specs.declared.counts.Counts.{Counts}
 use Rattle.fj_tally.specs.Tallies.{is_submission, is_fork, is_trigger, is_beginning, is_skip, is_failure, is_cancellation, is_release}
 

@@ -1,6 +1,6 @@
 -- How each count goes on.
 use Rattle.std.specs.Prelude.{◌≡◌, ◌+◌, ◌^◌, ◌<◌, ℕ, Bool, if◌then◌else◌}
-use Rattle.fj_model.specs.declared.event.Event.{Event}
+use Rattle.fj_rules.specs.declared.event.Event.{Event}
 use Rattle.fj_tally.specs.declared.counts.Counts.{Counts}
 use Rattle.fj_tally.specs.Tallies.{is_submission, is_fork, is_trigger, is_beginning, is_skip, is_failure, is_cancellation, is_release}
 

@@ -1,9 +1,9 @@
 -- Which events are counted as what.
 use Rattle.std.specs.Prelude.{Bool, true, false}
-use Rattle.fj_model.specs.declared.event.Event.{Event}
-use Rattle.fj_model.specs.declared.event.Event.TheVariants.{Acc, Make, Out, Skip, Settle, Rel}
-use Rattle.fj_model.specs.declared.owner.Owner.TheVariants.{Sub, Work}
-use Rattle.fj_model.specs.declared.status.Status.TheVariants.{Exceptional, Cancelled}
+use Rattle.fj_rules.specs.declared.event.Event.{Event}
+use Rattle.fj_rules.specs.declared.event.Event.TheVariants.{Acc, Make, Out, Skip, Settle, Rel}
+use Rattle.fj_rules.specs.declared.owner.Owner.TheVariants.{Sub, Work}
+use Rattle.fj_rules.specs.declared.status.Status.TheVariants.{Exceptional, Cancelled}
 
 -- a task was accepted into the queue of a submitter
 abbrev pub is_submission : Event → Bool

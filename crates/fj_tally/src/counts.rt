@@ -1,7 +1,7 @@
 ghost use Rattle.std.specs.Prelude.{◌≡◌};
 ghost use Rattle.fj_tally.specs.Counting.{HasRoom, CountsMore};
 
-use fj_model::{Event, Owner, Status};
+use fj_rules::{Event, Owner, Status};
 
 /// How many events of each kind there were so far: the fields of a `Tally` that go by these names.
 #[derive(Clone, Copy, Drop)]

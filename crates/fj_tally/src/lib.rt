@@ -10,11 +10,11 @@
 mod counts;
 mod numbered;
 mod progress;
-mod queues;
+mod queue_counts;
 mod tally;
 mod tasks;
+mod worker_counts;
 mod worker_tally;
-mod workers;
 
 pub use tally::Tally;
 pub use worker_tally::WorkerTally;

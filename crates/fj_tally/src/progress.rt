@@ -1,16 +1,16 @@
-use crate::queues::Queues;
+use crate::queue_counts::QueueCounts;
 use crate::tasks::Tasks;
+use crate::worker_counts::WorkerCounts;
 use crate::worker_tally::WorkerTally;
-use crate::workers::Workers;
-use fj_model::{Event, Owner, Serial, WorkerId};
+use fj_rules::{Event, Owner, Serial, WorkerId};
 use std::alloc::{AllocError, Global};
 
 /// What the events so far leave: tasks, queues and workers.
 #[derive(Drop)]
 pub struct Progress {
     pub tasks: Tasks,
-    pub queues: Queues,
-    workers: Workers,
+    pub queues: QueueCounts,
+    workers: WorkerCounts,
 }
 
 impl Progress {
@@ -18,8 +18,8 @@ impl Progress {
     pub fn new(alloc: Global) -> Progress {
         Progress {
             tasks: Tasks::new(alloc),
-            queues: Queues::new(alloc),
-            workers: Workers::new(alloc),
+            queues: QueueCounts::new(alloc),
+            workers: WorkerCounts::new(alloc),
         }
     }
 

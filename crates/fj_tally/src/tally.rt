@@ -5,7 +5,7 @@ ghost use Rattle.fj_tally.specs.Tallies.{is_submission, is_fork, is_trigger, is_
 use crate::counts::Counts;
 use crate::progress::Progress;
 use crate::worker_tally::WorkerTally;
-use fj_model::Event;
+use fj_rules::Event;
 use std::alloc::{AllocError, Global};
 
 /// What a history, or a part of one, counts.

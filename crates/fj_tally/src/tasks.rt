@@ -1,4 +1,4 @@
-use fj_model::{Owner, Serial};
+use fj_rules::{Owner, Serial};
 use std::alloc::{AllocError, Global};
 use std::mem;
 

@@ -1,5 +1,5 @@
 use super::*;
-use fj_model::{Event, Kind, Owner, Serial, Status, SubId, WorkerId};
+use fj_rules::{Event, Kind, Owner, Serial, Status, SubId, WorkerId};
 use std::alloc::{AllocError, Global};
 use std::process::Abort;
 use std::test::Fail;

@@ -1,8 +1,8 @@
 -- What an arrival at a completer does.
 use Rattle.std.specs.Prelude.{◌-◌, Bool, true, false, not, ◌||◌, if◌then◌else◌, nat_lt}
-use Rattle.fj_model.specs.declared.place.Place.{Place}
-use Rattle.fj_model.specs.declared.place.Place.TheVariants.{Queued, Held, Open, Gone}
-use Rattle.fj_model.specs.Statuses.{is_undone}
+use Rattle.fj_rules.specs.declared.place.Place.{Place}
+use Rattle.fj_rules.specs.declared.place.Place.TheVariants.{Queued, Held, Open, Gone}
+use Rattle.fj_rules.specs.Statuses.{is_undone}
 use Rattle.fj_tree.specs.declared.record.Record.{Record}
 use Rattle.fj_tree.specs.declared.arrive.Arrived.{Arrived}
 use Rattle.fj_tree.specs.declared.arrive.Arrived.TheVariants.{Counted, Fire, Spent, Early}

@@ -1,7 +1,7 @@
 -- What the cancelling of all undone tasks does to a record.
 use Rattle.std.specs.Prelude.{if◌then◌else◌}
-use Rattle.fj_model.specs.declared.status.Status.TheVariants.{Cancelled}
-use Rattle.fj_model.specs.Statuses.{is_undone}
+use Rattle.fj_rules.specs.declared.status.Status.TheVariants.{Cancelled}
+use Rattle.fj_rules.specs.Statuses.{is_undone}
 use Rattle.fj_tree.specs.declared.record.Record.{Record}
 use Rattle.fj_tree.specs.Records.{with_status}
 

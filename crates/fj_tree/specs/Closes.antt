@@ -1,7 +1,7 @@
 -- What the closing of all open tasks does to a record.
 use Rattle.std.specs.Prelude.{if◌then◌else◌}
-use Rattle.fj_model.specs.declared.place.Place.TheVariants.{Gone}
-use Rattle.fj_model.specs.Places.{is_open}
+use Rattle.fj_rules.specs.declared.place.Place.TheVariants.{Gone}
+use Rattle.fj_rules.specs.Places.{is_open}
 use Rattle.fj_tree.specs.declared.record.Record.{Record}
 use Rattle.fj_tree.specs.Records.{with_place}
 

@@ -1,13 +1,13 @@
 -- What a make does.
 use Rattle.std.specs.Prelude.{ℕ, ◌≡◌, ◌+◌, false, if◌then◌else◌, nat_lt, nat_le, Option, Some, None, option_map, Result, MatchResult}
-use Rattle.fj_model.specs.declared.limits.TheConstants.{MAX_PENDING}
-use Rattle.fj_model.specs.declared.kind.Kind.{Kind}
-use Rattle.fj_model.specs.declared.place.Place.{Place}
-use Rattle.fj_model.specs.declared.status.Status.TheVariants.{Undone}
-use Rattle.fj_model.specs.declared.refusal.Refusal.{Refusal}
-use Rattle.fj_model.specs.declared.refusal.Refusal.TheVariants.{Unknown, NotCompleter, CountTooLarge, TooManyTasks}
-use Rattle.fj_model.specs.Lists.{or_else}
-use Rattle.fj_model.specs.Tasks.{parent_in, count_in, is_completer_kind}
+use Rattle.fj_rules.specs.declared.limits.TheConstants.{MAX_PENDING}
+use Rattle.fj_rules.specs.declared.kind.Kind.{Kind}
+use Rattle.fj_rules.specs.declared.place.Place.{Place}
+use Rattle.fj_rules.specs.declared.status.Status.TheVariants.{Undone}
+use Rattle.fj_rules.specs.declared.refusal.Refusal.{Refusal}
+use Rattle.fj_rules.specs.declared.refusal.Refusal.TheVariants.{Unknown, NotCompleter, CountTooLarge, TooManyTasks}
+use Rattle.fj_rules.specs.Lists.{or_else}
+use Rattle.fj_rules.specs.Tasks.{parent_in, count_in, is_completer_kind}
 use Rattle.fj_tree.specs.declared.record.Record.{Record}
 use Rattle.fj_tree.specs.Handles.{Handle}
 use Rattle.fj_tree.specs.Records.{Records, count, record_of, entry_of, is_named}

@@ -1,8 +1,8 @@
 -- How far a climb without hooks goes from a task, and what ends it.
 use Rattle.std.specs.Prelude.{ℕ, ◌≡◌, Bool, true, false, List, [], ◌∷◌, length, drop, ◌&&◌, ◌==◌, if◌then◌else◌, Option, Some, None, option_map, option_and_then}
 use Rattle.std.specs.List.{take_while}
-use Rattle.fj_model.specs.declared.place.Place.TheVariants.{Open}
-use Rattle.fj_model.specs.Lists.{is_in}
+use Rattle.fj_rules.specs.declared.place.Place.TheVariants.{Open}
+use Rattle.fj_rules.specs.Lists.{is_in}
 use Rattle.fj_tree.specs.declared.record.Record.{Record}
 use Rattle.fj_tree.specs.declared.arrive.Arrived.{Arrived}
 use Rattle.fj_tree.specs.declared.arrive.Arrived.TheVariants.{Counted, Fire, Spent, Early}

@@ -2,10 +2,10 @@
 use Rattle.std.specs.Prelude.{ℕ, Bool, true, false, ◌≡◌, ◌≢◌, ◌<◌, ◌≤◌, ◌+◌, ◌==◌, if◌then◌else◌, List, Option, Some, None, is_some, IsSome, IsSomeAnd, IsTrue, option_map, option_and_then, slice_index_or, slice_set}
 use Rattle.std.specs.List.{count_by, find}
 use Rattle.slab.specs.Slab.{entries_from}
-use Rattle.fj_model.specs.declared.limits.TheConstants.{MAX_PENDING}
-use Rattle.fj_model.specs.declared.status.Status.{Status}
-use Rattle.fj_model.specs.declared.place.Place.{Place}
-use Rattle.fj_model.specs.Tasks.{parent_in, is_completer_kind}
+use Rattle.fj_rules.specs.declared.limits.TheConstants.{MAX_PENDING}
+use Rattle.fj_rules.specs.declared.status.Status.{Status}
+use Rattle.fj_rules.specs.declared.place.Place.{Place}
+use Rattle.fj_rules.specs.Tasks.{parent_in, is_completer_kind}
 use Rattle.fj_tree.specs.Handles.{Handle}
 use Rattle.fj_tree.specs.declared.record.Record.{Record}
 

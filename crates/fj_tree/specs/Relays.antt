@@ -1,9 +1,9 @@
 -- How far a code is relayed from a task.
 use Rattle.std.specs.Prelude.{ℕ, Bool, false, if◌then◌else◌, List, [], ◌∷◌, Option, Some, None, option_map}
-use Rattle.fj_model.specs.declared.status.Status.{Status}
-use Rattle.fj_model.specs.Lists.{is_in}
-use Rattle.fj_model.specs.Statuses.{is_undone}
-use Rattle.fj_model.specs.Tasks.{relay_in}
+use Rattle.fj_rules.specs.declared.status.Status.{Status}
+use Rattle.fj_rules.specs.Lists.{is_in}
+use Rattle.fj_rules.specs.Statuses.{is_undone}
+use Rattle.fj_rules.specs.Tasks.{relay_in}
 use Rattle.fj_tree.specs.declared.record.Record.{Record}
 use Rattle.fj_tree.specs.Handles.{Handle}
 use Rattle.fj_tree.specs.Paths.{above, path}

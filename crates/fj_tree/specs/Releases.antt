@@ -1,9 +1,9 @@
 -- What a release does.
 use Rattle.std.specs.Prelude.{ℕ, ◌-◌, ◌==◌, ◌&&◌, Bool, true, false, if◌then◌else◌, Option, Some, None}
-use Rattle.fj_model.specs.declared.place.Place.{Place}
-use Rattle.fj_model.specs.declared.place.Place.TheVariants.{Queued, Held, Open, Gone}
-use Rattle.fj_model.specs.declared.refusal.Refusal.{Refusal}
-use Rattle.fj_model.specs.declared.refusal.Refusal.TheVariants.{Unknown, NotDone}
+use Rattle.fj_rules.specs.declared.place.Place.{Place}
+use Rattle.fj_rules.specs.declared.place.Place.TheVariants.{Queued, Held, Open, Gone}
+use Rattle.fj_rules.specs.declared.refusal.Refusal.{Refusal}
+use Rattle.fj_rules.specs.declared.refusal.Refusal.TheVariants.{Unknown, NotDone}
 use Rattle.fj_tree.specs.declared.record.Record.{Record}
 use Rattle.fj_tree.specs.Records.{is_named}
 

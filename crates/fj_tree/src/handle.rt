@@ -1,4 +1,4 @@
-use fj_model::Serial;
+use fj_rules::Serial;
 use std::marker::Model;
 
 /// A name for a record: where it is, and the number that it has there.

@@ -1,4 +1,4 @@
-use fj_model::Serial;
+use fj_rules::Serial;
 use std::alloc::{AllocError, Global};
 
 /// How many cells the table has.

@@ -4,7 +4,7 @@ ghost use Rattle.fj_tree.specs.Kept.{IsAbove, IsRising, after_release, is_curren
 
 use crate::probes::Probes;
 use crate::record::Record;
-use fj_model::{OutOfMemory, Serial};
+use fj_rules::{OutOfMemory, Serial};
 use slab::Slab;
 use std::alloc::Global;
 use std::cmp::Ordering;

@@ -4,7 +4,7 @@ ghost use Rattle.fj_tree.specs.Kept.{IsAbsent, IsAt, IsListed, IsRising};
 
 use crate::kept::Kept;
 use crate::probes::Probes;
-use fj_model::Serial;
+use fj_rules::Serial;
 use std::cmp::Ordering;
 
 /// The key that stands beside a number, and no other key does. None if the number is not in the list.

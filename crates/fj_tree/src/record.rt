@@ -1,10 +1,10 @@
 ghost use Rattle.std.specs.Prelude.{◌≡◌, ◌≤◌};
 ghost use Rattle.fj_tree.specs.Arrivals.{is_spent, arrival_at, arrived};
 ghost use Rattle.fj_tree.specs.Records.{with_place};
-ghost use Rattle.fj_model.specs.declared.place.Place.TheVariants.{Open};
+ghost use Rattle.fj_rules.specs.declared.place.Place.TheVariants.{Open};
 
 use crate::arrive::Arrived;
-use fj_model::{Kind, Place, Serial, Status};
+use fj_rules::{Kind, Place, Serial, Status};
 
 /// What is known of a task that is kept.
 #[derive(Clone, Copy, Debug)]

@@ -1,7 +1,7 @@
 ghost use Rattle.std.specs.Prelude.{◌≡◌, ◌⊎◌, ◌<◌, ◌≤◌, ◌+◌, ◌^◌, [], Some, None, IfOk, IfSome, IfNone, OnOk, OnErr, option_copied, option_and_then, option_map};
 ghost use Rattle.fj_tree.specs.Records.{count, record_at, record_of, handle_of, IsSound, IsGood, IsCompleter, ChangesOthers, HasNone, changed, with_status, with_place, with_added, made_spent};
 ghost use Rattle.fj_tree.specs.Makes.{IsRefusedBy, add_refusal, make_refusal, parent_refusal, fresh, with_child_of};
-ghost use Rattle.fj_model.specs.Tasks.{parent_in, count_in};
+ghost use Rattle.fj_rules.specs.Tasks.{parent_in, count_in};
 ghost use Rattle.fj_tree.specs.Arrivals.{arrival_at, arrived};
 ghost use Rattle.fj_tree.specs.declared.arrive.Arrived.TheVariants.{Spent, Early};
 
@@ -20,7 +20,7 @@ use crate::kept::Kept;
 use crate::lookup::search;
 use crate::probes::Probes;
 use crate::record::Record;
-use fj_model::{Kind, MAX_PENDING, OutOfMemory, Place, Refusal, Serial, Status};
+use fj_rules::{Kind, MAX_PENDING, OutOfMemory, Place, Refusal, Serial, Status};
 use slab::Slab;
 use std::alloc::Global;
 use std::marker::Model;

@@ -1,6 +1,6 @@
 -- Why a job that may fail has no value.
 use Rattle.std.specs.Prelude.{⊤, Result, Ok, Err}
-use Rattle.fj_model.specs.declared.refusal.Refusal.{Refusal}
+use Rattle.fj_rules.specs.declared.refusal.Refusal.{Refusal}
 use Rattle.fj_try.specs.declared.fault.Fault.{Fault}
 use Rattle.fj_try.specs.declared.fault.Fault.TheVariants.{Failed, Refused}
 

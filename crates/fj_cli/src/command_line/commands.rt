@@ -8,7 +8,7 @@ ghost use Rattle.fj_cli.specs.Options.{find_line, min_line, sum_line, tree_line,
 use crate::command_line::arguments::{defaulted, flag, required};
 use crate::command_line::help;
 use clap::Command;
-use fj_model::MAX_WORKERS;
+use fj_rules::MAX_WORKERS;
 use std::alloc::{AllocError, Global};
 
 /// On two lines, since one would have more than 80 columns.

@@ -5,7 +5,7 @@ ghost use Rattle.fj_cli.specs.Given.{Gives, GivesFlag, GivesFunction, GivesRange
 
 use crate::command_line::options::{FunctionOptions, RangeOptions, Workers};
 use clap::ArgMatches;
-use fj_model::MAX_WORKERS;
+use fj_rules::MAX_WORKERS;
 
 /// The number of an option, where one in this range was given.
 fn number(matches: &ArgMatches, name: &str, least: u32, most: u32) -> Option<u32>

@@ -1,6 +1,6 @@
 //! What was given for the options of a command.
 ghost use Rattle.std.specs.Prelude.{◌≤◌};
-ghost use Rattle.fj_model.specs.declared.limits.TheConstants.{MAX_WORKERS};
+ghost use Rattle.fj_rules.specs.declared.limits.TheConstants.{MAX_WORKERS};
 
 /// How many workers a job has: 1 to 32.
 #[derive(Clone, Copy)]

@@ -1,15 +1,15 @@
 //! What a running body or a hook asks of the core.
 ghost use Rattle.std.specs.Prelude.{◌≡◌, ◌↔◌, IfSome, IsSome, IsTrue, None};
-ghost use Rattle.fj_shelf.specs.Hands.{asker};
-ghost use Rattle.fj_store.specs.Fitting.{Fits};
-ghost use Rattle.fj_store.specs.Turns.{AskRight, ToldRight};
+ghost use Rattle.fj_slots.specs.Hands.{asker};
+ghost use Rattle.fj_bodies.specs.Fitting.{Fits};
+ghost use Rattle.fj_bodies.specs.Turns.{AskRight, ToldRight};
 ghost use Rattle.fj_core.specs.Acting.{Acts, ActsInBody, ActsInHook, body_with, handed_back, unserved};
 ghost use Rattle.fj_core.specs.Cores.{ChangesStore, StaysInside};
 
 use crate::pool_core::Core;
-use fj_model::{Ending, Refusal};
-use fj_shelf::Hand;
-use fj_store::{Ask, Body, Heard, Store, Told};
+use fj_bodies::{Ask, Body, Heard, Store, Told};
+use fj_rules::{Ending, Refusal};
+use fj_slots::Hand;
 
 impl<B: Body> Core<B> {
     /// What the running body or the hook asks: one step of the machine, with the moving of its body.

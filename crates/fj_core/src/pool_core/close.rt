@@ -1,12 +1,12 @@
 ghost use Rattle.std.specs.Prelude.{◌≡◌};
-ghost use Rattle.fj_model.specs.Answers.{is_quiet};
+ghost use Rattle.fj_rules.specs.Answers.{is_quiet};
 ghost use Rattle.fj_core.specs.Closes.{ShutsAt, closed_at, is_finished, stopped_at};
 ghost use Rattle.fj_core.specs.Closings.{is_over};
 
-use crate::closing::Closing;
+use crate::cutoff::Cutoff;
 use crate::due::make_due;
 use crate::pool_core::Core;
-use fj_store::Body;
+use fj_bodies::Body;
 
 impl<B: Body> Core<B> {
     /// The Shutdown is made as soon as so many submissions were taken in, at once if they were: `ForkJoinPool.shutdown`.
@@ -28,7 +28,7 @@ impl<B: Body> Core<B> {
         ensures shuts { ShutsAt self.old (stopped_at self.old.closing number) self.new }
         ensures pool { self.new.store.past.pool ≡ self.old.store.past.pool }
     {
-        self.closing = Closing {
+        self.closing = Cutoff {
             stopping: true,
             ..self.closing.at(number)
         };
@@ -36,9 +36,8 @@ impl<B: Body> Core<B> {
     }
 
     /// Whether all queues, stacks and hands of the machine are empty: `ForkJoinPool.isQuiescent`. Parcels in the lanes are not looked at.
-    pub fn is_quiescent(&mut self) -> bool
-        ensures quiet { result ≡ is_quiet self.old.store.past.pool.limits self.old.store.past.events }
-        ensures same { self.new ≡ self.old }
+    pub fn is_quiescent(&self) -> bool
+        ensures { result ≡ is_quiet self.now.store.past.pool.limits self.now.store.past.events }
     {
         self.store.is_quiescent()
     }
@@ -52,9 +51,8 @@ impl<B: Body> Core<B> {
 
     /// Whether it is shut down or stopped, exactly as many submissions were taken in as the closing number says, and it is quiescent:
     /// `ForkJoinPool.isTerminated`.
-    pub fn is_terminated(&mut self) -> bool
-        ensures terminated { result ≡ is_finished self.old }
-        ensures same { self.new ≡ self.old }
+    pub fn is_terminated(&self) -> bool
+        ensures { result ≡ is_finished self.now }
     {
         self.closing.number == Some(self.bookings.len() as u64)
             && self.store.is_shut()

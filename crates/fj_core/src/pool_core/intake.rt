@@ -1,18 +1,18 @@
 ghost use Rattle.std.specs.Prelude.{◌≡◌, ◌<◌, ◌≤◌, ◌∷◌, [], None, Some};
-ghost use Rattle.fj_model.specs.declared.event.Event.TheVariants.{Acc};
-ghost use Rattle.fj_model.specs.declared.limits.TheConstants.{MAX_PENDING};
-ghost use Rattle.fj_model.specs.declared.owner.Owner.TheVariants.{Sub};
-ghost use Rattle.fj_model.specs.Tasks.{count_in, submitted_kind};
-ghost use Rattle.fj_model.specs.Runs.{grown};
+ghost use Rattle.fj_rules.specs.declared.event.Event.TheVariants.{Acc};
+ghost use Rattle.fj_rules.specs.declared.limits.TheConstants.{MAX_PENDING};
+ghost use Rattle.fj_rules.specs.declared.owner.Owner.TheVariants.{Sub};
+ghost use Rattle.fj_rules.specs.Tasks.{count_in, submitted_kind};
+ghost use Rattle.fj_rules.specs.Runs.{grown};
 ghost use Rattle.fj_core.specs.Intakes.{Intakes, Readies, Submits, kind_rooted, refused_now};
 
 use crate::booking::Booking;
 use crate::due::make_due;
 use crate::pool_core::Core;
 use crate::taken_in::Intake;
+use fj_bodies::{Body, Store};
 use fj_lane::Parcel;
-use fj_model::{Refusal, Serial, SubId, SubmittedKind};
-use fj_store::{Body, Store};
+use fj_rules::{Refusal, Serial, SubId, SubmittedKind};
 
 impl<B: Body> Core<B> {
     /// Takes the next parcel of a submitter in, and submits its body as that says. Precondition: there is such a submitter.

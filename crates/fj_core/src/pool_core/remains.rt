@@ -1,16 +1,16 @@
 ghost use Rattle.std.specs.Prelude.{◌≡◌, ◌++◌};
-ghost use Rattle.fj_model.specs.Epochs.{IsPast};
-ghost use Rattle.fj_shelf.specs.Shelves.{entries};
+ghost use Rattle.fj_rules.specs.Epochs.{IsPast};
+ghost use Rattle.fj_slots.specs.Shelves.{entries};
 ghost use Rattle.fj_core.specs.Booked.{AreBooked};
 ghost use Rattle.fj_core.specs.Cores.{AreParts};
 
 use crate::archive::Archive;
 use crate::bookings::Bookings;
 use crate::pool_core::Core;
+use fj_bodies::{Body, KeptResult};
 use fj_lane::Drain;
 use fj_machine::Machine;
-use fj_shelf::Shelf;
-use fj_store::{Body, Kept};
+use fj_slots::SerialMap;
 
 /// What is left of a core that is taken apart. Java has no counterpart.
 #[derive(Drop)]
@@ -18,7 +18,7 @@ pub struct Remains<B: Body> {
     /// The machine, with what happened since the last seal.
     pub machine: Machine,
     /// The results that were not taken, each under its task's number.
-    pub results: Shelf<Kept<B>>,
+    pub results: SerialMap<KeptResult<B>>,
     /// The drain of each submitter.
     pub drains: Vec<Drain<B>>,
     /// What was taken in.

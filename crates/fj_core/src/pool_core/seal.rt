@@ -1,12 +1,12 @@
 ghost use Rattle.std.specs.Prelude.{◌≡◌, [], ◌++◌, true, false};
-ghost use Rattle.fj_model.specs.Answers.{is_quiet};
+ghost use Rattle.fj_rules.specs.Answers.{is_quiet};
 ghost use Rattle.fj_core.specs.Closings.{is_over};
 ghost use Rattle.fj_core.specs.Cores.{AreParts};
 ghost use Rattle.fj_core.specs.Sealing.{SealsCore, holds_back, may_be_sealed};
 
 use crate::pool_core::Core;
-use fj_model::{Refusal, Sealed};
-use fj_store::Body;
+use fj_bodies::Body;
+use fj_rules::{Refusal, Sealed};
 use std::alloc::Global;
 
 impl<B: Body> Core<B> {
@@ -52,21 +52,19 @@ impl<B: Body> Core<B> {
 
     /// Whether a worker that looks for work seals first: the machine is quiescent and open, and the history since the last seal is longer
     /// than half its limit.
-    pub fn is_seal_due(&mut self) -> bool
-        ensures due { result ≡ may_be_sealed self.old.store.past }
-        ensures same { self.new ≡ self.old }
+    pub fn is_seal_due(&self) -> bool
+        ensures { result ≡ may_be_sealed self.now.store.past }
     {
         self.store.is_half_full() && !self.store.is_shut() && self.store.is_quiescent()
     }
 
     /// Whether nothing is to be taken in before the next seal, so that what has begun finds room to end: the history since the last seal is
     /// longer than half its limit, and the machine is open and not quiescent. Before a Stop everything is taken in.
-    pub fn holds_back(&mut self) -> bool
-        ensures holds { result ≡ holds_back self.old }
-        ensures quiescent { is_quiet self.old.store.past.pool.limits self.old.store.past.events ≡ true → result ≡ false }
-        ensures shut { is_over self.old.store.past.events ≡ true → result ≡ false }
-        ensures stopping { self.old.closing.stopping ≡ true → result ≡ false }
-        ensures same { self.new ≡ self.old }
+    pub fn holds_back(&self) -> bool
+        ensures holds { result ≡ holds_back self.now }
+        ensures quiescent { is_quiet self.now.store.past.pool.limits self.now.store.past.events ≡ true → result ≡ false }
+        ensures shut { is_over self.now.store.past.events ≡ true → result ≡ false }
+        ensures stopping { self.now.closing.stopping ≡ true → result ≡ false }
     {
         self.store.is_half_full()
             && !self.store.is_shut()

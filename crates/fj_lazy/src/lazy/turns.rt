@@ -1,17 +1,17 @@
 //! The turns of a lazy body.
 ghost use Rattle.std.specs.Prelude.{◌≡◌, ℕ, ◌+◌, ◌<◌, ◌++◌, ◌∷◌, [], Option, None, IfSome, true, vec_len, vec_capacity};
 ghost use Rattle.std.specs.VecDeque.{deque_len, deque_capacity};
-ghost use Rattle.fj_store.specs.Turns.{HeardRight, AskRight, Nearer};
-ghost use Rattle.fj_lazy.specs.Parts.{around, beside, forked_in, outside, whole};
+ghost use Rattle.fj_bodies.specs.Turns.{HeardRight, AskRight, Nearer};
+ghost use Rattle.fj_lazy.specs.PartsAside.{around, beside, forked_in, outside, whole};
 ghost use Rattle.fj_lazy.specs.Splits.{turns_left, turns_of};
 ghost use Rattle.fj_lazy.specs.Asks.{AsksAsJob, HoldsNothing, JoinsOwn, forked_by};
 ghost use Rattle.fj_lazy.specs.Failures.{AsksFailing, code_heard, is_want_of_room};
 
 use super::Lazy;
-use crate::part::{Outer, Stage};
+use crate::part::{LazyStage, Outer};
+use fj_bodies::{Ask, Body, Heard};
 use fj_jobs::Divide;
-use fj_model::{Refusal, Serial};
-use fj_store::{Ask, Body, Heard};
+use fj_rules::{Refusal, Serial};
 use std::mem;
 
 /// Whether there was no room for a task: then its job may be computed in place.
@@ -48,7 +48,7 @@ fn half_of<J: Divide>(body: Lazy<'_, J>, refusal: Refusal, key: J::Key) -> Optio
         span: _,
         forks: _,
     } = body;
-    let Stage::Going(half) = stage else {
+    let LazyStage::Going(half) = stage else {
         return None;
     };
     if half.key() != key {
@@ -104,7 +104,7 @@ impl<'s, J: Divide> Lazy<'s, J> {
         ensures joins { JoinsOwn (forked_in (self.old.parts.outer.items ++ forked ∷ [])) (forked_in self.new.parts.outer.items) result }
         ensures free { HoldsNothing self.new.parts.inner.items result }
     {
-        self.stage = Stage::Over;
+        self.stage = LazyStage::Over;
         self.parts.outer.push_reserved(forked);
         self.go_on(leaf)
     }
@@ -135,7 +135,7 @@ impl<'s, J: Divide> Lazy<'s, J> {
         ensures key { self.new.key ≡ self.old.key }
         ensures right { AskRight (λ k o. o ≡ J.value k) self.new.key result }
         ensures nearer { Nearer (turns_of self.new.forks self.new.parts.outer.items self.new.stage) (turns_left self.old.forks self.old.parts.outer.items) result }
-        ensures failing { AsksFailing J.Key.eq (Stage.Going job) heard.entry self.new.stage result }
+        ensures failing { AsksFailing J.Key.eq (LazyStage.Going job) heard.entry self.new.stage result }
         ensures asks { AsksAsJob result }
         ensures joins { JoinsOwn (forked_in self.old.parts.outer.items) (forked_in self.new.parts.outer.items) result }
         ensures free { HoldsNothing self.new.parts.inner.items result }
@@ -161,9 +161,9 @@ impl<'s, J: Divide> Lazy<'s, J> {
         ensures key { self.new.key ≡ self.old.key }
         ensures right { AskRight (λ k o. o ≡ J.value k) self.new.key result }
         ensures nearer { Nearer (turns_of self.new.forks self.new.parts.outer.items self.new.stage) (turns_left self.old.forks self.old.parts.outer.items + 1) result }
-        ensures failing { AsksFailing J.Key.eq (Stage.Forking key leaf) heard.entry self.new.stage result }
+        ensures failing { AsksFailing J.Key.eq (LazyStage.Forking key leaf) heard.entry self.new.stage result }
         ensures asks { AsksAsJob result }
-        ensures joins { JoinsOwn (forked_by self.old.parts.outer.items (Stage.Forking key leaf) heard.entry) (forked_in self.new.parts.outer.items) result }
+        ensures joins { JoinsOwn (forked_by self.old.parts.outer.items (LazyStage.Forking key leaf) heard.entry) (forked_in self.new.parts.outer.items) result }
         ensures free { HoldsNothing self.new.parts.inner.items result }
     {
         match heard {
@@ -189,9 +189,9 @@ impl<'s, J: Divide> Lazy<'s, J> {
         ensures key { self.new.key ≡ self.old.key }
         ensures right { AskRight (λ k o. o ≡ J.value k) self.new.key result }
         ensures nearer { Nearer (turns_of self.new.forks self.new.parts.outer.items self.new.stage) (turns_left self.old.forks self.old.parts.outer.items) result }
-        ensures failing { AsksFailing J.Key.eq (Stage.Waiting task key left) heard.entry self.new.stage result }
+        ensures failing { AsksFailing J.Key.eq (LazyStage.Waiting task key left) heard.entry self.new.stage result }
         ensures asks { AsksAsJob result }
-        ensures joins { JoinsOwn (forked_by self.old.parts.outer.items (Stage.Waiting task key left) heard.entry) (forked_in self.new.parts.outer.items) result }
+        ensures joins { JoinsOwn (forked_by self.old.parts.outer.items (LazyStage.Waiting task key left) heard.entry) (forked_in self.new.parts.outer.items) result }
         ensures free { HoldsNothing self.new.parts.inner.items result }
     {
         match heard {
@@ -202,7 +202,7 @@ impl<'s, J: Divide> Lazy<'s, J> {
                 self.go_up(J::combine(left, right))
             }
             other => {
-                self.stage = Stage::Leaving(failure_code(&other));
+                self.stage = LazyStage::Leaving(failure_code(&other));
                 Ask::Release(task)
             }
         }
@@ -253,13 +253,13 @@ impl<'s, J: Divide> Body for Lazy<'s, J> {
         ensures joins { JoinsOwn (forked_by self.old.parts.outer.items self.old.stage heard.entry) (forked_in self.new.parts.outer.items) result }
         ensures free { HoldsNothing self.new.parts.inner.items result }
     {
-        match mem::replace(&mut self.stage, Stage::Over) {
-            Stage::Going(job) => self.begin(job, heard),
-            Stage::Forking(key, leaf) => self.after_fork(key, leaf, heard),
-            Stage::Waiting(task, key, left) => self.after_join(task, key, left, heard),
-            Stage::Skipping(left) => self.go_up(left),
-            Stage::Leaving(code) => self.leave(code),
-            Stage::Over => self.leave(failure_code(&heard)),
+        match mem::replace(&mut self.stage, LazyStage::Over) {
+            LazyStage::Going(job) => self.begin(job, heard),
+            LazyStage::Forking(key, leaf) => self.after_fork(key, leaf, heard),
+            LazyStage::Waiting(task, key, left) => self.after_join(task, key, left, heard),
+            LazyStage::Skipping(left) => self.go_up(left),
+            LazyStage::Leaving(code) => self.leave(code),
+            LazyStage::Over => self.leave(failure_code(&heard)),
         }
     }
 }

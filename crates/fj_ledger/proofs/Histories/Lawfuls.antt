@@ -1,7 +1,7 @@
 -- What holds of the history of each ledger.
 use Rattle.std.proofs.Common.{ℕ, ◌+◌, List, length, Option}
-use Rattle.fj_model.specs.declared.event.Event.{Event}
-use Rattle.fj_model.specs.Bounds.{Pool}
+use Rattle.fj_rules.specs.declared.event.Event.{Event}
+use Rattle.fj_rules.specs.Bounds.{Pool}
 use Rattle.fj_queues.specs.Queues.{Lists as Waiting}
 use Rattle.fj_tree.specs.Records.{Records}
 use Rattle.fj_ledger.specs.Stacks.{Lists}

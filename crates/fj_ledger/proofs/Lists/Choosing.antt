@@ -2,20 +2,20 @@
 use Rattle.std.proofs.Common.{zero, suc, ℕ, ◌≡◌, ◌+◌, ◌-◌, ◌%◌, ◌<◌, cond, List, [], ◌∷◌, length, map, get_or, Option, Some, None, refl, ap, sym, ◌∙◌, arith}
 use Rattle.std.specs.Prelude.{MatchOption, slice_get}
 use Rattle.std.specs.List.{range_with_len}
-use Rattle.fj_model.specs.declared.event.Event.{Event}
-use Rattle.fj_model.specs.declared.mode.Mode.{Mode}
-use Rattle.fj_model.specs.declared.mode.Mode.TheVariants.{Async, Joining}
-use Rattle.fj_model.specs.declared.owner.Owner.{Owner}
-use Rattle.fj_model.specs.declared.owner.Owner.TheVariants.{Work}
-use Rattle.fj_model.specs.Bounds.{Bounds, Pool, queues_in, owner_at}
-use Rattle.fj_model.specs.Lists.{is_empty, or_else, first_of}
-use Rattle.fj_model.specs.Queues.{queue}
-use Rattle.fj_model.specs.Choices.{choice, own_choice, first_queued, scan_order}
-use Rattle.fj_model.specs.Runs.{Past}
-use Rattle.fj_model.proofs.Lists.Owners.{work_owner}
+use Rattle.fj_rules.specs.declared.event.Event.{Event}
+use Rattle.fj_rules.specs.declared.mode.Mode.{Mode}
+use Rattle.fj_rules.specs.declared.mode.Mode.TheVariants.{Async, Joining}
+use Rattle.fj_rules.specs.declared.owner.Owner.{Owner}
+use Rattle.fj_rules.specs.declared.owner.Owner.TheVariants.{Work}
+use Rattle.fj_rules.specs.Bounds.{Bounds, Pool, queues_in, owner_at}
+use Rattle.fj_rules.specs.Lists.{is_empty, or_else, first_of}
+use Rattle.fj_rules.specs.Queues.{queue}
+use Rattle.fj_rules.specs.Choices.{choice, own_choice, first_queued, scan_order}
+use Rattle.fj_rules.specs.Runs.{Past}
+use Rattle.fj_rules.proofs.Lists.Owners.{work_owner}
 use Rattle.fj_queues.specs.Queues.{first_filled, places_from}
-use Rattle.fj_ledger.specs.declared.source.Source.{Source}
-use Rattle.fj_ledger.specs.declared.source.Source.TheVariants.{Oldest, Newest}
+use Rattle.fj_ledger.specs.declared.queue_end.QueueEnd.{QueueEnd}
+use Rattle.fj_ledger.specs.declared.queue_end.QueueEnd.TheVariants.{Oldest, Newest}
 use Rattle.fj_ledger.specs.Sources.{IsChosenFrom, end_of}
 
 -- a place within a list has a member
@@ -75,7 +75,7 @@ unfolding choice
 scan_choice pool h w r none = rw (nothing (queue h (Work w)) none, none_own pool.mode) refl
 
 -- where the own task stands, by the mode
-abbrev pub own_source : Mode → ℕ → Source
+abbrev pub own_source : Mode → ℕ → QueueEnd
 own_source Async q = Oldest q
 own_source Joining q = Newest q
 
@@ -114,6 +114,6 @@ pub scanned_is_chosen : (past : Past) (w r q : ℕ) → length (queue past.event
 scanned_is_chosen past w r q none from = record { within = from.0; chosen = scan_choice past.pool past.events w r none ∙ from.1; filled = from.2 }
 
 -- of a filled queue there is a task at each end
-pub end_there : (source : Source) (ts : List ℕ) → 0 < length ts → (t : ℕ) × (end_of source ts ≡ Some t)
+pub end_there : (source : QueueEnd) (ts : List ℕ) → 0 < length ts → (t : ℕ) × (end_of source ts ≡ Some t)
 end_there (Oldest q) ts some = some_get ts 0 some
 end_there (Newest q) ts some = some_get ts (length ts - 1) (omega arith)

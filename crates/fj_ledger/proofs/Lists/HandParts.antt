@@ -8,29 +8,29 @@ use Rattle.std.proofs.lemmas.Bool.{cases_eq, cases_lt, eq-eqb, ne_eqb, or_right,
 use Rattle.std.proofs.lemmas.Option.{same_Some, none-some}
 use Rattle.std.proofs.lemmas.List.{length-map, map-append, get_or-set_same, get_or-set_other, get_or_past}
 use Rattle.std.proofs.lemmas.List.Folds.{list_any-append}
-use Rattle.fj_model.specs.declared.event.Event.{Event}
-use Rattle.fj_model.specs.declared.event.Event.TheVariants.{Fire, Hooked}
-use Rattle.fj_model.specs.declared.event.How.{How}
-use Rattle.fj_model.specs.declared.event.How.TheVariants.{Zero, Complete}
-use Rattle.fj_model.specs.declared.status.Status.{Status}
-use Rattle.fj_model.specs.Bounds.{Bounds, Pool}
-use Rattle.fj_model.specs.Lists.{is_in, times_in}
-use Rattle.fj_model.specs.Tasks.{tasks, is_kept, parent}
-use Rattle.fj_model.specs.Hooks.{Hook, hooks, hand, receiver, completer_in}
-use Rattle.fj_model.specs.Completers.{fires_or_passes}
-use Rattle.fj_model.specs.Allowed.{Allowed, AllowedFrom, is_fired_by_complete, fires_by_complete}
-use Rattle.fj_model.proofs.Events.Growth.{hooks_more, or_false}
-use Rattle.fj_model.proofs.Events.Hands.{is_of_hook, in_hands_same, hand_same}
-use Rattle.fj_model.proofs.Events.Lawful.{known_more, not_new}
-use Rattle.fj_model.proofs.Lists.Members.{times_in_cons, times_in_append, times_in_none, is_in_append}
-use Rattle.fj_model.proofs.Places.OnePlace.{never}
-use Rattle.fj_model.proofs.Completers.KeptParents.{kept_before}
-use Rattle.fj_model.proofs.Events.Spending.{settled_by, status_kept}
+use Rattle.fj_rules.specs.declared.event.Event.{Event}
+use Rattle.fj_rules.specs.declared.event.Event.TheVariants.{Fire, Hooked}
+use Rattle.fj_rules.specs.declared.event.How.{How}
+use Rattle.fj_rules.specs.declared.event.How.TheVariants.{Zero, Complete}
+use Rattle.fj_rules.specs.declared.status.Status.{Status}
+use Rattle.fj_rules.specs.Bounds.{Bounds, Pool}
+use Rattle.fj_rules.specs.Lists.{is_in, times_in}
+use Rattle.fj_rules.specs.Tasks.{tasks, is_kept, parent}
+use Rattle.fj_rules.specs.Hooks.{Hook, hooks, hand, receiver, completer_in}
+use Rattle.fj_rules.specs.Completers.{fires_or_passes}
+use Rattle.fj_rules.specs.Allowed.{Allowed, AllowedFrom, is_fired_by_complete, fires_by_complete}
+use Rattle.fj_rules.proofs.Events.Growth.{hooks_more, or_false}
+use Rattle.fj_rules.proofs.Events.Hands.{is_of_hook, in_hands_same, hand_same}
+use Rattle.fj_rules.proofs.Events.Lawful.{known_more, not_new}
+use Rattle.fj_rules.proofs.Lists.Members.{times_in_cons, times_in_append, times_in_none, is_in_append}
+use Rattle.fj_rules.proofs.Places.OnePlace.{never}
+use Rattle.fj_rules.proofs.Completers.KeptParents.{kept_before}
+use Rattle.fj_rules.proofs.Events.Spending.{settled_by, status_kept}
 use Rattle.fj_ledger.specs.InHands.{InHand}
 use Rattle.fj_ledger.specs.Holds.{KeepsHands, TellsHook, TellsReleased, hook_completers, is_complete}
 use Rattle.fj_ledger.proofs.Lists.HookLists.{completers, workers_of, but, hand_after, hand_before, hand_listed, no_worker, hand_emptied, hand_stays, fewer_times, fewer_listed}
 use Rattle.fj_ledger.proofs.Recorded.Telling.{is_of_one, no_stop, kept_more}
-use Rattle.fj_model.proofs.Events.KindsKept.{parent_still, kept_known}
+use Rattle.fj_rules.proofs.Events.KindsKept.{parent_still, kept_known}
 
 any_more : (test : Event → Bool) (h : List Event) (e : Event) → list_any test h ≡ true → list_any test (h ++ e ∷ []) ≡ true
 any_more test h e is = list_any-append test h (e ∷ []) ∙ rw is refl

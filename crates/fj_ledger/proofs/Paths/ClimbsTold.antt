@@ -5,17 +5,17 @@ use Rattle.std.specs.List.{take_while}
 use Rattle.std.proofs.lemmas.Bool.{eq-eqb, cases_eq}
 use Rattle.std.proofs.lemmas.List.Sums.{take_while-cons}
 use Rattle.std.proofs.lemmas.Option.{same_Some}
-use Rattle.fj_model.specs.declared.event.Event.{Event}
-use Rattle.fj_model.specs.declared.event.Event.TheVariants.{End}
-use Rattle.fj_model.specs.declared.place.Place.TheVariants.{Open}
-use Rattle.fj_model.specs.Bounds.{Bounds, Pool}
-use Rattle.fj_model.specs.Tasks.{is_completer, parent}
-use Rattle.fj_model.specs.Climbs.{Arrival, arrival, does_fire, path_up, path, passed}
-use Rattle.fj_model.specs.Climbs as climb
-use Rattle.fj_model.specs.Answers.{root_of}
-use Rattle.fj_model.specs.Allowed.{Allowed, AllowedFrom}
-use Rattle.fj_model.proofs.Completers.Arrivals.{arrival_end}
-use Rattle.fj_model.proofs.Events.KindsKept.{path_same}
+use Rattle.fj_rules.specs.declared.event.Event.{Event}
+use Rattle.fj_rules.specs.declared.event.Event.TheVariants.{End}
+use Rattle.fj_rules.specs.declared.place.Place.TheVariants.{Open}
+use Rattle.fj_rules.specs.Bounds.{Bounds, Pool}
+use Rattle.fj_rules.specs.Tasks.{is_completer, parent}
+use Rattle.fj_rules.specs.Climbs.{Arrival, arrival, does_fire, path_up, path, passed}
+use Rattle.fj_rules.specs.Climbs as climb
+use Rattle.fj_rules.specs.Answers.{root_of}
+use Rattle.fj_rules.specs.Allowed.{Allowed, AllowedFrom}
+use Rattle.fj_rules.proofs.Completers.Arrivals.{arrival_end}
+use Rattle.fj_rules.proofs.Events.KindsKept.{path_same}
 use Rattle.fj_tree.specs.declared.record.Record.{Record}
 use Rattle.fj_tree.specs.declared.arrive.Arrived.{Arrived}
 use Rattle.fj_tree.specs.declared.arrive.Arrived.TheVariants as arrive

@@ -1,21 +1,21 @@
 -- An arrival at a completer whose body has just ended.
 use Rattle.std.proofs.Common.{ℕ, ◌≡◌, Bool, true, false, not, List, [], ◌∷◌, ◌++◌, refl, ◌∙◌}
 use Rattle.std.specs.Prelude.{if◌then◌else◌, nat_lt}
-use Rattle.fj_model.specs.declared.event.Event.{Event}
-use Rattle.fj_model.specs.declared.event.Event.TheVariants as event
-use Rattle.fj_model.specs.declared.place.Place.TheVariants.{Open, Gone}
-use Rattle.fj_model.specs.Bounds.{Pool}
-use Rattle.fj_model.specs.Tasks.{is_completer}
-use Rattle.fj_model.specs.Completers.{is_spent, pending}
-use Rattle.fj_model.specs.Places.{is_open}
-use Rattle.fj_model.specs.Climbs.{Spent, Counted, Early, Fires, arrival}
-use Rattle.fj_model.specs.Allowed.{Allowed, AllowedFrom}
-use Rattle.fj_model.proofs.Completers.ArrivalPlaces.{arrival_at}
-use Rattle.fj_model.proofs.Completers.Arrivals.{pending_untouched}
-use Rattle.fj_model.proofs.Events.KindsKept.{completer_same}
-use Rattle.fj_model.proofs.Events.Lawful.{allowed_more}
-use Rattle.fj_model.proofs.Events.Opening.{ended_place}
-use Rattle.fj_model.proofs.Events.Spending.{moved_spent}
+use Rattle.fj_rules.specs.declared.event.Event.{Event}
+use Rattle.fj_rules.specs.declared.event.Event.TheVariants as event
+use Rattle.fj_rules.specs.declared.place.Place.TheVariants.{Open, Gone}
+use Rattle.fj_rules.specs.Bounds.{Pool}
+use Rattle.fj_rules.specs.Tasks.{is_completer}
+use Rattle.fj_rules.specs.Completers.{is_spent, pending}
+use Rattle.fj_rules.specs.Places.{is_open}
+use Rattle.fj_rules.specs.Climbs.{Spent, Counted, Early, Fires, arrival}
+use Rattle.fj_rules.specs.Allowed.{Allowed, AllowedFrom}
+use Rattle.fj_rules.proofs.Completers.ArrivalPlaces.{arrival_at}
+use Rattle.fj_rules.proofs.Completers.Arrivals.{pending_untouched}
+use Rattle.fj_rules.proofs.Events.KindsKept.{completer_same}
+use Rattle.fj_rules.proofs.Events.Lawful.{allowed_more}
+use Rattle.fj_rules.proofs.Events.Opening.{ended_place}
+use Rattle.fj_rules.proofs.Events.Spending.{moved_spent}
 
 -- it is not too early
 pub ended_arrival : (pool : Pool) (h : List Event) (w t : ℕ) → AllowedFrom pool [] h → Allowed pool h (event.End t w) → is_completer h t ≡ true

@@ -2,14 +2,14 @@
 use Rattle.std.proofs.Common.{ℕ, zero, suc, ◌≡◌, ◌-◌, true, List, [], ◌∷◌, length, map, Option, Some, None, refl, ap, sym, ◌∙◌, arith}
 use Rattle.std.specs.Prelude.{IsSome, slice_get, option_and_then}
 use Rattle.std.proofs.lemmas.Bool.{eq-eqb}
-use Rattle.fj_model.specs.declared.event.Event.{Event}
-use Rattle.fj_model.specs.Bounds.{Bounds, Pool}
-use Rattle.fj_model.specs.Lists.{last_of}
-use Rattle.fj_model.specs.Tasks.{is_kept, kind, parent}
-use Rattle.fj_model.specs.Climbs.{path_up, path}
-use Rattle.fj_model.specs.Answers.{root_of}
-use Rattle.fj_model.specs.Allowed.{AllowedFrom}
-use Rattle.fj_model.proofs.Completers.KeptParents.{parent_kept}
+use Rattle.fj_rules.specs.declared.event.Event.{Event}
+use Rattle.fj_rules.specs.Bounds.{Bounds, Pool}
+use Rattle.fj_rules.specs.Lists.{last_of}
+use Rattle.fj_rules.specs.Tasks.{is_kept, kind, parent}
+use Rattle.fj_rules.specs.Climbs.{path_up, path}
+use Rattle.fj_rules.specs.Answers.{root_of}
+use Rattle.fj_rules.specs.Allowed.{AllowedFrom}
+use Rattle.fj_rules.proofs.Completers.KeptParents.{parent_kept}
 use Rattle.fj_tree.specs.Handles.{Handle}
 use Rattle.fj_tree.specs.Records.{Records, IsGood, record_of, handle_of}
 use Rattle.fj_tree.specs.Paths.{above, and_on, last_from}

@@ -2,18 +2,18 @@
 use Rattle.std.proofs.Common.{ℕ, ◌≡◌, Bool, true, false, not, List, [], Option, Some, None, refl, sym, ◌∙◌}
 use Rattle.std.specs.Prelude.{◌||◌, ◌&&◌, nat_lt, if◌then◌else◌, is_some}
 use Rattle.std.proofs.lemmas.Bool.{not-true, not-false}
-use Rattle.fj_model.specs.declared.event.Event.{Event}
-use Rattle.fj_model.specs.declared.owner.Owner.{Owner}
-use Rattle.fj_model.specs.Lists.{is_in}
-use Rattle.fj_model.specs.Bounds.{Pool}
-use Rattle.fj_model.specs.Allowed.{AllowedFrom}
-use Rattle.fj_model.specs.Tasks.{tasks, released, is_kept, is_completer}
-use Rattle.fj_model.specs.Completers.{is_spent, pending}
-use Rattle.fj_model.specs.Places.{place, place_of, queued_in, held_by, opened}
-use Rattle.fj_model.specs.Climbs.{Arrival, Spent, Counted, Early, Fires, arrival}
-use Rattle.fj_model.proofs.Places.KeptPlaces.{released_arrival}
-use Rattle.fj_model.proofs.Events.KindsKept.{completer_known}
-use Rattle.fj_model.proofs.Places.OnePlace.{never}
+use Rattle.fj_rules.specs.declared.event.Event.{Event}
+use Rattle.fj_rules.specs.declared.owner.Owner.{Owner}
+use Rattle.fj_rules.specs.Lists.{is_in}
+use Rattle.fj_rules.specs.Bounds.{Pool}
+use Rattle.fj_rules.specs.Allowed.{AllowedFrom}
+use Rattle.fj_rules.specs.Tasks.{tasks, released, is_kept, is_completer}
+use Rattle.fj_rules.specs.Completers.{is_spent, pending}
+use Rattle.fj_rules.specs.Places.{place, place_of, queued_in, held_by, opened}
+use Rattle.fj_rules.specs.Climbs.{Arrival, Spent, Counted, Early, Fires, arrival}
+use Rattle.fj_rules.proofs.Places.KeptPlaces.{released_arrival}
+use Rattle.fj_rules.proofs.Events.KindsKept.{completer_known}
+use Rattle.fj_rules.proofs.Places.OnePlace.{never}
 use Rattle.fj_tree.specs.declared.record.Record.{Record}
 use Rattle.fj_tree.specs.declared.arrive.Arrived.TheVariants as arrive
 use Rattle.fj_tree.specs.Arrivals.{arrival_at, is_queued_or_held}

@@ -2,12 +2,12 @@
 use Rattle.std.proofs.Common.{ℕ, zero, suc, ◌≡◌, ◌≤◌, Bool, true, false, not, List, Option, Some, None, refl, ap, sym, ◌∙◌, arith}
 use Rattle.std.specs.Prelude.{◌==◌, nat_lt}
 use Rattle.std.proofs.lemmas.Bool.{eq-eqb, eqb-true, lt-ltb, ne_eqb, true≢false}
-use Rattle.fj_model.specs.declared.event.Event.{Event}
-use Rattle.fj_model.specs.Bounds.{Bounds}
-use Rattle.fj_model.specs.Tasks.{parent, parent_in}
-use Rattle.fj_model.specs.Allowed.{has_kept_child}
-use Rattle.fj_model.proofs.Completers.KeptParents.{child_found, child_there}
-use Rattle.fj_model.proofs.Places.OnePlace.{never}
+use Rattle.fj_rules.specs.declared.event.Event.{Event}
+use Rattle.fj_rules.specs.Bounds.{Bounds}
+use Rattle.fj_rules.specs.Tasks.{parent, parent_in}
+use Rattle.fj_rules.specs.Allowed.{has_kept_child}
+use Rattle.fj_rules.proofs.Completers.KeptParents.{child_found, child_there}
+use Rattle.fj_rules.proofs.Places.OnePlace.{never}
 use Rattle.fj_tree.specs.declared.record.Record.{Record}
 use Rattle.fj_tree.specs.Records.{Records, IsSound, record_at, is_named, names_parent, children_of}
 use Rattle.fj_tree.proofs.Records.Counts.{count_none}

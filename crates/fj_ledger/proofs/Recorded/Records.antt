@@ -4,23 +4,23 @@ use Rattle.std.specs.Prelude.{IsSome, option_map}
 use Rattle.std.specs.List.{cons_option}
 use Rattle.std.proofs.lemmas.Bool.{cases_eq}
 use Rattle.std.proofs.lemmas.Option.{same_Some, none-some}
-use Rattle.fj_model.specs.declared.event.Event.{Event}
-use Rattle.fj_model.specs.declared.kind.Kind.{Kind}
-use Rattle.fj_model.specs.declared.place.Place.{Place}
-use Rattle.fj_model.specs.Bounds.{Pool}
-use Rattle.fj_model.specs.Tasks.{accepted_by, is_kept, parent_in}
-use Rattle.fj_model.specs.Allowed.{Allowed, AllowedFrom}
-use Rattle.fj_model.proofs.Events.Growth.{accepted_more}
-use Rattle.fj_model.proofs.Completers.KeptParents.{kept_before}
-use Rattle.fj_model.proofs.Events.Releasing.{kept_same, live_same, accepting_live}
+use Rattle.fj_rules.specs.declared.event.Event.{Event}
+use Rattle.fj_rules.specs.declared.kind.Kind.{Kind}
+use Rattle.fj_rules.specs.declared.place.Place.{Place}
+use Rattle.fj_rules.specs.Bounds.{Pool}
+use Rattle.fj_rules.specs.Tasks.{accepted_by, is_kept, parent_in}
+use Rattle.fj_rules.specs.Allowed.{Allowed, AllowedFrom}
+use Rattle.fj_rules.proofs.Events.Growth.{accepted_more}
+use Rattle.fj_rules.proofs.Completers.KeptParents.{kept_before}
+use Rattle.fj_rules.proofs.Events.Releasing.{kept_same, live_same, accepting_live}
 use Rattle.fj_tree.specs.declared.record.Record.{Record}
 use Rattle.fj_tree.specs.Records.{Records, is_named, IsSound, record_at, handle_of, count}
 use Rattle.fj_tree.specs.Makes.{fresh, with_child, with_child_of}
 use Rattle.fj_tree.proofs.Index.Numbers.{there, at_found, IsWritten}
 use Rattle.fj_ledger.specs.Holds.{Tells, KeepsTree}
 use Rattle.fj_ledger.proofs.Recorded.Telling.{touched, is_of_one, no_release, tells_same}
-use Rattle.fj_model.proofs.Events.KindsKept.{accepted_same, kept_known}
-use Rattle.fj_model.proofs.Events.Lawful.{not_new}
+use Rattle.fj_rules.proofs.Events.KindsKept.{accepted_same, kept_known}
+use Rattle.fj_rules.proofs.Events.Lawful.{not_new}
 
 -- ---- one record is changed, or none
 

@@ -5,24 +5,24 @@ use Rattle.std.specs.List.{filter_map, list_any}
 use Rattle.std.proofs.lemmas.Bool.{eqb-true, and_parts}
 use Rattle.std.proofs.lemmas.List.{append-nil}
 use Rattle.std.proofs.lemmas.List.Folds.{list_any-append}
-use Rattle.fj_model.specs.declared.event.Event.{Event}
-use Rattle.fj_model.specs.declared.event.Event.TheVariants.{Acc, Make, Out, Skip, End, Add, Dec, Fire, Pass, Settle, Stop, Rel}
-use Rattle.fj_model.specs.Bounds.{Pool}
-use Rattle.fj_model.specs.Lists.{is_in}
-use Rattle.fj_model.specs.Tasks.{tasks, released, released_by, is_kept, kind}
-use Rattle.fj_model.specs.Queues.{taken_by}
-use Rattle.fj_model.specs.Stacks.{ended_by}
-use Rattle.fj_model.specs.Completers.{pending, added_by, counted_by, fires_or_passes}
-use Rattle.fj_model.specs.Allowed.{Allowed, AllowedFrom, is_stop}
-use Rattle.fj_model.proofs.Events.Growth.{filter_map_more, or_false}
-use Rattle.fj_model.proofs.Events.Lawful.{known_more, number_if_is, not_new}
-use Rattle.fj_model.proofs.Places.OnePlace.{never}
-use Rattle.fj_model.proofs.Places.PlaceLaws.{place_kept}
-use Rattle.fj_model.proofs.Events.Releasing.{released_same}
-use Rattle.fj_model.proofs.Events.Spending.{spends, settled_by, spent_kept, status_kept}
+use Rattle.fj_rules.specs.declared.event.Event.{Event}
+use Rattle.fj_rules.specs.declared.event.Event.TheVariants.{Acc, Make, Out, Skip, End, Add, Dec, Fire, Pass, Settle, Stop, Rel}
+use Rattle.fj_rules.specs.Bounds.{Pool}
+use Rattle.fj_rules.specs.Lists.{is_in}
+use Rattle.fj_rules.specs.Tasks.{tasks, released, released_by, is_kept, kind}
+use Rattle.fj_rules.specs.Queues.{taken_by}
+use Rattle.fj_rules.specs.Stacks.{ended_by}
+use Rattle.fj_rules.specs.Completers.{pending, added_by, counted_by, fires_or_passes}
+use Rattle.fj_rules.specs.Allowed.{Allowed, AllowedFrom, is_stop}
+use Rattle.fj_rules.proofs.Events.Growth.{filter_map_more, or_false}
+use Rattle.fj_rules.proofs.Events.Lawful.{known_more, number_if_is, not_new}
+use Rattle.fj_rules.proofs.Places.OnePlace.{never}
+use Rattle.fj_rules.proofs.Places.PlaceLaws.{place_kept}
+use Rattle.fj_rules.proofs.Events.Releasing.{released_same}
+use Rattle.fj_rules.proofs.Events.Spending.{spends, settled_by, spent_kept, status_kept}
 use Rattle.fj_tree.specs.declared.record.Record.{Record}
 use Rattle.fj_ledger.specs.Holds.{Tells}
-use Rattle.fj_model.proofs.Events.KindsKept.{kind_still, kept_known}
+use Rattle.fj_rules.proofs.Events.KindsKept.{kind_still, kept_known}
 
 -- whether the event says something of one task at most, and releases none
 abbrev pub is_of_one : Event → Bool

@@ -5,27 +5,27 @@ use Rattle.std.specs.List.{list_any}
 use Rattle.std.proofs.Math.ListN.{length-set}
 use Rattle.std.proofs.lemmas.List.{get_or-set_other}
 use Rattle.std.proofs.lemmas.Bool.{cases_eq}
-use Rattle.fj_model.specs.declared.event.Event.{Event}
-use Rattle.fj_model.specs.declared.event.Event.TheVariants.{Acc, Make}
-use Rattle.fj_model.specs.declared.kind.Kind.{Kind}
-use Rattle.fj_model.specs.declared.owner.Owner.{Owner}
-use Rattle.fj_model.specs.declared.place.Place.{Place}
-use Rattle.fj_model.specs.declared.place.Place.TheVariants.{Queued, Open}
-use Rattle.fj_model.specs.Bounds.{Bounds, Pool, IsOwner, queue_number, owner_at}
-use Rattle.fj_model.specs.Tasks.{accepted_by, is_kept, is_completer, parent_in}
-use Rattle.fj_model.specs.Queues.{queue, is_same}
-use Rattle.fj_model.specs.Completers.{is_spent, fires_or_passes}
-use Rattle.fj_model.specs.Places.{place}
-use Rattle.fj_model.specs.Allowed.{Allowed, AllowedFrom}
-use Rattle.fj_model.proofs.Events.Growth.{stack_same}
-use Rattle.fj_model.proofs.Events.Lawful.{is_new, same_owner}
-use Rattle.fj_model.proofs.Events.NewTasks.{kind_given, new_kind, new_count, new_undone, submitted_place, submitted_open, submitted_gone, made_place, made_open, made_gone, same_as_itself}
-use Rattle.fj_model.proofs.Places.OnePlace.{never, number_owner}
-use Rattle.fj_model.proofs.Lists.Owners.{owners_apart}
-use Rattle.fj_model.proofs.Events.Queues.{queue_same, queue_push}
-use Rattle.fj_model.proofs.Events.Releasing.{new_kept}
-use Rattle.fj_model.proofs.Completers.Unfired.{climbs_unfired}
-use Rattle.fj_model.proofs.Completers.Unknown.{unknown_unspent}
+use Rattle.fj_rules.specs.declared.event.Event.{Event}
+use Rattle.fj_rules.specs.declared.event.Event.TheVariants.{Acc, Make}
+use Rattle.fj_rules.specs.declared.kind.Kind.{Kind}
+use Rattle.fj_rules.specs.declared.owner.Owner.{Owner}
+use Rattle.fj_rules.specs.declared.place.Place.{Place}
+use Rattle.fj_rules.specs.declared.place.Place.TheVariants.{Queued, Open}
+use Rattle.fj_rules.specs.Bounds.{Bounds, Pool, IsOwner, queue_number, owner_at}
+use Rattle.fj_rules.specs.Tasks.{accepted_by, is_kept, is_completer, parent_in}
+use Rattle.fj_rules.specs.Queues.{queue, is_same}
+use Rattle.fj_rules.specs.Completers.{is_spent, fires_or_passes}
+use Rattle.fj_rules.specs.Places.{place}
+use Rattle.fj_rules.specs.Allowed.{Allowed, AllowedFrom}
+use Rattle.fj_rules.proofs.Events.Growth.{stack_same}
+use Rattle.fj_rules.proofs.Events.Lawful.{is_new, same_owner}
+use Rattle.fj_rules.proofs.Events.NewTasks.{kind_given, new_kind, new_count, new_undone, submitted_place, submitted_open, submitted_gone, made_place, made_open, made_gone, same_as_itself}
+use Rattle.fj_rules.proofs.Places.OnePlace.{never, number_owner}
+use Rattle.fj_rules.proofs.Lists.Owners.{owners_apart}
+use Rattle.fj_rules.proofs.Events.Queues.{queue_same, queue_push}
+use Rattle.fj_rules.proofs.Events.Releasing.{new_kept}
+use Rattle.fj_rules.proofs.Completers.Unfired.{climbs_unfired}
+use Rattle.fj_rules.proofs.Completers.Unknown.{unknown_unspent}
 use Rattle.fj_queues.specs.Queues.{Lists as Waiting, queue_at, with_queue}
 use Rattle.fj_tree.specs.Handles.{Handle}
 use Rattle.fj_tree.specs.Records.{Records, IsCompleter, count, record_at, handle_of}

@@ -4,20 +4,20 @@ use Rattle.std.specs.Prelude.{◌&&◌, if◌then◌else◌}
 use Rattle.std.proofs.Math.ListN.{length-set}
 use Rattle.std.proofs.lemmas.Bool.{cases_eq}
 use Rattle.std.proofs.lemmas.List.{get_or-set_other}
-use Rattle.fj_model.specs.declared.event.Event.{Event}
-use Rattle.fj_model.specs.declared.event.Event.TheVariants.{End}
-use Rattle.fj_model.specs.declared.place.Place.{Place}
-use Rattle.fj_model.specs.declared.place.Place.TheVariants.{Open, Gone}
-use Rattle.fj_model.specs.Bounds.{Pool}
-use Rattle.fj_model.specs.Lists.{is_in, last_of}
-use Rattle.fj_model.specs.Tasks.{tasks, is_completer, is_completer_kind}
-use Rattle.fj_model.specs.Stacks.{stack}
-use Rattle.fj_model.specs.Places.{gone, place}
-use Rattle.fj_model.specs.Allowed.{Allowed, AllowedFrom}
-use Rattle.fj_model.proofs.Events.Ends.{stack_end, stack_end_other}
-use Rattle.fj_model.proofs.Events.Opening.{opens, ended_accepted, ended_place, ended_open, ended_gone}
-use Rattle.fj_model.proofs.Events.Queues.{queue_same}
-use Rattle.fj_model.proofs.Events.Spending.{moved_status}
+use Rattle.fj_rules.specs.declared.event.Event.{Event}
+use Rattle.fj_rules.specs.declared.event.Event.TheVariants.{End}
+use Rattle.fj_rules.specs.declared.place.Place.{Place}
+use Rattle.fj_rules.specs.declared.place.Place.TheVariants.{Open, Gone}
+use Rattle.fj_rules.specs.Bounds.{Pool}
+use Rattle.fj_rules.specs.Lists.{is_in, last_of}
+use Rattle.fj_rules.specs.Tasks.{tasks, is_completer, is_completer_kind}
+use Rattle.fj_rules.specs.Stacks.{stack}
+use Rattle.fj_rules.specs.Places.{gone, place}
+use Rattle.fj_rules.specs.Allowed.{Allowed, AllowedFrom}
+use Rattle.fj_rules.proofs.Events.Ends.{stack_end, stack_end_other}
+use Rattle.fj_rules.proofs.Events.Opening.{opens, ended_accepted, ended_place, ended_open, ended_gone}
+use Rattle.fj_rules.proofs.Events.Queues.{queue_same}
+use Rattle.fj_rules.proofs.Events.Spending.{moved_status}
 use Rattle.fj_queues.specs.Queues.{Lists as Waiting}
 use Rattle.fj_tree.specs.declared.record.Record.{Record}
 use Rattle.fj_tree.specs.Arrivals as record_is
@@ -34,7 +34,7 @@ use Rattle.fj_ledger.proofs.Recorded.Located.{IsLocated}
 use Rattle.fj_ledger.proofs.Updates.Parts.{new_row, queues_same}
 use Rattle.fj_ledger.proofs.Recorded.Records.{tree_written}
 use Rattle.fj_ledger.proofs.Recorded.Telling.{kept_more, pending_same, fired_same}
-use Rattle.fj_model.proofs.Events.KindsKept.{kind_still}
+use Rattle.fj_rules.proofs.Events.KindsKept.{kind_still}
 
 -- the last task of a stack leaves it, and the other stacks stay
 stacks_after_end : (pool : Pool) (h : List Event) (stacks : Lists) (w t : ℕ) → AllowedFrom pool [] h → w < pool.limits.workers → last_of (stack h w) ≡ Some t

@@ -3,21 +3,21 @@ use Rattle.std.proofs.Common.{ℕ, ◌≡◌, ◌+◌, ◌-◌, ◌<◌, true, f
 use Rattle.std.specs.Prelude.{option_map}
 use Rattle.std.proofs.lemmas.Bool.{eq-eqb, le-ltb}
 use Rattle.std.proofs.lemmas.Option.{same_Some}
-use Rattle.fj_model.specs.declared.limits.TheConstants.{MAX_PENDING}
-use Rattle.fj_model.specs.declared.event.Event.{Event}
-use Rattle.fj_model.specs.declared.event.Event.TheVariants.{Add, Dec}
-use Rattle.fj_model.specs.Bounds.{Pool}
-use Rattle.fj_model.specs.Tasks.{is_kept, is_completer, is_completer_kind}
-use Rattle.fj_model.specs.Completers.{pending, fires_or_passes}
-use Rattle.fj_model.specs.Climbs.{climbed_by}
-use Rattle.fj_model.specs.Allowed.{Allowed, AllowedFrom}
-use Rattle.fj_model.specs.Tasks.{accepted_by}
-use Rattle.fj_model.specs.Climbs.{arrival}
-use Rattle.fj_model.specs.Climbs as climb
-use Rattle.fj_model.proofs.Places.PlaceLaws.{none_accepted, unmoved_queue, unmoved_stack}
-use Rattle.fj_model.proofs.Events.Calm.{is_calm, calm_unmoved, calm_status, calm_place, calm_open, calm_gone}
-use Rattle.fj_model.proofs.Events.Spending.{settled_by}
-use Rattle.fj_model.proofs.Events.Pending.{pending_added, pending_counted}
+use Rattle.fj_rules.specs.declared.limits.TheConstants.{MAX_PENDING}
+use Rattle.fj_rules.specs.declared.event.Event.{Event}
+use Rattle.fj_rules.specs.declared.event.Event.TheVariants.{Add, Dec}
+use Rattle.fj_rules.specs.Bounds.{Pool}
+use Rattle.fj_rules.specs.Tasks.{is_kept, is_completer, is_completer_kind}
+use Rattle.fj_rules.specs.Completers.{pending, fires_or_passes}
+use Rattle.fj_rules.specs.Climbs.{climbed_by}
+use Rattle.fj_rules.specs.Allowed.{Allowed, AllowedFrom}
+use Rattle.fj_rules.specs.Tasks.{accepted_by}
+use Rattle.fj_rules.specs.Climbs.{arrival}
+use Rattle.fj_rules.specs.Climbs as climb
+use Rattle.fj_rules.proofs.Places.PlaceLaws.{none_accepted, unmoved_queue, unmoved_stack}
+use Rattle.fj_rules.proofs.Events.Calm.{is_calm, calm_unmoved, calm_status, calm_place, calm_open, calm_gone}
+use Rattle.fj_rules.proofs.Events.Spending.{settled_by}
+use Rattle.fj_rules.proofs.Events.Pending.{pending_added, pending_counted}
 use Rattle.fj_queues.specs.Queues.{Lists as Waiting}
 use Rattle.fj_tree.specs.declared.record.Record.{Record}
 use Rattle.fj_tree.specs.declared.arrive.Arrived.{Arrived}
@@ -34,14 +34,14 @@ use Rattle.fj_ledger.specs.InHands.{InHand}
 use Rattle.fj_ledger.specs.Holds.{Holds, Tells}
 use Rattle.fj_ledger.proofs.Recorded.ArrivalsTold.{arrival_told}
 use Rattle.fj_ledger.proofs.Updates.Growing.{grown_holds}
-use Rattle.fj_model.proofs.Events.Hands.{is_of_hook}
+use Rattle.fj_rules.proofs.Events.Hands.{is_of_hook}
 use Rattle.fj_ledger.proofs.Lists.HandParts.{hands_same}
 use Rattle.fj_ledger.proofs.Recorded.Located.{IsLocated}
 use Rattle.fj_ledger.proofs.Updates.Parts.{queues_same, stacks_same}
 use Rattle.fj_ledger.proofs.Recorded.Records.{tree_written}
 use Rattle.fj_ledger.proofs.Recorded.Telling.{touched, is_of_one, kept_more, fired_same}
-use Rattle.fj_model.proofs.Events.KindsKept.{kind_still, kept_known}
-use Rattle.fj_model.proofs.Events.Lawful.{not_new}
+use Rattle.fj_rules.proofs.Events.KindsKept.{kind_still, kept_known}
+use Rattle.fj_rules.proofs.Events.Lawful.{not_new}
 
 -- an event that changes the pending count of one task alone
 record IsCount (e : Event) (t : ℕ) : Type 0 where

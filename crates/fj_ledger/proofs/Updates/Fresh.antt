@@ -1,14 +1,14 @@
 -- A ledger to which nothing has happened.
 use Rattle.std.proofs.Common.{append-nil, ℕ, ◌≡◌, [], get_or, replicate, Option, Some, None, refl, sym, ◌∙◌, arith, zero, suc}
 use Rattle.std.proofs.Math.ListN.{length-replicate}
-use Rattle.fj_model.specs.declared.owner.Owner.{Owner}
-use Rattle.fj_model.specs.Bounds.{Pool, IsWithin, queues_in, owner_at}
-use Rattle.fj_model.specs.Tasks.{accepted, tasks, is_kept, live}
-use Rattle.fj_model.specs.Queues.{queue, pushed, left, taken}
-use Rattle.fj_model.specs.Stacks.{stack}
-use Rattle.fj_model.specs.Hooks.{hooks, hand}
-use Rattle.fj_model.specs.Places.{opened, open_tasks, gone, gone_from}
-use Rattle.fj_model.proofs.Completers.Climbed.{climbs_none}
+use Rattle.fj_rules.specs.declared.owner.Owner.{Owner}
+use Rattle.fj_rules.specs.Bounds.{Pool, IsWithin, queues_in, owner_at}
+use Rattle.fj_rules.specs.Tasks.{accepted, tasks, is_kept, live}
+use Rattle.fj_rules.specs.Queues.{queue, pushed, left, taken}
+use Rattle.fj_rules.specs.Stacks.{stack}
+use Rattle.fj_rules.specs.Hooks.{hooks, hand}
+use Rattle.fj_rules.specs.Places.{opened, open_tasks, gone, gone_from}
+use Rattle.fj_rules.proofs.Completers.Climbed.{climbs_none}
 use Rattle.fj_ledger.specs.InHands.{InHand}
 use Rattle.fj_ledger.specs.Holds.{Holds}
 

@@ -1,13 +1,13 @@
 -- All that is kept, after one event more.
 use Rattle.std.proofs.Common.{ℕ, ◌≡◌, ◌<◌, true, List, [], ◌∷◌, ◌++◌, length, Option, Some, ap, ◌∙◌, ◌+◌, arith, append_assoc, length-append, ⊎_elim}
-use Rattle.fj_model.specs.declared.event.Event.{Event}
-use Rattle.fj_model.specs.Bounds.{Pool}
-use Rattle.fj_model.specs.Tasks.{is_completer}
-use Rattle.fj_model.specs.Climbs.{ClimbsCompleters, climbed, climbed_by}
-use Rattle.fj_model.specs.Places.{open_tasks, gone}
-use Rattle.fj_model.specs.Allowed.{Allowed}
-use Rattle.fj_model.proofs.Completers.Climbed.{climbs_more}
-use Rattle.fj_model.proofs.Events.Lawful.{allowed_more, front_cases}
+use Rattle.fj_rules.specs.declared.event.Event.{Event}
+use Rattle.fj_rules.specs.Bounds.{Pool}
+use Rattle.fj_rules.specs.Tasks.{is_completer}
+use Rattle.fj_rules.specs.Climbs.{ClimbsCompleters, climbed, climbed_by}
+use Rattle.fj_rules.specs.Places.{open_tasks, gone}
+use Rattle.fj_rules.specs.Allowed.{Allowed}
+use Rattle.fj_rules.proofs.Completers.Climbed.{climbs_more}
+use Rattle.fj_rules.proofs.Events.Lawful.{allowed_more, front_cases}
 use Rattle.fj_queues.specs.Queues.{Lists as Waiting}
 use Rattle.fj_tree.specs.Records.{Records}
 use Rattle.fj_ledger.specs.Stacks.{Lists}

@@ -1,13 +1,13 @@
 -- All that is kept, after a hook has ended.
 use Rattle.std.proofs.Common.{◌+◌, ℕ, ◌≡◌, ◌<◌, List, [], ◌∷◌, ◌++◌, length, Option, Some, None, refl, sym, ◌∙◌}
 use Rattle.std.proofs.Math.ListN.{set}
-use Rattle.fj_model.specs.declared.event.Event.{Event}
-use Rattle.fj_model.specs.declared.event.Event.TheVariants.{Hooked}
-use Rattle.fj_model.specs.Bounds.{Pool}
-use Rattle.fj_model.specs.Hooks.{hand}
-use Rattle.fj_model.specs.Allowed.{Allowed}
-use Rattle.fj_model.proofs.Places.PlaceLaws.{unmoved_queue, unmoved_stack}
-use Rattle.fj_model.proofs.Events.Calm.{calm_open, calm_gone}
+use Rattle.fj_rules.specs.declared.event.Event.{Event}
+use Rattle.fj_rules.specs.declared.event.Event.TheVariants.{Hooked}
+use Rattle.fj_rules.specs.Bounds.{Pool}
+use Rattle.fj_rules.specs.Hooks.{hand}
+use Rattle.fj_rules.specs.Allowed.{Allowed}
+use Rattle.fj_rules.proofs.Places.PlaceLaws.{unmoved_queue, unmoved_stack}
+use Rattle.fj_rules.proofs.Events.Calm.{calm_open, calm_gone}
 use Rattle.fj_queues.specs.Queues.{Lists as Waiting}
 use Rattle.fj_tree.specs.Records.{Records}
 use Rattle.fj_ledger.specs.Stacks.{Lists}

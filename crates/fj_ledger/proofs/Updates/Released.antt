@@ -3,18 +3,18 @@ use Rattle.std.proofs.Common.{ℕ, ◌≡◌, ◌≢◌, ◌+◌, ◌<◌, Bool,
 use Rattle.std.specs.Prelude.{◌==◌, IsSome, option_map, Result, Ok, IsOk, OnOk}
 use Rattle.std.proofs.lemmas.Bool.{cases_eq, eqb-true, eq-eqb, true≢false}
 use Rattle.std.proofs.lemmas.Option.{same_Some, none-some}
-use Rattle.fj_model.specs.declared.event.Event.{Event}
-use Rattle.fj_model.specs.declared.event.Event.TheVariants.{Rel}
-use Rattle.fj_model.specs.declared.place.Place.TheVariants.{Gone}
-use Rattle.fj_model.specs.declared.refusal.Refusal.{Refusal}
-use Rattle.fj_model.specs.declared.status.Status.{Status}
-use Rattle.fj_model.specs.Bounds.{Pool}
-use Rattle.fj_model.specs.Lists.{is_in}
-use Rattle.fj_model.specs.Tasks.{is_kept, parent_in}
-use Rattle.fj_model.specs.Statuses.{status}
-use Rattle.fj_model.specs.Places.{place}
-use Rattle.fj_model.specs.Allowed.{Allowed, AllowedFrom, is_fired_by_complete, fires_by_complete}
-use Rattle.fj_model.proofs.Events.Releasing.{release_forgets, release_keeps, release_live, release_tasks, release_accepted, release_kind, release_parent, release_status, release_pending, release_queue, release_stack, release_place, release_open, release_gone}
+use Rattle.fj_rules.specs.declared.event.Event.{Event}
+use Rattle.fj_rules.specs.declared.event.Event.TheVariants.{Rel}
+use Rattle.fj_rules.specs.declared.place.Place.TheVariants.{Gone}
+use Rattle.fj_rules.specs.declared.refusal.Refusal.{Refusal}
+use Rattle.fj_rules.specs.declared.status.Status.{Status}
+use Rattle.fj_rules.specs.Bounds.{Pool}
+use Rattle.fj_rules.specs.Lists.{is_in}
+use Rattle.fj_rules.specs.Tasks.{is_kept, parent_in}
+use Rattle.fj_rules.specs.Statuses.{status}
+use Rattle.fj_rules.specs.Places.{place}
+use Rattle.fj_rules.specs.Allowed.{Allowed, AllowedFrom, is_fired_by_complete, fires_by_complete}
+use Rattle.fj_rules.proofs.Events.Releasing.{release_forgets, release_keeps, release_live, release_tasks, release_accepted, release_kind, release_parent, release_status, release_pending, release_queue, release_stack, release_place, release_open, release_gone}
 use Rattle.fj_queues.specs.Queues.{Lists as Waiting}
 use Rattle.fj_tree.specs.declared.record.Record.{Record}
 use Rattle.fj_tree.specs.Records.{Records, IsSound, is_named, record_at, record_of, handle_of, count}
@@ -32,7 +32,7 @@ use Rattle.fj_ledger.proofs.Recorded.Located.{IsLocated}
 use Rattle.fj_ledger.proofs.Updates.Parts.{queues_same, stacks_same}
 use Rattle.fj_ledger.proofs.Recorded.Refused.{of_ok}
 use Rattle.fj_ledger.proofs.Recorded.Telling.{fired_same}
-use Rattle.fj_model.proofs.Events.KindsKept.{kept_known}
+use Rattle.fj_rules.proofs.Events.KindsKept.{kept_known}
 
 -- what a release leaves: one record fewer, and the other ones as they were but for the count of children
 pub record IsReleased (old new : Records) (key : ℕ) (r : Record) : Type 0 where

@@ -1,12 +1,12 @@
 -- All that is kept, after a seal.
 use Rattle.std.proofs.Common.{ℕ, ◌≡◌, ◌≤◌, true, List, [], length, Option, sym, arith}
 use Rattle.std.proofs.lemmas.List.{append-nil}
-use Rattle.fj_model.specs.declared.event.Event.{Event}
-use Rattle.fj_model.specs.Bounds.{Pool}
-use Rattle.fj_model.specs.Places.{gone}
-use Rattle.fj_model.specs.Answers.{is_quiet}
-use Rattle.fj_model.specs.declared.epoch.TheConstants.{MAX_EVENTS_AND_SEALS}
-use Rattle.fj_model.proofs.Headline.Sealing.{quiet_left}
+use Rattle.fj_rules.specs.declared.event.Event.{Event}
+use Rattle.fj_rules.specs.Bounds.{Pool}
+use Rattle.fj_rules.specs.Places.{gone}
+use Rattle.fj_rules.specs.Answers.{is_quiet}
+use Rattle.fj_rules.specs.declared.epoch.TheConstants.{MAX_EVENTS_AND_SEALS}
+use Rattle.fj_rules.proofs.Headline.Sealing.{quiet_left}
 use Rattle.fj_queues.specs.Queues.{Lists as Waiting}
 use Rattle.fj_tree.specs.Records.{Records}
 use Rattle.fj_ledger.specs.Stacks.{Lists}

@@ -6,25 +6,25 @@ use Rattle.std.proofs.Math.ListN.{set}
 use Rattle.std.proofs.lemmas.Option.{same_Some}
 use Rattle.std.proofs.lemmas.Bool.{eq-eqb, or_right, or_parts, true≢false}
 use Rattle.std.proofs.lemmas.List.Folds.{list_any-append}
-use Rattle.fj_model.specs.declared.event.Event.{Event}
-use Rattle.fj_model.specs.declared.event.Event.TheVariants.{Fire, Pass, Settle}
-use Rattle.fj_model.specs.declared.event.How.{How}
-use Rattle.fj_model.specs.declared.event.How.TheVariants.{Zero, Complete}
-use Rattle.fj_model.specs.declared.status.Status.{Status}
-use Rattle.fj_model.specs.Bounds.{Pool}
-use Rattle.fj_model.specs.Lists.{is_in, without}
-use Rattle.fj_model.specs.Tasks.{tasks, is_kept, is_completer, parent, parent_in}
-use Rattle.fj_model.specs.Hooks.{hooks, hand, receiver}
-use Rattle.fj_model.specs.Statuses.{status, is_undone}
-use Rattle.fj_model.specs.Completers.{is_spent, fires_or_passes}
-use Rattle.fj_model.specs.Places.{place, is_open}
-use Rattle.fj_model.specs.Allowed.{Allowed, AllowedFrom}
-use Rattle.fj_model.proofs.Completers.Firings.{fires_unspent}
-use Rattle.fj_model.proofs.Events.Ends.{status_settle}
-use Rattle.fj_model.proofs.Places.PlaceLaws.{unmoved_queue, unmoved_stack}
-use Rattle.fj_model.proofs.Places.KeptPlaces.{open_kept}
-use Rattle.fj_model.proofs.Places.OnePlace.{never}
-use Rattle.fj_model.proofs.Events.Spending.{status_kept, spending_open, spending_gone}
+use Rattle.fj_rules.specs.declared.event.Event.{Event}
+use Rattle.fj_rules.specs.declared.event.Event.TheVariants.{Fire, Pass, Settle}
+use Rattle.fj_rules.specs.declared.event.How.{How}
+use Rattle.fj_rules.specs.declared.event.How.TheVariants.{Zero, Complete}
+use Rattle.fj_rules.specs.declared.status.Status.{Status}
+use Rattle.fj_rules.specs.Bounds.{Pool}
+use Rattle.fj_rules.specs.Lists.{is_in, without}
+use Rattle.fj_rules.specs.Tasks.{tasks, is_kept, is_completer, parent, parent_in}
+use Rattle.fj_rules.specs.Hooks.{hooks, hand, receiver}
+use Rattle.fj_rules.specs.Statuses.{status, is_undone}
+use Rattle.fj_rules.specs.Completers.{is_spent, fires_or_passes}
+use Rattle.fj_rules.specs.Places.{place, is_open}
+use Rattle.fj_rules.specs.Allowed.{Allowed, AllowedFrom}
+use Rattle.fj_rules.proofs.Completers.Firings.{fires_unspent}
+use Rattle.fj_rules.proofs.Events.Ends.{status_settle}
+use Rattle.fj_rules.proofs.Places.PlaceLaws.{unmoved_queue, unmoved_stack}
+use Rattle.fj_rules.proofs.Places.KeptPlaces.{open_kept}
+use Rattle.fj_rules.proofs.Places.OnePlace.{never}
+use Rattle.fj_rules.proofs.Events.Spending.{status_kept, spending_open, spending_gone}
 use Rattle.fj_queues.specs.Queues.{Lists as Waiting}
 use Rattle.fj_tree.specs.declared.record.Record.{Record}
 use Rattle.fj_tree.specs.Handles.{Handle}
@@ -41,7 +41,7 @@ use Rattle.fj_ledger.proofs.Updates.Parts.{queues_same, stacks_same}
 use Rattle.fj_ledger.proofs.Recorded.Records.{tree_other}
 use Rattle.fj_ledger.proofs.Updates.Spent.{Respent, spent_holds, open_after, gone_after}
 use Rattle.fj_ledger.proofs.Recorded.Telling.{pending_same, fired_same}
-use Rattle.fj_model.proofs.Events.KindsKept.{kind_still}
+use Rattle.fj_rules.proofs.Events.KindsKept.{kind_still}
 
 pub settled_says : (pool : Pool) (h : List Event) (s : Status) (r : Record) → AllowedFrom pool [] h → Allowed pool h (Settle r.serial s) → Tells h r
     → Respent (h ++ Settle r.serial s ∷ []) r (with_status s r)

@@ -4,22 +4,22 @@ use Rattle.std.specs.Prelude.{option_map, IsPermutation}
 use Rattle.std.specs.List.{list_any}
 use Rattle.std.specs.List.Sorted.{IsNonDecreasing}
 use Rattle.std.proofs.lemmas.Option.{same_Some, none-some}
-use Rattle.fj_model.specs.declared.event.Event.{Event}
-use Rattle.fj_model.specs.declared.event.Event.TheVariants.{Close, Stop}
-use Rattle.fj_model.specs.declared.place.Place.{Place}
-use Rattle.fj_model.specs.declared.place.Place.TheVariants.{Queued, Held, Open, Gone}
-use Rattle.fj_model.specs.declared.status.Status.{Status}
-use Rattle.fj_model.specs.declared.status.Status.TheVariants.{Cancelled}
-use Rattle.fj_model.specs.Bounds.{Pool}
-use Rattle.fj_model.specs.Lists.{is_in}
-use Rattle.fj_model.specs.Tasks.{is_kept, kind}
-use Rattle.fj_model.specs.Statuses.{status, is_undone}
-use Rattle.fj_model.specs.Completers.{pending, fires_or_passes}
-use Rattle.fj_model.specs.Places.{place, is_open}
-use Rattle.fj_model.specs.Allowed.{Allowed, AllowedFrom, is_fired_by_complete, fires_by_complete}
-use Rattle.fj_model.proofs.Events.Closing.{close_queue, close_stack, close_open, close_gone}
-use Rattle.fj_model.proofs.Events.Spending.{closed}
-use Rattle.fj_model.proofs.Events.Stopping.{stop_tasks, stop_queue, stop_stack, stop_accepted, stop_kept, stop_live, stop_kind, stop_parent, stop_pending, stop_cancels, stop_place, stop_open, stop_gone_sorted}
+use Rattle.fj_rules.specs.declared.event.Event.{Event}
+use Rattle.fj_rules.specs.declared.event.Event.TheVariants.{Close, Stop}
+use Rattle.fj_rules.specs.declared.place.Place.{Place}
+use Rattle.fj_rules.specs.declared.place.Place.TheVariants.{Queued, Held, Open, Gone}
+use Rattle.fj_rules.specs.declared.status.Status.{Status}
+use Rattle.fj_rules.specs.declared.status.Status.TheVariants.{Cancelled}
+use Rattle.fj_rules.specs.Bounds.{Pool}
+use Rattle.fj_rules.specs.Lists.{is_in}
+use Rattle.fj_rules.specs.Tasks.{is_kept, kind}
+use Rattle.fj_rules.specs.Statuses.{status, is_undone}
+use Rattle.fj_rules.specs.Completers.{pending, fires_or_passes}
+use Rattle.fj_rules.specs.Places.{place, is_open}
+use Rattle.fj_rules.specs.Allowed.{Allowed, AllowedFrom, is_fired_by_complete, fires_by_complete}
+use Rattle.fj_rules.proofs.Events.Closing.{close_queue, close_stack, close_open, close_gone}
+use Rattle.fj_rules.proofs.Events.Spending.{closed}
+use Rattle.fj_rules.proofs.Events.Stopping.{stop_tasks, stop_queue, stop_stack, stop_accepted, stop_kept, stop_live, stop_kind, stop_parent, stop_pending, stop_cancels, stop_place, stop_open, stop_gone_sorted}
 use Rattle.fj_queues.specs.Queues.{Lists as Waiting}
 use Rattle.fj_tree.specs.declared.record.Record.{Record}
 use Rattle.fj_tree.specs.Records.{Records, record_at, count, with_status, with_place}
@@ -34,7 +34,7 @@ use Rattle.fj_ledger.proofs.Lists.HandParts.{any_same, hands_same, hands_mapped}
 use Rattle.fj_ledger.proofs.Updates.Parts.{queues_same, stacks_same}
 use Rattle.fj_ledger.proofs.Recorded.Records.{tree_same}
 use Rattle.fj_ledger.proofs.Recorded.Telling.{fired_same}
-use Rattle.fj_model.proofs.Events.KindsKept.{kept_known}
+use Rattle.fj_rules.proofs.Events.KindsKept.{kept_known}
 
 -- no submission is accepted from now on
 pub close_holds : {sealed : List Event} (pool : Pool) (h : List Event) (queues : Waiting) (stacks : Lists) (hands : List (Option InHand)) (tree : Records) (opens gones : List ℕ)

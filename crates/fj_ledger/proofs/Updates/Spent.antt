@@ -5,24 +5,24 @@ use Rattle.std.specs.List.{filter_map, list_any, cons_option}
 use Rattle.std.proofs.lemmas.Bool.{eq-eqb}
 use Rattle.std.proofs.lemmas.List.{append-nil}
 use Rattle.std.proofs.lemmas.List.Elements.{filter_map-append}
-use Rattle.fj_model.specs.declared.event.Event.{Event}
-use Rattle.fj_model.specs.declared.event.Event.TheVariants.{Fire, Pass, Settle}
-use Rattle.fj_model.specs.declared.place.Place.{Place}
-use Rattle.fj_model.specs.declared.place.Place.TheVariants.{Queued, Held, Open, Gone}
-use Rattle.fj_model.specs.Bounds.{Pool}
-use Rattle.fj_model.specs.Lists.{is_in, times_in, without}
-use Rattle.fj_model.specs.Tasks.{tasks, accepted, accepted_by, is_kept, is_completer, kind}
-use Rattle.fj_model.specs.Statuses.{status}
-use Rattle.fj_model.specs.Completers.{pending, fires_or_passes}
-use Rattle.fj_model.specs.Climbs.{climbed_by}
-use Rattle.fj_model.specs.Places.{place, is_open, opened, open_tasks, gone}
-use Rattle.fj_model.specs.Allowed.{Allowed, AllowedFrom}
-use Rattle.fj_model.proofs.Places.PlaceLaws.{none_accepted, unmoved_queue, unmoved_stack}
-use Rattle.fj_model.proofs.Events.Spending.{spends, closed, spends_unmoved, spent_place, spending_open, spending_gone}
-use Rattle.fj_model.proofs.Lists.Members.{times_in_filter}
-use Rattle.fj_model.proofs.Places.OnePlace.{opened_once}
-use Rattle.fj_model.proofs.Places.OpenList.{in_open}
-use Rattle.fj_model.proofs.Events.Queues.{without_absent}
+use Rattle.fj_rules.specs.declared.event.Event.{Event}
+use Rattle.fj_rules.specs.declared.event.Event.TheVariants.{Fire, Pass, Settle}
+use Rattle.fj_rules.specs.declared.place.Place.{Place}
+use Rattle.fj_rules.specs.declared.place.Place.TheVariants.{Queued, Held, Open, Gone}
+use Rattle.fj_rules.specs.Bounds.{Pool}
+use Rattle.fj_rules.specs.Lists.{is_in, times_in, without}
+use Rattle.fj_rules.specs.Tasks.{tasks, accepted, accepted_by, is_kept, is_completer, kind}
+use Rattle.fj_rules.specs.Statuses.{status}
+use Rattle.fj_rules.specs.Completers.{pending, fires_or_passes}
+use Rattle.fj_rules.specs.Climbs.{climbed_by}
+use Rattle.fj_rules.specs.Places.{place, is_open, opened, open_tasks, gone}
+use Rattle.fj_rules.specs.Allowed.{Allowed, AllowedFrom}
+use Rattle.fj_rules.proofs.Places.PlaceLaws.{none_accepted, unmoved_queue, unmoved_stack}
+use Rattle.fj_rules.proofs.Events.Spending.{spends, closed, spends_unmoved, spent_place, spending_open, spending_gone}
+use Rattle.fj_rules.proofs.Lists.Members.{times_in_filter}
+use Rattle.fj_rules.proofs.Places.OnePlace.{opened_once}
+use Rattle.fj_rules.proofs.Places.OpenList.{in_open}
+use Rattle.fj_rules.proofs.Events.Queues.{without_absent}
 use Rattle.fj_queues.specs.Queues.{Lists as Waiting}
 use Rattle.fj_tree.specs.declared.record.Record.{Record}
 use Rattle.fj_tree.specs.Handles.{Handle}
@@ -38,8 +38,8 @@ use Rattle.fj_ledger.proofs.Histories.Rooms.{going_few}
 use Rattle.fj_ledger.proofs.Updates.Parts.{queues_same, stacks_same}
 use Rattle.fj_ledger.proofs.Recorded.Records.{tree_written}
 use Rattle.fj_ledger.proofs.Recorded.Telling.{is_of_one, kept_more, spends_touched}
-use Rattle.fj_model.proofs.Events.KindsKept.{kind_still, kept_known}
-use Rattle.fj_model.proofs.Events.Lawful.{not_new}
+use Rattle.fj_rules.proofs.Events.KindsKept.{kind_still, kept_known}
+use Rattle.fj_rules.proofs.Events.Lawful.{not_new}
 
 -- ---- room for one gone task more
 

@@ -3,37 +3,37 @@ use Rattle.std.proofs.Common.{append_assoc, ◌+◌, ℕ, ◌≡◌, ◌-◌, �
 use Rattle.std.proofs.Math.ListN.{length-set}
 use Rattle.std.proofs.lemmas.Bool.{cases_eq, eq-eqb, ne_eqb}
 use Rattle.std.proofs.lemmas.List.{get_or-set_other}
-use Rattle.fj_model.specs.declared.event.Event.{Event}
-use Rattle.fj_model.specs.declared.event.Event.TheVariants.{Out, Skip}
-use Rattle.fj_model.specs.declared.event.Event.TheVariants as event
-use Rattle.fj_model.specs.declared.owner.Owner.{Owner}
-use Rattle.fj_model.specs.declared.place.Place.{Place}
-use Rattle.fj_model.specs.declared.place.Place.TheVariants.{Held, Gone}
-use Rattle.fj_model.specs.Bounds.{Bounds, Pool, queues_in, owner_at}
-use Rattle.fj_model.specs.Lists.{is_in, without}
-use Rattle.fj_model.specs.Tasks.{accepted_by}
-use Rattle.fj_model.specs.Queues.{queue, taken_by, pushed_by}
-use Rattle.fj_model.specs.Stacks.{stack}
-use Rattle.fj_model.specs.Completers.{fires_or_passes, added_by, counted_by}
-use Rattle.fj_model.specs.Places.{place}
-use Rattle.fj_model.specs.Allowed.{Allowed, AllowedFrom}
-use Rattle.fj_model.proofs.Lists.Counting.{without_first_one, without_last_one}
-use Rattle.fj_model.proofs.Events.Growth.{stack_more, stack_same, without_none}
-use Rattle.fj_model.proofs.Events.Lawful.{queued_pushed}
-use Rattle.fj_model.proofs.Lists.Members.{Once, first_is_in, get_is_in}
-use Rattle.fj_model.proofs.Places.OnePlace.{queue_once}
-use Rattle.fj_model.proofs.Lists.Owners.{owners_apart}
-use Rattle.fj_model.proofs.Places.PlaceLaws.{moves}
-use Rattle.fj_model.proofs.Events.Queues.{queue_without, queue_other}
-use Rattle.fj_model.proofs.Events.Spending.{moved_status}
-use Rattle.fj_model.proofs.Events.Taking.{taking_open, handed_place, handed_gone, skipped_place, skipped_gone}
+use Rattle.fj_rules.specs.declared.event.Event.{Event}
+use Rattle.fj_rules.specs.declared.event.Event.TheVariants.{Out, Skip}
+use Rattle.fj_rules.specs.declared.event.Event.TheVariants as event
+use Rattle.fj_rules.specs.declared.owner.Owner.{Owner}
+use Rattle.fj_rules.specs.declared.place.Place.{Place}
+use Rattle.fj_rules.specs.declared.place.Place.TheVariants.{Held, Gone}
+use Rattle.fj_rules.specs.Bounds.{Bounds, Pool, queues_in, owner_at}
+use Rattle.fj_rules.specs.Lists.{is_in, without}
+use Rattle.fj_rules.specs.Tasks.{accepted_by}
+use Rattle.fj_rules.specs.Queues.{queue, taken_by, pushed_by}
+use Rattle.fj_rules.specs.Stacks.{stack}
+use Rattle.fj_rules.specs.Completers.{fires_or_passes, added_by, counted_by}
+use Rattle.fj_rules.specs.Places.{place}
+use Rattle.fj_rules.specs.Allowed.{Allowed, AllowedFrom}
+use Rattle.fj_rules.proofs.Lists.Counting.{without_first_one, without_last_one}
+use Rattle.fj_rules.proofs.Events.Growth.{stack_more, stack_same, without_none}
+use Rattle.fj_rules.proofs.Events.Lawful.{queued_pushed}
+use Rattle.fj_rules.proofs.Lists.Members.{Once, first_is_in, get_is_in}
+use Rattle.fj_rules.proofs.Places.OnePlace.{queue_once}
+use Rattle.fj_rules.proofs.Lists.Owners.{owners_apart}
+use Rattle.fj_rules.proofs.Places.PlaceLaws.{moves}
+use Rattle.fj_rules.proofs.Events.Queues.{queue_without, queue_other}
+use Rattle.fj_rules.proofs.Events.Spending.{moved_status}
+use Rattle.fj_rules.proofs.Events.Taking.{taking_open, handed_place, handed_gone, skipped_place, skipped_gone}
 use Rattle.fj_queues.specs.Queues.{Lists as Waiting, queue_at, with_queue}
 use Rattle.fj_tree.specs.declared.record.Record.{Record}
 use Rattle.fj_tree.specs.Handles.{Handle}
 use Rattle.fj_tree.specs.Records.{Records, IsSound, changed, with_place}
 use Rattle.fj_tree.proofs.Index.Numbers.{written}
-use Rattle.fj_ledger.specs.declared.source.Source.{Source}
-use Rattle.fj_ledger.specs.declared.source.Source.TheVariants.{Oldest, Newest}
+use Rattle.fj_ledger.specs.declared.queue_end.QueueEnd.{QueueEnd}
+use Rattle.fj_ledger.specs.declared.queue_end.QueueEnd.TheVariants.{Oldest, Newest}
 use Rattle.fj_ledger.specs.Stacks.{Lists, stack_at, with_stack}
 use Rattle.fj_ledger.specs.InHands.{InHand}
 use Rattle.fj_ledger.specs.Sources.{queue_of, end_of, rest_of}
@@ -44,19 +44,19 @@ use Rattle.fj_ledger.proofs.Recorded.Located.{IsLocated}
 use Rattle.fj_ledger.proofs.Updates.Parts.{new_row, stacks_same}
 use Rattle.fj_ledger.proofs.Recorded.Records.{tree_written}
 use Rattle.fj_ledger.proofs.Recorded.Telling.{is_of_one, kept_more, pending_same, fired_same}
-use Rattle.fj_model.proofs.Events.KindsKept.{kind_still}
+use Rattle.fj_rules.proofs.Events.KindsKept.{kind_still}
 
 -- what is taken was there
-pub in_end : (source : Source) (ts : List ℕ) (t : ℕ) → end_of source ts ≡ Some t → is_in t ts ≡ true
+pub in_end : (source : QueueEnd) (ts : List ℕ) (t : ℕ) → end_of source ts ≡ Some t → is_in t ts ≡ true
 in_end (Oldest q) ts t at = first_is_in t ts at
 in_end (Newest q) ts t at = get_is_in t ts (length ts - 1) at
 
 -- a list that has each member once, without the one at an end
-rest_is : (source : Source) (ts : List ℕ) (t : ℕ) → Once ts → end_of source ts ≡ Some t → without ts (t ∷ []) ≡ rest_of source ts
+rest_is : (source : QueueEnd) (ts : List ℕ) (t : ℕ) → Once ts → end_of source ts ≡ Some t → without ts (t ∷ []) ≡ rest_of source ts
 rest_is (Oldest q) ts t once at = without_first_one t ts once at
 rest_is (Newest q) ts t once at = without_last_one t ts once at
 
-queues_after_take : (pool : Pool) (h : List Event) (queues : Waiting) (source : Source) (t : ℕ) (e : Event) → AllowedFrom pool [] h → queue_of source < queues_in pool.limits
+queues_after_take : (pool : Pool) (h : List Event) (queues : Waiting) (source : QueueEnd) (t : ℕ) (e : Event) → AllowedFrom pool [] h → queue_of source < queues_in pool.limits
     → end_of source (queue h (owner_at pool.limits (queue_of source))) ≡ Some t → taken_by e ≡ Some t → ((p : Owner) → pushed_by p e ≡ None)
     → KeepsQueues pool.limits h queues → KeepsQueues pool.limits (h ++ e ∷ []) (with_queue queues (queue_of source) (rest_of source (queue_at queues (queue_of source))))
 queues_after_take pool h queues source t e so within at takes pushes keeps =
@@ -112,7 +112,7 @@ place_tells h e r p is moved none unfired added counted tells placed = record {
     some_none none said = absurd cc
 
 -- a task was skipped
-pub skipped_holds : {sealed : List Event} (pool : Pool) (h : List Event) (t w : ℕ) (source : Source) (queues : Waiting) (stacks : Lists) (hands : List (Option InHand)) (tree : Records) (opens gones : List ℕ) (at : Handle)
+pub skipped_holds : {sealed : List Event} (pool : Pool) (h : List Event) (t w : ℕ) (source : QueueEnd) (queues : Waiting) (stacks : Lists) (hands : List (Option InHand)) (tree : Records) (opens gones : List ℕ) (at : Handle)
     → Holds pool sealed h queues stacks hands tree opens gones → IsSound tree → IsLocated tree t at → Allowed pool h (Skip t w) → length h < length sealed + pool.limits.events
     → queue_of source < queues_in pool.limits → end_of source (queue h (owner_at pool.limits (queue_of source))) ≡ Some t
     → Holds pool sealed (h ++ Skip t w ∷ []) (with_queue queues (queue_of source) (rest_of source (queue_at queues (queue_of source)))) stacks hands (changed tree at.key (with_place Gone)) opens (gones ++ t ∷ [])
@@ -133,7 +133,7 @@ skipped_holds pool h t w source queues stacks hands tree opens gones at holds so
     })
 
 -- a task was handed out
-pub handed_holds : {sealed : List Event} (pool : Pool) (h : List Event) (t w : ℕ) (source : Source) (queues : Waiting) (stacks : Lists) (hands : List (Option InHand)) (tree : Records) (opens gones : List ℕ) (at : Handle)
+pub handed_holds : {sealed : List Event} (pool : Pool) (h : List Event) (t w : ℕ) (source : QueueEnd) (queues : Waiting) (stacks : Lists) (hands : List (Option InHand)) (tree : Records) (opens gones : List ℕ) (at : Handle)
     → Holds pool sealed h queues stacks hands tree opens gones → IsSound tree → IsLocated tree t at → Allowed pool h (Out t w) → length h < length sealed + pool.limits.events → w < pool.limits.workers
     → queue_of source < queues_in pool.limits → end_of source (queue h (owner_at pool.limits (queue_of source))) ≡ Some t
     → Holds pool sealed (h ++ Out t w ∷ []) (with_queue queues (queue_of source) (rest_of source (queue_at queues (queue_of source)))) (with_stack stacks w (stack_at stacks w ++ t ∷ [])) hands (changed tree at.key (with_place (Held w))) opens gones

@@ -1,15 +1,15 @@
 //! Tasks are accepted.
 ghost use Rattle.std.specs.Prelude.{◌≡◌, ◌<◌, ◌∷◌, [], None, Some, IfSome, IsSome, true, length, option_map};
-ghost use Rattle.fj_model.specs.declared.event.Event.TheVariants.{Acc, Make};
-ghost use Rattle.fj_model.specs.declared.kind.Kind.TheVariants.{Completer};
-ghost use Rattle.fj_model.specs.Tasks.{accepted, parent_in};
-ghost use Rattle.fj_model.specs.Allowed.{Allowed};
-ghost use Rattle.fj_model.specs.Pasts.{limit};
-ghost use Rattle.fj_model.specs.Runs.{grown};
+ghost use Rattle.fj_rules.specs.declared.event.Event.TheVariants.{Acc, Make};
+ghost use Rattle.fj_rules.specs.declared.kind.Kind.TheVariants.{Completer};
+ghost use Rattle.fj_rules.specs.Tasks.{accepted, parent_in};
+ghost use Rattle.fj_rules.specs.Allowed.{Allowed};
+ghost use Rattle.fj_rules.specs.Pasts.{limit};
+ghost use Rattle.fj_rules.specs.Runs.{grown};
 ghost use Rattle.fj_tree.specs.Records.{handle_of};
 
 use crate::ledger::Ledger;
-use fj_model::{Event, Kind, Owner, Place, Serial};
+use fj_rules::{Event, Kind, Owner, Place, Serial};
 use fj_tree::{Handle, Tree};
 
 impl Ledger {

@@ -1,17 +1,17 @@
 //! Pending counts change, and completers are fired and passed.
 ghost use Rattle.std.specs.Prelude.{◌≡◌, ◌<◌, ◌∷◌, [], None, Some, true, length};
-ghost use Rattle.fj_model.specs.declared.event.Event.TheVariants.{Add, Dec, Fire, Pass};
-ghost use Rattle.fj_model.specs.Hooks.{hand};
-ghost use Rattle.fj_model.specs.Tasks.{is_kept, is_completer};
-ghost use Rattle.fj_model.specs.Allowed.{Allowed};
-ghost use Rattle.fj_model.specs.Pasts.{limit};
-ghost use Rattle.fj_model.specs.Runs.{grown};
+ghost use Rattle.fj_rules.specs.declared.event.Event.TheVariants.{Add, Dec, Fire, Pass};
+ghost use Rattle.fj_rules.specs.Hooks.{hand};
+ghost use Rattle.fj_rules.specs.Tasks.{is_kept, is_completer};
+ghost use Rattle.fj_rules.specs.Allowed.{Allowed};
+ghost use Rattle.fj_rules.specs.Pasts.{limit};
+ghost use Rattle.fj_rules.specs.Runs.{grown};
 ghost use Rattle.fj_ledger.specs.InHands.{goes_to};
 
 use crate::ledger::Ledger;
 use crate::ledger::close::close;
 use crate::ledger::hook::Hook;
-use fj_model::{Event, How, WorkerId};
+use fj_rules::{Event, How, WorkerId};
 use fj_tree::Handle;
 
 impl Ledger {

@@ -1,15 +1,15 @@
 //! Bodies and completion actions end.
 ghost use Rattle.std.specs.Prelude.{◌≡◌, ◌<◌, ◌&&◌, ◌∷◌, [], Some, length, not};
-ghost use Rattle.fj_model.specs.declared.event.Event.TheVariants.{End, Hooked};
-ghost use Rattle.fj_model.specs.Tasks.{is_completer_kind};
-ghost use Rattle.fj_model.specs.Hooks.{hand};
+ghost use Rattle.fj_rules.specs.declared.event.Event.TheVariants.{End, Hooked};
+ghost use Rattle.fj_rules.specs.Tasks.{is_completer_kind};
+ghost use Rattle.fj_rules.specs.Hooks.{hand};
 ghost use Rattle.fj_tree.specs.Arrivals.{is_spent};
-ghost use Rattle.fj_model.specs.Allowed.{Allowed};
-ghost use Rattle.fj_model.specs.Pasts.{limit};
-ghost use Rattle.fj_model.specs.Runs.{grown};
+ghost use Rattle.fj_rules.specs.Allowed.{Allowed};
+ghost use Rattle.fj_rules.specs.Pasts.{limit};
+ghost use Rattle.fj_rules.specs.Runs.{grown};
 
 use crate::ledger::Ledger;
-use fj_model::{Event, Place, WorkerId};
+use fj_rules::{Event, Place, WorkerId};
 use fj_tree::{Handle, Record};
 
 impl Ledger {

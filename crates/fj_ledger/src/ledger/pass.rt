@@ -1,12 +1,12 @@
 //! Where climbs without completion actions end.
 ghost use Rattle.std.specs.Prelude.{◌≡◌, ◌^◌, ◌≤◌, ◌∷◌, [], ◌++◌, true};
-ghost use Rattle.fj_model.specs.declared.event.Event.TheVariants.{End};
-ghost use Rattle.fj_model.specs.Tasks.{is_completer};
-ghost use Rattle.fj_model.specs.Allowed.{Allowed};
+ghost use Rattle.fj_rules.specs.declared.event.Event.TheVariants.{End};
+ghost use Rattle.fj_rules.specs.Tasks.{is_completer};
+ghost use Rattle.fj_rules.specs.Allowed.{Allowed};
 ghost use Rattle.fj_ledger.specs.Climbing.{Climbs};
 
 use crate::ledger::Ledger;
-use fj_model::WorkerId;
+use fj_rules::WorkerId;
 use fj_tree::{Handle, PassEnd};
 
 impl Ledger {

@@ -1,7 +1,7 @@
 //! How far a code is relayed.
 ghost use Rattle.std.specs.Prelude.{◌≡◌, ◌^◌, ◌≤◌, length, true};
-ghost use Rattle.fj_model.specs.Tasks.{is_kept};
-ghost use Rattle.fj_model.specs.Climbs.{relayed};
+ghost use Rattle.fj_rules.specs.Tasks.{is_kept};
+ghost use Rattle.fj_rules.specs.Climbs.{relayed};
 
 use crate::ledger::Ledger;
 use fj_tree::Handle;

@@ -1,14 +1,14 @@
 //! Tasks are forgotten.
 ghost use Rattle.std.specs.Prelude.{◌≡◌, ◌<◌, ◌∷◌, [], true, length};
-ghost use Rattle.fj_model.specs.declared.event.Event.TheVariants.{Rel};
-ghost use Rattle.fj_model.specs.Tasks.{is_kept};
-ghost use Rattle.fj_model.specs.Allowed.{Allowed, has_kept_child};
-ghost use Rattle.fj_model.specs.Pasts.{limit};
-ghost use Rattle.fj_model.specs.Runs.{grown};
+ghost use Rattle.fj_rules.specs.declared.event.Event.TheVariants.{Rel};
+ghost use Rattle.fj_rules.specs.Tasks.{is_kept};
+ghost use Rattle.fj_rules.specs.Allowed.{Allowed, has_kept_child};
+ghost use Rattle.fj_rules.specs.Pasts.{limit};
+ghost use Rattle.fj_rules.specs.Runs.{grown};
 
 use crate::ledger::Ledger;
 use crate::ledger::hook::keep_status;
-use fj_model::Event;
+use fj_rules::Event;
 use fj_tree::Handle;
 
 impl Ledger {

@@ -1,10 +1,10 @@
 //! The history is handed out.
 ghost use Rattle.std.specs.Prelude.{◌≡◌, None, IfOk, OnOk, OnErr, IfErr};
-ghost use Rattle.fj_model.specs.Pasts.{present, gone_since, sealed_now};
-ghost use Rattle.fj_model.specs.Epochs.{seal_refusal, RefusesSeal};
+ghost use Rattle.fj_rules.specs.Pasts.{present, gone_since, sealed_now};
+ghost use Rattle.fj_rules.specs.Epochs.{seal_refusal, RefusesSeal};
 
 use crate::ledger::Ledger;
-use fj_model::{Refusal, Sealed};
+use fj_rules::{Refusal, Sealed};
 use std::alloc::Global;
 
 impl Ledger {

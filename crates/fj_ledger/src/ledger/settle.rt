@@ -1,16 +1,16 @@
 //! Tasks get their status.
 ghost use Rattle.std.specs.Prelude.{◌≡◌, ◌<◌, ◌∷◌, [], true, length};
-ghost use Rattle.fj_model.specs.declared.event.Event.TheVariants.{Settle};
-ghost use Rattle.fj_model.specs.Lists.{is_in};
-ghost use Rattle.fj_model.specs.Tasks.{is_kept};
-ghost use Rattle.fj_model.specs.Allowed.{Allowed};
-ghost use Rattle.fj_model.specs.Pasts.{limit};
-ghost use Rattle.fj_model.specs.Runs.{grown};
+ghost use Rattle.fj_rules.specs.declared.event.Event.TheVariants.{Settle};
+ghost use Rattle.fj_rules.specs.Lists.{is_in};
+ghost use Rattle.fj_rules.specs.Tasks.{is_kept};
+ghost use Rattle.fj_rules.specs.Allowed.{Allowed};
+ghost use Rattle.fj_rules.specs.Pasts.{limit};
+ghost use Rattle.fj_rules.specs.Runs.{grown};
 ghost use Rattle.fj_ledger.specs.Holds.{hook_completers};
 
 use crate::ledger::Ledger;
 use crate::ledger::close::close;
-use fj_model::{Event, Status};
+use fj_rules::{Event, Status};
 use fj_tree::Handle;
 
 impl Ledger {

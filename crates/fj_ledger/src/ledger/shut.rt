@@ -1,15 +1,15 @@
 //! The pool is shut.
 ghost use Rattle.std.specs.Prelude.{◌≡◌, ◌≤◌, ◌<◌, ◌+◌, ◌∷◌, [], ◌++◌, List, ℕ, length, vec_capacity, IsPermutation};
 ghost use Rattle.std.specs.List.Sorted.{IsNonDecreasing};
-ghost use Rattle.fj_model.specs.declared.event.Event.TheVariants.{Close, Stop};
-ghost use Rattle.fj_model.specs.Allowed.{Allowed};
-ghost use Rattle.fj_model.specs.Pasts.{limit};
-ghost use Rattle.fj_model.specs.Runs.{grown};
+ghost use Rattle.fj_rules.specs.declared.event.Event.TheVariants.{Close, Stop};
+ghost use Rattle.fj_rules.specs.Allowed.{Allowed};
+ghost use Rattle.fj_rules.specs.Pasts.{limit};
+ghost use Rattle.fj_rules.specs.Runs.{grown};
 
 use crate::ledger::Ledger;
 use crate::ledger::hook::cancel_released;
 use crate::open::OpenTasks;
-use fj_model::{Event, Serial};
+use fj_rules::{Event, Serial};
 
 impl Ledger {
     /// No submission is accepted from now on: the event `Close`.

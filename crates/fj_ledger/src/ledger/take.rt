@@ -1,35 +1,35 @@
 //! A task is taken from its queue.
 ghost use Rattle.std.specs.Prelude.{◌≡◌, ◌<◌, None, MatchOption, length};
-ghost use Rattle.fj_model.specs.Bounds.{queues_in};
-ghost use Rattle.fj_model.specs.Choices.{choice};
-ghost use Rattle.fj_model.specs.Allowed.{AllowedFrom};
-ghost use Rattle.fj_model.specs.Answers.{taking, taking_says};
-ghost use Rattle.fj_model.specs.Pasts.{limit};
-ghost use Rattle.fj_model.specs.Runs.{grown};
+ghost use Rattle.fj_rules.specs.Bounds.{queues_in};
+ghost use Rattle.fj_rules.specs.Choices.{choice};
+ghost use Rattle.fj_rules.specs.Allowed.{AllowedFrom};
+ghost use Rattle.fj_rules.specs.Answers.{taking, taking_says};
+ghost use Rattle.fj_rules.specs.Pasts.{limit};
+ghost use Rattle.fj_rules.specs.Runs.{grown};
 ghost use Rattle.fj_ledger.specs.Sources.{IsChosenFrom, queue_of, task_at, tasks_there};
 
 use crate::ledger::Ledger;
-use crate::source::{Source, take_from};
-use fj_model::{Event, Mode, Owner, Place, Said, WorkerId};
+use crate::queue_end::{QueueEnd, take_from};
+use fj_rules::{Event, Mode, Owner, Place, Said, WorkerId};
 
 impl Ledger {
     /// Where the worker's next task stands: at the mode's end of its own queue, or at the old end of the first queue that the scan meets.
     /// None if all queues are empty. Precondition: there is such a worker.
     #[inline(always)]
-    pub fn chosen(&self, w: WorkerId, r: u32) -> Option<Source>
+    pub fn chosen(&self, w: WorkerId, r: u32) -> Option<QueueEnd>
         requires { w < self.now.pool.limits.workers }
         ensures { MatchOption result (choice self.now.pool self.now.events w r ≡ None) (IsChosenFrom self.now w r) }
     {
         let own = self.limits.queue_number(Owner::Work(w));
         if self.queues.len(own) > 0 {
             return match self.mode {
-                Mode::Async => Some(Source::Oldest(own)),
-                Mode::Joining => Some(Source::Newest(own)),
+                Mode::Async => Some(QueueEnd::Oldest(own)),
+                Mode::Joining => Some(QueueEnd::Newest(own)),
             };
         }
         match self.queues.first_from(r as usize) {
             None => None,
-            Some(q) => Some(Source::Oldest(q)),
+            Some(q) => Some(QueueEnd::Oldest(q)),
         }
     }
 
@@ -37,7 +37,7 @@ impl Ledger {
     ///
     /// Precondition: there is such a worker, a task stands there, the event may follow the history, and there is room for it.
     #[inline(always)]
-    pub fn take(&mut self, w: WorkerId, source: Source) -> Said
+    pub fn take(&mut self, w: WorkerId, source: QueueEnd) -> Said
         requires worker { w < self.old.pool.limits.workers }
         requires fits { length self.old.events < limit self.old }
         requires queue { queue_of source < queues_in self.old.pool.limits }

@@ -1,15 +1,15 @@
 -- Steps that accept a task.
 use Rattle.std.proofs.Common.{ℕ, ◌≡◌, None, true, refl}
-use Rattle.fj_model.specs.declared.event.Event.TheVariants as event
-use Rattle.fj_model.specs.declared.kind.Kind.{Kind}
-use Rattle.fj_model.specs.declared.kind.Kind.TheVariants.{Completer}
-use Rattle.fj_model.specs.declared.kind.SubmittedKind.{SubmittedKind}
-use Rattle.fj_model.specs.declared.owner.Owner.TheVariants.{Sub, Work}
-use Rattle.fj_model.specs.declared.said.Said.TheVariants as says
-use Rattle.fj_model.specs.declared.step.Step.TheVariants.{Submit, Fork, Trigger}
-use Rattle.fj_model.specs.Tasks.{accepted, submitted_kind}
-use Rattle.fj_model.specs.Answers.{refusals_of, first_that_stands, events_of, reply_of}
-use Rattle.fj_model.specs.Runs.{Past}
+use Rattle.fj_rules.specs.declared.event.Event.TheVariants as event
+use Rattle.fj_rules.specs.declared.kind.Kind.{Kind}
+use Rattle.fj_rules.specs.declared.kind.Kind.TheVariants.{Completer}
+use Rattle.fj_rules.specs.declared.kind.SubmittedKind.{SubmittedKind}
+use Rattle.fj_rules.specs.declared.owner.Owner.TheVariants.{Sub, Work}
+use Rattle.fj_rules.specs.declared.said.Said.TheVariants as says
+use Rattle.fj_rules.specs.declared.step.Step.TheVariants.{Submit, Fork, Trigger}
+use Rattle.fj_rules.specs.Tasks.{accepted, submitted_kind}
+use Rattle.fj_rules.specs.Answers.{refusals_of, first_that_stands, events_of, reply_of}
+use Rattle.fj_rules.specs.Runs.{Past}
 use Rattle.fj_machine.proofs.Outcomes.OneEvent.{IsOf}
 
 pub submits : (now : Past) (s : ℕ) (k : SubmittedKind) → first_that_stands (refusals_of now.pool now.events (Submit s k)) ≡ None

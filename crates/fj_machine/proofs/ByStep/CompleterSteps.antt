@@ -1,14 +1,14 @@
 -- Steps of running tasks that change other completers.
 use Rattle.std.proofs.Common.{ℕ, ◌≡◌, ◌+◌, [], Some, None, true, false, refl}
-use Rattle.fj_model.specs.declared.event.Event.TheVariants as event
-use Rattle.fj_model.specs.declared.said.Said.TheVariants as says
-use Rattle.fj_model.specs.declared.status.Status.TheVariants.{Normal}
-use Rattle.fj_model.specs.declared.step.Step.TheVariants.{Add, QuietRoot}
-use Rattle.fj_model.specs.Climbs.{path}
-use Rattle.fj_model.specs.Completers.{pending}
-use Rattle.fj_model.specs.Statuses.{status, is_undone}
-use Rattle.fj_model.specs.Answers.{refusals_of, first_that_stands, events_of, reply_of, root_of}
-use Rattle.fj_model.specs.Runs.{Past}
+use Rattle.fj_rules.specs.declared.event.Event.TheVariants as event
+use Rattle.fj_rules.specs.declared.said.Said.TheVariants as says
+use Rattle.fj_rules.specs.declared.status.Status.TheVariants.{Normal}
+use Rattle.fj_rules.specs.declared.step.Step.TheVariants.{Add, QuietRoot}
+use Rattle.fj_rules.specs.Climbs.{path}
+use Rattle.fj_rules.specs.Completers.{pending}
+use Rattle.fj_rules.specs.Statuses.{status, is_undone}
+use Rattle.fj_rules.specs.Answers.{refusals_of, first_that_stands, events_of, reply_of, root_of}
+use Rattle.fj_rules.specs.Runs.{Past}
 use Rattle.fj_machine.proofs.Outcomes.OneEvent.{IsOf}
 
 pub adds : (now : Past) (w c n : ℕ) → first_that_stands (refusals_of now.pool now.events (Add w c n)) ≡ None → IsOf now (Add w c n) (event.Add c n)

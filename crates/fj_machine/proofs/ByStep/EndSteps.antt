@@ -2,41 +2,41 @@
 use Rattle.std.proofs.Common.{ℕ, ◌≡◌, ◌+◌, ◌-◌, ◌≤◌, ◌<◌, Bool, true, false, List, [], ◌∷◌, ◌++◌, length, Option, Some, None, refl, ap, sym, ◌∙◌, subst, arith, not}
 use Rattle.std.specs.Prelude.{if◌then◌else◌, nat_lt}
 use Rattle.std.proofs.lemmas.Bool.{eq-eqb, not-false}
-use Rattle.fj_model.specs.Pasts.{limit}
-use Rattle.fj_model.specs.declared.event.Event.{Event}
-use Rattle.fj_model.specs.declared.event.Event.TheVariants as event
-use Rattle.fj_model.specs.declared.event.How.TheVariants.{Complete}
-use Rattle.fj_model.specs.declared.refusal.Refusal.{Refusal}
-use Rattle.fj_model.specs.declared.refusal.Refusal.TheVariants.{LogFull, NotCompleter}
-use Rattle.fj_model.specs.declared.said.Said.{Said}
-use Rattle.fj_model.specs.declared.said.Said.TheVariants as says
-use Rattle.fj_model.specs.declared.status.Status.TheVariants.{Normal}
-use Rattle.fj_model.specs.declared.step.Ending.{Ending}
-use Rattle.fj_model.specs.declared.step.Ending.TheVariants as kind_of
-use Rattle.fj_model.specs.declared.step.Step.TheVariants.{End}
-use Rattle.fj_model.specs.Bounds.{Pool}
-use Rattle.fj_model.specs.Tasks.{is_kept, is_completer}
-use Rattle.fj_model.specs.Stacks.{stack}
-use Rattle.fj_model.specs.Hooks.{hooks, hand, receiver}
-use Rattle.fj_model.specs.Statuses.{status, is_undone}
-use Rattle.fj_model.specs.Completers.{is_spent, pending}
-use Rattle.fj_model.specs.Climbs.{Spent, Counted, Fires}
-use Rattle.fj_model.specs.Allowed.{Allowed, AllowedFrom}
-use Rattle.fj_model.specs.Answers.{running, first_that_stands, refusals_of, events_of, reply_of, after_end, end_says, arriving, is_misfit, no_such_worker, hook_in_hand, nothing_running}
-use Rattle.fj_model.specs.Runs.{Past, Steps, grown}
-use Rattle.fj_model.proofs.Events.Growth.{hooks_more}
-use Rattle.fj_model.proofs.Lists.Members.{get_is_in}
-use Rattle.fj_model.proofs.Places.KeptPlaces.{held_kept}
-use Rattle.fj_model.proofs.Events.KindsKept.{completer_same}
-use Rattle.fj_model.proofs.Events.Spending.{moved_spent}
-use Rattle.fj_model.proofs.Steps.Standing.{all_fail, some_or_none}
-use Rattle.fj_model.proofs.Events.Statuses.{status_same}
+use Rattle.fj_rules.specs.Pasts.{limit}
+use Rattle.fj_rules.specs.declared.event.Event.{Event}
+use Rattle.fj_rules.specs.declared.event.Event.TheVariants as event
+use Rattle.fj_rules.specs.declared.event.How.TheVariants.{Complete}
+use Rattle.fj_rules.specs.declared.refusal.Refusal.{Refusal}
+use Rattle.fj_rules.specs.declared.refusal.Refusal.TheVariants.{LogFull, NotCompleter}
+use Rattle.fj_rules.specs.declared.said.Said.{Said}
+use Rattle.fj_rules.specs.declared.said.Said.TheVariants as says
+use Rattle.fj_rules.specs.declared.status.Status.TheVariants.{Normal}
+use Rattle.fj_rules.specs.declared.step.Ending.{Ending}
+use Rattle.fj_rules.specs.declared.step.Ending.TheVariants as kind_of
+use Rattle.fj_rules.specs.declared.step.Step.TheVariants.{End}
+use Rattle.fj_rules.specs.Bounds.{Pool}
+use Rattle.fj_rules.specs.Tasks.{is_kept, is_completer}
+use Rattle.fj_rules.specs.Stacks.{stack}
+use Rattle.fj_rules.specs.Hooks.{hooks, hand, receiver}
+use Rattle.fj_rules.specs.Statuses.{status, is_undone}
+use Rattle.fj_rules.specs.Completers.{is_spent, pending}
+use Rattle.fj_rules.specs.Climbs.{Spent, Counted, Fires}
+use Rattle.fj_rules.specs.Allowed.{Allowed, AllowedFrom}
+use Rattle.fj_rules.specs.Answers.{running, first_that_stands, refusals_of, events_of, reply_of, after_end, end_says, arriving, is_misfit, no_such_worker, hook_in_hand, nothing_running}
+use Rattle.fj_rules.specs.Runs.{Past, Steps, grown}
+use Rattle.fj_rules.proofs.Events.Growth.{hooks_more}
+use Rattle.fj_rules.proofs.Lists.Members.{get_is_in}
+use Rattle.fj_rules.proofs.Places.KeptPlaces.{held_kept}
+use Rattle.fj_rules.proofs.Events.KindsKept.{completer_same}
+use Rattle.fj_rules.proofs.Events.Spending.{moved_spent}
+use Rattle.fj_rules.proofs.Steps.Standing.{all_fail, some_or_none}
+use Rattle.fj_rules.proofs.Events.Statuses.{status_same}
 use Rattle.fj_ledger.specs.Holds.{IsLawful}
-use Rattle.fj_model.proofs.Events.Hands.{hand_same}
+use Rattle.fj_rules.proofs.Events.Hands.{hand_same}
 use Rattle.fj_ledger.proofs.Paths.EndedArrivals.{ended_arrival}
 use Rattle.fj_machine.proofs.Outcomes.RoomTests.{grown_twice}
 use Rattle.fj_machine.proofs.Outcomes.Stepping.{steps_full, steps_made, may_step}
-use Rattle.fj_model.proofs.Events.Releasing.{kept_same}
+use Rattle.fj_rules.proofs.Events.Releasing.{kept_same}
 
 -- a running task is kept
 pub running_kept : {most : ℕ} (pool : Pool) (h : List Event) (w t : ℕ) → IsLawful pool most h → running h w ≡ Some t → is_kept h t ≡ true

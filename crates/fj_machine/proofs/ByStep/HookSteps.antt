@@ -5,32 +5,32 @@ use Rattle.std.specs.List.{list_any}
 use Rattle.std.proofs.lemmas.Bool.{lt-leb, ne_eqb}
 use Rattle.std.proofs.lemmas.List.{append-nil, length-append}
 use Rattle.std.proofs.lemmas.List.Folds.{list_any-append}
-use Rattle.fj_model.specs.Pasts.{limit}
-use Rattle.fj_model.specs.declared.event.Event.{Event}
-use Rattle.fj_model.specs.declared.event.Event.TheVariants.{Hooked, Settle}
-use Rattle.fj_model.specs.declared.status.Status.TheVariants.{Normal}
-use Rattle.fj_model.specs.declared.refusal.Refusal.TheVariants.{LogFull}
-use Rattle.fj_model.specs.declared.said.Said.{Said}
-use Rattle.fj_model.specs.declared.said.Said.TheVariants as says
-use Rattle.fj_model.specs.declared.step.Step.TheVariants.{HookDone}
-use Rattle.fj_model.specs.Bounds.{Pool}
-use Rattle.fj_model.specs.Lists.{is_in}
-use Rattle.fj_model.specs.Tasks.{is_completer, parent}
-use Rattle.fj_model.specs.Hooks.{hooks, hand, receiver, completer_in}
-use Rattle.fj_model.specs.Statuses.{status, is_undone}
-use Rattle.fj_model.specs.Climbs.{Arrival, Spent, Counted, Early, Fires, arrival}
-use Rattle.fj_model.specs.Allowed.{AllowedFrom, is_fired_by_complete, fires_by_complete}
-use Rattle.fj_model.specs.Answers.{first_that_stands, refusals_of, events_of, reply_of, hook_events, hook_done_says, settling, settling_own, arriving, arriving_says}
-use Rattle.fj_model.specs.Runs.{Past, Steps, grown}
-use Rattle.fj_model.proofs.Events.Growth.{hooks_more, or_false}
-use Rattle.fj_model.proofs.Events.Lawful.{allowed_more}
-use Rattle.fj_model.proofs.Events.Ends.{status_settle}
-use Rattle.fj_model.proofs.Events.Statuses.{status_same}
-use Rattle.fj_model.proofs.Events.KindsKept.{completer_same}
-use Rattle.fj_model.proofs.Completers.Parents.{parent_smaller, parent_completer}
-use Rattle.fj_model.proofs.Completers.Arrivals.{arrival_untouched}
+use Rattle.fj_rules.specs.Pasts.{limit}
+use Rattle.fj_rules.specs.declared.event.Event.{Event}
+use Rattle.fj_rules.specs.declared.event.Event.TheVariants.{Hooked, Settle}
+use Rattle.fj_rules.specs.declared.status.Status.TheVariants.{Normal}
+use Rattle.fj_rules.specs.declared.refusal.Refusal.TheVariants.{LogFull}
+use Rattle.fj_rules.specs.declared.said.Said.{Said}
+use Rattle.fj_rules.specs.declared.said.Said.TheVariants as says
+use Rattle.fj_rules.specs.declared.step.Step.TheVariants.{HookDone}
+use Rattle.fj_rules.specs.Bounds.{Pool}
+use Rattle.fj_rules.specs.Lists.{is_in}
+use Rattle.fj_rules.specs.Tasks.{is_completer, parent}
+use Rattle.fj_rules.specs.Hooks.{hooks, hand, receiver, completer_in}
+use Rattle.fj_rules.specs.Statuses.{status, is_undone}
+use Rattle.fj_rules.specs.Climbs.{Arrival, Spent, Counted, Early, Fires, arrival}
+use Rattle.fj_rules.specs.Allowed.{AllowedFrom, is_fired_by_complete, fires_by_complete}
+use Rattle.fj_rules.specs.Answers.{first_that_stands, refusals_of, events_of, reply_of, hook_events, hook_done_says, settling, settling_own, arriving, arriving_says}
+use Rattle.fj_rules.specs.Runs.{Past, Steps, grown}
+use Rattle.fj_rules.proofs.Events.Growth.{hooks_more, or_false}
+use Rattle.fj_rules.proofs.Events.Lawful.{allowed_more}
+use Rattle.fj_rules.proofs.Events.Ends.{status_settle}
+use Rattle.fj_rules.proofs.Events.Statuses.{status_same}
+use Rattle.fj_rules.proofs.Events.KindsKept.{completer_same}
+use Rattle.fj_rules.proofs.Completers.Parents.{parent_smaller, parent_completer}
+use Rattle.fj_rules.proofs.Completers.Arrivals.{arrival_untouched}
 use Rattle.fj_ledger.specs.Holds.{IsLawful, hook_completers}
-use Rattle.fj_model.proofs.Events.Hands.{hand_same}
+use Rattle.fj_rules.proofs.Events.Hands.{hand_same}
 use Rattle.fj_ledger.proofs.Lists.HookLists.{completers, hand_emptied, worker_found, but_unlisted}
 use Rattle.fj_machine.proofs.Outcomes.RoomTests.{grown_twice}
 use Rattle.fj_machine.proofs.Outcomes.Stepping.{steps_full, steps_made, may_step}

@@ -2,25 +2,25 @@
 use Rattle.std.proofs.Common.{ℕ, ◌≡◌, ◌+◌, ◌-◌, true, List, [], ◌∷◌, ◌++◌, length, map, drop, Option, Some, refl, ap, sym, ◌∙◌, subst, arith, append_assoc, length-append}
 use Rattle.std.proofs.lemmas.List.{append-nil, length-map}
 use Rattle.std.proofs.lemmas.Bool.{eq-eqb}
-use Rattle.fj_model.specs.declared.event.Event.{Event}
-use Rattle.fj_model.specs.declared.event.Event.TheVariants as event
-use Rattle.fj_model.specs.declared.step.Ending.TheVariants as ending
-use Rattle.fj_model.specs.Bounds.{Pool}
-use Rattle.fj_model.specs.Lists.{is_in}
-use Rattle.fj_model.specs.Tasks.{is_kept, is_completer}
-use Rattle.fj_model.specs.Climbs.{arrival, path, passed}
-use Rattle.fj_model.specs.Answers.{root_of, pass_end, pass_says, after_end, end_says}
-use Rattle.fj_model.specs.Allowed.{AllowedFrom}
-use Rattle.fj_model.proofs.Lists.Members.{get_is_in}
-use Rattle.fj_model.proofs.Completers.Parents.{path_completers}
-use Rattle.fj_model.proofs.Completers.Ways.{rest_on_way}
+use Rattle.fj_rules.specs.declared.event.Event.{Event}
+use Rattle.fj_rules.specs.declared.event.Event.TheVariants as event
+use Rattle.fj_rules.specs.declared.step.Ending.TheVariants as ending
+use Rattle.fj_rules.specs.Bounds.{Pool}
+use Rattle.fj_rules.specs.Lists.{is_in}
+use Rattle.fj_rules.specs.Tasks.{is_kept, is_completer}
+use Rattle.fj_rules.specs.Climbs.{arrival, path, passed}
+use Rattle.fj_rules.specs.Answers.{root_of, pass_end, pass_says, after_end, end_says}
+use Rattle.fj_rules.specs.Allowed.{AllowedFrom}
+use Rattle.fj_rules.proofs.Lists.Members.{get_is_in}
+use Rattle.fj_rules.proofs.Completers.Parents.{path_completers}
+use Rattle.fj_rules.proofs.Completers.Ways.{rest_on_way}
 use Rattle.fj_tree.specs.declared.pass.PassHow.{PassHow}
 use Rattle.fj_tree.specs.declared.pass.PassHow.TheVariants as how
 use Rattle.fj_tree.specs.Passes.{PassEnd}
 use Rattle.fj_ledger.specs.Climbing.{IsEnd, EndsAt, Climbs}
 use Rattle.fj_machine.specs.Climbing.{climb_end, climb_says}
-use Rattle.fj_model.proofs.Completers.KeptParents.{path_kept}
-use Rattle.fj_model.proofs.Events.Releasing.{kept_same}
+use Rattle.fj_rules.proofs.Completers.KeptParents.{path_kept}
+use Rattle.fj_rules.proofs.Events.Releasing.{kept_same}
 
 -- what ends the climb, as the history says it
 record IsClimbEnd (h : List Event) (way : List ℕ) (root : Option ℕ) (end : PassEnd) : Type 0 where

@@ -3,15 +3,15 @@ use Rattle.std.proofs.Common.{ℕ, zero, suc, ◌≡◌, ◌+◌, ◌<◌, true,
 use Rattle.std.specs.Prelude.{slice_get}
 use Rattle.std.proofs.lemmas.List.{append-nil, map-append}
 use Rattle.std.proofs.lemmas.Option.{same_Some}
-use Rattle.fj_model.specs.declared.event.Event.{Event}
-use Rattle.fj_model.specs.declared.event.Event.TheVariants.{Pass}
-use Rattle.fj_model.specs.Bounds.{Pool}
-use Rattle.fj_model.specs.Tasks.{tasks, is_completer, parent}
-use Rattle.fj_model.specs.Climbs.{path_up, path, passed}
-use Rattle.fj_model.specs.Allowed.{Allowed, AllowedFrom}
-use Rattle.fj_model.specs.Runs.{Past, grown}
-use Rattle.fj_model.proofs.Events.KindsKept.{completer_same_all, parent_same_all}
-use Rattle.fj_model.proofs.Completers.Ways.{way_split}
+use Rattle.fj_rules.specs.declared.event.Event.{Event}
+use Rattle.fj_rules.specs.declared.event.Event.TheVariants.{Pass}
+use Rattle.fj_rules.specs.Bounds.{Pool}
+use Rattle.fj_rules.specs.Tasks.{tasks, is_completer, parent}
+use Rattle.fj_rules.specs.Climbs.{path_up, path, passed}
+use Rattle.fj_rules.specs.Allowed.{Allowed, AllowedFrom}
+use Rattle.fj_rules.specs.Runs.{Past, grown}
+use Rattle.fj_rules.proofs.Events.KindsKept.{completer_same_all, parent_same_all}
+use Rattle.fj_rules.proofs.Completers.Ways.{way_split}
 
 -- ---- members by place
 

@@ -1,12 +1,12 @@
 -- A code is relayed to one task after another.
 use Rattle.std.proofs.Common.{ℕ, zero, suc, ◌≡◌, ◌<◌, Bool, true, false, List, [], ◌∷◌, ◌++◌, length, refl, ap, sym, arith}
 use Rattle.std.specs.Prelude.{if◌then◌else◌, slice_get}
-use Rattle.fj_model.specs.declared.event.Event.{Event}
-use Rattle.fj_model.specs.Tasks.{kind, parent, parent_in, relay_in}
-use Rattle.fj_model.specs.Statuses.{status, is_undone}
-use Rattle.fj_model.specs.Climbs.{path, path_up, relayed, relayed_along}
-use Rattle.fj_model.specs.Answers.{failing}
-use Rattle.fj_model.proofs.Events.Settling.{settles, settles_kind}
+use Rattle.fj_rules.specs.declared.event.Event.{Event}
+use Rattle.fj_rules.specs.Tasks.{kind, parent, parent_in, relay_in}
+use Rattle.fj_rules.specs.Statuses.{status, is_undone}
+use Rattle.fj_rules.specs.Climbs.{path, path_up, relayed, relayed_along}
+use Rattle.fj_rules.specs.Answers.{failing}
+use Rattle.fj_rules.proofs.Events.Settling.{settles, settles_kind}
 
 begins : (h : List Event) (way : List ℕ) (i : ℕ) → i < length (relayed_along h way) → slice_get way i ≡ slice_get (relayed_along h way) i
 unfolding relayed_along

@@ -2,20 +2,20 @@
 use Rattle.std.proofs.Common.{ℕ, ◌≡◌, Bool, true, false, List, [], ◌∷◌, ◌++◌, length, None, refl, ap, sym, ◌∙◌}
 use Rattle.std.specs.Prelude.{if◌then◌else◌}
 use Rattle.std.proofs.lemmas.List.{length-map}
-use Rattle.fj_model.specs.Pasts.{limit}
-use Rattle.fj_model.specs.declared.event.Event.{Event}
-use Rattle.fj_model.specs.declared.event.Event.TheVariants as event
-use Rattle.fj_model.specs.declared.said.Said.TheVariants as says
-use Rattle.fj_model.specs.declared.status.Status.{Status}
-use Rattle.fj_model.specs.declared.status.Status.TheVariants.{Cancelled}
-use Rattle.fj_model.specs.declared.step.Ending.TheVariants as ending
-use Rattle.fj_model.specs.declared.step.Step.TheVariants.{Fault, Cancel}
-use Rattle.fj_model.specs.Tasks.{is_kept}
-use Rattle.fj_model.specs.Statuses.{status, is_undone}
-use Rattle.fj_model.specs.Climbs.{relayed}
-use Rattle.fj_model.specs.Answers.{refusals_of, first_that_stands, events_of, reply_of, cancel_says, after_end}
-use Rattle.fj_model.specs.Runs.{Past, Steps}
-use Rattle.fj_model.proofs.Events.Settling.{settles, relayed_same, failing_end}
+use Rattle.fj_rules.specs.Pasts.{limit}
+use Rattle.fj_rules.specs.declared.event.Event.{Event}
+use Rattle.fj_rules.specs.declared.event.Event.TheVariants as event
+use Rattle.fj_rules.specs.declared.said.Said.TheVariants as says
+use Rattle.fj_rules.specs.declared.status.Status.{Status}
+use Rattle.fj_rules.specs.declared.status.Status.TheVariants.{Cancelled}
+use Rattle.fj_rules.specs.declared.step.Ending.TheVariants as ending
+use Rattle.fj_rules.specs.declared.step.Step.TheVariants.{Fault, Cancel}
+use Rattle.fj_rules.specs.Tasks.{is_kept}
+use Rattle.fj_rules.specs.Statuses.{status, is_undone}
+use Rattle.fj_rules.specs.Climbs.{relayed}
+use Rattle.fj_rules.specs.Answers.{refusals_of, first_that_stands, events_of, reply_of, cancel_says, after_end}
+use Rattle.fj_rules.specs.Runs.{Past, Steps}
+use Rattle.fj_rules.proofs.Events.Settling.{settles, relayed_same, failing_end}
 use Rattle.fj_ledger.specs.Holds.{IsLawful}
 use Rattle.fj_machine.proofs.Outcomes.OneEvent.{IsOf, only_tells}
 use Rattle.fj_machine.proofs.ByStep.Relaying.{failing_settles, none_relayed}

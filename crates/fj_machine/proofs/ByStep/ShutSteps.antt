@@ -1,13 +1,13 @@
 -- Steps that shut the pool.
 use Rattle.std.proofs.Common.{◌≡◌, true, false, refl}
 use Rattle.std.specs.Prelude.{◌||◌}
-use Rattle.fj_model.specs.Pasts.{limit}
-use Rattle.fj_model.specs.declared.event.Event.TheVariants as event
-use Rattle.fj_model.specs.declared.said.Said.TheVariants as says
-use Rattle.fj_model.specs.declared.step.Step.TheVariants.{Shutdown, Stop}
-use Rattle.fj_model.specs.Allowed.{is_closed, is_stopped}
-use Rattle.fj_model.specs.Answers.{events_of, reply_of}
-use Rattle.fj_model.specs.Runs.{Past, Steps}
+use Rattle.fj_rules.specs.Pasts.{limit}
+use Rattle.fj_rules.specs.declared.event.Event.TheVariants as event
+use Rattle.fj_rules.specs.declared.said.Said.TheVariants as says
+use Rattle.fj_rules.specs.declared.step.Step.TheVariants.{Shutdown, Stop}
+use Rattle.fj_rules.specs.Allowed.{is_closed, is_stopped}
+use Rattle.fj_rules.specs.Answers.{events_of, reply_of}
+use Rattle.fj_rules.specs.Runs.{Past, Steps}
 use Rattle.fj_ledger.specs.Holds.{IsLawful}
 use Rattle.fj_machine.proofs.Outcomes.OneEvent.{IsOf, only_tells}
 use Rattle.fj_machine.proofs.Outcomes.Stepping.{told}

@@ -4,12 +4,12 @@ use Rattle.std.specs.Prelude.{nat_lt, if◌then◌else◌, Result, Ok, Err}
 use Rattle.std.specs.Result.{result_err}
 use Rattle.fj_machine.specs.Outcomes.{FindsRoom}
 use Rattle.std.proofs.lemmas.Bool.{lt-ltb, le-ltb}
-use Rattle.fj_model.specs.declared.kind.SubmittedKind.{SubmittedKind}
-use Rattle.fj_model.specs.declared.refusal.Refusal.{Refusal}
-use Rattle.fj_model.specs.declared.refusal.Refusal.TheVariants.{LogFull}
-use Rattle.fj_model.specs.declared.step.Step.TheVariants.{Submit}
-use Rattle.fj_model.specs.Pasts.{Past, limit}
-use Rattle.fj_model.specs.Answers.{refusal_of, refusals_of, first_that_stands, events_of}
+use Rattle.fj_rules.specs.declared.kind.SubmittedKind.{SubmittedKind}
+use Rattle.fj_rules.specs.declared.refusal.Refusal.{Refusal}
+use Rattle.fj_rules.specs.declared.refusal.Refusal.TheVariants.{LogFull}
+use Rattle.fj_rules.specs.declared.step.Step.TheVariants.{Submit}
+use Rattle.fj_rules.specs.Pasts.{Past, limit}
+use Rattle.fj_rules.specs.Answers.{refusal_of, refusals_of, first_that_stands, events_of}
 
 pub refused_first : (now : Past) (s : ℕ) (k : SubmittedKind) (r : Refusal) → first_that_stands (refusals_of now.pool now.events (Submit s k)) ≡ Some r
     → ◌≡◌ {A = Option Refusal} (Some r) (refusal_of now (Submit s k))

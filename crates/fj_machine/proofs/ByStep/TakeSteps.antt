@@ -2,20 +2,20 @@
 use Rattle.std.proofs.Common.{ℕ, ◌≡◌, ◌+◌, ◌≤◌, List, [], length, Option, Some, None, true, false, refl, ap, sym, subst, ◌∙◌, arith, ⊎_elim}
 use Rattle.std.proofs.lemmas.List.{append-nil}
 use Rattle.std.proofs.lemmas.Bool.{cases_lt}
-use Rattle.fj_model.specs.declared.event.Event.{Event}
-use Rattle.fj_model.specs.declared.refusal.Refusal.TheVariants.{LogFull}
-use Rattle.fj_model.specs.declared.said.Said.{Said}
-use Rattle.fj_model.specs.declared.said.Said.TheVariants as says
-use Rattle.fj_model.specs.declared.step.Step.{Step}
-use Rattle.fj_model.specs.declared.step.Step.TheVariants.{Poll, Help, Join}
-use Rattle.fj_model.specs.Bounds.{Pool}
-use Rattle.fj_model.specs.Choices.{choice}
-use Rattle.fj_model.specs.Statuses.{status, is_undone}
-use Rattle.fj_model.specs.Allowed.{AllowedFrom}
-use Rattle.fj_model.specs.Answers.{first_that_stands, refusals_of, events_of, reply_of, taking, taking_says, status_says}
-use Rattle.fj_model.specs.Pasts.{limit}
-use Rattle.fj_model.specs.Runs.{Past, Steps, grown}
-use Rattle.fj_ledger.specs.declared.source.Source.{Source}
+use Rattle.fj_rules.specs.declared.event.Event.{Event}
+use Rattle.fj_rules.specs.declared.refusal.Refusal.TheVariants.{LogFull}
+use Rattle.fj_rules.specs.declared.said.Said.{Said}
+use Rattle.fj_rules.specs.declared.said.Said.TheVariants as says
+use Rattle.fj_rules.specs.declared.step.Step.{Step}
+use Rattle.fj_rules.specs.declared.step.Step.TheVariants.{Poll, Help, Join}
+use Rattle.fj_rules.specs.Bounds.{Pool}
+use Rattle.fj_rules.specs.Choices.{choice}
+use Rattle.fj_rules.specs.Statuses.{status, is_undone}
+use Rattle.fj_rules.specs.Allowed.{AllowedFrom}
+use Rattle.fj_rules.specs.Answers.{first_that_stands, refusals_of, events_of, reply_of, taking, taking_says, status_says}
+use Rattle.fj_rules.specs.Pasts.{limit}
+use Rattle.fj_rules.specs.Runs.{Past, Steps, grown}
+use Rattle.fj_ledger.specs.declared.queue_end.QueueEnd.{QueueEnd}
 use Rattle.fj_ledger.specs.Holds.{IsLawful}
 use Rattle.fj_ledger.specs.Sources.{IsChosenFrom, tasks_there, task_at}
 use Rattle.fj_ledger.proofs.Lists.Choosing.{end_there}
@@ -57,7 +57,7 @@ takes_none past w r fits is =
       fits = λ room. (rw is refl, rw nothing_taken (ap (λ (es : List Event). let p : Past = record past { events = es } in p) (sym (append-nil past.events))));
     }
 
-pub takes_full : (past : Past) (w r : ℕ) (source : Source) → limit past ≤ length past.events → IsChosenFrom past w r source → TakesChoice past w r (says.Refused LogFull) past
+pub takes_full : (past : Past) (w r : ℕ) (source : QueueEnd) → limit past ≤ length past.events → IsChosenFrom past w r source → TakesChoice past w r (says.Refused LogFull) past
 takes_full past w r source full from =
     let t = end_there source (tasks_there past source) from.filled in
     record {
@@ -66,12 +66,12 @@ takes_full past w r source full from =
     }
 
 -- the one task that stands at the end of a filled queue is taken
-pub takes_one : (past : Past) (w r : ℕ) (source : Source) → IsChosenFrom past w r source → length (taking past.events w (choice past.pool past.events w r)) ≡ 1
+pub takes_one : (past : Past) (w r : ℕ) (source : QueueEnd) → IsChosenFrom past w r source → length (taking past.events w (choice past.pool past.events w r)) ≡ 1
 takes_one past w r source from =
     let t = end_there source (tasks_there past source) from.filled in
     taking_one past.events w (choice past.pool past.events w r) t.0 (from.chosen ∙ t.1)
 
-pub takes_it : (past new : Past) (w r : ℕ) (source : Source) (reply : Said) → length past.events + 1 ≤ limit past → IsChosenFrom past w r source
+pub takes_it : (past new : Past) (w r : ℕ) (source : QueueEnd) (reply : Said) → length past.events + 1 ≤ limit past → IsChosenFrom past w r source
     → reply ≡ taking_says past.events (task_at past source) → new ≡ grown past (taking past.events w (task_at past source)) → TakesChoice past w r reply new
 takes_it past new w r source reply room from said events = record {
   full = λ over. absurd (omega (arith, over, room, takes_one past w r source from));

@@ -1,20 +1,20 @@
 -- What one more move of a run with seals hands out.
 use Rattle.std.proofs.Common.{ℕ, ◌≡◌, ◌+◌, ◌<◌, List, [], ◌∷◌, ◌++◌, length, map, take, get_or, refl, ap, sym, ◌∙◌, append-nil}
 use Rattle.std.proofs.lemmas.List.{map-append, take_more}
-use Rattle.fj_model.specs.declared.event.Event.{Event}
-use Rattle.fj_model.specs.declared.mode.Mode.{Mode}
-use Rattle.fj_model.specs.declared.step.Step.{Step}
-use Rattle.fj_model.specs.declared.said.Said.{Said}
-use Rattle.fj_model.specs.declared.refusal.Refusal.{Refusal}
-use Rattle.fj_model.specs.declared.epoch.Sealed.{Sealed}
-use Rattle.fj_model.specs.declared.epoch.Move.{Move}
-use Rattle.fj_model.specs.declared.epoch.Move.TheVariants as move
-use Rattle.fj_model.specs.declared.epoch.Answer.{Answer}
-use Rattle.fj_model.specs.declared.epoch.Answer.TheVariants as gives
-use Rattle.fj_model.specs.Bounds.{Bounds}
-use Rattle.fj_model.specs.Answers.{answer}
-use Rattle.fj_model.specs.Pasts.{Past, fresh, grown, present, gone_since, sealed_now}
-use Rattle.fj_model.specs.Epochs.{MovesFrom}
+use Rattle.fj_rules.specs.declared.event.Event.{Event}
+use Rattle.fj_rules.specs.declared.mode.Mode.{Mode}
+use Rattle.fj_rules.specs.declared.step.Step.{Step}
+use Rattle.fj_rules.specs.declared.said.Said.{Said}
+use Rattle.fj_rules.specs.declared.refusal.Refusal.{Refusal}
+use Rattle.fj_rules.specs.declared.epoch.Sealed.{Sealed}
+use Rattle.fj_rules.specs.declared.epoch.Move.{Move}
+use Rattle.fj_rules.specs.declared.epoch.Move.TheVariants as move
+use Rattle.fj_rules.specs.declared.epoch.Answer.{Answer}
+use Rattle.fj_rules.specs.declared.epoch.Answer.TheVariants as gives
+use Rattle.fj_rules.specs.Bounds.{Bounds}
+use Rattle.fj_rules.specs.Answers.{answer}
+use Rattle.fj_rules.specs.Pasts.{Past, fresh, grown, present, gone_since, sealed_now}
+use Rattle.fj_rules.specs.Epochs.{MovesFrom}
 use Rattle.fj_machine.specs.Handed.{handed, shown}
 
 -- ---- the law

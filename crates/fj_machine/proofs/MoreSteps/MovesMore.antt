@@ -1,13 +1,13 @@
 -- One more move of a run with seals.
 use Rattle.std.proofs.Common.{ℕ, ◌≡◌, ◌+◌, ◌<◌, List, [], ◌∷◌, ◌++◌, length, take, get_or, sym, ◌∙◌}
 use Rattle.std.proofs.lemmas.List.{take_more}
-use Rattle.fj_model.specs.declared.mode.Mode.{Mode}
-use Rattle.fj_model.specs.declared.epoch.Move.{Move}
-use Rattle.fj_model.specs.declared.epoch.Answer.{Answer}
-use Rattle.fj_model.specs.Bounds.{Bounds, Pool}
-use Rattle.fj_model.specs.Pasts.{Past, fresh}
-use Rattle.fj_model.specs.Epochs.{Moves, MovesFrom, IsPast}
-use Rattle.fj_model.proofs.Steps.AnswersAllowed.{moves_more, move_pool, past_of}
+use Rattle.fj_rules.specs.declared.mode.Mode.{Mode}
+use Rattle.fj_rules.specs.declared.epoch.Move.{Move}
+use Rattle.fj_rules.specs.declared.epoch.Answer.{Answer}
+use Rattle.fj_rules.specs.Bounds.{Bounds, Pool}
+use Rattle.fj_rules.specs.Pasts.{Past, fresh}
+use Rattle.fj_rules.specs.Epochs.{Moves, MovesFrom, IsPast}
+use Rattle.fj_rules.proofs.Steps.AnswersAllowed.{moves_more, move_pool, past_of}
 
 pub move_keeps : (old new : Past) (asked : Move) (given : Answer) (pool : Pool) → old.pool ≡ pool → Moves old asked given new → new.pool ≡ pool
 move_keeps old new asked given pool is made = move_pool old asked given new made ∙ is

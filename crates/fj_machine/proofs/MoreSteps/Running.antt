@@ -1,13 +1,13 @@
 -- One more step of a run.
 use Rattle.std.proofs.Common.{ℕ, ◌≡◌, ◌+◌, ◌<◌, List, [], ◌∷◌, ◌++◌, length, take, get_or, ap, sym, ◌∙◌}
 use Rattle.std.proofs.lemmas.List.{take_more}
-use Rattle.fj_model.specs.declared.mode.Mode.{Mode}
-use Rattle.fj_model.specs.declared.step.Step.{Step}
-use Rattle.fj_model.specs.declared.said.Said.{Said}
-use Rattle.fj_model.specs.Bounds.{Bounds, Pool}
-use Rattle.fj_model.specs.Pasts.{Past, fresh}
-use Rattle.fj_model.specs.Runs.{Steps, Runs}
-use Rattle.fj_model.proofs.Steps.AnswersAllowed.{runs_more}
+use Rattle.fj_rules.specs.declared.mode.Mode.{Mode}
+use Rattle.fj_rules.specs.declared.step.Step.{Step}
+use Rattle.fj_rules.specs.declared.said.Said.{Said}
+use Rattle.fj_rules.specs.Bounds.{Bounds, Pool}
+use Rattle.fj_rules.specs.Pasts.{Past, fresh}
+use Rattle.fj_rules.specs.Runs.{Steps, Runs}
+use Rattle.fj_rules.proofs.Steps.AnswersAllowed.{runs_more}
 
 pub step_pool : (old new : Past) (asked : Step) (said : Said) (given : Pool) → old.pool ≡ given → Steps old asked said new → new.pool ≡ given
 step_pool old new asked said given is step = ap (λ (p : Past). p.pool) step.1 ∙ is

@@ -2,18 +2,18 @@
 use Rattle.std.proofs.Common.{ℕ, ◌≡◌, Bool, true, false, List, [], Some, refl, sym, ap, ◌∙◌, Option, None, Bor}
 use Rattle.std.specs.Prelude.{◌↔◌, IsTrue, MatchOption, option_copied}
 use Rattle.std.proofs.lemmas.Bool.{true≢false}
-use Rattle.fj_model.specs.declared.event.Event.{Event}
-use Rattle.fj_model.specs.declared.place.Place.TheVariants.{Held}
-use Rattle.fj_model.specs.Bounds.{Pool}
-use Rattle.fj_model.specs.Lists.{is_in}
-use Rattle.fj_model.specs.Tasks.{is_kept, is_completer, is_completer_kind, kind}
-use Rattle.fj_model.specs.Completers.{pending, is_spent}
-use Rattle.fj_model.specs.Places.{place}
-use Rattle.fj_model.specs.Stacks.{stack}
-use Rattle.fj_model.specs.Statuses.{status, is_undone}
-use Rattle.fj_model.specs.Allowed.{AllowedFrom}
-use Rattle.fj_model.proofs.Places.OnePlace.{never}
-use Rattle.fj_model.proofs.Places.PlacesKept.{held_of_place, place_held}
+use Rattle.fj_rules.specs.declared.event.Event.{Event}
+use Rattle.fj_rules.specs.declared.place.Place.TheVariants.{Held}
+use Rattle.fj_rules.specs.Bounds.{Pool}
+use Rattle.fj_rules.specs.Lists.{is_in}
+use Rattle.fj_rules.specs.Tasks.{is_kept, is_completer, is_completer_kind, kind}
+use Rattle.fj_rules.specs.Completers.{pending, is_spent}
+use Rattle.fj_rules.specs.Places.{place}
+use Rattle.fj_rules.specs.Stacks.{stack}
+use Rattle.fj_rules.specs.Statuses.{status, is_undone}
+use Rattle.fj_rules.specs.Allowed.{AllowedFrom}
+use Rattle.fj_rules.proofs.Places.OnePlace.{never}
+use Rattle.fj_rules.proofs.Places.PlacesKept.{held_of_place, place_held}
 use Rattle.fj_tree.specs.declared.record.Record.{Record}
 use Rattle.fj_ledger.specs.Holds.{TellsOf}
 use Rattle.std.proofs.lemmas.Option.{MatchOption-at_some}

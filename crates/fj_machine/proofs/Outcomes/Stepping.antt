@@ -2,19 +2,19 @@
 use Rattle.std.proofs.Common.{ℕ, ◌≡◌, ◌+◌, ◌≤◌, ◌<◌, List, [], length, Some, None, refl, ap, sym}
 use Rattle.std.proofs.lemmas.List.{append-nil}
 use Rattle.std.proofs.lemmas.Bool.{le-ltb, lt-ltb}
-use Rattle.fj_model.specs.Pasts.{limit}
-use Rattle.fj_model.specs.declared.event.Event.{Event}
-use Rattle.fj_model.specs.declared.step.Step.{Step}
-use Rattle.fj_model.specs.declared.refusal.Refusal.{Refusal}
-use Rattle.fj_model.specs.declared.refusal.Refusal.TheVariants.{LogFull}
-use Rattle.fj_model.specs.declared.said.Said.{Said}
-use Rattle.fj_model.specs.declared.said.Said.TheVariants as says
-use Rattle.fj_model.specs.Bounds.{Pool}
-use Rattle.fj_model.specs.Allowed.{AllowedFrom}
-use Rattle.fj_model.specs.Answers.{answer, refusal_of, refusals_of, first_that_stands, events_of, reply_of}
-use Rattle.fj_model.specs.Runs.{Past, Steps, grown}
-use Rattle.fj_model.proofs.Steps.Standing.{all_fail}
-use Rattle.fj_model.proofs.Steps.StepsAllowed.{step_allowed}
+use Rattle.fj_rules.specs.Pasts.{limit}
+use Rattle.fj_rules.specs.declared.event.Event.{Event}
+use Rattle.fj_rules.specs.declared.step.Step.{Step}
+use Rattle.fj_rules.specs.declared.refusal.Refusal.{Refusal}
+use Rattle.fj_rules.specs.declared.refusal.Refusal.TheVariants.{LogFull}
+use Rattle.fj_rules.specs.declared.said.Said.{Said}
+use Rattle.fj_rules.specs.declared.said.Said.TheVariants as says
+use Rattle.fj_rules.specs.Bounds.{Pool}
+use Rattle.fj_rules.specs.Allowed.{AllowedFrom}
+use Rattle.fj_rules.specs.Answers.{answer, refusal_of, refusals_of, first_that_stands, events_of, reply_of}
+use Rattle.fj_rules.specs.Runs.{Past, Steps, grown}
+use Rattle.fj_rules.proofs.Steps.Standing.{all_fail}
+use Rattle.fj_rules.proofs.Steps.StepsAllowed.{step_allowed}
 use Rattle.fj_ledger.specs.Holds.{IsLawful}
 
 -- a step that appends nothing leaves everything as it was

@@ -1,13 +1,13 @@
 //! Tasks are submitted, forked and made as triggers.
 ghost use Rattle.std.specs.Prelude.{◌≡◌, Some, IfOk, option_map};
-ghost use Rattle.fj_model.specs.declared.step.Step.TheVariants.{Fork, Submit, Trigger};
-ghost use Rattle.fj_model.specs.Tasks.{parent_in};
-ghost use Rattle.fj_model.specs.Answers.{refusal_of};
+ghost use Rattle.fj_rules.specs.declared.step.Step.TheVariants.{Fork, Submit, Trigger};
+ghost use Rattle.fj_rules.specs.Tasks.{parent_in};
+ghost use Rattle.fj_rules.specs.Answers.{refusal_of};
 ghost use Rattle.fj_machine.specs.Outcomes.{Checks, ChecksFirst, Makes, parent_refusals};
 
 use crate::steps::refuse::{known, room_for, running_task, task_room};
 use fj_ledger::Ledger;
-use fj_model::{Kind, Owner, Refusal, Said, SubId, SubmittedKind, WorkerId};
+use fj_rules::{Kind, Owner, Refusal, Said, SubId, SubmittedKind, WorkerId};
 use fj_tree::Handle;
 
 /// A submitter hands in a task, which goes to the new end of its queue: `ForkJoinPool.submit`.

@@ -1,13 +1,13 @@
 //! Running tasks change completers.
 ghost use Rattle.std.specs.Prelude.{◌≡◌, IfOk};
-ghost use Rattle.fj_model.specs.declared.step.Step.TheVariants.{Add, QuietRoot};
-ghost use Rattle.fj_model.specs.Pasts.{limit};
+ghost use Rattle.fj_rules.specs.declared.step.Step.TheVariants.{Add, QuietRoot};
+ghost use Rattle.fj_rules.specs.Pasts.{limit};
 ghost use Rattle.fj_ledger.specs.Holds.{IsLawful};
 ghost use Rattle.fj_machine.specs.Outcomes.{Checks, Makes};
 
 use crate::steps::refuse::{known, room_for, running_task};
 use fj_ledger::Ledger;
-use fj_model::{MAX_PENDING, Refusal, Said, Serial, Status, WorkerId};
+use fj_rules::{MAX_PENDING, Refusal, Said, Serial, Status, WorkerId};
 use fj_tree::Handle;
 
 /// Raises the pending count of a completer, spent or not: `CountedCompleter.addToPendingCount`.

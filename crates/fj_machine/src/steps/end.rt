@@ -1,6 +1,6 @@
 //! Bodies end, and completion actions in `hook`.
 ghost use Rattle.std.specs.Prelude.{◌≡◌};
-ghost use Rattle.fj_model.specs.declared.step.Step.TheVariants.{End};
+ghost use Rattle.fj_rules.specs.declared.step.Step.TheVariants.{End};
 ghost use Rattle.fj_machine.specs.Outcomes.{FindsEnding, Makes, MayEnd, suits};
 
 mod arrive;
@@ -12,7 +12,7 @@ use crate::steps::end::pass::end_pass;
 use crate::steps::refuse::{room_for, running_task};
 use crate::steps::settle::relay;
 use fj_ledger::Ledger;
-use fj_model::{Ending, How, Refusal, Said, Status, WorkerId};
+use fj_rules::{Ending, How, Refusal, Said, Status, WorkerId};
 use fj_tree::Handle;
 
 /// The body of a worker's running task ends.

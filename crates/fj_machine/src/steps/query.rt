@@ -1,11 +1,11 @@
 //! Steps that change nothing.
 ghost use Rattle.std.specs.Prelude.{◌≡◌, []};
-ghost use Rattle.fj_model.specs.declared.step.Step.TheVariants.{IsQuiescent, State};
-ghost use Rattle.fj_model.specs.Answers.{answer};
+ghost use Rattle.fj_rules.specs.declared.step.Step.TheVariants.{IsQuiescent, State};
+ghost use Rattle.fj_rules.specs.Answers.{answer};
 ghost use Rattle.fj_machine.specs.Outcomes.{said_by};
 
 use fj_ledger::Ledger;
-use fj_model::{Refusal, Said, Serial};
+use fj_rules::{Refusal, Said, Serial};
 
 /// Whether nothing is queued or held and no completion action is in a hand: `ForkJoinPool.isQuiescent`.
 pub fn is_quiescent(ledger: &Ledger) -> Said

@@ -1,12 +1,12 @@
 //! Why a step is refused.
 ghost use Rattle.std.specs.Prelude.{◌≡◌, ◌∷◌, [], Some, IfOk};
-ghost use Rattle.fj_model.specs.Answers.{count_too_large, too_many_tasks, running, unknown_task};
-ghost use Rattle.fj_model.specs.Pasts.{limit};
+ghost use Rattle.fj_rules.specs.Answers.{count_too_large, too_many_tasks, running, unknown_task};
+ghost use Rattle.fj_rules.specs.Pasts.{limit};
 ghost use Rattle.fj_ledger.specs.Holds.{IsLawful};
 ghost use Rattle.fj_machine.specs.Outcomes.{ChecksFirst, FindsRoom, hand_refusals, running_refusals};
 
 use fj_ledger::Ledger;
-use fj_model::{MAX_PENDING, Refusal, Serial, WorkerId};
+use fj_rules::{MAX_PENDING, Refusal, Serial, WorkerId};
 use fj_tree::Handle;
 
 /// A worker that can make a step: there is one, and it has no completion action in hand.

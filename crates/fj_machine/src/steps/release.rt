@@ -1,14 +1,14 @@
 //! Tasks are released.
 ghost use Rattle.std.specs.Prelude.{◌≡◌, IfOk};
-ghost use Rattle.fj_model.specs.declared.step.Step.TheVariants.{Release};
-ghost use Rattle.fj_model.specs.Places.{is_gone};
-ghost use Rattle.fj_model.specs.Pasts.{limit};
+ghost use Rattle.fj_rules.specs.declared.step.Step.TheVariants.{Release};
+ghost use Rattle.fj_rules.specs.Places.{is_gone};
+ghost use Rattle.fj_rules.specs.Pasts.{limit};
 ghost use Rattle.fj_ledger.specs.Holds.{IsLawful};
 ghost use Rattle.fj_machine.specs.Outcomes.{Checks, Makes};
 
 use crate::steps::refuse::{known, room_for};
 use fj_ledger::Ledger;
-use fj_model::{Place, Refusal, Said, Serial};
+use fj_rules::{Place, Refusal, Said, Serial};
 use fj_tree::{Handle, Record};
 
 /// A task that is gone, and that no kept task names as its parent, is forgotten: its number stands for no task any more.

@@ -1,16 +1,16 @@
 //! Tasks are cancelled, and become exceptional.
 ghost use Rattle.std.specs.Prelude.{◌≡◌, ◌≤◌, ◌+◌, length, true};
-ghost use Rattle.fj_model.specs.declared.step.Step.TheVariants.{Cancel, Fault};
-ghost use Rattle.fj_model.specs.Tasks.{is_kept};
-ghost use Rattle.fj_model.specs.Climbs.{relayed};
-ghost use Rattle.fj_model.specs.Allowed.{AllowedFrom};
-ghost use Rattle.fj_model.specs.Pasts.{limit};
-ghost use Rattle.fj_model.specs.Runs.{grown};
+ghost use Rattle.fj_rules.specs.declared.step.Step.TheVariants.{Cancel, Fault};
+ghost use Rattle.fj_rules.specs.Tasks.{is_kept};
+ghost use Rattle.fj_rules.specs.Climbs.{relayed};
+ghost use Rattle.fj_rules.specs.Allowed.{AllowedFrom};
+ghost use Rattle.fj_rules.specs.Pasts.{limit};
+ghost use Rattle.fj_rules.specs.Runs.{grown};
 ghost use Rattle.fj_machine.specs.Outcomes.{Makes, relaying};
 
 use crate::steps::refuse::{known, room_for};
 use fj_ledger::Ledger;
-use fj_model::{Refusal, Said, Serial, Status};
+use fj_rules::{Refusal, Said, Serial, Status};
 use fj_tree::Handle;
 
 /// An undone task becomes cancelled, wherever it is: `ForkJoinTask.cancel`.

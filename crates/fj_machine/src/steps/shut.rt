@@ -1,10 +1,10 @@
 //! The pool is shut.
-ghost use Rattle.fj_model.specs.declared.step.Step.TheVariants.{Shutdown, Stop};
+ghost use Rattle.fj_rules.specs.declared.step.Step.TheVariants.{Shutdown, Stop};
 ghost use Rattle.fj_machine.specs.Outcomes.{Makes};
 
 use crate::steps::refuse::room_for;
 use fj_ledger::Ledger;
-use fj_model::{Refusal, Said};
+use fj_rules::{Refusal, Said};
 
 /// No submission is accepted from now on; what was accepted goes on, and forks are still accepted: `ForkJoinPool.shutdown`.
 pub fn shutdown(ledger: &mut Ledger) -> Result<Said, Refusal>

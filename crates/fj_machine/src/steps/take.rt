@@ -1,18 +1,18 @@
 //! Workers take tasks from the queues.
 ghost use Rattle.std.specs.Prelude.{◌≡◌, ◌<◌, ◌↔◌, IsTrue, IfOk};
-ghost use Rattle.fj_model.specs.Statuses.{status};
-ghost use Rattle.fj_model.specs.declared.place.Place.TheVariants.{Held};
-ghost use Rattle.fj_model.specs.declared.step.Step.TheVariants.{Help, Join, Poll};
-ghost use Rattle.fj_model.specs.Choices.{choice};
-ghost use Rattle.fj_model.specs.Allowed.{AllowedFrom};
-ghost use Rattle.fj_model.specs.Answers.{taking};
-ghost use Rattle.fj_model.specs.Pasts.{limit};
+ghost use Rattle.fj_rules.specs.Statuses.{status};
+ghost use Rattle.fj_rules.specs.declared.place.Place.TheVariants.{Held};
+ghost use Rattle.fj_rules.specs.declared.step.Step.TheVariants.{Help, Join, Poll};
+ghost use Rattle.fj_rules.specs.Choices.{choice};
+ghost use Rattle.fj_rules.specs.Allowed.{AllowedFrom};
+ghost use Rattle.fj_rules.specs.Answers.{taking};
+ghost use Rattle.fj_rules.specs.Pasts.{limit};
 ghost use Rattle.fj_ledger.specs.Holds.{IsLawful};
 ghost use Rattle.fj_machine.specs.Outcomes.{Checks, ChecksFirst, Makes, TakesChoice, idle_refusals, said_by};
 
 use crate::steps::refuse::{free_worker, known, room_for, running_task};
 use fj_ledger::Ledger;
-use fj_model::{Place, Refusal, Said, Serial, Status, WorkerId};
+use fj_rules::{Place, Refusal, Said, Serial, Status, WorkerId};
 
 /// An idle worker takes its choice, if there is one.
 #[inline(always)]

@@ -9,10 +9,10 @@ ghost use Rattle.fj_pool.specs.Looking.{IsQuietBehind, LooksAtLanes, SealsWhere,
 
 use crate::guarded::Guarded;
 use crate::naming::Naming;
+use fj_bodies::{Body, Outcome};
 use fj_core::{Core, Intake};
 use fj_gate::Ticket;
-use fj_model::{Refusal, Sealed, SubId};
-use fj_store::{Body, Outcome};
+use fj_rules::{Refusal, Sealed, SubId};
 use std::alloc::Global;
 
 /// How many tasks a look at the lanes has queued.
@@ -140,9 +140,8 @@ impl<B: Body, N: Naming> Guarded<B, N> {
     }
 
     /// Whether the pool has terminated.
-    pub fn is_terminated(&mut self) -> bool
-        ensures terminated { result ≡ is_finished self.old }
-        ensures same { self.new ≡ self.old }
+    pub fn is_terminated(&self) -> bool
+        ensures { result ≡ is_finished self.now }
     {
         self.core.is_terminated()
     }

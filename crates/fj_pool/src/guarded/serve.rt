@@ -1,9 +1,9 @@
 //! What a worker does in one holding of the lock: what needs no turn of a body is done at once.
 ghost use Rattle.std.specs.Prelude.{◌≡◌, [], None, IfSome, IfNone, IsSome, Err, true, false};
-ghost use Rattle.fj_shelf.specs.Hands.{asker};
-ghost use Rattle.fj_store.specs.Choosing.{Polls};
-ghost use Rattle.fj_store.specs.Fitting.{Fits};
-ghost use Rattle.fj_store.specs.Turns.{AskRight, ToldRight};
+ghost use Rattle.fj_slots.specs.Hands.{asker};
+ghost use Rattle.fj_bodies.specs.Choosing.{Polls};
+ghost use Rattle.fj_bodies.specs.Fitting.{Fits};
+ghost use Rattle.fj_bodies.specs.Turns.{AskRight, ToldRight};
 ghost use Rattle.fj_core.specs.Acting.{Acts};
 ghost use Rattle.fj_core.specs.Closes.{is_finished};
 ghost use Rattle.fj_core.specs.Cores.{ChangesStore};
@@ -16,9 +16,9 @@ use crate::guarded::Guarded;
 use crate::guarded::outside::TakenIn;
 use crate::naming::Naming;
 use crate::next::{MOST_SKIPPED, Next, Unneeded};
-use fj_model::{Refusal, Serial, WorkerId};
-use fj_shelf::Hand;
-use fj_store::{Ask, Body, Heard, Told};
+use fj_bodies::{Ask, Body, Heard, Told};
+use fj_rules::{Refusal, Serial, WorkerId};
+use fj_slots::Hand;
 use std::alloc::Global;
 
 impl<B: Body, N: Naming> Guarded<B, N> {

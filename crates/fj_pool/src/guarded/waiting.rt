@@ -3,17 +3,17 @@ ghost use Rattle.std.specs.Prelude.{◌≡◌};
 
 use crate::guarded::Guarded;
 use crate::naming::Naming;
-use crate::waits::{Due, place_of};
+use crate::waits::{ToWake, place_of};
+use fj_bodies::Body;
 use fj_core::Core;
 use fj_gate::Ticket;
-use fj_model::{Serial, WorkerId};
-use fj_store::Body;
-use fj_waiting::{Sleepers, Wanted};
+use fj_rules::{Serial, WorkerId};
+use fj_sleep::{Sleepers, Wanted};
 
 impl<B: Body, N: Naming> Guarded<B, N> {
     /// Puts into `due` who is to be woken by all that was done since the last call, if anybody is.
     #[inline(always)]
-    pub fn take_due(&mut self, due: &mut Due)
+    pub fn take_due(&mut self, due: &mut ToWake)
         ensures { self.new ≡ self.old }
     {
         self.waits.take_due(due);
@@ -161,7 +161,7 @@ impl<B: Body, N: Naming> Guarded<B, N> {
         ensures { self.new ≡ self.old }
     {
         if self.waits.workers.waits() {
-            tell_joining(&mut self.core, &mut self.waits.workers);
+            tell_joining(&self.core, &mut self.waits.workers);
         }
     }
 
@@ -183,7 +183,7 @@ impl<B: Body, N: Naming> Guarded<B, N> {
         ensures { self.new ≡ self.old }
     {
         if self.waits.seats.waits() {
-            tell_awaiting(&mut self.core, &mut self.waits.seats, self.waits.seats_used);
+            tell_awaiting(&self.core, &mut self.waits.seats, self.waits.seats_used);
         }
         if !self.waits.crowd.is_nothing() {
             self.tell_crowd(None);
@@ -209,9 +209,7 @@ impl<B: Body, N: Naming> Guarded<B, N> {
 }
 
 /// Who sleeps for a task that is done now, or released, is to be woken.
-fn tell_joining<B: Body>(core: &mut Core<B>, workers: &mut Sleepers<Serial>)
-    ensures { core.new ≡ core.old }
-{
+fn tell_joining<B: Body>(core: &Core<B>, workers: &mut Sleepers<Serial>) {
     for worker in 0..core.limits().workers() {
         let place = place_of(WorkerId(worker));
         if let Some(t) = workers.waited_for(place) {
@@ -234,9 +232,7 @@ fn tell_booked<B: Body>(core: &Core<B>, seats: &mut Sleepers<Ticket>, used: usiz
 }
 
 /// Who awaits an outcome that may be told at one of the first seats is to be woken.
-fn tell_awaiting<B: Body>(core: &mut Core<B>, seats: &mut Sleepers<Ticket>, used: usize)
-    ensures { core.new ≡ core.old }
-{
+fn tell_awaiting<B: Body>(core: &Core<B>, seats: &mut Sleepers<Ticket>, used: usize) {
     for seat in 0..used {
         if let Some(ticket) = seats.waited_for(seat) {
             if !core.is_awaited(ticket) {

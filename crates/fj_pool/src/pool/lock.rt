@@ -2,8 +2,8 @@
 use crate::locked::Locked;
 use crate::naming::Naming;
 use crate::pool::Pool;
-use fj_store::Body;
-use fj_waiting::Contention;
+use fj_bodies::Body;
+use fj_sleep::Contention;
 use std::sync::{MutexGuard, Wait};
 use std::{hint, thread};
 

@@ -6,10 +6,10 @@ use crate::glance::Glance;
 use crate::naming::Naming;
 use crate::pool::Pool;
 use crate::pool::work::LONGEST_WAIT;
-use crate::waits::Due;
+use crate::waits::ToWake;
+use fj_bodies::{Body, Outcome};
 use fj_gate::{Closing, Ticket};
-use fj_model::{Refusal, Sealed};
-use fj_store::{Body, Outcome};
+use fj_rules::{Refusal, Sealed};
 use std::sync::Wait;
 use std::time::Duration;
 
@@ -23,7 +23,7 @@ impl<B: Body, N: Naming> Pool<B, N> {
     /// `Unknown` where the outcome was told before, where a body has had the result by a join or a take, or where the pool was shut down or
     /// stopped and all that was admitted was taken in, nothing of it under this ticket. `LogFull` where the core is stuck.
     pub fn await_done<R: Wait>(&self, rt: &R, ticket: Ticket) -> Result<Outcome<B>, Refusal> {
-        let mut due = Due::nobody();
+        let mut due = ToWake::nobody();
         let mut guard = self.lock(rt);
         for _ in rt.forever() {
             let core = &mut *guard;
@@ -48,7 +48,7 @@ impl<B: Body, N: Naming> Pool<B, N> {
     /// The outcome of what was submitted under a ticket, if it can be told now: `ForkJoinTask.isDone`, and `join` where it is. It waits for the
     /// lock alone. None while it is still to come. Refused as [`await_done`](Pool::await_done) is.
     pub fn try_done<R: Wait>(&self, rt: &R, ticket: Ticket) -> Option<Result<Outcome<B>, Refusal>> {
-        let mut due = Due::nobody();
+        let mut due = ToWake::nobody();
         let mut guard = self.lock(rt);
         let core = &mut *guard;
         let answer = core.collect(ticket);
@@ -73,7 +73,7 @@ impl<B: Body, N: Naming> Pool<B, N> {
         if tickets.is_empty() {
             return None;
         }
-        let mut due = Due::nobody();
+        let mut due = ToWake::nobody();
         let mut guard = self.lock(rt);
         for _ in rt.forever() {
             let core = &mut *guard;
@@ -99,7 +99,7 @@ impl<B: Body, N: Naming> Pool<B, N> {
     /// First it looks at the lanes, as a worker does. `Unknown` where the submission stands in its lane all the same, since there is no place
     /// for it, and where its outcome was told and its task is released. `LogFull` where the core is stuck, or the history is full.
     pub fn cancel<R: Wait>(&self, rt: &R, ticket: Ticket) -> Result<bool, Refusal> {
-        let mut due = Due::nobody();
+        let mut due = ToWake::nobody();
         let mut guard = self.lock(rt);
         let core = &mut *guard;
         let answer = core.cancel(self.alloc, ticket);
@@ -125,7 +125,7 @@ impl<B: Body, N: Naming> Pool<B, N> {
     /// It finds its end only where all that was admitted can be taken in: a task keeps its place until its outcome was told.
     pub fn shutdown<R: Wait>(&self, rt: &R, closer: &mut Closer<N>) {
         let number = number_of(closer.close());
-        let mut due = Due::nobody();
+        let mut due = ToWake::nobody();
         let mut guard = self.core.lock(rt);
         let core = &mut *guard;
         core.close_at(number);
@@ -138,7 +138,7 @@ impl<B: Body, N: Naming> Pool<B, N> {
     /// `ForkJoinPool.shutdownNow`. It also serves after a shutdown. A repeat has no effect. What a shutdown needs for its end this needs too.
     pub fn shutdown_now<R: Wait>(&self, rt: &R, closer: &mut Closer<N>) {
         let number = number_of(closer.close());
-        let mut due = Due::nobody();
+        let mut due = ToWake::nobody();
         let mut guard = self.core.lock(rt);
         let core = &mut *guard;
         core.stop_at(number);
@@ -159,7 +159,7 @@ impl<B: Body, N: Naming> Pool<B, N> {
     /// Submissions for which there is no place stay in their lanes, and do not count. Before it takes anything in it seals the history, where
     /// that is due, which takes memory; a refusal of that is ignored.
     pub fn is_quiescent<R: Wait>(&self, rt: &R) -> bool {
-        let mut due = Due::nobody();
+        let mut due = ToWake::nobody();
         let mut guard = self.core.lock(rt);
         let core = &mut *guard;
         let quiescent = core.is_quiescent(self.alloc);

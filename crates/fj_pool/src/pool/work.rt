@@ -9,10 +9,10 @@ use crate::next::{Next, Unneeded};
 use crate::pool::Pool;
 use crate::turns::observed_turn;
 use crate::turnstile::Turnstile;
-use crate::waits::{Due, place_of};
-use fj_model::{Refusal, WorkerId};
-use fj_store::{Ask, Body, Heard};
-use fj_waiting::{Contention, Idle};
+use crate::waits::{ToWake, place_of};
+use fj_bodies::{Ask, Body, Heard};
+use fj_rules::{Refusal, WorkerId};
+use fj_sleep::{Contention, Idle};
 use std::sync::{MutexGuard, Wait};
 use std::thread;
 use std::time::Duration;
@@ -28,7 +28,7 @@ struct Pace {
     /// Whether it has rested, or waited in a join, since it had the lock last.
     slept: bool,
     /// Whom it wakes once it has let the lock go.
-    due: Due,
+    due: ToWake,
 }
 
 /// A thread that works: by what it waits, and who observes it.
@@ -60,7 +60,7 @@ impl<B: Body, N: Naming> Pool<B, N> {
             idle: Idle::new(),
             contention: Contention::new(),
             slept: false,
-            due: Due::nobody(),
+            due: ToWake::nobody(),
         };
         for _ in rt.forever() {
             let next = self.serve(&working, hand, ask, &mut pace);
@@ -124,7 +124,7 @@ impl<B: Body, N: Naming> Pool<B, N> {
     fn let_go(
         &self,
         guard: MutexGuard<'_, Locked<B, N>>,
-        due: &mut Due,
+        due: &mut ToWake,
         unneeded: &mut Unneeded<B>,
     ) {
         drop(guard);
@@ -137,7 +137,7 @@ impl<B: Body, N: Naming> Pool<B, N> {
         &self,
         working: &Working<'_, '_, R, T>,
         guard: MutexGuard<'_, Locked<B, N>>,
-        due: &mut Due,
+        due: &mut ToWake,
         unneeded: &mut Unneeded<B>,
     )
         requires { working.now.worker < length N.hands }

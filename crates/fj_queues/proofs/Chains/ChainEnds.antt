@@ -4,7 +4,7 @@ use Rattle.fj_queues.specs.declared.ends.Ends.{Ends}
 use Rattle.fj_queues.specs.Cells.{older_at, newer_at, AreJoined}
 use Rattle.fj_queues.specs.Chains.{head_or, last_or, Leads, Follows, IsQueue, IsAppended, LosesFirst, LosesLast}
 use Rattle.fj_queues.proofs.Chains.Links.{times_here, times_more, times_at_end, head_named, last_named, last_found, split_last, last_pushed, leads_kept, follows_kept, leads_elsewhere, leads_pushed, leads_popped, follows_pushed, follows_popped, follows_last}
-use Rattle.fj_model.specs.Lists.{times_in}
+use Rattle.fj_rules.specs.Lists.{times_in}
 use Rattle.std.specs.Prelude.{IfSome}
 use Rattle.std.proofs.Common.{arith, ◌+◌, ◌-◌, ℕ, ◌≡◌, ◌≢◌, ◌<◌, ◌≤◌, List, [], ◌∷◌, ◌++◌, length, Option, Some, None, ap, subst, sym, ◌∙◌, refl, length-append}
 

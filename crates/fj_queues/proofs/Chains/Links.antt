@@ -1,6 +1,6 @@
 -- Cells that lead to one another and follow one another, and how often a cell is named.
 use Rattle.fj_queues.specs.Chains.{head_or, last_or, Leads, Follows, walk}
-use Rattle.fj_model.specs.Lists.{times_in, last_of}
+use Rattle.fj_rules.specs.Lists.{times_in, last_of}
 use Rattle.std.proofs.Common.{arith, cond, ◌+◌, ◌-◌, ◌==◌, ℕ, ◌≡◌, ◌≢◌, ◌<◌, ◌≤◌, List, [], ◌∷◌, ◌++◌, length, map, take, slice_get, Bool, true, false, Option, Some, None, ◌⊎◌, inl, inr, ap, sym, ◌∙◌, refl}
 use Rattle.fj_queues.specs.Queues.{without_last}
 use Rattle.std.proofs.Math.Seq.{take-append_seam}
@@ -8,7 +8,7 @@ use Rattle.std.proofs.lemmas.List.{length_push, get_or_push}
 use Rattle.std.proofs.lemmas.Option.{slice_get-get_or}
 use Rattle.std.specs.Option.{is_some}
 use Rattle.std.proofs.lemmas.Bool.{eq-eqb, ne_eqb, eqb-true, eqb-false}
-use Rattle.fj_model.proofs.Lists.Members.{times_in_cons, times_in_append}
+use Rattle.fj_rules.proofs.Lists.Members.{times_in_cons, times_in_append}
 
 pub times_here : (c : ℕ) (cs : List ℕ) → times_in c (c ∷ cs) ≡ 1 + times_in c cs
 times_here c cs = omega (arith, times_in_cons c c cs, ap {B = ℕ} (λ b. cond b 1 0) (eq-eqb c c refl))

@@ -6,7 +6,7 @@ use Rattle.fj_queues.specs.Chains.{IsChain, OnlyThese, walk}
 use Rattle.fj_queues.specs.Queues.{all_in}
 use Rattle.fj_queues.specs.Tables.{no_ends, numbers_from, lists_of}
 use Rattle.fj_queues.proofs.Chains.Links.{leads_kept, follows_kept, walked, map_all, map_kept}
-use Rattle.fj_model.specs.Lists.{times_in}
+use Rattle.fj_rules.specs.Lists.{times_in}
 use Rattle.std.specs.List.{sum_by}
 use Rattle.std.proofs.Common.{arith, ◌+◌, ◌==◌, ℕ, ◌≡◌, ◌≢◌, ◌<◌, ◌≤◌, List, [], ◌∷◌, length, get_or, map, Bool, true, false, None, ap, subst, sym, ◌∙◌, refl}
 use Rattle.std.proofs.Math.ListN.{set}

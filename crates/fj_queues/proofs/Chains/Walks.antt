@@ -4,7 +4,7 @@ use Rattle.fj_queues.specs.Cells.{serial_at, newer_at}
 use Rattle.fj_queues.specs.Chains.{Leads, walk}
 use Rattle.fj_queues.specs.Tables.{numbers_from, IsWalk}
 use Rattle.fj_queues.proofs.Chains.Links.{times_here, times_more, split_first, walked}
-use Rattle.fj_model.specs.Lists.{times_in}
+use Rattle.fj_rules.specs.Lists.{times_in}
 use Rattle.std.proofs.Common.{arith, ◌-◌, ℕ, suc, ◌≡◌, ◌<◌, List, ◌∷◌, length, map, Option, Some, None, ap, subst, sym, ◌∙◌}
 use Rattle.std.proofs.lemmas.List.{length-map}
 

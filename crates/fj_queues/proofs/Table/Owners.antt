@@ -4,7 +4,7 @@ use Rattle.fj_queues.specs.declared.ends.Ends.{Ends}
 use Rattle.fj_queues.specs.Queues.{Lists}
 use Rattle.fj_queues.specs.Tables.{no_ends, numbers_from, lists_of, IsTable}
 use Rattle.fj_queues.proofs.Table.Counts.{none_in}
-use Rattle.fj_model.specs.Lists.{times_in}
+use Rattle.fj_rules.specs.Lists.{times_in}
 use Rattle.std.proofs.Common.{arith, ap, ℕ, zero, suc, List, [], ◌∷◌, Option, None, ◌≡◌, ◌<◌, ◌∙◌, length, replicate, refl}
 use Rattle.std.proofs.lemmas.List.{length-map, length-replicate, get_or-replicate}
 use Rattle.std.proofs.lemmas.List.Folds.{sum_by-replicate}

@@ -8,7 +8,7 @@ use Rattle.fj_queues.specs.Tables.{no_ends, lists_of, IsTable}
 use Rattle.fj_queues.proofs.Chains.Links.{times_here, last_found}
 use Rattle.fj_queues.proofs.Table.TableSteps.{seen, chain_of, filled, filled_lists, given, given_lists, pushed, first_moved, last_moved}
 use Rattle.fj_queues.proofs.Table.Counts.{all_in_written, one_in_all}
-use Rattle.fj_model.specs.Lists.{first_of, last_of}
+use Rattle.fj_rules.specs.Lists.{first_of, last_of}
 use Rattle.std.proofs.Common.{arith, ◌+◌, ◌-◌, ℕ, ◌≡◌, ◌<◌, ◌≤◌, List, [], ◌∷◌, ◌++◌, length, get_or, map, Option, Some, None, ap, sym, ◌∙◌, refl}
 use Rattle.std.proofs.Math.ListN.{set}
 use Rattle.std.proofs.lemmas.List.{length_push, length-drop, length-take}

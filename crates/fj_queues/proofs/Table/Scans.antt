@@ -1,9 +1,9 @@
 -- The scan for the first queue that is not empty.
 use Rattle.fj_queues.specs.Queues.{all_in, first_filled, places_from}
-use Rattle.fj_model.specs.Lists.{is_empty}
+use Rattle.fj_rules.specs.Lists.{is_empty}
 use Rattle.std.specs.List.{range_with_len}
 use Rattle.std.proofs.Common.{arith, cond, zero, suc, ◌+◌, ◌-◌, ◌%◌, Some, None, true, false, ◌∷◌, ℕ, ◌≡◌, ◌<◌, List, [], length, get_or, map, refl, ◌∙◌}
-use Rattle.fj_model.proofs.Lists.Scanning.{comes_to}
+use Rattle.fj_rules.proofs.Lists.Scanning.{comes_to}
 use Rattle.std.proofs.lemmas.List.Sums.{sum_by-cons}
 use Rattle.std.proofs.lemmas.List.FromFn.{get_or-map-range_with_len, length-map-range_with_len}
 

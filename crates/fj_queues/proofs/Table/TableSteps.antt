@@ -8,7 +8,7 @@ use Rattle.fj_queues.specs.Tables.{no_ends, lists_of, times_named, IsTable}
 use Rattle.fj_queues.proofs.Chains.Links.{times_here, times_at_front, times_at_end, one_named, split_first, split_last, without_pushed, newest_pushed, leads_kept}
 use Rattle.fj_queues.proofs.Chains.TableLinks.{AreLinked, chain_in_all, two_in_all, lists_are, all_numbers, linked_anew, lists_anew, linked_still, lists_still}
 use Rattle.fj_queues.proofs.Table.Counts.{all_in_written}
-use Rattle.fj_model.specs.Lists.{times_in, first_of, last_of}
+use Rattle.fj_rules.specs.Lists.{times_in, first_of, last_of}
 use Rattle.std.specs.Prelude.{IfSome}
 use Rattle.std.specs.List.{sum_by}
 use Rattle.std.proofs.Common.{arith, ◌+◌, ℕ, zero, suc, inl, inr, ◌≡◌, ◌≢◌, ◌<◌, ◌≤◌, List, [], ◌∷◌, ◌++◌, length, get_or, map, Option, Some, None, ap, subst, sym, ◌∙◌, refl, length-append}

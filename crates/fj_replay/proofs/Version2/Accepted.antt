@@ -4,22 +4,22 @@ use Rattle.std.specs.Prelude.{if◌then◌else◌}
 use Rattle.std.specs.List.{filter_map, cons_option}
 use Rattle.std.proofs.lemmas.Bool.{le-ltb, ltb-true}
 use Rattle.std.proofs.lemmas.List.Elements.{filter_map-append}
-use Rattle.fj_model.specs.declared.event.Event.{Event}
-use Rattle.fj_model.specs.declared.step.Step.{Step}
-use Rattle.fj_model.specs.declared.said.Said.{Said}
-use Rattle.fj_model.specs.declared.said.Said.TheVariants as says
-use Rattle.fj_model.specs.Lists.{is_in}
-use Rattle.fj_model.specs.Tasks.{accepted, accepted_by, is_kept, tasks}
-use Rattle.fj_model.specs.Headline.{RepliesTell, task_in}
-use Rattle.fj_model.specs.declared.limits.TheConstants.{MAX_EVENTS}
-use Rattle.fj_model.specs.Bounds.{Bounds, IsWithin}
-use Rattle.fj_model.specs.Answers.{answer}
-use Rattle.fj_model.specs.Pasts.{Past}
-use Rattle.fj_model.specs.Runs.{Steps}
-use Rattle.fj_model.specs.Epochs.{IsPast}
-use Rattle.fj_model.proofs.Events.Lawful.{is_numbered}
-use Rattle.fj_model.proofs.Steps.AnswersAllowed.{history_allowed}
-use Rattle.fj_model.proofs.Steps.RunsGrow.{history_fits}
+use Rattle.fj_rules.specs.declared.event.Event.{Event}
+use Rattle.fj_rules.specs.declared.step.Step.{Step}
+use Rattle.fj_rules.specs.declared.said.Said.{Said}
+use Rattle.fj_rules.specs.declared.said.Said.TheVariants as says
+use Rattle.fj_rules.specs.Lists.{is_in}
+use Rattle.fj_rules.specs.Tasks.{accepted, accepted_by, is_kept, tasks}
+use Rattle.fj_rules.specs.Headline.{RepliesTell, task_in}
+use Rattle.fj_rules.specs.declared.limits.TheConstants.{MAX_EVENTS}
+use Rattle.fj_rules.specs.Bounds.{Bounds, IsWithin}
+use Rattle.fj_rules.specs.Answers.{answer}
+use Rattle.fj_rules.specs.Pasts.{Past}
+use Rattle.fj_rules.specs.Runs.{Steps}
+use Rattle.fj_rules.specs.Epochs.{IsPast}
+use Rattle.fj_rules.proofs.Events.Lawful.{is_numbered}
+use Rattle.fj_rules.proofs.Steps.AnswersAllowed.{history_allowed}
+use Rattle.fj_rules.proofs.Steps.RunsGrow.{history_fits}
 use Rattle.fj_replay.specs.Plays.{is_task}
 use Rattle.fj_replay.specs.Scripts.{start}
 

@@ -1,16 +1,17 @@
 -- A step of version 1, and its line of version 2: they ask for the same.
 use Rattle.std.proofs.Common.{ℕ, ◌≡◌, ◌^◌, ◌<◌, ◌≤◌, Bool, true, false, List, Some, None, refl, ap, ◌∙◌, arith, ⊎_elim}
 use Rattle.std.proofs.lemmas.Bool.{cases_lt, lt-ltb, le-ltb}
-use Rattle.fj_model.specs.declared.kind.Kind.{Kind}
-use Rattle.fj_model.specs.declared.kind.Kind.TheVariants as kind
-use Rattle.fj_model.specs.declared.step.Step.{Step}
-use Rattle.fj_model.specs.declared.step.Step.TheVariants as step
-use Rattle.fj_model.specs.Lines.{HasLine, HasSmallKind}
-use Rattle.fj_model.specs.Lines2.{HasLine2, HasSmallNamed}
-use Rattle.fj_model.specs.Tasks.{accepted}
-use Rattle.fj_model.specs.Answers.{answer}
-use Rattle.fj_model.specs.Pasts.{Past}
-use Rattle.fj_model.specs.Epochs.{IsPast}
+use Rattle.fj_rules.specs.declared.kind.Kind.{Kind}
+use Rattle.fj_rules.specs.declared.kind.Kind.TheVariants as kind
+use Rattle.fj_rules.specs.declared.step.Step.{Step}
+use Rattle.fj_rules.specs.declared.step.Step.TheVariants as step
+use Rattle.fj_lines.specs.Names.{IsName}
+use Rattle.fj_lines.specs.Tasks.{IsSmall}
+use Rattle.fj_lines.specs.Lines.{HasSmallForked, forked_of, HasLine, HasLine2}
+use Rattle.fj_rules.specs.Tasks.{accepted}
+use Rattle.fj_rules.specs.Answers.{answer}
+use Rattle.fj_rules.specs.Pasts.{Past}
+use Rattle.fj_rules.specs.Epochs.{IsPast}
 use Rattle.fj_replay.specs.declared.asked.Asked.{Asked}
 use Rattle.fj_replay.specs.declared.asked.Asked.TheVariants as ask
 use Rattle.fj_replay.specs.Namings.{number_of}
@@ -23,15 +24,15 @@ use Rattle.fj_replay.proofs.Version2.Unknown.{same_join, same_add, same_root, sa
 
 -- ---- it has a line
 
-kind_fits : (k : Kind) → HasSmallKind k → HasSmallNamed (named_kind k)
+kind_fits : (k : Kind) → HasSmallForked IsSmall (forked_of k) → HasSmallForked IsName (named_kind k)
 kind_fits kind.Plain fits = tt
 kind_fits (kind.Completer relay count None) fits = (tt, fits.1)
 kind_fits (kind.Completer relay count (Some t)) fits = (task_is_name t fits.0, fits.1)
 
 pub named_fits : (next : ℕ) (asked : Step) → next < 2 ^ 32 → HasLine asked → HasLine2 (named_step next asked)
-named_fits next (step.Submit s k) small fits = (task_is_name next small, fits.0, fits.1)
-named_fits next (step.Fork w k) small fits = (task_is_name next small, fits.0, kind_fits k fits.1)
-named_fits next (step.Trigger w n) small fits = (task_is_name next small, fits.0, fits.1)
+named_fits next (step.Submit s k) small fits = (task_is_name next small, fits.1, fits.2)
+named_fits next (step.Fork w k) small fits = (task_is_name next small, fits.1, kind_fits k fits.2)
+named_fits next (step.Trigger w n) small fits = (task_is_name next small, fits.1, fits.2)
 named_fits next (step.Poll w r) small fits = fits
 named_fits next (step.Help w r) small fits = fits
 named_fits next (step.Join w t r) small fits = (fits.0, task_is_name t fits.1, fits.2)
@@ -82,7 +83,7 @@ read past t small t_small = number_shown (accepted past.events) t (omega (arith,
 itself : (past : Past) (asked : Step) → asked_by (task_names (accepted past.events)) (named_step (accepted past.events) asked) ≡ asks (is_accept asked) (task_name (accepted past.events)) asked → AsksSame past asked
 itself past asked is = record { other = asked; is = is; same = refl }
 
-fork_same : (past : Past) (w : ℕ) (k : Kind) → IsPast past → accepted past.events < 2 ^ 32 → HasSmallKind k → AsksSame past (step.Fork w k)
+fork_same : (past : Past) (w : ℕ) (k : Kind) → IsPast past → accepted past.events < 2 ^ 32 → HasSmallForked IsSmall (forked_of k) → AsksSame past (step.Fork w k)
 fork_same past w kind.Plain run small fits = itself past (step.Fork w kind.Plain) refl
 fork_same past w (kind.Completer relay count None) run small fits = itself past (step.Fork w (kind.Completer relay count None)) refl
 fork_same past w (kind.Completer relay count (Some t)) run small fits = record {
@@ -93,7 +94,7 @@ fork_same past w (kind.Completer relay count (Some t)) run small fits = record {
 
 pub asks_same : (past : Past) (asked : Step) → IsPast past → accepted past.events < 2 ^ 32 → HasLine asked → AsksSame past asked
 asks_same past (step.Submit s k) run small fits = itself past (step.Submit s k) refl
-asks_same past (step.Fork w k) run small fits = fork_same past w k run small fits.1
+asks_same past (step.Fork w k) run small fits = fork_same past w k run small fits.2
 asks_same past (step.Trigger w n) run small fits = itself past (step.Trigger w n) refl
 asks_same past (step.Poll w r) run small fits = itself past (step.Poll w r) refl
 asks_same past (step.Help w r) run small fits = itself past (step.Help w r) refl

@@ -11,18 +11,18 @@ use Rattle.std.proofs.Common.{arith}
 use Rattle.std.proofs.lemmas.List.{append-nil}
 use Rattle.std.proofs.lemmas.List.Folds.{list_all-append}
 use Rattle.std.proofs.lemmas.Str.Parse.{digit_from_value}
-use Rattle.fj_model.specs.declared.kind.Kind.{Kind}
-use Rattle.fj_model.specs.declared.kind.Kind.TheVariants as kind
-use Rattle.fj_model.specs.declared.kind.SubmittedKind.{SubmittedKind}
-use Rattle.fj_model.specs.declared.kind.SubmittedKind.TheVariants as submitted
-use Rattle.fj_model.specs.declared.step.Ending.{Ending}
-use Rattle.fj_model.specs.declared.step.Ending.TheVariants as ending
-use Rattle.fj_model.specs.declared.step.Step.{Step}
-use Rattle.fj_model.specs.declared.step.Step.TheVariants as step
-use Rattle.fj_model.specs.Words.{joined}
-use Rattle.fj_model.specs.Lines.{relay_word, submitted_words, ending_words, HasLine, HasSmallSubmitted, HasSmallKind, HasSmallEnding, IsSmall}
-use Rattle.fj_model.specs.Lines2.{named_parent_word, named_kind_words, line2_words, line2_text}
-use Rattle.fj_model.proofs.Reading.NumberLaws.{number_text}
+use Rattle.fj_rules.specs.declared.kind.Kind.{Kind}
+use Rattle.fj_rules.specs.declared.kind.Kind.TheVariants as kind
+use Rattle.fj_rules.specs.declared.kind.SubmittedKind.{SubmittedKind}
+use Rattle.fj_rules.specs.declared.kind.SubmittedKind.TheVariants as submitted
+use Rattle.fj_rules.specs.declared.step.Ending.{Ending}
+use Rattle.fj_rules.specs.declared.step.Ending.TheVariants as ending
+use Rattle.fj_rules.specs.declared.step.Step.{Step}
+use Rattle.fj_rules.specs.declared.step.Step.TheVariants as step
+use Rattle.fj_lines.specs.Words.{joined}
+use Rattle.fj_lines.specs.Tasks.{IsSmall, names}
+use Rattle.fj_lines.specs.Lines.{relay_word, submitted_words, ending_words, HasLine, HasSmallSubmitted, HasSmallForked, HasSmallEnding, forked_of, word_or_dash, named_kind_words, line2_words, line2_text}
+use Rattle.fj_lines.proofs.Reading.NumberLaws.{number_text}
 use Rattle.fj_replay.specs.Cuts.{cut}
 use Rattle.fj_replay.specs.TaskNames.{task_name, named_kind, named_step}
 use Rattle.fj_replay.proofs.Lines.{yes_or_no}
@@ -91,11 +91,11 @@ submitted_free : (k : SubmittedKind) → HasSmallSubmitted k → list_all is_fre
 submitted_free submitted.Plain fits = refl
 submitted_free (submitted.Completer relay count) fits = rw (number_free count fits, relay_free relay) refl
 
-parent_free : (parent : Option ℕ) → IfSome parent IsSmall → is_free (named_parent_word (option_map task_name parent)) ≡ true
+parent_free : (parent : Option ℕ) → IfSome parent IsSmall → is_free (word_or_dash names.word (option_map task_name parent)) ≡ true
 parent_free None fits = refl
 parent_free (Some t) fits = task_free t fits
 
-kind_free : (k : Kind) → HasSmallKind k → list_all is_free (named_kind_words (named_kind k)) ≡ true
+kind_free : (k : Kind) → HasSmallForked IsSmall (forked_of k) → list_all is_free (named_kind_words (named_kind k)) ≡ true
 kind_free kind.Plain fits = refl
 kind_free (kind.Completer relay count parent) fits = rw (parent_free parent fits.0, number_free count fits.1, relay_free relay) refl
 
@@ -108,9 +108,9 @@ ending_free ending.Complete fits = refl
 ending_free (ending.Fail code) fits = rw (number_free code fits) refl
 
 words_free : (next : ℕ) (asked : Step) → next < 2 ^ 32 → HasLine asked → list_all is_free (line2_words (named_step next asked)) ≡ true
-words_free next (step.Submit s k) small fits = rw (number_free next small, number_free s fits.0, submitted_free k fits.1) refl
-words_free next (step.Fork w k) small fits = rw (number_free next small, number_free w fits.0, kind_free k fits.1) refl
-words_free next (step.Trigger w n) small fits = rw (number_free next small, number_free w fits.0, number_free n fits.1) refl
+words_free next (step.Submit s k) small fits = rw (number_free next small, number_free s fits.1, submitted_free k fits.2) refl
+words_free next (step.Fork w k) small fits = rw (number_free next small, number_free w fits.1, kind_free k fits.2) refl
+words_free next (step.Trigger w n) small fits = rw (number_free next small, number_free w fits.1, number_free n fits.2) refl
 words_free next (step.Poll w r) small fits = rw (number_free w fits.0, number_free r fits.1) refl
 words_free next (step.Help w r) small fits = rw (number_free w fits.0, number_free r fits.1) refl
 words_free next (step.Join w t r) small fits = rw (number_free w fits.0, number_free t fits.1, number_free r fits.2) refl

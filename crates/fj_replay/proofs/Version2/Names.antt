@@ -14,16 +14,16 @@ use Rattle.std.proofs.lemmas.List.Sums.{position_or_len_is}
 use Rattle.std.proofs.lemmas.Option.{unwrap_or-slice_get}
 use Rattle.std.proofs.lemmas.Slice.Eq.{bytes_eq-Decides}
 use Rattle.std.proofs.lemmas.Str.Parse.{digit_from_value}
-use Rattle.fj_model.specs.declared.read.TheConstants.{LINE_FEED}
-use Rattle.fj_model.specs.declared.name.TheConstants.{MAX_NAME}
-use Rattle.fj_model.specs.declared.said.Said.{Said}
-use Rattle.fj_model.specs.Bounds.{Bounds}
-use Rattle.fj_model.specs.Names.{IsName, is_name_byte}
-use Rattle.fj_model.specs.Replies.{reply_words}
-use Rattle.fj_model.specs.Words.{joined}
-use Rattle.fj_model.proofs.Reading.NumberLaws.{number_text}
-use Rattle.fj_model.proofs.Places.OnePlace.{never}
-use Rattle.fj_replay.specs.declared.naming.Naming.TheVariants.{Names}
+use Rattle.fj_lines.specs.declared.read.TheConstants.{LINE_FEED}
+use Rattle.fj_lines.specs.declared.name.TheConstants.{MAX_NAME}
+use Rattle.fj_rules.specs.declared.said.Said.{Said}
+use Rattle.fj_rules.specs.Bounds.{Bounds}
+use Rattle.fj_lines.specs.Names.{IsName, is_name_byte}
+use Rattle.fj_lines.specs.Replies.{reply_words}
+use Rattle.fj_lines.specs.Words.{joined}
+use Rattle.fj_lines.proofs.Reading.NumberLaws.{number_text}
+use Rattle.fj_rules.proofs.Places.OnePlace.{never}
+use Rattle.fj_replay.specs.declared.task_naming.TaskNaming.TheVariants.{Names}
 use Rattle.fj_replay.specs.Namings.{number_of, is_taken, name_of, with_name, task_told, words_by, said_line}
 use Rattle.fj_replay.specs.TaskNames.{task_name}
 use Rattle.fj_replay.specs.Upgrades.{called_line}

@@ -3,36 +3,35 @@ use Rattle.std.specs.Prelude.{Bool, true, false, codes, decimal, if◌then◌els
 use Rattle.std.specs.Option.{option_and_then, option_map_or}
 use Rattle.std.proofs.Common.{ℕ, ◌≡◌, ◌^◌, ◌<◌, ◌≤◌, List, [], ◌∷◌, ◌++◌, refl, ap, sym, subst, ◌∙◌, arith, append_assoc, Option, Some, None}
 use Rattle.std.proofs.lemmas.Bool.{and_parts, leb-true}
-use Rattle.fj_model.specs.declared.read.TheConstants.{LINE_FEED}
-use Rattle.fj_model.specs.declared.limits.TheConstants.{MAX_WORKERS, MAX_SUBMITTERS, MAX_TASKS, MAX_EVENTS}
-use Rattle.fj_model.specs.declared.mode.Mode.{Mode}
-use Rattle.fj_model.specs.declared.step.Step.{Step}
-use Rattle.fj_model.specs.declared.said.Said.{Said}
-use Rattle.fj_model.specs.Bounds.{Bounds, Pool}
-use Rattle.fj_model.specs.Answers.{answer}
-use Rattle.fj_model.specs.Pasts.{Past, grown}
-use Rattle.fj_model.specs.Epochs.{IsPast}
-use Rattle.fj_model.specs.Tasks.{accepted}
-use Rattle.fj_model.specs.Lines.{HasLine, head_in, step_in, reply_line}
-use Rattle.fj_model.specs.Lines2.{line2_text}
-use Rattle.fj_model.proofs.Reading.PartLaws.{some_is, is_text}
-use Rattle.fj_model.proofs.Reading.StepLaws.{step_found}
-use Rattle.fj_model.proofs.Reading2.Line2Again.{line2_again}
-use Rattle.fj_model.proofs.Steps.Replies.{answer_tells}
-use Rattle.fj_model.proofs.Steps.RunsGrow.{history_more}
-use Rattle.fj_replay.specs.declared.naming.Naming.TheVariants.{Numbers, Names}
+use Rattle.fj_lines.specs.declared.read.TheConstants.{LINE_FEED}
+use Rattle.fj_rules.specs.declared.limits.TheConstants.{MAX_WORKERS, MAX_SUBMITTERS, MAX_TASKS, MAX_EVENTS}
+use Rattle.fj_rules.specs.declared.mode.Mode.{Mode}
+use Rattle.fj_rules.specs.declared.step.Step.{Step}
+use Rattle.fj_rules.specs.declared.said.Said.{Said}
+use Rattle.fj_rules.specs.Bounds.{Bounds, Pool}
+use Rattle.fj_rules.specs.Answers.{answer}
+use Rattle.fj_rules.specs.Pasts.{Past, grown}
+use Rattle.fj_rules.specs.Epochs.{IsPast}
+use Rattle.fj_rules.specs.Tasks.{accepted}
+use Rattle.fj_lines.specs.Lines.{HasLine, head_in, step_in, reply_line, line2_text}
+use Rattle.fj_lines.proofs.Reading.PartLaws.{some_is, is_text}
+use Rattle.fj_lines.proofs.Reading.StepLaws.{step_found}
+use Rattle.fj_lines.proofs.Reading.NamedLaws.{line2_again}
+use Rattle.fj_rules.proofs.Steps.Replies.{answer_tells}
+use Rattle.fj_rules.proofs.Steps.RunsGrow.{history_more}
+use Rattle.fj_replay.specs.declared.task_naming.TaskNaming.TheVariants.{Numbers, Names}
 use Rattle.fj_replay.specs.declared.asked.Asked.{Asked}
 use Rattle.fj_replay.specs.declared.asked.Asked.TheVariants as ask
 use Rattle.fj_replay.specs.declared.replied.Replied.TheVariants.{Said as Says}
-use Rattle.fj_replay.specs.declared.stage.Stage.{Stage}
-use Rattle.fj_replay.specs.declared.stage.Stage.TheVariants.{Start, Titled, Plays, Old, Rewrites}
+use Rattle.fj_replay.specs.declared.script_stage.ScriptStage.{ScriptStage}
+use Rattle.fj_replay.specs.declared.script_stage.ScriptStage.TheVariants.{Start, Titled, Plays, Old, Rewrites}
 use Rattle.fj_replay.specs.Cuts.{cut, lines}
 use Rattle.fj_replay.specs.Namings.{name_of, replied_line, task_told, words_by}
 use Rattle.fj_replay.specs.Plays.{Play, asked_in, asked_by, play_after, replied, reply_text, named_if, is_task}
 use Rattle.fj_replay.specs.TaskNames.{task_name, named_step, named_line, titled_head}
-use Rattle.fj_model.specs.Readings.{head_said}
-use Rattle.fj_model.specs.Words.{joined as words_joined, words}
-use Rattle.fj_model.specs.Replies.{reply_words}
+use Rattle.fj_lines.specs.Readings.{head_said}
+use Rattle.fj_lines.specs.Words.{joined as words_joined, words}
+use Rattle.fj_lines.specs.Replies.{reply_words}
 use Rattle.fj_replay.specs.Scripts.{stage_from, is_within, limits_of, pool_of, pool_in, start, rewriting, stage_after, line_text, text_from, text, up, before_those, steps_of, replies, joined, said, numbered_text, is_titled}
 use Rattle.fj_replay.specs.Upgrades.{named_lines, up_by, up_text, called_line, called_lines, called_by, called_text, KeepsReplies, IsNotUpgraded}
 use Rattle.fj_replay.proofs.NameTables.{numbered_line}
@@ -257,7 +256,7 @@ unfolding head_in words head_said
 no_title_head = refl
 
 none_leads : (first : List ℕ) (others : List (List ℕ)) (past : Past) → pool_in first ≡ None → stage_from Old (first ∷ others) ≡ Some (Rewrites past) → ⊥
-none_leads first others past none e = let bad : ◌≡◌ {A = Option Stage} None (Some (Rewrites past)) = rw none at e in cc
+none_leads first others past none e = let bad : ◌≡◌ {A = Option ScriptStage} None (Some (Rewrites past)) = rw none at e in cc
 
 titled_stops : (ls : List (List ℕ)) → is_titled ls ≡ true → (text_from Old ls ≡ []) × ((past : Past) → stage_from Old ls ≡ Some (Rewrites past) → ⊥)
 titled_stops [] titled = absurd cc

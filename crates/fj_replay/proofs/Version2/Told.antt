@@ -2,41 +2,41 @@
 use Rattle.std.proofs.Common.{ℕ, ◌≡◌, ◌-◌, ◌<◌, ◌⊎◌, inl, inr, Bool, true, false, not, List, [], ◌∷◌, ◌++◌, length, drop, Option, Some, None, refl, sym, subst, ◌∙◌, arith}
 use Rattle.std.specs.Prelude.{if◌then◌else◌, IfSome}
 use Rattle.std.proofs.lemmas.Bool.{eq-eqb}
-use Rattle.fj_model.specs.declared.event.Event.{Event}
-use Rattle.fj_model.specs.declared.event.Event.TheVariants as event
-use Rattle.fj_model.specs.declared.status.Status.{Status}
-use Rattle.fj_model.specs.declared.status.Status.TheVariants as status_is
-use Rattle.fj_model.specs.declared.step.Ending.{Ending}
-use Rattle.fj_model.specs.declared.step.Ending.TheVariants.{Ok, Quiet, Try, Pass, Complete, Fail}
-use Rattle.fj_model.specs.declared.step.Step.{Step}
-use Rattle.fj_model.specs.declared.step.Step.TheVariants.{Submit, Fork, Trigger, Poll, Help, Join, End, HookDone, Add, QuietRoot, Fault, Cancel, Shutdown, Stop, IsQuiescent, State, Release}
-use Rattle.fj_model.specs.declared.said.Said.{Said}
-use Rattle.fj_model.specs.declared.said.Said.TheVariants as says
-use Rattle.fj_model.specs.Bounds.{Pool}
-use Rattle.fj_model.specs.Lists.{is_in, last_of}
-use Rattle.fj_model.specs.Tasks.{accepted, is_kept, parent, tasks}
-use Rattle.fj_model.specs.Statuses.{status, is_undone}
-use Rattle.fj_model.specs.Stacks.{stack}
-use Rattle.fj_model.specs.Hooks.{hand}
-use Rattle.fj_model.specs.Completers.{is_spent}
-use Rattle.fj_model.specs.Choices.{choice}
-use Rattle.fj_model.specs.Climbs.{Arrival, arrival, path, passed}
-use Rattle.fj_model.specs.Climbs as climb
-use Rattle.fj_model.specs.Allowed.{AllowedFrom}
-use Rattle.fj_model.specs.Answers.{answer, is_quiet, refusal_of, reply_of, taking_says, status_says, cancel_says, running, arriving_says, root_says, pass_says, end_says, ending_says, root_of, quiet_root_says, hook_says, hook_done_says, settling_own}
-use Rattle.fj_model.specs.Pasts.{Past}
-use Rattle.fj_model.specs.Epochs.{IsPast}
-use Rattle.fj_model.proofs.Lists.Members.{get_is_in}
-use Rattle.fj_model.proofs.Events.KindsKept.{kept_known, completer_known, path_same}
-use Rattle.fj_model.proofs.Events.Lawful.{choice_chosen, chosen_queued, queued_pushed, pushed_known}
-use Rattle.fj_model.proofs.Places.KeptPlaces.{held_kept}
-use Rattle.fj_model.proofs.Completers.Climbed.{hand_climbed}
-use Rattle.fj_model.proofs.Completers.Parents.{parent_known}
-use Rattle.fj_model.proofs.Completers.Ways.{rest_on_way}
-use Rattle.fj_model.proofs.Steps.AnswersAllowed.{climbed_completer, history_allowed}
-use Rattle.fj_model.proofs.Steps.Answered.{Answered, Refuses, Makes, answered}
-use Rattle.fj_model.proofs.Steps.SettlesAllowed.{path_known}
-use Rattle.fj_model.proofs.Steps.Standing.{stands}
+use Rattle.fj_rules.specs.declared.event.Event.{Event}
+use Rattle.fj_rules.specs.declared.event.Event.TheVariants as event
+use Rattle.fj_rules.specs.declared.status.Status.{Status}
+use Rattle.fj_rules.specs.declared.status.Status.TheVariants as status_is
+use Rattle.fj_rules.specs.declared.step.Ending.{Ending}
+use Rattle.fj_rules.specs.declared.step.Ending.TheVariants.{Ok, Quiet, Try, Pass, Complete, Fail}
+use Rattle.fj_rules.specs.declared.step.Step.{Step}
+use Rattle.fj_rules.specs.declared.step.Step.TheVariants.{Submit, Fork, Trigger, Poll, Help, Join, End, HookDone, Add, QuietRoot, Fault, Cancel, Shutdown, Stop, IsQuiescent, State, Release}
+use Rattle.fj_rules.specs.declared.said.Said.{Said}
+use Rattle.fj_rules.specs.declared.said.Said.TheVariants as says
+use Rattle.fj_rules.specs.Bounds.{Pool}
+use Rattle.fj_rules.specs.Lists.{is_in, last_of}
+use Rattle.fj_rules.specs.Tasks.{accepted, is_kept, parent, tasks}
+use Rattle.fj_rules.specs.Statuses.{status, is_undone}
+use Rattle.fj_rules.specs.Stacks.{stack}
+use Rattle.fj_rules.specs.Hooks.{hand}
+use Rattle.fj_rules.specs.Completers.{is_spent}
+use Rattle.fj_rules.specs.Choices.{choice}
+use Rattle.fj_rules.specs.Climbs.{Arrival, arrival, path, passed}
+use Rattle.fj_rules.specs.Climbs as climb
+use Rattle.fj_rules.specs.Allowed.{AllowedFrom}
+use Rattle.fj_rules.specs.Answers.{answer, is_quiet, refusal_of, reply_of, taking_says, status_says, cancel_says, running, arriving_says, root_says, pass_says, end_says, ending_says, root_of, quiet_root_says, hook_says, hook_done_says, settling_own}
+use Rattle.fj_rules.specs.Pasts.{Past}
+use Rattle.fj_rules.specs.Epochs.{IsPast}
+use Rattle.fj_rules.proofs.Lists.Members.{get_is_in}
+use Rattle.fj_rules.proofs.Events.KindsKept.{kept_known, completer_known, path_same}
+use Rattle.fj_rules.proofs.Events.Lawful.{choice_chosen, chosen_queued, queued_pushed, pushed_known}
+use Rattle.fj_rules.proofs.Places.KeptPlaces.{held_kept}
+use Rattle.fj_rules.proofs.Completers.Climbed.{hand_climbed}
+use Rattle.fj_rules.proofs.Completers.Parents.{parent_known}
+use Rattle.fj_rules.proofs.Completers.Ways.{rest_on_way}
+use Rattle.fj_rules.proofs.Steps.AnswersAllowed.{climbed_completer, history_allowed}
+use Rattle.fj_rules.proofs.Steps.Answered.{Answered, Refuses, Makes, answered}
+use Rattle.fj_rules.proofs.Steps.SettlesAllowed.{path_known}
+use Rattle.fj_rules.proofs.Steps.Standing.{stands}
 use Rattle.fj_replay.specs.Namings.{task_told}
 use Rattle.fj_replay.specs.Plays.{is_task}
 use Rattle.fj_replay.proofs.Version2.Accepted.{known_number, after_reply, after_more}

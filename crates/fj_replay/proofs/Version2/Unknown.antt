@@ -1,21 +1,21 @@
 -- An answer does not depend on which number is asked that no task has.
 use Rattle.std.proofs.Common.{ℕ, ◌≡◌, ◌+◌, Bool, true, false, ◌&&◌, ◌||◌, not, List, [], ◌∷◌, ◌++◌, Some, refl, ap, sym, ◌∙◌}
 use Rattle.std.specs.Prelude.{if◌then◌else◌}
-use Rattle.fj_model.specs.declared.kind.Kind.TheVariants.{Completer}
-use Rattle.fj_model.specs.declared.step.Step.{Step}
-use Rattle.fj_model.specs.declared.step.Step.TheVariants.{Fork, Join, Add, QuietRoot, Fault, Cancel, State, Release}
-use Rattle.fj_model.specs.declared.refusal.Refusal.{Refusal}
-use Rattle.fj_model.specs.declared.refusal.Refusal.TheVariants.{Closed, Unknown, OwnStack, NotCompleter, NotDone}
-use Rattle.fj_model.specs.declared.said.Said.TheVariants as says
-use Rattle.fj_model.specs.Lists.{is_in}
-use Rattle.fj_model.specs.Tasks.{is_kept}
-use Rattle.fj_model.specs.Statuses.{status, is_undone}
-use Rattle.fj_model.specs.Stacks.{stack}
-use Rattle.fj_model.specs.Completers.{pending}
-use Rattle.fj_model.specs.Places.{place, is_gone}
-use Rattle.fj_model.specs.Allowed.{has_kept_child, is_stopped}
-use Rattle.fj_model.specs.Answers.{answer, refusal_of, refusals_of, first_that_stands, no_such_worker, hook_in_hand, nothing_running, is_plain_parent, not_a_completer, count_too_large, too_many_tasks}
-use Rattle.fj_model.specs.Pasts.{Past}
+use Rattle.fj_rules.specs.declared.kind.Kind.TheVariants.{Completer}
+use Rattle.fj_rules.specs.declared.step.Step.{Step}
+use Rattle.fj_rules.specs.declared.step.Step.TheVariants.{Fork, Join, Add, QuietRoot, Fault, Cancel, State, Release}
+use Rattle.fj_rules.specs.declared.refusal.Refusal.{Refusal}
+use Rattle.fj_rules.specs.declared.refusal.Refusal.TheVariants.{Closed, Unknown, OwnStack, NotCompleter, NotDone}
+use Rattle.fj_rules.specs.declared.said.Said.TheVariants as says
+use Rattle.fj_rules.specs.Lists.{is_in}
+use Rattle.fj_rules.specs.Tasks.{is_kept}
+use Rattle.fj_rules.specs.Statuses.{status, is_undone}
+use Rattle.fj_rules.specs.Stacks.{stack}
+use Rattle.fj_rules.specs.Completers.{pending}
+use Rattle.fj_rules.specs.Places.{place, is_gone}
+use Rattle.fj_rules.specs.Allowed.{has_kept_child, is_stopped}
+use Rattle.fj_rules.specs.Answers.{answer, refusal_of, refusals_of, first_that_stands, no_such_worker, hook_in_hand, nothing_running, is_plain_parent, not_a_completer, count_too_large, too_many_tasks}
+use Rattle.fj_rules.specs.Pasts.{Past}
 
 -- tests of which one stands have a first that stands, whatever comes behind it
 first_before : (before : List (Bool × Refusal)) → (r : Refusal) × ((behind : List (Bool × Refusal)) → first_that_stands (before ++ (true, Unknown) ∷ behind) ≡ Some r)

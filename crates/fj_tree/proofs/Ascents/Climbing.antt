@@ -5,8 +5,8 @@ use Rattle.std.proofs.Common.{arith, zero, suc, Bool, true, Option, Some, None, 
 use Rattle.std.proofs.lemmas.Bool.{eqb-true}
 use Rattle.std.proofs.lemmas.List.{length-map}
 use Rattle.std.proofs.lemmas.List.Sums.{take_while-cons}
-use Rattle.fj_model.specs.Lists.{is_in}
-use Rattle.fj_model.proofs.Lists.Members.{is_in_append}
+use Rattle.fj_rules.specs.Lists.{is_in}
+use Rattle.fj_rules.proofs.Lists.Members.{is_in_append}
 use Rattle.fj_tree.specs.declared.arrive.Arrived.{Arrived}
 use Rattle.fj_tree.specs.declared.arrive.Arrived.TheVariants.{Counted, Fire, Spent, Early}
 use Rattle.fj_tree.specs.declared.pass.PassHow.{PassHow}

@@ -2,7 +2,7 @@
 use Rattle.std.specs.Prelude.{option_map, option_and_then, if◌then◌else◌, IfSome}
 use Rattle.std.proofs.Common.{arith, Bool, Option, Some, None, ℕ, ◌≡◌, ◌≢◌, ◌≤◌, eq-eqb, ap, sym, ◌∙◌, refl, subst}
 use Rattle.std.proofs.lemmas.Option.{same_Some, none-some}
-use Rattle.fj_model.specs.Tasks.{parent_in, is_completer_kind}
+use Rattle.fj_rules.specs.Tasks.{parent_in, is_completer_kind}
 use Rattle.fj_tree.specs.declared.record.Record.{Record}
 use Rattle.fj_tree.specs.Handles.{Handle}
 use Rattle.fj_tree.specs.Paths.{above}

@@ -2,8 +2,8 @@
 use Rattle.std.specs.Prelude.{option_map, option_and_then, IsTrue}
 use Rattle.std.proofs.Common.{arith, nat_eq, Bool, true, false, eq-eqb, Option, Some, None, ℕ, ◌≡◌, ◌≢◌, ◌+◌, ◌<◌, List, [], ◌∷◌, ◌++◌, length, length-append, ap, sym, ◌∙◌, refl, inl, inr}
 use Rattle.std.proofs.lemmas.Bool.{cases_eq, eqb-true}
-use Rattle.fj_model.specs.declared.place.Place.TheVariants.{Open}
-use Rattle.fj_model.specs.Lists.{is_in}
+use Rattle.fj_rules.specs.declared.place.Place.TheVariants.{Open}
+use Rattle.fj_rules.specs.Lists.{is_in}
 use Rattle.fj_tree.specs.declared.pass.PassHow.{PassHow}
 use Rattle.fj_tree.specs.declared.pass.PassHow.TheVariants as how
 use Rattle.fj_tree.specs.declared.record.Record.{Record}

@@ -4,8 +4,8 @@ use Rattle.slab.proofs.SlabLemmas.{Contains-cons, Contains-cons_cases, Contains-
 use Rattle.fj_tree.specs.declared.record.Record.{Record}
 use Rattle.fj_tree.specs.Handles.{Handle}
 use Rattle.fj_tree.specs.Records.{Records, record_at, record_of, if_numbered, entry_of, handle_of, IsGood, IsCompleter, IsSound}
-use Rattle.fj_model.specs.Tasks.{is_completer_kind}
-use Rattle.fj_model.specs.declared.refusal.Refusal.TheVariants.{NotCompleter}
+use Rattle.fj_rules.specs.Tasks.{is_completer_kind}
+use Rattle.fj_rules.specs.declared.refusal.Refusal.TheVariants.{NotCompleter}
 use Rattle.fj_tree.specs.Makes.{completer_refusal, parent_refusal}
 use Rattle.std.specs.Prelude.{IsSomeAnd, option_map}
 use Rattle.std.proofs.lemmas.Bool.{eqb-true}

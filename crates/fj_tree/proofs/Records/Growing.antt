@@ -4,11 +4,11 @@ use Rattle.std.proofs.Common.{arith, cond, nat_eq, Bool, true, false, Option, So
 use Rattle.std.proofs.lemmas.Bool.{cases_eq, eqb-true}
 use Rattle.std.proofs.lemmas.Option.{same_Some, none-some}
 use Rattle.slab.specs.Slab.{Slab, Updates, get, slab_len}
-use Rattle.fj_model.specs.declared.limits.TheConstants.{MAX_PENDING}
-use Rattle.fj_model.specs.declared.kind.Kind.{Kind}
-use Rattle.fj_model.specs.declared.place.Place.{Place}
-use Rattle.fj_model.specs.declared.status.Status.TheVariants.{Undone}
-use Rattle.fj_model.specs.Tasks.{parent_in, count_in, is_completer_kind}
+use Rattle.fj_rules.specs.declared.limits.TheConstants.{MAX_PENDING}
+use Rattle.fj_rules.specs.declared.kind.Kind.{Kind}
+use Rattle.fj_rules.specs.declared.place.Place.{Place}
+use Rattle.fj_rules.specs.declared.status.Status.TheVariants.{Undone}
+use Rattle.fj_rules.specs.Tasks.{parent_in, count_in, is_completer_kind}
 use Rattle.fj_tree.specs.declared.record.Record.{Record}
 use Rattle.fj_tree.specs.Handles.{Handle}
 use Rattle.fj_tree.specs.Makes.{fresh, with_child, with_child_of}

@@ -3,8 +3,8 @@ use Rattle.std.specs.Prelude.{option_map, if◌then◌else◌, IsSome, IsSomeAnd
 use Rattle.std.proofs.Common.{arith, cond, Bool, true, false, Option, Some, None, ℕ, ◌≡◌, ◌≢◌, ◌+◌, ◌≤◌, eq-eqb, ap, sym, ◌∙◌, refl, subst}
 use Rattle.std.proofs.lemmas.Option.{same_Some, none-some}
 use Rattle.slab.specs.Slab.{Slab, Updates, get, slab_len}
-use Rattle.fj_model.specs.declared.kind.Kind.{Kind}
-use Rattle.fj_model.specs.Tasks.{parent_in, is_completer_kind}
+use Rattle.fj_rules.specs.declared.kind.Kind.{Kind}
+use Rattle.fj_rules.specs.Tasks.{parent_in, is_completer_kind}
 use Rattle.fj_tree.specs.declared.record.Record.{Record}
 use Rattle.fj_tree.specs.Handles.{Handle}
 use Rattle.fj_tree.specs.Paths.{above}

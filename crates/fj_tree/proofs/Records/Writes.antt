@@ -1,13 +1,13 @@
 -- One record is read or changed.
-use Rattle.fj_model.specs.declared.limits.TheConstants.{MAX_PENDING}
-use Rattle.fj_model.specs.declared.place.Place.{Place}
-use Rattle.fj_model.specs.declared.status.Status.{Status}
+use Rattle.fj_rules.specs.declared.limits.TheConstants.{MAX_PENDING}
+use Rattle.fj_rules.specs.declared.place.Place.{Place}
+use Rattle.fj_rules.specs.declared.status.Status.{Status}
 use Rattle.fj_tree.specs.declared.record.Record.{Record}
 use Rattle.fj_tree.specs.declared.arrive.Arrived.{Arrived}
 use Rattle.fj_tree.specs.declared.arrive.Arrived.TheVariants.{Counted, Fire, Spent, Early}
 use Rattle.fj_tree.specs.Arrivals.{arrived}
-use Rattle.fj_model.specs.declared.kind.Kind.{Kind}
-use Rattle.fj_model.specs.Tasks.{parent_in, is_completer_kind}
+use Rattle.fj_rules.specs.declared.kind.Kind.{Kind}
+use Rattle.fj_rules.specs.Tasks.{parent_in, is_completer_kind}
 use Rattle.fj_tree.specs.Records.{Records, IsSound, IsSoundRecord, HasCompleter, changed, record_at, count, is_named, names_parent}
 use Rattle.fj_tree.proofs.Records.Counts.{count_alike}
 use Rattle.std.specs.Prelude.{is_some, option_map}

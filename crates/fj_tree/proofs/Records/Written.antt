@@ -2,8 +2,8 @@
 use Rattle.std.specs.Prelude.{option_map, if◌then◌else◌, ◌||◌}
 use Rattle.std.proofs.Common.{arith, nat_eq, Bool, true, false, eq-eqb, Option, Some, None, ℕ, ◌≡◌, ◌≢◌, ◌<◌, List, [], ◌∷◌, ◌++◌, ap, sym, ◌∙◌, refl, inl, inr}
 use Rattle.std.proofs.lemmas.Bool.{cases_eq, eqb-true}
-use Rattle.fj_model.specs.Lists.{is_in}
-use Rattle.fj_model.proofs.Lists.Members.{is_in_append}
+use Rattle.fj_rules.specs.Lists.{is_in}
+use Rattle.fj_rules.proofs.Lists.Members.{is_in_append}
 use Rattle.fj_tree.specs.declared.record.Record.{Record}
 use Rattle.fj_tree.specs.Handles.{Handle}
 use Rattle.fj_tree.specs.Records.{Records, IsSound, IsGood, record_at, changed, count}

@@ -4,7 +4,7 @@ ghost use Rattle.fj_tree.specs.Cancels.{if_undone_cancelled};
 ghost use Rattle.fj_tree.specs.Records.{ChangesEach, KeepsOthers, count, record_at};
 
 use crate::tree::Tree;
-use fj_model::Status;
+use fj_rules::Status;
 
 impl Tree {
     /// Makes every undone record cancelled, as `ForkJoinPool.shutdownNow` does. All else stays.

@@ -1,11 +1,11 @@
 //! The closing of all open tasks.
 ghost use Rattle.std.specs.Prelude.{◌≡◌, option_map};
-ghost use Rattle.fj_model.specs.Places.{is_open};
+ghost use Rattle.fj_rules.specs.Places.{is_open};
 ghost use Rattle.fj_tree.specs.Closes.{if_open_gone};
 ghost use Rattle.fj_tree.specs.Records.{ChangesEach, KeepsOthers, count, record_at};
 
 use crate::tree::Tree;
-use fj_model::Place;
+use fj_rules::Place;
 
 impl Tree {
     /// Makes every open record gone. All else stays.

@@ -6,7 +6,7 @@ ghost use Rattle.fj_tree.specs.Relays.{after_relay, is_undone_at, next_relayed, 
 
 use crate::handle::Handle;
 use crate::tree::Tree;
-use fj_model::Status;
+use fj_rules::Status;
 
 impl Tree {
     /// How many get a status that is relayed from a task, itself counted, which is what [`Tree::relay_up`] answers. Precondition: a good

@@ -7,7 +7,7 @@ ghost use Rattle.fj_tree.specs.Releases.{release_refusal, without_child_of};
 
 use crate::handle::Handle;
 use crate::tree::Tree;
-use fj_model::{Place, Refusal};
+use fj_rules::{Place, Refusal};
 
 impl Tree {
     /// Forgets a task. Refused, with nothing changed, by `Unknown` if the handle is not good, and `NotDone` if the task is not gone

@@ -1,8 +1,8 @@
 use Rattle.std.proofs.Common.{◌≡◌, map, refl, rules, subst}
 use Rattle.std.proofs.lemmas.List.{take_all}
-use Rattle.fj_model.specs.Pasts.{fresh}
-use Rattle.fj_model.specs.Epochs.{MovesFrom}
-use Rattle.fj_model.proofs.Headline.Parting.{fits_none}
+use Rattle.fj_rules.specs.Pasts.{fresh}
+use Rattle.fj_rules.specs.Epochs.{MovesFrom}
+use Rattle.fj_rules.proofs.Headline.Parting.{fits_none}
 use Rattle.fj_machine.specs.Handed.{handed, shown}
 use Rattle.fj_machine.proofs.MoreSteps.MovesMore.{move_keeps, run_move}
 use Rattle.fj_machine.proofs.MoreSteps.HandedMore.{none_handed, run_hands}

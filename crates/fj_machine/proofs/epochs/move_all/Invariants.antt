@@ -1,7 +1,7 @@
 use Rattle.std.proofs.Common.{◌≡◌, map, take}
-use Rattle.fj_model.specs.Pasts.{fresh}
-use Rattle.fj_model.specs.Epochs.{MovesFrom}
-use Rattle.fj_model.specs.Parts.{Fits}
+use Rattle.fj_rules.specs.Pasts.{fresh}
+use Rattle.fj_rules.specs.Epochs.{MovesFrom}
+use Rattle.fj_rules.specs.Parts.{Fits}
 use Rattle.fj_machine.specs.Handed.{handed, shown}
 use Rattle.fj_machine.proofs.epochs.move_all.Given as goal
 

@@ -1,11 +1,11 @@
 use Rattle.std.proofs.Common.{◌≡◌, ◌∙◌, ap, map, subst}
-use Rattle.fj_model.specs.Pasts.{Past, fresh}
-use Rattle.fj_model.specs.Headline.{Headline}
-use Rattle.fj_model.specs.Epochs.{IsPast, MovesFrom}
-use Rattle.fj_model.proofs.Headline.Headlines.{headline}
-use Rattle.fj_model.proofs.Completers.OwnFirings.{fires_by_complete_only_own}
-use Rattle.fj_model.proofs.Steps.Replies.{moves_tell}
-use Rattle.fj_model.proofs.Headline.Parting.{parts_joined, gone_joined}
+use Rattle.fj_rules.specs.Pasts.{Past, fresh}
+use Rattle.fj_rules.specs.Headline.{Headline}
+use Rattle.fj_rules.specs.Epochs.{IsPast, MovesFrom}
+use Rattle.fj_rules.proofs.Headline.Headlines.{headline}
+use Rattle.fj_rules.proofs.Completers.OwnFirings.{fires_by_complete_only_own}
+use Rattle.fj_rules.proofs.Steps.Replies.{moves_tell}
+use Rattle.fj_rules.proofs.Headline.Parting.{parts_joined, gone_joined}
 use Rattle.fj_machine.specs.Handed.{handed, shown}
 use Rattle.fj_machine.proofs.MoreSteps.MovesMore.{run_past}
 use Rattle.fj_machine.proofs.epochs.run_epochs.Goals as goal

@@ -1,18 +1,18 @@
 //! Arrivals at completers.
 ghost use Rattle.std.specs.Prelude.{◌≡◌, ◌<◌, ◌≤◌, ◌+◌, None, Some, true, length};
-ghost use Rattle.fj_model.specs.Tasks.{is_completer};
-ghost use Rattle.fj_model.specs.Hooks.{hand};
-ghost use Rattle.fj_model.specs.Climbs.{arrival};
-ghost use Rattle.fj_model.specs.Allowed.{AllowedFrom};
-ghost use Rattle.fj_model.specs.Answers.{arriving, arriving_says};
-ghost use Rattle.fj_model.specs.Pasts.{limit};
-ghost use Rattle.fj_model.specs.Runs.{grown};
+ghost use Rattle.fj_rules.specs.Tasks.{is_completer};
+ghost use Rattle.fj_rules.specs.Hooks.{hand};
+ghost use Rattle.fj_rules.specs.Climbs.{arrival};
+ghost use Rattle.fj_rules.specs.Allowed.{AllowedFrom};
+ghost use Rattle.fj_rules.specs.Answers.{arriving, arriving_says};
+ghost use Rattle.fj_rules.specs.Pasts.{limit};
+ghost use Rattle.fj_rules.specs.Runs.{grown};
 ghost use Rattle.fj_ledger.specs.Arriving.{as_arrival};
 ghost use Rattle.fj_ledger.specs.Holds.{IsLawful};
 ghost use Rattle.fj_ledger.specs.InHands.{goes_to};
 
 use fj_ledger::Ledger;
-use fj_model::{How, Said, WorkerId};
+use fj_rules::{How, Said, WorkerId};
 use fj_tree::{Arrived, Handle};
 
 /// What an arrival at a completer would do. One that was released is spent.

@@ -1,18 +1,18 @@
 //! Completion actions end.
 ghost use Rattle.std.specs.Prelude.{◌≡◌, ◌<◌, ◌&&◌, IfOk, None, Some};
-ghost use Rattle.fj_model.specs.Hooks.{hand};
-ghost use Rattle.fj_model.specs.Tasks.{parent};
-ghost use Rattle.fj_model.specs.Statuses.{status, is_undone};
-ghost use Rattle.fj_model.specs.Allowed.{is_fired_by_complete};
-ghost use Rattle.fj_model.specs.Pasts.{limit};
+ghost use Rattle.fj_rules.specs.Hooks.{hand};
+ghost use Rattle.fj_rules.specs.Tasks.{parent};
+ghost use Rattle.fj_rules.specs.Statuses.{status, is_undone};
+ghost use Rattle.fj_rules.specs.Allowed.{is_fired_by_complete};
+ghost use Rattle.fj_rules.specs.Pasts.{limit};
 ghost use Rattle.fj_ledger.specs.Holds.{IsLawful, TellsHook, is_complete};
-ghost use Rattle.fj_model.specs.declared.step.Step.TheVariants.{HookDone};
+ghost use Rattle.fj_rules.specs.declared.step.Step.TheVariants.{HookDone};
 ghost use Rattle.fj_machine.specs.Outcomes.{Checks, Makes};
 
 use crate::steps::end::arrive::{arrival, arrival_events, arrive};
 use crate::steps::refuse::room_for;
 use fj_ledger::{Hook, Ledger};
-use fj_model::{How, Refusal, Said, Status, WorkerId};
+use fj_rules::{How, Refusal, Said, Status, WorkerId};
 use fj_tree::Handle;
 
 /// The completion action in a worker's hand ends, and the parent of its completer is arrived at.

@@ -1,18 +1,18 @@
 //! The end of a body from which a climb goes up without completion actions.
 ghost use Rattle.std.specs.Prelude.{◌≡◌, ◌≤◌, ◌+◌, true, length, map};
-ghost use Rattle.fj_model.specs.declared.event.Event.TheVariants as event;
-ghost use Rattle.fj_model.specs.declared.step.Step.TheVariants.{End};
-ghost use Rattle.fj_model.specs.Tasks.{is_kept, is_completer};
-ghost use Rattle.fj_model.specs.Climbs.{passed};
-ghost use Rattle.fj_model.specs.Allowed.{AllowedFrom};
-ghost use Rattle.fj_model.specs.Pasts.{limit};
-ghost use Rattle.fj_model.specs.Runs.{grown};
+ghost use Rattle.fj_rules.specs.declared.event.Event.TheVariants as event;
+ghost use Rattle.fj_rules.specs.declared.step.Step.TheVariants.{End};
+ghost use Rattle.fj_rules.specs.Tasks.{is_kept, is_completer};
+ghost use Rattle.fj_rules.specs.Climbs.{passed};
+ghost use Rattle.fj_rules.specs.Allowed.{AllowedFrom};
+ghost use Rattle.fj_rules.specs.Pasts.{limit};
+ghost use Rattle.fj_rules.specs.Runs.{grown};
 ghost use Rattle.fj_machine.specs.Outcomes.{Makes, MayEnd};
 ghost use Rattle.fj_machine.specs.Climbing.{climb_end, climb_says};
 
 use crate::steps::refuse::room_for;
 use fj_ledger::Ledger;
-use fj_model::{Ending, Refusal, Said, Status, WorkerId};
+use fj_rules::{Ending, Refusal, Said, Status, WorkerId};
 use fj_tree::{Handle, PassHow};
 
 /// The end of a completer's body, after which a climb passes each completer that would fire, up to the first that would not:

@@ -2,9 +2,9 @@ use Rattle.std.proofs.Common.{◌≡◌, ◌<◌, ◌+◌, ◌∷◌, [], ◌++�
 use Rattle.std.specs.Prelude.{slice_get, slice_set}
 use Rattle.std.proofs.lemmas.Option.{slice_get_read}
 use Rattle.fj_lane.specs.Ends.{DrainState}
-use Rattle.fj_store.specs.Stores.{StoreState}
+use Rattle.fj_bodies.specs.Stores.{StoreState}
 use Rattle.fj_core.specs.declared.booking.Booking.{Booking}
-use Rattle.fj_model.specs.Tasks.{submitted_kind}
+use Rattle.fj_rules.specs.Tasks.{submitted_kind}
 use Rattle.fj_core.specs.Booked.{Booked}
 use Rattle.fj_core.specs.Cores.{CoreState}
 use Rattle.fj_core.specs.Intakes.{Submits, kind_rooted, with_drained}

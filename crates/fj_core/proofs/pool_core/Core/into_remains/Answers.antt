@@ -1,5 +1,5 @@
 use Rattle.std.proofs.Common.{◌∙◌, ap}
-use Rattle.fj_shelf.specs.Shelves.{entries}
+use Rattle.fj_slots.specs.Shelves.{entries}
 use Rattle.fj_core.proofs.pool_core.Core.into_remains.Goals as goal
 
 pub returns-clause-results : goal.returns-clause-results

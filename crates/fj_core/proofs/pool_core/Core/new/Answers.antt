@@ -1,5 +1,5 @@
 use Rattle.std.proofs.Common.{rules, ◌≡◌, ◌∙◌, [], ◌++◌, ap, sym, subst, refl}
-use Rattle.fj_model.proofs.Headline.Parting.{fits_none}
+use Rattle.fj_rules.proofs.Headline.Parting.{fits_none}
 use Rattle.fj_core.proofs.Lanes.{new_booked, enough_room}
 use Rattle.fj_core.proofs.Reached.{new_closing}
 use Rattle.fj_core.specs.Archives.{Archived}

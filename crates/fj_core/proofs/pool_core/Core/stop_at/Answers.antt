@@ -1,12 +1,12 @@
 use Rattle.std.proofs.Common.{◌≡◌, true, subst}
-use Rattle.fj_core.specs.declared.closing.Closing.{Closing}
+use Rattle.fj_core.specs.declared.cutoff.Cutoff.{Cutoff}
 use Rattle.fj_core.proofs.Parts.{parts_due}
 use Rattle.fj_core.proofs.Shutting.{number_of, due_pushes_none, shut_core}
 use Rattle.fj_core.proofs.pool_core.Core.stop_at.Goals as goal
 
 pub invariant_of-self : goal.invariant_of-self
 invariant_of-self g c =
-    let closing : Closing = record { number = c.at.result.number; stopping = true } in
+    let closing : Cutoff = record { number = c.at.result.number; stopping = true } in
     (shut_core _ _ _ _ _ closing c.args.number c.len.result (number_of _ _ c.at.ensures) c.len.ensures c.make_due.ensures c.self.invariant.0, c.self.invariant.1, parts_due _ _ _ _ _ c.make_due.ensures c.self.invariant.2)
 
 pub returns-clause-pool : goal.returns-clause-pool

@@ -1,9 +1,9 @@
 use Rattle.std.proofs.Common.{◌≡◌, Bool, true, false, inr, Some, refl, sym, ap, ◌∙◌, arith}
 use Rattle.std.specs.Prelude.{◌&&◌}
-use Rattle.fj_model.specs.declared.kind.SubmittedKind.TheVariants.{Plain}
-use Rattle.fj_model.specs.Answers.{is_quiet}
-use Rattle.fj_store.specs.Stores.{StoreState}
-use Rattle.fj_model.proofs.Steps.SubmitRefused.{met, met_free, met_closed, met_open}
+use Rattle.fj_rules.specs.declared.kind.SubmittedKind.TheVariants.{Plain}
+use Rattle.fj_rules.specs.Answers.{is_quiet}
+use Rattle.fj_bodies.specs.Stores.{StoreState}
+use Rattle.fj_rules.proofs.Steps.SubmitRefused.{met, met_free, met_closed, met_open}
 use Rattle.fj_core.proofs.TakingIn.{not_full, full_open}
 use Rattle.fj_core.proofs.pool_core.intake.ready.Goals as goal
 use Rattle.fj_core.proofs.pool_core.intake.ready.Goals.{then-is_quiescent, else-is_quiescent}
@@ -29,8 +29,8 @@ returns-after-is_quiescent g c =
       goes_on = sym (met_open _ _ c.in-Some.refusal here (sym c.submit_refusal.ensures ∙ c.in-Some.is) (full_open c.in-Some.refusal c.in-LogFull.is));
       refused = sym c.submit_refusal.ensures ∙ c.in-Some.is ∙ ap Some c.in-LogFull.is;
       sticks = elim c.if-is_quiescent.branch [
-        | then-is_quiescent w ↦ w.store-is ∙ w.stick.ensures ∙ ap (λ (s : StoreState g.row.B.Denot g.row.B-Key.Denot g.row.B-Out.Denot). record s { stuck = true }) c.is_quiescent.ensures.same ∙ ap with_stuck (sym w.if-is_quiescent.true ∙ c.is_quiescent.ensures.quiet)
-        | else-is_quiescent w ↦ w.store-is ∙ c.is_quiescent.ensures.same ∙ ap with_stuck (free ∙ sym w.if-is_quiescent.false ∙ c.is_quiescent.ensures.quiet)
+        | then-is_quiescent w ↦ w.store-is ∙ w.stick.ensures ∙ ap with_stuck (sym w.if-is_quiescent.true ∙ c.is_quiescent.ensures)
+        | else-is_quiescent w ↦ w.store-is ∙ ap with_stuck (free ∙ sym w.if-is_quiescent.false ∙ c.is_quiescent.ensures)
       ];
     })
 

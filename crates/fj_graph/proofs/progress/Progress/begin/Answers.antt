@@ -1,6 +1,6 @@
 use Rattle.std.proofs.Common.{◌≡◌, ◌<◌, ◌++◌, ◌∷◌, [], arith, length}
 use Rattle.std.proofs.lemmas.Grind.{common_steps}
-use Rattle.fj_graph.specs.declared.step.Step.TheVariants.{Begun}
+use Rattle.fj_graph.specs.declared.graph_step.GraphStep.TheVariants.{Begun}
 use Rattle.fj_graph.proofs.Steps.{course_begun, states_begun}
 use Rattle.fj_graph.proofs.progress.Progress.begin.Goals as goal
 
@@ -14,6 +14,6 @@ invariant_of-self-2 g c =
     let lt : c.args.node.0 < length self.states.items = omega arith in
     record {
       all = self.all;
-      right = rw items (course_begun g.G.Named.graph self.course.items c.args.node self.right c.requires);
+      right = rw items (course_begun g.G.NamedGraph.graph self.course.items c.args.node self.right c.requires);
       tied = rw items (states_begun self.course.items self.states.items c.args.node lt c.requires.once self.tied);
     }

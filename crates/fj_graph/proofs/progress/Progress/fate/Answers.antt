@@ -9,9 +9,9 @@ use Rattle.fj_graph.proofs.progress.Progress.fate.Goals.{else-not-stopped-via-th
 pub returns-else-not-stopped : goal.returns-else-not-stopped
 returns-else-not-stopped g c =
     let self = c.args.self.now in
-    fate_waiting g.G.Named.graph c.args.stopped self.course.items self.states.items c.args.node.0 (sym c.state.ensures ∙ c.in-Waiting.is)
+    fate_waiting g.G.NamedGraph.graph c.args.stopped self.course.items self.states.items c.args.node.0 (sym c.state.ensures ∙ c.in-Waiting.is)
     (elim c.else-not-stopped.branch [
-      | else-not-stopped-via-then-not-stopped+else-are_done w ↦ λ unstopped. sym (inputs_done g.G.Named.graph self.course.items c.args.node.0 _ (w.inputs.ensures ∙ ap (λ graph. inputs_at graph c.args.node.0) c.requires.same)) ∙ sym w.are_done.ensures ∙ w.if-are_done.false
+      | else-not-stopped-via-then-not-stopped+else-are_done w ↦ λ unstopped. sym (inputs_done g.G.NamedGraph.graph self.course.items c.args.node.0 _ (w.inputs.ensures ∙ ap (λ graph. inputs_at graph c.args.node.0) c.requires.same)) ∙ sym w.are_done.ensures ∙ w.if-are_done.false
       | else-not-stopped-via-else-not-stopped w ↦ λ unstopped. (let stopped = w.if-not-stopped.false in cc)
     ])
     self.tied
@@ -19,7 +19,7 @@ returns-else-not-stopped g c =
 pub returns-then-was_called : goal.returns-then-was_called
 returns-then-was_called g c =
     let self = c.args.self.now in
-    fate_ended g.G.Named.graph c.args.stopped self.course.items self.states.items c.args.node.0 c.in-Ended.fate (sym c.state.ensures ∙ c.in-Ended.is)
+    fate_ended g.G.NamedGraph.graph c.args.stopped self.course.items self.states.items c.args.node.0 c.in-Ended.fate (sym c.state.ensures ∙ c.in-Ended.is)
     (elim c.if-stopped.branch [
       | then-stopped w ↦ λ skipped. w.if-stopped.true
       | else-stopped w ↦ λ skipped. (let called : was_called Skipped ≡ true = ap was_called (sym skipped) ∙ sym w.was_called.ensures ∙ sym w.value-is ∙ c.if-was_called.true in cc)

@@ -9,6 +9,6 @@ returns g c = λ all.
     let vec = self.states.ok.0 in
     let all_states = self.all.0 in
     let size = c.len.ensures in
-    let count : length self.states.items ≡ length g.G.Named.graph = omega arith in
+    let count : length self.states.items ≡ length g.G.NamedGraph.graph = omega arith in
     let lt : c.args.node.0 < length self.states.items = omega arith in
-    may_begin g.G.Named.graph self.course.items self.states.items c.args.node.0 _ count lt (sym c.state.ensures ∙ c.in-Waiting.is) (c.inputs.ensures ∙ ap (λ graph. inputs_at graph c.args.node.0) c.requires.same) (sym c.are_done.ensures ∙ all) self.tied
+    may_begin g.G.NamedGraph.graph self.course.items self.states.items c.args.node.0 _ count lt (sym c.state.ensures ∙ c.in-Waiting.is) (c.inputs.ensures ∙ ap (λ graph. inputs_at graph c.args.node.0) c.requires.same) (sym c.are_done.ensures ∙ all) self.tied

@@ -5,4 +5,4 @@ use Rattle.fj_graph.proofs.progress.Progress.tell.Given as goal
 
 -- the nodes so far have their fates
 abbrev pub invariant-loop-number : goal.invariant-loop-number
-invariant-loop-number g l = (n : ℕ) → n < l.number → IfSome (slice_get l.self.fates.items n) (IsFate g.G.Named.graph l.stopped l.self.course.items n)
+invariant-loop-number g l = (n : ℕ) → n < l.number → IfSome (slice_get l.self.fates.items n) (IsFate g.G.NamedGraph.graph l.stopped l.self.course.items n)

@@ -1,5 +1,5 @@
 use Rattle.std.proofs.Common.{◌∙◌, ap, arith}
-use Rattle.fj_lazy.specs.Parts.{around, beside, outside}
+use Rattle.fj_lazy.specs.PartsAside.{around, beside, outside}
 use Rattle.fj_lazy.proofs.Around.{around-snoc}
 use Rattle.fj_lazy.proofs.Asking.{nearer_more}
 use Rattle.fj_lazy.proofs.Joined.{joins_forked}

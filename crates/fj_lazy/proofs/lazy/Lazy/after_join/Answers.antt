@@ -1,7 +1,7 @@
 use Rattle.std.proofs.Common.{◌≡◌, ◌∙◌, sym, ap}
 use Rattle.std.proofs.Math.Logic.{∥∥₁_elim}
 use base.Stored.{Coded-set}
-use Rattle.fj_lazy.specs.Parts.{whole}
+use Rattle.fj_lazy.specs.PartsAside.{whole}
 use Rattle.fj_lazy.proofs.Gives.{not_false}
 use Rattle.fj_lazy.proofs.lazy.Lazy.after_join.Goals as goal
 

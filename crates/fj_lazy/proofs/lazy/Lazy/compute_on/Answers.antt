@@ -1,5 +1,5 @@
 use Rattle.std.proofs.Common.{◌∙◌, ap, arith}
-use Rattle.fj_lazy.specs.Parts.{around, beside, outside}
+use Rattle.fj_lazy.specs.PartsAside.{around, beside, outside}
 use Rattle.fj_lazy.proofs.Around.{branches_some}
 use Rattle.fj_lazy.proofs.Asking.{ok_map}
 use Rattle.fj_lazy.proofs.lazy.Lazy.compute_on.Goals as goal

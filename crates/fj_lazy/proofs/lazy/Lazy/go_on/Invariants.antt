@@ -1,5 +1,5 @@
 use Rattle.std.proofs.Common.{◌≡◌, ◌+◌}
-use Rattle.fj_lazy.specs.Parts.{branches, forked_in, weigh, weight, whole}
+use Rattle.fj_lazy.specs.PartsAside.{branches, forked_in, weigh, weight, whole}
 use Rattle.fj_lazy.proofs.lazy.Lazy.go_on.Given as goal
 
 abbrev pub invariant-loop-next : goal.invariant-loop-next

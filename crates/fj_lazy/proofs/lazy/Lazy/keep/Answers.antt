@@ -1,5 +1,5 @@
 use Rattle.std.proofs.Common.{◌∙◌, ap, sym}
-use Rattle.fj_lazy.specs.Parts.{around, beside, outside}
+use Rattle.fj_lazy.specs.PartsAside.{around, beside, outside}
 use Rattle.fj_lazy.proofs.lazy.Lazy.keep.Goals as goal
 
 pub step_up-requires : goal.step_up-requires

@@ -1,5 +1,5 @@
 use Rattle.std.proofs.Common.{◌∙◌, ap, sym}
-use Rattle.fj_lazy.specs.Parts.{whole}
+use Rattle.fj_lazy.specs.PartsAside.{whole}
 use Rattle.fj_lazy.proofs.lazy.Lazy.share.Goals as goal
 
 pub fork-requires-clause-total : goal.fork-requires-clause-total

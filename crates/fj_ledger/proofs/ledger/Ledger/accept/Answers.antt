@@ -1,11 +1,11 @@
 use Rattle.std.proofs.Common.{◌+◌, ◌≡◌, ◌<◌, length, sym, ◌∙◌, ap, subst, arith}
-use Rattle.fj_model.specs.Pasts.{limit}
-use Rattle.fj_model.specs.declared.event.Event.TheVariants.{Acc}
-use Rattle.fj_model.specs.declared.place.Place.TheVariants.{Queued}
-use Rattle.fj_model.specs.Bounds.{Pool}
-use Rattle.fj_model.specs.Tasks.{accepted}
-use Rattle.fj_model.specs.Allowed.{Allowed}
-use Rattle.fj_model.specs.Runs.{Past}
+use Rattle.fj_rules.specs.Pasts.{limit}
+use Rattle.fj_rules.specs.declared.event.Event.TheVariants.{Acc}
+use Rattle.fj_rules.specs.declared.place.Place.TheVariants.{Queued}
+use Rattle.fj_rules.specs.Bounds.{Pool}
+use Rattle.fj_rules.specs.Tasks.{accepted}
+use Rattle.fj_rules.specs.Allowed.{Allowed}
+use Rattle.fj_rules.specs.Runs.{Past}
 use Rattle.fj_tree.specs.Handles.{Handle}
 use Rattle.fj_ledger.proofs.Updates.Accepted.{parent_there, parent_is, made_is, accept_holds}
 use Rattle.fj_ledger.proofs.Recorded.Records.{IsMade}

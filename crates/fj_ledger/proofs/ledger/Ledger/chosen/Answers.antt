@@ -1,11 +1,11 @@
 use Rattle.std.proofs.Common.{◌≡◌, ◌+◌, ◌<◌, length, ap, ◌∙◌, arith, subst}
-use Rattle.fj_model.specs.declared.mode.Mode.{Mode}
-use Rattle.fj_model.specs.declared.owner.Owner.TheVariants.{Work}
-use Rattle.fj_model.specs.Bounds.{Pool, queues_in}
-use Rattle.fj_model.specs.Queues.{queue}
-use Rattle.fj_model.specs.Choices.{first_queued, scan_order}
-use Rattle.fj_model.specs.Runs.{Past}
-use Rattle.fj_model.proofs.Lists.Owners.{work_owner}
+use Rattle.fj_rules.specs.declared.mode.Mode.{Mode}
+use Rattle.fj_rules.specs.declared.owner.Owner.TheVariants.{Work}
+use Rattle.fj_rules.specs.Bounds.{Pool, queues_in}
+use Rattle.fj_rules.specs.Queues.{queue}
+use Rattle.fj_rules.specs.Choices.{first_queued, scan_order}
+use Rattle.fj_rules.specs.Runs.{Past}
+use Rattle.fj_rules.proofs.Lists.Owners.{work_owner}
 use Rattle.fj_queues.specs.Queues.{queue_at, first_filled, places_from}
 use Rattle.fj_ledger.specs.Sources.{IsChosenFrom}
 use Rattle.fj_ledger.proofs.Lists.Choosing.{ComesFrom, own_source, own_is_chosen, scan_found, scan_choice, scanned_is_chosen}

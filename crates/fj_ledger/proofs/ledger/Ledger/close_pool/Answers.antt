@@ -1,9 +1,9 @@
 use Rattle.std.proofs.Common.{◌+◌, ◌<◌, length, sym, subst}
-use Rattle.fj_model.specs.Pasts.{limit}
-use Rattle.fj_model.specs.declared.event.Event.TheVariants.{Close}
-use Rattle.fj_model.specs.Bounds.{Pool}
-use Rattle.fj_model.specs.Allowed.{Allowed}
-use Rattle.fj_model.specs.Runs.{Past}
+use Rattle.fj_rules.specs.Pasts.{limit}
+use Rattle.fj_rules.specs.declared.event.Event.TheVariants.{Close}
+use Rattle.fj_rules.specs.Bounds.{Pool}
+use Rattle.fj_rules.specs.Allowed.{Allowed}
+use Rattle.fj_rules.specs.Runs.{Past}
 use Rattle.fj_ledger.proofs.Updates.Shut.{close_holds}
 use Rattle.fj_ledger.proofs.ledger.Ledger.close_pool.Goals as goal
 

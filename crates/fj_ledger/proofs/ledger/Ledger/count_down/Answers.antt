@@ -1,10 +1,10 @@
 use Rattle.std.proofs.Common.{◌+◌, ◌≡◌, ◌<◌, length, true, ap, sym, subst}
-use Rattle.fj_model.specs.Pasts.{limit}
-use Rattle.fj_model.specs.declared.event.Event.TheVariants.{Dec}
-use Rattle.fj_model.specs.Bounds.{Pool}
-use Rattle.fj_model.specs.Tasks.{is_completer}
-use Rattle.fj_model.specs.Allowed.{Allowed}
-use Rattle.fj_model.specs.Runs.{Past}
+use Rattle.fj_rules.specs.Pasts.{limit}
+use Rattle.fj_rules.specs.declared.event.Event.TheVariants.{Dec}
+use Rattle.fj_rules.specs.Bounds.{Pool}
+use Rattle.fj_rules.specs.Tasks.{is_completer}
+use Rattle.fj_rules.specs.Allowed.{Allowed}
+use Rattle.fj_rules.specs.Runs.{Past}
 use Rattle.fj_tree.specs.declared.arrive.Arrived.TheVariants.{Counted}
 use Rattle.fj_ledger.proofs.Updates.Counted.{count_down_holds, counted_at}
 use Rattle.fj_ledger.proofs.Recorded.Located.{located, completer_at}

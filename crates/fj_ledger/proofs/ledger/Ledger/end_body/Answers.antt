@@ -1,18 +1,18 @@
 use Rattle.std.proofs.Common.{◌+◌, ℕ, ◌≡◌, ◌-◌, ◌<◌, true, false, not, List, length, ◌∷◌, [], Some, refl, ap, sym, ◌∙◌, subst, arith}
 use Rattle.std.specs.Prelude.{◌&&◌}
 use Rattle.std.proofs.lemmas.List.{append-nil}
-use Rattle.fj_model.specs.Pasts.{limit}
-use Rattle.fj_model.specs.declared.event.Event.TheVariants.{End}
-use Rattle.fj_model.specs.Bounds.{Pool}
-use Rattle.fj_model.specs.Lists.{last_of}
-use Rattle.fj_model.specs.Tasks.{is_completer_kind}
-use Rattle.fj_model.specs.Stacks.{stack}
-use Rattle.fj_model.specs.Allowed.{Allowed}
-use Rattle.fj_model.specs.Runs.{Past}
-use Rattle.fj_model.proofs.Places.FewLive.{few_live}
-use Rattle.fj_model.proofs.Places.KeptPlaces.{held_kept}
-use Rattle.fj_model.proofs.Lists.Members.{get_is_in}
-use Rattle.fj_model.proofs.Events.Opening.{opens}
+use Rattle.fj_rules.specs.Pasts.{limit}
+use Rattle.fj_rules.specs.declared.event.Event.TheVariants.{End}
+use Rattle.fj_rules.specs.Bounds.{Pool}
+use Rattle.fj_rules.specs.Lists.{last_of}
+use Rattle.fj_rules.specs.Tasks.{is_completer_kind}
+use Rattle.fj_rules.specs.Stacks.{stack}
+use Rattle.fj_rules.specs.Allowed.{Allowed}
+use Rattle.fj_rules.specs.Runs.{Past}
+use Rattle.fj_rules.proofs.Places.FewLive.{few_live}
+use Rattle.fj_rules.proofs.Places.KeptPlaces.{held_kept}
+use Rattle.fj_rules.proofs.Lists.Members.{get_is_in}
+use Rattle.fj_rules.proofs.Events.Opening.{opens}
 use Rattle.fj_tree.specs.declared.record.Record.{Record}
 use Rattle.fj_tree.specs.Arrivals.{is_spent}
 use Rattle.fj_ledger.proofs.Updates.BodyEnded.{stays_told, ended_holds}

@@ -1,8 +1,8 @@
 use Rattle.std.proofs.Common.{◌+◌, ap, ◌≡◌, ◌<◌, length, Some, sym, subst}
-use Rattle.fj_model.specs.Pasts.{limit}
-use Rattle.fj_model.specs.Bounds.{Pool}
-use Rattle.fj_model.specs.Hooks.{hand}
-use Rattle.fj_model.specs.Runs.{Past}
+use Rattle.fj_rules.specs.Pasts.{limit}
+use Rattle.fj_rules.specs.Bounds.{Pool}
+use Rattle.fj_rules.specs.Hooks.{hand}
+use Rattle.fj_rules.specs.Runs.{Past}
 use Rattle.fj_ledger.proofs.Updates.HookEnds.{hook_end_holds}
 use Rattle.fj_tree.specs.Handles.{Handle}
 use Rattle.fj_ledger.proofs.ledger.Ledger.end_hook.Goals as goal

@@ -1,7 +1,7 @@
 use Rattle.std.proofs.Common.{◌≡◌, ap, ◌∙◌}
 use Rattle.std.specs.Prelude.{nat_lt}
-use Rattle.fj_model.specs.Allowed.{has_kept_child}
-use Rattle.fj_model.specs.Runs.{Past}
+use Rattle.fj_rules.specs.Allowed.{has_kept_child}
+use Rattle.fj_rules.specs.Runs.{Past}
 use Rattle.fj_tree.specs.declared.record.Record.{Record}
 use Rattle.fj_ledger.proofs.Recorded.KeptChildren.{children_tell}
 use Rattle.fj_ledger.proofs.Recorded.Located.{located, read_at}

@@ -2,8 +2,8 @@ use Rattle.std.proofs.Common.{◌≡◌, refl, ap, sym, subst, ◌∙◌, arith}
 use Rattle.std.specs.Prelude.{is_none}
 use Rattle.std.specs.List.{list_all}
 use Rattle.std.proofs.lemmas.Bool.{eq-eqb, ne_eqb}
-use Rattle.fj_model.specs.Pasts.{limit}
-use Rattle.fj_model.specs.Runs.{Past}
+use Rattle.fj_rules.specs.Pasts.{limit}
+use Rattle.fj_rules.specs.Runs.{Past}
 use Rattle.fj_queues.specs.Queues.{all_in}
 use Rattle.fj_ledger.specs.Holds.{IsLawful}
 use Rattle.fj_ledger.proofs.Histories.Lawfuls.{lawful}

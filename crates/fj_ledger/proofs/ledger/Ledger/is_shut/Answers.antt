@@ -1,6 +1,6 @@
 use Rattle.std.proofs.Common.{subst}
-use Rattle.fj_model.specs.Pasts.{limit}
-use Rattle.fj_model.specs.Runs.{Past}
+use Rattle.fj_rules.specs.Pasts.{limit}
+use Rattle.fj_rules.specs.Runs.{Past}
 use Rattle.fj_ledger.specs.Holds.{IsLawful}
 use Rattle.fj_ledger.proofs.Histories.Lawfuls.{lawful}
 use Rattle.fj_ledger.proofs.ledger.Ledger.is_shut.Goals as goal

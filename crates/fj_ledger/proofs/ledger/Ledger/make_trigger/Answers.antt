@@ -1,16 +1,16 @@
 use Rattle.std.proofs.Common.{◌+◌, ℕ, List, ◌≡◌, ◌<◌, length, true, None, sym, ◌∙◌, ap, subst, arith}
-use Rattle.fj_model.specs.Pasts.{limit}
-use Rattle.fj_model.specs.declared.event.Event.TheVariants.{Make}
-use Rattle.fj_model.specs.declared.kind.Kind.TheVariants.{Completer}
-use Rattle.fj_model.specs.declared.place.Place.TheVariants.{Open}
-use Rattle.fj_model.specs.Bounds.{Pool}
-use Rattle.fj_model.specs.Tasks.{accepted}
-use Rattle.fj_model.specs.Allowed.{Allowed}
-use Rattle.fj_model.specs.Runs.{Past}
+use Rattle.fj_rules.specs.Pasts.{limit}
+use Rattle.fj_rules.specs.declared.event.Event.TheVariants.{Make}
+use Rattle.fj_rules.specs.declared.kind.Kind.TheVariants.{Completer}
+use Rattle.fj_rules.specs.declared.place.Place.TheVariants.{Open}
+use Rattle.fj_rules.specs.Bounds.{Pool}
+use Rattle.fj_rules.specs.Tasks.{accepted}
+use Rattle.fj_rules.specs.Allowed.{Allowed}
+use Rattle.fj_rules.specs.Runs.{Past}
 use Rattle.fj_tree.specs.Handles.{Handle}
 use Rattle.fj_ledger.proofs.Updates.Accepted.{made_is, trigger_holds}
 use Rattle.fj_ledger.proofs.Recorded.Records.{IsMade}
-use Rattle.fj_model.proofs.Places.KeptPlaces.{few_open}
+use Rattle.fj_rules.proofs.Places.KeptPlaces.{few_open}
 use Rattle.fj_ledger.proofs.Updates.Spent.{few_accepted}
 use Rattle.fj_ledger.proofs.ledger.Ledger.make_trigger.Goals as goal
 use Rattle.fj_ledger.proofs.ledger.Ledger.make_trigger.Goals.{After-self, After-insert-h}

@@ -1,5 +1,5 @@
 use Rattle.std.proofs.Common.{arith, rules}
-use Rattle.fj_model.specs.Bounds.{Pool}
+use Rattle.fj_rules.specs.Bounds.{Pool}
 use Rattle.fj_ledger.proofs.Updates.Fresh.{fresh_holds}
 use Rattle.fj_ledger.proofs.ledger.Ledger.new.Goals as goal
 

@@ -1,7 +1,7 @@
 use Rattle.std.proofs.Common.{ℕ, ◌≡◌, List, Some, ap, sym, ◌∙◌}
 use Rattle.std.specs.Prelude.{option_map}
-use Rattle.fj_model.specs.declared.event.Event.{Event}
-use Rattle.fj_model.specs.Tasks.{parent, parent_in}
+use Rattle.fj_rules.specs.declared.event.Event.{Event}
+use Rattle.fj_rules.specs.Tasks.{parent, parent_in}
 use Rattle.fj_tree.specs.declared.record.Record.{Record}
 use Rattle.fj_tree.specs.Handles.{Handle}
 use Rattle.fj_ledger.specs.Holds.{TellsOf}

@@ -1,15 +1,15 @@
 use Rattle.std.proofs.Common.{ℕ, ◌≡◌, ◌-◌, ◌<◌, arith, true, length, ◌++◌, ◌∷◌, [], ap, sym, ◌∙◌, subst}
 use Rattle.std.proofs.lemmas.Bool.{ltb-true}
-use Rattle.fj_model.specs.declared.event.Event.TheVariants.{End}
-use Rattle.fj_model.specs.Bounds.{Pool}
-use Rattle.fj_model.specs.Tasks.{accepted, is_completer}
-use Rattle.fj_model.specs.Stacks.{stack}
-use Rattle.fj_model.specs.Allowed.{Allowed}
-use Rattle.fj_model.specs.Runs.{Past}
-use Rattle.fj_model.proofs.Events.Lawful.{is_numbered}
-use Rattle.fj_model.proofs.Places.KeptPlaces.{held_kept}
-use Rattle.fj_model.proofs.Lists.Members.{get_is_in}
-use Rattle.fj_model.proofs.Events.Opening.{ended_accepted}
+use Rattle.fj_rules.specs.declared.event.Event.TheVariants.{End}
+use Rattle.fj_rules.specs.Bounds.{Pool}
+use Rattle.fj_rules.specs.Tasks.{accepted, is_completer}
+use Rattle.fj_rules.specs.Stacks.{stack}
+use Rattle.fj_rules.specs.Allowed.{Allowed}
+use Rattle.fj_rules.specs.Runs.{Past}
+use Rattle.fj_rules.proofs.Events.Lawful.{is_numbered}
+use Rattle.fj_rules.proofs.Places.KeptPlaces.{held_kept}
+use Rattle.fj_rules.proofs.Lists.Members.{get_is_in}
+use Rattle.fj_rules.proofs.Events.Opening.{ended_accepted}
 use Rattle.fj_ledger.specs.Climbing.{Climbs}
 use Rattle.fj_ledger.proofs.Paths.ClimbsTold.{climbs_told, few_passed}
 use Rattle.fj_ledger.proofs.Recorded.Located.{located, good_at, completer_at}

@@ -1,9 +1,9 @@
 use Rattle.std.proofs.Common.{◌+◌, ◌<◌, length, ap, sym, subst}
-use Rattle.fj_model.specs.Pasts.{limit}
-use Rattle.fj_model.specs.declared.event.Event.TheVariants.{Add}
-use Rattle.fj_model.specs.Bounds.{Pool}
-use Rattle.fj_model.specs.Allowed.{Allowed}
-use Rattle.fj_model.specs.Runs.{Past}
+use Rattle.fj_rules.specs.Pasts.{limit}
+use Rattle.fj_rules.specs.declared.event.Event.TheVariants.{Add}
+use Rattle.fj_rules.specs.Bounds.{Pool}
+use Rattle.fj_rules.specs.Allowed.{Allowed}
+use Rattle.fj_rules.specs.Runs.{Past}
 use Rattle.fj_ledger.proofs.Updates.Counted.{raise_holds, addable}
 use Rattle.fj_tree.specs.Handles.{Handle}
 use Rattle.fj_ledger.proofs.Recorded.Located.{located}

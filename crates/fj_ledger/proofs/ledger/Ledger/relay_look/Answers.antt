@@ -1,16 +1,16 @@
 use Rattle.std.proofs.Common.{ℕ, ◌≡◌, ◌<◌, true, length, ap, sym, ◌∙◌, subst, arith}
 use Rattle.std.proofs.lemmas.Bool.{ltb-true}
-use Rattle.fj_model.specs.Bounds.{Pool}
-use Rattle.fj_model.specs.Tasks.{accepted, is_kept}
-use Rattle.fj_model.specs.Climbs.{relayed}
-use Rattle.fj_model.specs.Runs.{Past}
-use Rattle.fj_model.proofs.Events.Lawful.{is_numbered}
+use Rattle.fj_rules.specs.Bounds.{Pool}
+use Rattle.fj_rules.specs.Tasks.{accepted, is_kept}
+use Rattle.fj_rules.specs.Climbs.{relayed}
+use Rattle.fj_rules.specs.Runs.{Past}
+use Rattle.fj_rules.proofs.Events.Lawful.{is_numbered}
 use Rattle.fj_ledger.proofs.Recorded.Located.{located, good_at}
 use Rattle.fj_ledger.proofs.Paths.RelaysTold.{relayed_told, few_relayed}
 use Rattle.fj_ledger.proofs.Updates.Spent.{few_accepted}
 use Rattle.fj_ledger.proofs.ledger.Ledger.relay_look.Goals as goal
 use Rattle.fj_ledger.proofs.ledger.Ledger.relay_look.Goals.{After-self, After-relay_look}
-use Rattle.fj_model.proofs.Events.KindsKept.{kept_known}
+use Rattle.fj_rules.proofs.Events.KindsKept.{kept_known}
 
 kept : (c : After-self) → is_kept c.self.inside.log.events c.args.t.serial ≡ true
 kept c = subst (λ (p : Past). is_kept p.events c.args.t.serial ≡ true) (sym c.self.view_is) c.requires.kept

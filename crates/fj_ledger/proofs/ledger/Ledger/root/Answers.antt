@@ -1,7 +1,7 @@
 use Rattle.std.proofs.Common.{ℕ, ◌≡◌, Some, ap, sym, ◌∙◌}
-use Rattle.fj_model.specs.Bounds.{Pool}
-use Rattle.fj_model.specs.Climbs.{path}
-use Rattle.fj_model.specs.Answers.{root_of}
+use Rattle.fj_rules.specs.Bounds.{Pool}
+use Rattle.fj_rules.specs.Climbs.{path}
+use Rattle.fj_rules.specs.Answers.{root_of}
 use Rattle.fj_tree.specs.Handles.{Handle}
 use Rattle.fj_ledger.proofs.Recorded.Located.{located, good_at}
 use Rattle.fj_ledger.proofs.Paths.WaysTold.{root_told}

@@ -1,8 +1,8 @@
 use Rattle.std.proofs.Common.{◌≡◌, None, arith, sym, subst, ◌∙◌}
-use Rattle.fj_model.specs.Bounds.{Pool}
-use Rattle.fj_model.specs.Pasts.{Past}
-use Rattle.fj_model.specs.Epochs.{seal_refusal}
-use Rattle.fj_model.proofs.Headline.Sealing.{MaySeal, may_seal}
+use Rattle.fj_rules.specs.Bounds.{Pool}
+use Rattle.fj_rules.specs.Pasts.{Past}
+use Rattle.fj_rules.specs.Epochs.{seal_refusal}
+use Rattle.fj_rules.proofs.Headline.Sealing.{MaySeal, may_seal}
 use Rattle.fj_ledger.proofs.Updates.Sealed.{sealed_holds}
 use Rattle.fj_ledger.proofs.ledger.Ledger.seal.Goals as goal
 use Rattle.fj_ledger.proofs.ledger.Ledger.seal.Goals.{In_default}

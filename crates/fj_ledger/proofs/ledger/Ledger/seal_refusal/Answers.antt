@@ -1,8 +1,8 @@
 use Rattle.std.proofs.Common.{◌≡◌, ◌+◌, true, false, length, ap, ◌∙◌}
 use Rattle.std.specs.Prelude.{nat_lt}
-use Rattle.fj_model.specs.Pasts.{Past}
-use Rattle.fj_model.specs.declared.epoch.TheConstants.{MAX_EVENTS_AND_SEALS}
-use Rattle.fj_model.proofs.Headline.Sealing.{refused_busy, refused_shut, tested_worn}
+use Rattle.fj_rules.specs.Pasts.{Past}
+use Rattle.fj_rules.specs.declared.epoch.TheConstants.{MAX_EVENTS_AND_SEALS}
+use Rattle.fj_rules.proofs.Headline.Sealing.{refused_busy, refused_shut, tested_worn}
 use Rattle.fj_ledger.proofs.ledger.Ledger.seal_refusal.Goals as goal
 use Rattle.fj_ledger.proofs.ledger.Ledger.seal_refusal.Goals.{After-is_worn}
 

@@ -1,14 +1,14 @@
 use Rattle.std.proofs.Common.{◌+◌, ◌≡◌, ◌<◌, true, false, length, ap, sym, ◌∙◌, subst, arith}
 use Rattle.std.specs.Prelude.{Option, None, IsSome}
 use Rattle.std.proofs.lemmas.Bool.{true≢false}
-use Rattle.fj_model.specs.Pasts.{limit}
-use Rattle.fj_model.specs.declared.event.Event.TheVariants.{Settle}
-use Rattle.fj_model.specs.Bounds.{Pool}
-use Rattle.fj_model.specs.Lists.{is_in}
-use Rattle.fj_model.specs.Tasks.{is_kept}
-use Rattle.fj_model.specs.Allowed.{Allowed}
-use Rattle.fj_model.specs.Runs.{Past}
-use Rattle.fj_model.proofs.Places.OnePlace.{never}
+use Rattle.fj_rules.specs.Pasts.{limit}
+use Rattle.fj_rules.specs.declared.event.Event.TheVariants.{Settle}
+use Rattle.fj_rules.specs.Bounds.{Pool}
+use Rattle.fj_rules.specs.Lists.{is_in}
+use Rattle.fj_rules.specs.Tasks.{is_kept}
+use Rattle.fj_rules.specs.Allowed.{Allowed}
+use Rattle.fj_rules.specs.Runs.{Past}
+use Rattle.fj_rules.proofs.Places.OnePlace.{never}
 use Rattle.fj_ledger.specs.Holds.{hook_completers}
 use Rattle.fj_ledger.proofs.Recorded.Located.{located}
 use Rattle.fj_ledger.proofs.Updates.Settled.{settle_holds, settle_left_holds}

@@ -1,11 +1,11 @@
 use Rattle.std.proofs.Common.{◌+◌, ◌≡◌, ◌<◌, length, map, ◌∙◌, ap, sym, subst, arith}
 use Rattle.std.specs.Prelude.{option_map}
 use Rattle.std.proofs.lemmas.List.{length-map}
-use Rattle.fj_model.specs.Pasts.{limit}
-use Rattle.fj_model.specs.declared.event.Event.TheVariants.{Stop}
-use Rattle.fj_model.specs.Bounds.{Pool}
-use Rattle.fj_model.specs.Allowed.{Allowed}
-use Rattle.fj_model.specs.Runs.{Past}
+use Rattle.fj_rules.specs.Pasts.{limit}
+use Rattle.fj_rules.specs.declared.event.Event.TheVariants.{Stop}
+use Rattle.fj_rules.specs.Bounds.{Pool}
+use Rattle.fj_rules.specs.Allowed.{Allowed}
+use Rattle.fj_rules.specs.Runs.{Past}
 use Rattle.fj_ledger.specs.InHands.{if_cancelled}
 use Rattle.fj_ledger.proofs.Lists.HandParts.{written_back}
 use Rattle.fj_ledger.proofs.Updates.Shut.{stopped_twice, stop_holds}

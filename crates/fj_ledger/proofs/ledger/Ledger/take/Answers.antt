@@ -1,15 +1,15 @@
 use Rattle.std.proofs.Common.{◌+◌, ◌≡◌, ◌<◌, length, Bool, true, false, Some, ap, sym, ◌∙◌, subst, arith}
 use Rattle.std.specs.Prelude.{if◌then◌else◌}
-use Rattle.fj_model.specs.Pasts.{limit}
-use Rattle.fj_model.specs.declared.event.Event.TheVariants.{Out, Skip}
-use Rattle.fj_model.specs.Bounds.{Pool, queues_in, owner_at}
-use Rattle.fj_model.specs.Queues.{queue}
-use Rattle.fj_model.specs.Statuses.{status, is_undone}
-use Rattle.fj_model.specs.Allowed.{Allowed, AllowedFrom}
-use Rattle.fj_model.specs.Answers.{taking}
-use Rattle.fj_model.specs.Runs.{Past}
-use Rattle.fj_model.proofs.Places.FewLive.{few_live}
-use Rattle.fj_model.proofs.Places.KeptPlaces.{queued_kept}
+use Rattle.fj_rules.specs.Pasts.{limit}
+use Rattle.fj_rules.specs.declared.event.Event.TheVariants.{Out, Skip}
+use Rattle.fj_rules.specs.Bounds.{Pool, queues_in, owner_at}
+use Rattle.fj_rules.specs.Queues.{queue}
+use Rattle.fj_rules.specs.Statuses.{status, is_undone}
+use Rattle.fj_rules.specs.Allowed.{Allowed, AllowedFrom}
+use Rattle.fj_rules.specs.Answers.{taking}
+use Rattle.fj_rules.specs.Runs.{Past}
+use Rattle.fj_rules.proofs.Places.FewLive.{few_live}
+use Rattle.fj_rules.proofs.Places.KeptPlaces.{queued_kept}
 use Rattle.fj_tree.specs.declared.record.Record.{Record}
 use Rattle.fj_ledger.specs.Sources.{queue_of, end_of, task_at, tasks_there}
 use Rattle.fj_ledger.proofs.Recorded.Located.{IsLocated, located, read_at}

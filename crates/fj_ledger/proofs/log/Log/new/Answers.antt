@@ -1,5 +1,5 @@
 use Rattle.std.proofs.Common.{arith, refl}
-use Rattle.fj_model.specs.Allowed.{is_closed, is_stopped}
+use Rattle.fj_rules.specs.Allowed.{is_closed, is_stopped}
 use Rattle.fj_ledger.proofs.log.Log.new.Goals as goal
 
 pub invariant_of-result : goal.invariant_of-result

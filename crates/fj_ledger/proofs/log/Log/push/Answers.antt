@@ -1,5 +1,5 @@
 use Rattle.std.proofs.Common.{arith, sym, append_assoc}
-use Rattle.fj_model.proofs.Events.Closing.{closed_more, stopped_more}
+use Rattle.fj_rules.proofs.Events.Closing.{closed_more, stopped_more}
 use Rattle.fj_ledger.proofs.log.Log.push.Goals as goal
 
 pub invariant_of-self : goal.invariant_of-self

@@ -4,8 +4,8 @@ use Rattle.std.proofs.Common.{arith, ℕ, ◌≡◌, ◌==◌, ◌<◌, ◌+◌,
 use Rattle.std.proofs.lemmas.Bool.{eqb-true, lt-ltb}
 use Rattle.std.proofs.lemmas.Option.{slice_get-get_or}
 use Rattle.std.proofs.lemmas.List.Quantifiers.{position-Some}
-use Rattle.fj_model.specs.Lists.{is_in}
-use Rattle.fj_model.proofs.Places.OnePlace.{never}
+use Rattle.fj_rules.specs.Lists.{is_in}
+use Rattle.fj_rules.proofs.Places.OnePlace.{never}
 use Rattle.fj_ledger.proofs.open.OpenTasks.place.Goals as goal
 
 one_more : (here there : Bool) (n k : ℕ) → (there ≡ true → n < k) → (here || there) ≡ true → cond (not here) (1 + n) 0 < suc k

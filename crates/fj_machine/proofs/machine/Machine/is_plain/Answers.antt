@@ -1,6 +1,6 @@
 use Rattle.std.proofs.Common.{◌≡◌, false, refl, ap}
 use Rattle.std.specs.Prelude.{not}
-use Rattle.fj_model.specs.Tasks.{is_kept}
+use Rattle.fj_rules.specs.Tasks.{is_kept}
 use Rattle.fj_ledger.specs.Holds.{TellsOf}
 use Rattle.fj_machine.proofs.Outcomes.Found.{found_kept, found_completer}
 use Rattle.fj_machine.proofs.machine.Machine.is_plain.Goals as goal

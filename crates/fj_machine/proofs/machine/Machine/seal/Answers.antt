@@ -1,6 +1,6 @@
-use Rattle.fj_model.specs.Pasts.{Past}
-use Rattle.fj_model.proofs.Headline.Sealing.{seal_past}
-use Rattle.fj_model.proofs.Headline.Parting.{seal_fits}
+use Rattle.fj_rules.specs.Pasts.{Past}
+use Rattle.fj_rules.proofs.Headline.Sealing.{seal_past}
+use Rattle.fj_rules.proofs.Headline.Parting.{seal_fits}
 use Rattle.fj_machine.proofs.machine.Machine.seal.Goals as goal
 
 pub invariant_of-self : goal.invariant_of-self

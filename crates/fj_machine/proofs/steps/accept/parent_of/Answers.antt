@@ -1,5 +1,5 @@
 use Rattle.std.proofs.Common.{◌≡◌, Some, ap, sym, refl, ◌∙◌}
-use Rattle.fj_model.specs.Tasks.{parent_in}
+use Rattle.fj_rules.specs.Tasks.{parent_in}
 use Rattle.fj_ledger.specs.Holds.{TellsOf}
 use Rattle.fj_machine.proofs.Outcomes.Found.{found_kept, found_completer}
 use Rattle.fj_machine.proofs.steps.accept.parent_of.Goals as goal

@@ -1,6 +1,6 @@
 use Rattle.std.proofs.Common.{ap, sym, ◌∙◌}
-use Rattle.fj_model.specs.declared.said.Said.TheVariants as says
-use Rattle.fj_model.specs.declared.step.Step.TheVariants.{Submit}
+use Rattle.fj_rules.specs.declared.said.Said.TheVariants as says
+use Rattle.fj_rules.specs.declared.step.Step.TheVariants.{Submit}
 use Rattle.fj_machine.proofs.ByStep.AcceptSteps.{submits, submit_says}
 use Rattle.fj_machine.proofs.Outcomes.Results.{exits, full_of_one, may_one, made_one}
 use Rattle.fj_machine.proofs.steps.accept.submit.Goals as goal

@@ -1,12 +1,12 @@
 use Rattle.std.proofs.Common.{[], ◌∷◌, ◌≡◌, ◌+◌, ◌≤◌, None, true, false, refl, ap, sym, ◌∙◌, arith}
 use Rattle.std.specs.Prelude.{nat_lt}
 use Rattle.std.proofs.lemmas.Bool.{le-ltb, lt-ltb}
-use Rattle.fj_model.specs.declared.limits.TheConstants.{MAX_PENDING}
-use Rattle.fj_model.specs.declared.refusal.Refusal.TheVariants.{CountTooLarge}
-use Rattle.fj_model.specs.declared.said.Said.TheVariants as says
-use Rattle.fj_model.specs.declared.step.Step.TheVariants.{Add, QuietRoot}
-use Rattle.fj_model.specs.Answers.{first_that_stands, refusals_of, count_too_large}
-use Rattle.fj_model.specs.Completers.{pending}
+use Rattle.fj_rules.specs.declared.limits.TheConstants.{MAX_PENDING}
+use Rattle.fj_rules.specs.declared.refusal.Refusal.TheVariants.{CountTooLarge}
+use Rattle.fj_rules.specs.declared.said.Said.TheVariants as says
+use Rattle.fj_rules.specs.declared.step.Step.TheVariants.{Add, QuietRoot}
+use Rattle.fj_rules.specs.Answers.{first_that_stands, refusals_of, count_too_large}
+use Rattle.fj_rules.specs.Completers.{pending}
 use Rattle.fj_ledger.specs.Holds.{TellsOf}
 use Rattle.fj_machine.proofs.Outcomes.Refusing.{first_after, first_refused}
 use Rattle.fj_machine.proofs.Outcomes.Stepping.{steps_refused}

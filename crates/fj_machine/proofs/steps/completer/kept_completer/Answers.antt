@@ -1,5 +1,5 @@
 use Rattle.std.proofs.Common.{[], ◌∷◌, refl, sym, ◌∙◌}
-use Rattle.fj_model.specs.Answers.{unknown_task, not_a_completer, no_such_worker, hook_in_hand, nothing_running}
+use Rattle.fj_rules.specs.Answers.{unknown_task, not_a_completer, no_such_worker, hook_in_hand, nothing_running}
 use Rattle.fj_ledger.specs.Holds.{TellsOf}
 use Rattle.fj_machine.proofs.Outcomes.Found.{found_kept, found_completer}
 use Rattle.fj_machine.proofs.Outcomes.Refusing.{first_after}

@@ -1,9 +1,9 @@
 use Rattle.std.proofs.Common.{◌≡◌, Some, ap, sym, ◌∙◌}
-use Rattle.fj_model.specs.declared.said.Said.TheVariants as says
-use Rattle.fj_model.specs.declared.step.Step.TheVariants.{QuietRoot}
-use Rattle.fj_model.specs.Statuses.{status, is_undone}
-use Rattle.fj_model.specs.Answers.{root_of}
-use Rattle.fj_model.specs.Climbs.{path}
+use Rattle.fj_rules.specs.declared.said.Said.TheVariants as says
+use Rattle.fj_rules.specs.declared.step.Step.TheVariants.{QuietRoot}
+use Rattle.fj_rules.specs.Statuses.{status, is_undone}
+use Rattle.fj_rules.specs.Answers.{root_of}
+use Rattle.fj_rules.specs.Climbs.{path}
 use Rattle.fj_tree.specs.Handles.{Handle}
 use Rattle.fj_machine.proofs.Outcomes.Stepping.{told}
 use Rattle.fj_machine.proofs.Outcomes.OneEvent.{only_tells}

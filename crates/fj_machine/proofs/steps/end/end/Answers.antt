@@ -1,4 +1,4 @@
-use Rattle.fj_model.specs.declared.step.Step.TheVariants.{End}
+use Rattle.fj_rules.specs.declared.step.Step.TheVariants.{End}
 use Rattle.fj_machine.proofs.Outcomes.Results.{exits}
 use Rattle.fj_machine.proofs.steps.end.end.Goals as goal
 

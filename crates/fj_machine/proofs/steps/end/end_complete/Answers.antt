@@ -1,14 +1,14 @@
-use Rattle.fj_model.specs.declared.step.Step.TheVariants as step
+use Rattle.fj_rules.specs.declared.step.Step.TheVariants as step
 use Rattle.std.proofs.Common.{ap, ◌≡◌, ◌+◌, ◌∷◌, ◌++◌, [], length, true, false, None, Some, refl, sym, ◌∙◌, subst, inl, inr}
-use Rattle.fj_model.specs.declared.event.Event.TheVariants as event
-use Rattle.fj_model.specs.declared.event.How.TheVariants as how
-use Rattle.fj_model.specs.declared.step.Ending.TheVariants.{Complete}
-use Rattle.fj_model.specs.Tasks.{is_kept, is_completer}
-use Rattle.fj_model.specs.Hooks.{hooks, hand, receiver}
-use Rattle.fj_model.specs.Completers.{is_spent}
-use Rattle.fj_model.specs.Allowed.{Allowed}
-use Rattle.fj_model.specs.Answers.{after_end}
-use Rattle.fj_model.specs.Runs.{Past}
+use Rattle.fj_rules.specs.declared.event.Event.TheVariants as event
+use Rattle.fj_rules.specs.declared.event.How.TheVariants as how
+use Rattle.fj_rules.specs.declared.step.Ending.TheVariants.{Complete}
+use Rattle.fj_rules.specs.Tasks.{is_kept, is_completer}
+use Rattle.fj_rules.specs.Hooks.{hooks, hand, receiver}
+use Rattle.fj_rules.specs.Completers.{is_spent}
+use Rattle.fj_rules.specs.Allowed.{Allowed}
+use Rattle.fj_rules.specs.Answers.{after_end}
+use Rattle.fj_rules.specs.Runs.{Past}
 use Rattle.fj_machine.proofs.ByStep.EndSteps.{running_kept, end_full, end_made, may_end, end_suits, ended_kept, ended_completer, ended_free, ended_given, complete_events, complete_says, complete_count}
 use Rattle.fj_machine.proofs.Outcomes.RoomTests.{either_way, grown_none}
 use Rattle.fj_machine.proofs.Outcomes.Results.{exits_full}

@@ -1,14 +1,14 @@
-use Rattle.fj_model.specs.declared.step.Step.TheVariants as step
+use Rattle.fj_rules.specs.declared.step.Step.TheVariants as step
 use Rattle.std.proofs.Common.{◌≡◌, ◌+◌, ◌∷◌, ◌++◌, ℕ, List, [], length, true, refl, ap, sym, ◌∙◌, subst}
-use Rattle.fj_model.specs.declared.event.Event.{Event}
-use Rattle.fj_model.specs.declared.event.Event.TheVariants as event
-use Rattle.fj_model.specs.declared.step.Ending.TheVariants.{Fail}
-use Rattle.fj_model.specs.Tasks.{is_kept}
-use Rattle.fj_model.specs.Climbs.{relayed}
-use Rattle.fj_model.specs.Allowed.{AllowedFrom}
-use Rattle.fj_model.specs.Answers.{after_end}
-use Rattle.fj_model.specs.Runs.{Past, grown}
-use Rattle.fj_model.proofs.Events.Settling.{settles}
+use Rattle.fj_rules.specs.declared.event.Event.{Event}
+use Rattle.fj_rules.specs.declared.event.Event.TheVariants as event
+use Rattle.fj_rules.specs.declared.step.Ending.TheVariants.{Fail}
+use Rattle.fj_rules.specs.Tasks.{is_kept}
+use Rattle.fj_rules.specs.Climbs.{relayed}
+use Rattle.fj_rules.specs.Allowed.{AllowedFrom}
+use Rattle.fj_rules.specs.Answers.{after_end}
+use Rattle.fj_rules.specs.Runs.{Past, grown}
+use Rattle.fj_rules.proofs.Events.Settling.{settles}
 use Rattle.fj_machine.proofs.ByStep.EndSteps.{running_kept, end_full, end_made, may_end, ended_kept}
 use Rattle.fj_machine.proofs.ByStep.SettleSteps.{fail_events, fail_relayed, settles_count}
 use Rattle.fj_machine.proofs.Outcomes.Results.{exits_full}

@@ -1,13 +1,13 @@
-use Rattle.fj_model.specs.declared.step.Step.TheVariants as step
+use Rattle.fj_rules.specs.declared.step.Step.TheVariants as step
 use Rattle.std.proofs.Common.{◌≡◌, ◌+◌, ◌∷◌, ◌++◌, [], length, true, false, refl, sym, ◌∙◌, subst, inl, inr}
-use Rattle.fj_model.specs.declared.event.Event.TheVariants.{End, Settle}
-use Rattle.fj_model.specs.declared.step.Ending.TheVariants.{Ok}
-use Rattle.fj_model.specs.declared.status.Status.TheVariants.{Normal}
-use Rattle.fj_model.specs.Tasks.{is_kept}
-use Rattle.fj_model.specs.Statuses.{status, is_undone}
-use Rattle.fj_model.specs.Allowed.{Allowed}
-use Rattle.fj_model.specs.Answers.{after_end}
-use Rattle.fj_model.specs.Runs.{Past}
+use Rattle.fj_rules.specs.declared.event.Event.TheVariants.{End, Settle}
+use Rattle.fj_rules.specs.declared.step.Ending.TheVariants.{Ok}
+use Rattle.fj_rules.specs.declared.status.Status.TheVariants.{Normal}
+use Rattle.fj_rules.specs.Tasks.{is_kept}
+use Rattle.fj_rules.specs.Statuses.{status, is_undone}
+use Rattle.fj_rules.specs.Allowed.{Allowed}
+use Rattle.fj_rules.specs.Answers.{after_end}
+use Rattle.fj_rules.specs.Runs.{Past}
 use Rattle.fj_machine.proofs.ByStep.EndSteps.{running_kept, end_full, end_made, may_end, ended_kept, ok_events, ok_count}
 use Rattle.fj_machine.proofs.Outcomes.RoomTests.{either_way, grown_none}
 use Rattle.fj_machine.proofs.Outcomes.Results.{exits_full}

@@ -1,6 +1,6 @@
-use Rattle.fj_model.specs.declared.step.Step.TheVariants as step
+use Rattle.fj_rules.specs.declared.step.Step.TheVariants as step
 use Rattle.std.proofs.Common.{refl, ◌∙◌, []}
-use Rattle.fj_model.specs.declared.step.Ending.TheVariants.{Quiet}
+use Rattle.fj_rules.specs.declared.step.Ending.TheVariants.{Quiet}
 use Rattle.fj_machine.proofs.ByStep.EndSteps.{end_full, end_made}
 use Rattle.fj_machine.proofs.Outcomes.RoomTests.{grown_none}
 use Rattle.fj_machine.proofs.Outcomes.Results.{exits_full}

@@ -1,15 +1,15 @@
-use Rattle.fj_model.specs.declared.step.Step.TheVariants as step
+use Rattle.fj_rules.specs.declared.step.Step.TheVariants as step
 use Rattle.std.proofs.Common.{◌≡◌, ◌+◌, ◌≤◌, ◌∷◌, ◌++◌, [], length, true, None, Some, refl, ap, sym, ◌∙◌, subst, inl, inr, arith}
 use Rattle.std.proofs.lemmas.Bool.{not-false}
 use Rattle.std.proofs.lemmas.List.{length-append}
-use Rattle.fj_model.specs.Pasts.{limit}
-use Rattle.fj_model.specs.declared.event.Event.TheVariants as event
-use Rattle.fj_model.specs.declared.step.Ending.TheVariants.{Try}
-use Rattle.fj_model.specs.Tasks.{is_completer}
-use Rattle.fj_model.specs.Hooks.{hooks, hand, receiver}
-use Rattle.fj_model.specs.Climbs.{arrival}
-use Rattle.fj_model.specs.Answers.{arriving, arriving_says}
-use Rattle.fj_model.specs.Runs.{Past, grown}
+use Rattle.fj_rules.specs.Pasts.{limit}
+use Rattle.fj_rules.specs.declared.event.Event.TheVariants as event
+use Rattle.fj_rules.specs.declared.step.Ending.TheVariants.{Try}
+use Rattle.fj_rules.specs.Tasks.{is_completer}
+use Rattle.fj_rules.specs.Hooks.{hooks, hand, receiver}
+use Rattle.fj_rules.specs.Climbs.{arrival}
+use Rattle.fj_rules.specs.Answers.{arriving, arriving_says}
+use Rattle.fj_rules.specs.Runs.{Past, grown}
 use Rattle.fj_machine.proofs.ByStep.EndSteps.{running_kept, end_full, end_made, end_suits, ended_completer, ended_free, ended_given, try_count}
 use Rattle.fj_machine.proofs.Outcomes.RoomTests.{either_way}
 use Rattle.fj_machine.proofs.Outcomes.Results.{exits_full}

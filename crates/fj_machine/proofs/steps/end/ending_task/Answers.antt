@@ -1,12 +1,12 @@
 use Rattle.std.proofs.Common.{ℕ, ◌≡◌, Bool, true, false, not, List, Some, None, refl, ap, sym, ◌∙◌}
 use Rattle.std.specs.Prelude.{if◌then◌else◌}
-use Rattle.fj_model.specs.declared.event.Event.{Event}
-use Rattle.fj_model.specs.declared.refusal.Refusal.TheVariants.{NotCompleter}
-use Rattle.fj_model.specs.declared.step.Ending.{Ending}
-use Rattle.fj_model.specs.declared.step.Ending.TheVariants as ends
-use Rattle.fj_model.specs.declared.step.Step.TheVariants.{End}
-use Rattle.fj_model.specs.Tasks.{is_completer}
-use Rattle.fj_model.specs.Answers.{is_misfit, first_that_stands, refusals_of, running}
+use Rattle.fj_rules.specs.declared.event.Event.{Event}
+use Rattle.fj_rules.specs.declared.refusal.Refusal.TheVariants.{NotCompleter}
+use Rattle.fj_rules.specs.declared.step.Ending.{Ending}
+use Rattle.fj_rules.specs.declared.step.Ending.TheVariants as ends
+use Rattle.fj_rules.specs.declared.step.Step.TheVariants.{End}
+use Rattle.fj_rules.specs.Tasks.{is_completer}
+use Rattle.fj_rules.specs.Answers.{is_misfit, first_that_stands, refusals_of, running}
 use Rattle.fj_machine.specs.Outcomes.{suits}
 use Rattle.fj_machine.proofs.ByStep.EndSteps.{running_kept, end_refused}
 use Rattle.fj_machine.proofs.Outcomes.Found.{found_completer}

@@ -1,6 +1,6 @@
 use Rattle.std.proofs.Common.{◌≡◌, false, refl, ◌∙◌}
-use Rattle.fj_model.specs.declared.step.Step.TheVariants.{State}
-use Rattle.fj_model.specs.Tasks.{is_kept}
+use Rattle.fj_rules.specs.declared.step.Step.TheVariants.{State}
+use Rattle.fj_rules.specs.Tasks.{is_kept}
 use Rattle.fj_ledger.specs.Holds.{TellsOf}
 use Rattle.fj_machine.proofs.Outcomes.OneEvent.{only_tells}
 use Rattle.fj_machine.proofs.Outcomes.Found.{found_kept, found_place, found_status}

@@ -1,8 +1,8 @@
 use Rattle.std.proofs.Common.{◌≡◌, ◌≤◌, false, refl, arith}
 use Rattle.std.specs.Prelude.{nat_lt}
 use Rattle.std.proofs.lemmas.Bool.{le-ltb}
-use Rattle.fj_model.specs.declared.limits.TheConstants.{MAX_PENDING}
-use Rattle.fj_model.specs.Tasks.{live}
+use Rattle.fj_rules.specs.declared.limits.TheConstants.{MAX_PENDING}
+use Rattle.fj_rules.specs.Tasks.{live}
 use Rattle.fj_machine.proofs.Outcomes.Refusing.{is_full, not_below}
 use Rattle.fj_machine.proofs.steps.refuse.task_room.Goals as goal
 

@@ -1,5 +1,5 @@
 use Rattle.std.proofs.Common.{sym}
-use Rattle.fj_model.specs.declared.step.Step.TheVariants.{Release}
+use Rattle.fj_rules.specs.declared.step.Step.TheVariants.{Release}
 use Rattle.fj_machine.proofs.ByStep.ReleaseSteps.{releases, release_says}
 use Rattle.fj_machine.proofs.Outcomes.Results.{exits, full_of_one, may_one, made_one}
 use Rattle.fj_machine.proofs.steps.release.release.Goals as goal

@@ -1,8 +1,8 @@
 use Rattle.std.proofs.Common.{◌≡◌, true, refl, ap, sym, ◌∙◌, ⊎_elim}
-use Rattle.fj_model.specs.declared.status.Status.TheVariants.{Undone, Normal, Exceptional, Cancelled}
-use Rattle.fj_model.specs.declared.step.Step.TheVariants.{Cancel}
-use Rattle.fj_model.specs.Tasks.{is_kept}
-use Rattle.fj_model.specs.Statuses.{status, is_undone}
+use Rattle.fj_rules.specs.declared.status.Status.TheVariants.{Undone, Normal, Exceptional, Cancelled}
+use Rattle.fj_rules.specs.declared.step.Step.TheVariants.{Cancel}
+use Rattle.fj_rules.specs.Tasks.{is_kept}
+use Rattle.fj_rules.specs.Statuses.{status, is_undone}
 use Rattle.fj_ledger.specs.Holds.{TellsOf}
 use Rattle.fj_machine.proofs.Outcomes.Found.{found_kept, found_status}
 use Rattle.fj_machine.proofs.Outcomes.Results.{exits, full_of_one, may_one, made_one}

@@ -1,12 +1,12 @@
 use Rattle.std.proofs.Common.{◌≡◌, true, length, ap, sym, ◌∙◌, arith, subst}
-use Rattle.fj_model.specs.declared.said.Said.TheVariants as says
-use Rattle.fj_model.specs.declared.step.Step.TheVariants.{Fault}
-use Rattle.fj_model.specs.Tasks.{is_kept}
-use Rattle.fj_model.specs.Statuses.{status, is_undone}
-use Rattle.fj_model.specs.Climbs.{relayed}
-use Rattle.fj_model.specs.Allowed.{AllowedFrom}
-use Rattle.fj_model.specs.Answers.{events_of}
-use Rattle.fj_model.specs.Runs.{grown}
+use Rattle.fj_rules.specs.declared.said.Said.TheVariants as says
+use Rattle.fj_rules.specs.declared.step.Step.TheVariants.{Fault}
+use Rattle.fj_rules.specs.Tasks.{is_kept}
+use Rattle.fj_rules.specs.Statuses.{status, is_undone}
+use Rattle.fj_rules.specs.Climbs.{relayed}
+use Rattle.fj_rules.specs.Allowed.{AllowedFrom}
+use Rattle.fj_rules.specs.Answers.{events_of}
+use Rattle.fj_rules.specs.Runs.{grown}
 use Rattle.fj_ledger.specs.Holds.{TellsOf}
 use Rattle.fj_machine.proofs.Outcomes.Found.{found_kept, found_status}
 use Rattle.fj_machine.proofs.ByStep.SettleSteps.{fault_stands, fault_events, fault_says, fault_tells, settles_count}

@@ -1,22 +1,22 @@
 use Rattle.std.proofs.Common.{ℕ, ◌≡◌, ◌+◌, true, List, [], ◌∷◌, ◌++◌, take, Option, Some, None, refl, ap, sym, ◌∙◌, subst, arith}
 use Rattle.std.specs.Prelude.{IsSome, option_map, slice_get}
 use Rattle.std.proofs.lemmas.List.{append-nil}
-use Rattle.fj_model.specs.Pasts.{limit}
-use Rattle.fj_model.specs.declared.event.Event.{Event}
-use Rattle.fj_model.specs.declared.event.Event.TheVariants.{Settle}
-use Rattle.fj_model.specs.declared.status.Status.TheVariants.{Exceptional}
-use Rattle.fj_model.specs.Tasks.{is_kept, parent}
-use Rattle.fj_model.specs.Climbs.{relayed, path}
-use Rattle.fj_model.specs.Allowed.{Allowed}
-use Rattle.fj_model.specs.Runs.{Past, grown}
-use Rattle.fj_model.proofs.Lists.Members.{get_is_in}
-use Rattle.fj_model.proofs.Events.Settling.{settles}
+use Rattle.fj_rules.specs.Pasts.{limit}
+use Rattle.fj_rules.specs.declared.event.Event.{Event}
+use Rattle.fj_rules.specs.declared.event.Event.TheVariants.{Settle}
+use Rattle.fj_rules.specs.declared.status.Status.TheVariants.{Exceptional}
+use Rattle.fj_rules.specs.Tasks.{is_kept, parent}
+use Rattle.fj_rules.specs.Climbs.{relayed, path}
+use Rattle.fj_rules.specs.Allowed.{Allowed}
+use Rattle.fj_rules.specs.Runs.{Past, grown}
+use Rattle.fj_rules.proofs.Lists.Members.{get_is_in}
+use Rattle.fj_rules.proofs.Events.Settling.{settles}
 use Rattle.fj_ledger.specs.Holds.{IsLawful}
 use Rattle.fj_ledger.proofs.Lists.Choosing.{some_get}
 use Rattle.fj_machine.proofs.ByStep.Passing.{next_up, path_begins, may_next, allowed_front, next_more}
 use Rattle.fj_machine.proofs.ByStep.Relaying.{relayed_at, parent_settled}
-use Rattle.fj_model.proofs.Completers.KeptParents.{relayed_kept}
-use Rattle.fj_model.proofs.Events.Settling.{settles_kept}
+use Rattle.fj_rules.proofs.Completers.KeptParents.{relayed_kept}
+use Rattle.fj_rules.proofs.Events.Settling.{settles_kept}
 use Rattle.fj_tree.specs.Handles.{Handle}
 use Rattle.fj_machine.proofs.steps.settle.relay.Goals as goal
 use Rattle.fj_machine.proofs.steps.settle.relay.Goals.{In-loop, After-unwrap-c, After-parent-at}

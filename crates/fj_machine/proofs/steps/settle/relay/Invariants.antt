@@ -1,9 +1,9 @@
 use Rattle.std.proofs.Common.{◌≡◌, ◌<◌, take}
 use Rattle.std.specs.Prelude.{option_map, slice_get}
 use Rattle.fj_tree.specs.Handles.{Handle}
-use Rattle.fj_model.specs.Climbs.{relayed, path}
-use Rattle.fj_model.specs.Runs.{grown}
-use Rattle.fj_model.proofs.Events.Settling.{settles}
+use Rattle.fj_rules.specs.Climbs.{relayed, path}
+use Rattle.fj_rules.specs.Runs.{grown}
+use Rattle.fj_rules.proofs.Events.Settling.{settles}
 use Rattle.fj_machine.proofs.steps.settle.relay.Given as goal
 
 -- so many are settled, and the next one stands at that place of the way

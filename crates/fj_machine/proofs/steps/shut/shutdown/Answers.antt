@@ -1,5 +1,5 @@
 use Rattle.std.proofs.Common.{sym, ◌∙◌}
-use Rattle.fj_model.specs.declared.step.Step.TheVariants.{Shutdown}
+use Rattle.fj_rules.specs.declared.step.Step.TheVariants.{Shutdown}
 use Rattle.fj_machine.proofs.Outcomes.Results.{full_of_one, may_one, made_one}
 use Rattle.fj_machine.proofs.ByStep.ShutSteps.{closes, closed_tells, done_says}
 use Rattle.fj_machine.proofs.steps.shut.shutdown.Goals as goal

@@ -1,5 +1,5 @@
 use Rattle.std.proofs.Common.{sym}
-use Rattle.fj_model.specs.declared.step.Step.TheVariants.{Help}
+use Rattle.fj_rules.specs.declared.step.Step.TheVariants.{Help}
 use Rattle.fj_machine.specs.Outcomes.{said_by}
 use Rattle.fj_machine.proofs.ByStep.TakeSteps.{choice_may, choice_steps}
 use Rattle.fj_machine.proofs.Outcomes.Results.{exits}

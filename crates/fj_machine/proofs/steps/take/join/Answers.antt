@@ -1,11 +1,11 @@
 use Rattle.std.proofs.Common.{ℕ, ◌≡◌, None, true, false, refl, ap, sym, ◌∙◌}
-use Rattle.fj_model.specs.Pasts.{limit}
-use Rattle.fj_model.specs.declared.status.Status.{Status}
-use Rattle.fj_model.specs.declared.status.Status.TheVariants.{Normal, Exceptional, Cancelled}
-use Rattle.fj_model.specs.declared.step.Step.TheVariants.{Join}
-use Rattle.fj_model.specs.Statuses.{status, is_undone}
-use Rattle.fj_model.specs.Answers.{first_that_stands, refusals_of, status_says}
-use Rattle.fj_model.specs.Runs.{Past, Steps}
+use Rattle.fj_rules.specs.Pasts.{limit}
+use Rattle.fj_rules.specs.declared.status.Status.{Status}
+use Rattle.fj_rules.specs.declared.status.Status.TheVariants.{Normal, Exceptional, Cancelled}
+use Rattle.fj_rules.specs.declared.step.Step.TheVariants.{Join}
+use Rattle.fj_rules.specs.Statuses.{status, is_undone}
+use Rattle.fj_rules.specs.Answers.{first_that_stands, refusals_of, status_says}
+use Rattle.fj_rules.specs.Runs.{Past, Steps}
 use Rattle.fj_ledger.specs.Holds.{IsLawful}
 use Rattle.fj_machine.specs.Outcomes.{said_by}
 use Rattle.fj_machine.proofs.Outcomes.Stepping.{told}

@@ -1,10 +1,10 @@
 use Rattle.std.proofs.Common.{◌≡◌, [], ◌∷◌, true, false, refl, sym, ap, ◌∙◌}
 use Rattle.std.specs.Prelude.{◌&&◌}
-use Rattle.fj_model.specs.declared.refusal.Refusal.TheVariants.{OwnStack}
-use Rattle.fj_model.specs.Lists.{is_in}
-use Rattle.fj_model.specs.Stacks.{stack}
-use Rattle.fj_model.specs.Statuses.{status, is_undone}
-use Rattle.fj_model.specs.Answers.{unknown_task, no_such_worker, hook_in_hand, nothing_running}
+use Rattle.fj_rules.specs.declared.refusal.Refusal.TheVariants.{OwnStack}
+use Rattle.fj_rules.specs.Lists.{is_in}
+use Rattle.fj_rules.specs.Stacks.{stack}
+use Rattle.fj_rules.specs.Statuses.{status, is_undone}
+use Rattle.fj_rules.specs.Answers.{unknown_task, no_such_worker, hook_in_hand, nothing_running}
 use Rattle.fj_ledger.specs.Holds.{TellsOf}
 use Rattle.fj_machine.proofs.Outcomes.Found.{found_kept, found_status, found_place, held_as_told}
 use Rattle.fj_machine.proofs.Outcomes.Refusing.{first_after}

@@ -1,7 +1,7 @@
 use Rattle.std.proofs.Common.{subst, arith}
 use Rattle.std.proofs.lemmas.Result.{err_from_is_err_and}
-use Rattle.fj_model.specs.Allowed.{AllowedFrom}
-use Rattle.fj_model.specs.Answers.{taking}
+use Rattle.fj_rules.specs.Allowed.{AllowedFrom}
+use Rattle.fj_rules.specs.Answers.{taking}
 use Rattle.fj_machine.proofs.ByStep.TakeSteps.{takes_none, takes_full, takes_it}
 use Rattle.fj_machine.proofs.steps.take.take_choice.Goals as goal
 

@@ -1,5 +1,5 @@
 use Rattle.std.proofs.Common.{◌≡◌, length, ap, ◌∙◌, arith}
-use Rattle.fj_model.specs.declared.limits.Limits.{Limits}
+use Rattle.fj_rules.specs.declared.limits.Limits.{Limits}
 use Rattle.fj_pool.specs.Glances.{busy_below}
 use Rattle.fj_pool.proofs.glance.Glance.of.Goals as goal
 

@@ -1,5 +1,5 @@
 use Rattle.std.proofs.Common.{ℕ, ◌≡◌, [], None}
-use Rattle.fj_store.specs.Fitting.{Fits}
+use Rattle.fj_bodies.specs.Fitting.{Fits}
 use Rattle.fj_pool.specs.Holdings.{KeepsOthers}
 use Rattle.fj_pool.specs.Working.{Skips}
 use Rattle.fj_pool.proofs.guarded.Guarded.poll_again.Given as goal

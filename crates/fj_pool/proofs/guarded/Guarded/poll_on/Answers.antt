@@ -1,6 +1,6 @@
 use Rattle.std.proofs.Common.{ℕ, zero, suc, refl, sym, subst}
 use Rattle.fj_core.specs.Cores.{CoreState}
-use Rattle.fj_shelf.specs.Hands.{HandState}
+use Rattle.fj_slots.specs.Hands.{HandState}
 use Rattle.fj_pool.specs.Working.{Skips, SkipsOnce}
 use Rattle.fj_pool.proofs.guarded.Guarded.poll_on.Goals as goal
 

@@ -1,5 +1,5 @@
 use Rattle.std.proofs.Common.{sym, subst}
-use Rattle.fj_store.specs.Fitting.{Fits}
+use Rattle.fj_bodies.specs.Fitting.{Fits}
 use Rattle.fj_pool.specs.Holdings.{KeepsOthers}
 use Rattle.fj_pool.proofs.Holdings.{keeps_fit, keeps_others, none_keeps, others_of, others_then}
 use Rattle.fj_pool.proofs.guarded.Guarded.serve_ask.Goals as goal

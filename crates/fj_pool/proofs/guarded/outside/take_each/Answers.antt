@@ -1,5 +1,5 @@
 use Rattle.std.proofs.Common.{ℕ, ◌≡◌, ◌<◌, refl, sym, ap, ◌∙◌, subst, arith}
-use Rattle.fj_model.specs.Bounds.{Bounds, Pool}
+use Rattle.fj_rules.specs.Bounds.{Bounds, Pool}
 use Rattle.fj_pool.specs.Looking.{TakesFrom, behind}
 use Rattle.fj_pool.proofs.Looking.{one_behind, takes_keep, takes_next, takes_none, takes_same, waits_or, waits_or_first}
 use Rattle.fj_pool.proofs.guarded.outside.take_each.Goals as goal

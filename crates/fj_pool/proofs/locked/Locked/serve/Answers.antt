@@ -1,7 +1,7 @@
 use Rattle.std.proofs.Common.{Some, sym, ap, ◌∙◌, subst}
 use Rattle.std.specs.Prelude.{slice_get}
 use Rattle.fj_agreement.specs.Ends.{EndState}
-use Rattle.fj_store.specs.Fitting.{Fits}
+use Rattle.fj_bodies.specs.Fitting.{Fits}
 use Rattle.fj_pool.specs.declared.holding.Holding.{Holding}
 use Rattle.fj_pool.proofs.Holdings.{fits_holding, kept_after, met_fits, same_pair}
 use Rattle.fj_pool.proofs.locked.Locked.serve.Goals as goal

@@ -3,14 +3,14 @@ use Rattle.std.specs.Prelude.{IfSome, slice_get}
 use Rattle.std.specs.List.{sum_by}
 use Rattle.std.specs.Option.{option_eq}
 use Rattle.std.proofs.Math.Dec.{eqb}
-use Rattle.fj_model.specs.Answers.{is_quiet}
-use Rattle.fj_model.specs.Pasts.{Past}
+use Rattle.fj_rules.specs.Answers.{is_quiet}
+use Rattle.fj_rules.specs.Pasts.{Past}
 use Rattle.fj_core.specs.Closes.{is_number}
 use Rattle.fj_core.specs.Closings.{is_over}
 use Rattle.fj_gate.specs.Ends.{EntrantState, drawn_by}
 use Rattle.fj_gate.specs.Numbers.{IsNumbersBelow}
 use Rattle.fj_lane.specs.Ends.{DrainState}
-use Rattle.fj_model.specs.declared.event.Event.{Event}
+use Rattle.fj_rules.specs.declared.event.Event.{Event}
 use Rattle.fj_core.specs.declared.booking.Booking.{Booking}
 use Rattle.fj_core.specs.Booked.{IsBooked}
 use Rattle.fj_pool.specs.Lanes.{lanes_of}
@@ -24,7 +24,7 @@ use Rattle.fj_pool.proofs.pool.Pool.wind_up.Goals as goal
 
 pub settle-entrants-requires-clause-lanes : goal.settle-entrants-requires-clause-lanes
 settle-entrants-requires-clause-lanes g c =
-    ap (λ (ds : List (DrainState g.row.B.Denot)). lanes_of ds) (c.into_remains-machine.ensures.drains ∙ ap (λ core. core.lanes) c.is_quiescent-quiet.ensures.same) ∙ c.core.invariant.0
+    ap (λ (ds : List (DrainState g.row.B.Denot)). lanes_of ds) c.into_remains-machine.ensures.drains ∙ c.core.invariant.0
 
 pub meet-tickets-requires-clause-same : goal.meet-tickets-requires-clause-same
 meet-tickets-requires-clause-same g c = λ k e low. c.settle-entrants.ensures.gates k e low ∙ sym c.closer.invariant.0
@@ -33,7 +33,7 @@ pub returns-clause-lanes : goal.returns-clause-lanes
 returns-clause-lanes g c =
     let ended = c.into_remains-machine.result in
     let left = c.into_remains-machine.ensures in
-    let events : ended.machine.events ≡ c.is_quiescent-quiet.new.self.store.past.events = ap (λ past. past.events) left.past in
+    let events : ended.machine.events ≡ c.core.inside.core.store.past.events = ap (λ past. past.events) left.past in
     all_settled ended.machine.events ended.bookings.bookings ended.drains.items c.args.submitters.items c.settle-entrants.result.1.items c.settle-entrants.ensures.rests
     (λ k d at.
     subst (λ (x : List Event × List Booking). IsBooked x.0 x.1 k d) (λ i. (sym events i, sym left.bookings i))
@@ -48,17 +48,17 @@ returns-clause-admitted g c =
 pub returns-clause-taken_in : goal.returns-clause-taken_in
 returns-clause-taken_in g c =
     let left = c.into_remains-machine.ensures in
-    ap (λ (bs : List Booking). length bs) left.bookings ∙ booked_accepted c.is_quiescent-quiet.new.self.store.past c.is_quiescent-quiet.new.self.lanes c.is_quiescent-quiet.new.self.bookings left.booked ∙ ap (λ (past : Past). submissions past) (sym left.past)
+    ap (λ (bs : List Booking). length bs) left.bookings ∙ booked_accepted c.core.inside.core.store.past c.core.inside.core.lanes c.core.inside.core.bookings left.booked ∙ ap (λ (past : Past). submissions past) (sym left.past)
 
 pub returns-clause-terminated : goal.returns-clause-terminated
 returns-clause-terminated g c =
     let machine = c.into_remains-machine.result.machine in
-    let past : c.core.inside.core.store.past ≡ machine = sym (c.into_remains-machine.ensures.past ∙ ap (λ core. core.store.past) c.is_quiescent-quiet.ensures.same) in
+    let past : c.core.inside.core.store.past ≡ machine = sym c.into_remains-machine.ensures.past in
     let closed : c.meet-tickets.result.closed ≡ c.args.closer.closed = c.meet-tickets.ensures.closed ∙ ap (λ closer. closer.closed) c.closer.view_is in
     let number : c.eq.result ≡ is_number c.args.closer.closed (submissions machine) =
     c.eq.ensures ∙ (λ i. option_eq eqb (closed i) (Some (c.len.ensures i))) ∙ same_number c.args.closer.closed (length c.into_remains-machine.result.bookings.bookings) ∙ ap (λ (n : ℕ). is_number c.args.closer.closed n) (returns-clause-taken_in g c) in
     let shut : c.is_shut-shut.result ≡ is_over machine.events = c.is_shut-shut.ensures ∙ ap (λ p. is_over p.events) past in
-    let quiet : c.is_quiescent-quiet.result ≡ is_quiet machine.pool.limits machine.events = c.is_quiescent-quiet.ensures.quiet ∙ ap (λ p. is_quiet p.pool.limits p.events) past in
+    let quiet : c.is_quiescent-quiet.result ≡ is_quiet machine.pool.limits machine.events = c.is_quiescent-quiet.ensures ∙ ap (λ p. is_quiet p.pool.limits p.events) past in
     let reached : c.if-eq.reached ≡ (c.eq.result && c.is_shut-shut.result) = elim c.if-eq.branch [
       | then-eq w ↦ second_made c.eq.result c.is_shut-shut.result c.if-eq.reached w.if-eq.true w.reached-is
       | else-eq w ↦ second_spared c.eq.result c.is_shut-shut.result c.if-eq.reached w.if-eq.false w.reached-is

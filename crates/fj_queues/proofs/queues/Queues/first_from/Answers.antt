@@ -1,4 +1,4 @@
-use Rattle.fj_model.specs.Lists.{is_empty}
+use Rattle.fj_rules.specs.Lists.{is_empty}
 use Rattle.fj_queues.specs.Queues.{first_filled, places_from}
 use Rattle.fj_queues.specs.Tables.{no_ends, numbers_from, lists_of}
 use Rattle.fj_queues.proofs.Table.Scans.{all_empty, none_in_empty, scan_step, is_empty_no, is_empty_yes}

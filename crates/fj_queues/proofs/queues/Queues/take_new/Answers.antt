@@ -7,7 +7,7 @@ use Rattle.fj_queues.proofs.Table.TableSteps.{queue_of, last_moved}
 use Rattle.fj_queues.proofs.Table.QueueSteps.{loose_within, take_new_steps, no_newest, count_without_last}
 use Rattle.fj_queues.proofs.Table.QueueWrites.{untouched}
 use Rattle.fj_queues.proofs.Table.Counts.{one_in_all}
-use Rattle.fj_model.specs.Lists.{last_of}
+use Rattle.fj_rules.specs.Lists.{last_of}
 use Rattle.std.proofs.Common.{arith, ap, subst, sym, ◌∙◌, ◌≡◌, ◌<◌, ◌+◌, ◌∷◌, [], List, ℕ, Some, None, length, get_or}
 use Rattle.std.proofs.Math.ListN.{set}
 use Rattle.std.proofs.lemmas.List.{get_or_read}

@@ -7,7 +7,7 @@ use Rattle.fj_queues.proofs.Table.TableSteps.{queue_of, first_moved}
 use Rattle.fj_queues.proofs.Table.QueueSteps.{loose_within, take_old_steps, no_oldest, count_without_first}
 use Rattle.fj_queues.proofs.Table.QueueWrites.{untouched}
 use Rattle.fj_queues.proofs.Table.Counts.{one_in_all}
-use Rattle.fj_model.specs.Lists.{first_of}
+use Rattle.fj_rules.specs.Lists.{first_of}
 use Rattle.std.proofs.Common.{arith, ap, subst, sym, ◌∙◌, ◌≡◌, ◌<◌, ◌+◌, ◌∷◌, [], List, ℕ, Some, None, length, get_or}
 use Rattle.std.proofs.Math.ListN.{set}
 use Rattle.std.proofs.lemmas.List.{get_or_read}

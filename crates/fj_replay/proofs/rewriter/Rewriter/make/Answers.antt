@@ -1,6 +1,6 @@
 use Rattle.std.proofs.Common.{◌≤◌, arith, sym, ◌∙◌}
-use Rattle.fj_model.specs.declared.limits.TheConstants.{MAX_EVENTS}
-use Rattle.fj_model.specs.Tasks.{accepted}
+use Rattle.fj_rules.specs.declared.limits.TheConstants.{MAX_EVENTS}
+use Rattle.fj_rules.specs.Tasks.{accepted}
 use Rattle.fj_replay.proofs.Version2.Accepted.{counted_none, counted_task, few_tasks}
 use Rattle.fj_replay.proofs.rewriter.Rewriter.make.Goals as goal
 

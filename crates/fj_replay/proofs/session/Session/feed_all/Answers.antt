@@ -1,6 +1,6 @@
 use Rattle.std.proofs.Common.{◌++◌, ◌∷◌, [], take}
 use Rattle.std.proofs.lemmas.Result.{MatchResult-weaker, err_from_is_err_and, on_ok_weaker}
-use Rattle.fj_model.specs.declared.read.TheConstants.{LINE_FEED}
+use Rattle.fj_lines.specs.declared.read.TheConstants.{LINE_FEED}
 use Rattle.fj_streams.proofs.CallsMade.{fine_twice}
 use Rattle.fj_replay.proofs.Lines.{no_line, one_line_more}
 use Rattle.fj_replay.proofs.Steps.{at_next, at_rest, counted}

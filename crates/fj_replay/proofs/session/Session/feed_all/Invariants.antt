@@ -1,6 +1,6 @@
 use Rattle.std.proofs.Common.{ℕ, ◌≡◌, ◌+◌, ◌≤◌, List, ◌++◌, length, Option}
 use Rattle.fj_streams.specs.Calls.{IsFine}
-use Rattle.fj_replay.specs.declared.stage.Stage.{Stage}
+use Rattle.fj_replay.specs.declared.script_stage.ScriptStage.{ScriptStage}
 use Rattle.fj_replay.specs.Sessions.{IsAt}
 use Rattle.fj_replay.proofs.session.Session.feed_all.Given as goal
 
@@ -10,7 +10,7 @@ invariant-loop-end g l =
     (taken : List ℕ)
     × (l.fn.bytes ≡ taken ++ l.rest)
     × (l.self.count ≤ l.fn.self.count + length taken)
-    × ((first : Stage) (b : List ℕ) (start : Option (List ℕ)) → IsAt first b l.fn.self start (g.W.Sink.contents l.fn.w) → IsAt first (b ++ taken) l.self start (g.W.Sink.contents l.w))
+    × ((first : ScriptStage) (b : List ℕ) (start : Option (List ℕ)) → IsAt first b l.fn.self start (g.W.Sink.contents l.fn.w) → IsAt first (b ++ taken) l.self start (g.W.Sink.contents l.w))
     × IsFine (g.W.Sink.calls l.fn.w) (g.W.Sink.calls l.w)
 
 abbrev pub decreases-loop-end : goal.decreases-loop-end

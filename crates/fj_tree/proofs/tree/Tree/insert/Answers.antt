@@ -1,6 +1,6 @@
 use Rattle.std.proofs.Common.{arith, sym, subst, ◌≡◌, ◌+◌, ◌<◌, Option, Some, None, refl}
 use Rattle.std.specs.Prelude.{option_map, slice_set}
-use Rattle.fj_model.specs.Tasks.{parent_in}
+use Rattle.fj_rules.specs.Tasks.{parent_in}
 use Rattle.fj_tree.specs.declared.record.Record.{Record}
 use Rattle.fj_tree.specs.Handles.{Handle}
 use Rattle.fj_tree.specs.Makes.{with_child, with_child_of}

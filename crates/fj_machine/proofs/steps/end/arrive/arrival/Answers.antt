@@ -1,7 +1,7 @@
 use Rattle.std.proofs.Common.{ap, ◌∙◌}
 use Rattle.std.specs.Prelude.{option_copied}
 use Rattle.std.proofs.lemmas.Option.{MatchOption-at_some}
-use Rattle.fj_model.specs.Climbs.{arrival}
+use Rattle.fj_rules.specs.Climbs.{arrival}
 use Rattle.fj_ledger.specs.Arriving.{as_arrival}
 use Rattle.fj_ledger.proofs.Recorded.ArrivalsTold.{arrival_told, released_told}
 use Rattle.fj_machine.proofs.steps.end.arrive.arrival.Goals as goal

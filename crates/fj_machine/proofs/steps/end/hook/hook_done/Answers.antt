@@ -1,5 +1,5 @@
 use Rattle.std.proofs.Common.{sym}
-use Rattle.fj_model.specs.declared.step.Step.TheVariants.{HookDone}
+use Rattle.fj_rules.specs.declared.step.Step.TheVariants.{HookDone}
 use Rattle.fj_machine.proofs.Outcomes.Results.{exits}
 use Rattle.fj_machine.proofs.steps.end.hook.hook_done.Goals as goal
 

@@ -1,16 +1,16 @@
-use Rattle.fj_model.specs.declared.step.Step.TheVariants as step
+use Rattle.fj_rules.specs.declared.step.Step.TheVariants as step
 use Rattle.std.proofs.Common.{◌≡◌, ◌+◌, ◌≤◌, ◌∷◌, ◌++◌, [], length, Bool, true, None, Some, ap, sym, ◌∙◌, subst, inl, inr}
 use Rattle.std.proofs.lemmas.Bool.{true≢false}
-use Rattle.fj_model.specs.Pasts.{limit}
-use Rattle.fj_model.specs.declared.event.Event.TheVariants.{Hooked, Settle}
-use Rattle.fj_model.specs.Lists.{is_in}
-use Rattle.fj_model.specs.declared.status.Status.TheVariants.{Normal}
-use Rattle.fj_model.specs.Tasks.{is_completer}
-use Rattle.fj_model.specs.Hooks.{hooks, hand, receiver}
-use Rattle.fj_model.specs.Climbs.{arrival}
-use Rattle.fj_model.specs.Allowed.{Allowed}
-use Rattle.fj_model.specs.Answers.{hook_events, arriving, arriving_says}
-use Rattle.fj_model.specs.Runs.{Past, grown}
+use Rattle.fj_rules.specs.Pasts.{limit}
+use Rattle.fj_rules.specs.declared.event.Event.TheVariants.{Hooked, Settle}
+use Rattle.fj_rules.specs.Lists.{is_in}
+use Rattle.fj_rules.specs.declared.status.Status.TheVariants.{Normal}
+use Rattle.fj_rules.specs.Tasks.{is_completer}
+use Rattle.fj_rules.specs.Hooks.{hooks, hand, receiver}
+use Rattle.fj_rules.specs.Climbs.{arrival}
+use Rattle.fj_rules.specs.Allowed.{Allowed}
+use Rattle.fj_rules.specs.Answers.{hook_events, arriving, arriving_says}
+use Rattle.fj_rules.specs.Runs.{Past, grown}
 use Rattle.fj_ledger.specs.Holds.{hook_completers}
 use Rattle.fj_machine.proofs.ByStep.HookSteps.{own, own_count, hook_full, hook_made, may_hook, hooked_unlisted, parent_is_completer, parent_still_completer, past_free, past_given, parent_arrival, inner_events, inner_says, arriving_count, inner_count, past_fits}
 use Rattle.fj_machine.proofs.Outcomes.RoomTests.{either_way, grown_none, grown_twice}

@@ -1,12 +1,12 @@
-use Rattle.fj_model.specs.declared.step.Step.TheVariants as step
+use Rattle.fj_rules.specs.declared.step.Step.TheVariants as step
 use Rattle.std.proofs.Common.{◌≡◌, ◌+◌, ◌∷◌, [], length, true, false, Some, refl, ap, sym, ◌∙◌, subst, inl, inr}
 use Rattle.std.proofs.lemmas.Bool.{true≢false}
-use Rattle.fj_model.specs.declared.event.Event.TheVariants.{Hooked, Settle}
-use Rattle.fj_model.specs.declared.status.Status.TheVariants.{Normal}
-use Rattle.fj_model.specs.Lists.{is_in}
-use Rattle.fj_model.specs.Allowed.{Allowed}
-use Rattle.fj_model.specs.Answers.{hook_events}
-use Rattle.fj_model.specs.Runs.{Past}
+use Rattle.fj_rules.specs.declared.event.Event.TheVariants.{Hooked, Settle}
+use Rattle.fj_rules.specs.declared.status.Status.TheVariants.{Normal}
+use Rattle.fj_rules.specs.Lists.{is_in}
+use Rattle.fj_rules.specs.Allowed.{Allowed}
+use Rattle.fj_rules.specs.Answers.{hook_events}
+use Rattle.fj_rules.specs.Runs.{Past}
 use Rattle.fj_ledger.specs.Holds.{hook_completers}
 use Rattle.fj_machine.proofs.ByStep.HookSteps.{own, own_count, hook_full, hook_made, may_hook, hooked_unlisted, root_events, root_says}
 use Rattle.fj_machine.proofs.Outcomes.RoomTests.{either_way, grown_none}

@@ -1,14 +1,14 @@
-use Rattle.fj_model.specs.declared.step.Step.TheVariants as step
+use Rattle.fj_rules.specs.declared.step.Step.TheVariants as step
 use Rattle.std.proofs.Common.{ℕ, ◌≡◌, ◌+◌, ◌∷◌, ◌++◌, [], List, length, map, true, ap, sym, ◌∙◌, subst}
-use Rattle.fj_model.specs.declared.event.Event.{Event}
-use Rattle.fj_model.specs.declared.event.Event.TheVariants as event
-use Rattle.fj_model.specs.declared.step.Ending.TheVariants.{Pass}
-use Rattle.fj_model.specs.Tasks.{is_kept, is_completer}
-use Rattle.fj_model.specs.Climbs.{passed}
-use Rattle.fj_model.specs.Allowed.{AllowedFrom}
-use Rattle.fj_model.specs.Answers.{after_end}
-use Rattle.fj_model.specs.Runs.{Past, grown}
-use Rattle.fj_model.proofs.Events.Lawful.{allowed_more}
+use Rattle.fj_rules.specs.declared.event.Event.{Event}
+use Rattle.fj_rules.specs.declared.event.Event.TheVariants as event
+use Rattle.fj_rules.specs.declared.step.Ending.TheVariants.{Pass}
+use Rattle.fj_rules.specs.Tasks.{is_kept, is_completer}
+use Rattle.fj_rules.specs.Climbs.{passed}
+use Rattle.fj_rules.specs.Allowed.{AllowedFrom}
+use Rattle.fj_rules.specs.Answers.{after_end}
+use Rattle.fj_rules.specs.Runs.{Past, grown}
+use Rattle.fj_rules.proofs.Events.Lawful.{allowed_more}
 use Rattle.fj_tree.specs.Passes.{PassEnd}
 use Rattle.fj_ledger.specs.Climbing.{Climbs}
 use Rattle.fj_machine.specs.Climbing.{climb_end}

@@ -1,19 +1,19 @@
 use Rattle.std.proofs.Common.{ℕ, ◌≡◌, ◌+◌, true, List, [], ◌∷◌, ◌++◌, map, take, Option, Some, None, refl, ap, sym, ◌∙◌, subst, arith}
 use Rattle.std.specs.Prelude.{IsSome, option_map, slice_get}
 use Rattle.std.proofs.lemmas.List.{append-nil}
-use Rattle.fj_model.specs.Pasts.{limit}
-use Rattle.fj_model.specs.declared.event.Event.{Event}
-use Rattle.fj_model.specs.declared.event.Event.TheVariants.{Pass}
-use Rattle.fj_model.specs.Tasks.{is_completer, is_kept, parent}
-use Rattle.fj_model.specs.Climbs.{passed, path}
-use Rattle.fj_model.specs.Allowed.{Allowed}
-use Rattle.fj_model.specs.Runs.{Past, grown}
-use Rattle.fj_model.proofs.Lists.Members.{get_is_in}
-use Rattle.fj_model.proofs.Completers.Parents.{path_completers}
+use Rattle.fj_rules.specs.Pasts.{limit}
+use Rattle.fj_rules.specs.declared.event.Event.{Event}
+use Rattle.fj_rules.specs.declared.event.Event.TheVariants.{Pass}
+use Rattle.fj_rules.specs.Tasks.{is_completer, is_kept, parent}
+use Rattle.fj_rules.specs.Climbs.{passed, path}
+use Rattle.fj_rules.specs.Allowed.{Allowed}
+use Rattle.fj_rules.specs.Runs.{Past, grown}
+use Rattle.fj_rules.proofs.Lists.Members.{get_is_in}
+use Rattle.fj_rules.proofs.Completers.Parents.{path_completers}
 use Rattle.fj_ledger.specs.Holds.{IsLawful}
 use Rattle.fj_ledger.proofs.Lists.Choosing.{some_get}
 use Rattle.fj_machine.proofs.ByStep.Passing.{passed_at, next_up, path_begins, may_next, still_completer, still_parent, allowed_front, next_more}
-use Rattle.fj_model.proofs.Completers.KeptParents.{path_kept}
+use Rattle.fj_rules.proofs.Completers.KeptParents.{path_kept}
 use Rattle.fj_machine.proofs.ByStep.PassSteps.{kept_past}
 use Rattle.fj_tree.specs.Handles.{Handle}
 use Rattle.fj_machine.proofs.steps.end.pass.pass_all.Goals as goal

@@ -1,9 +1,9 @@
 use Rattle.std.proofs.Common.{◌≡◌, ◌<◌, map, take}
 use Rattle.std.specs.Prelude.{option_map, slice_get}
 use Rattle.fj_tree.specs.Handles.{Handle}
-use Rattle.fj_model.specs.declared.event.Event.TheVariants.{Pass}
-use Rattle.fj_model.specs.Climbs.{passed, path}
-use Rattle.fj_model.specs.Runs.{grown}
+use Rattle.fj_rules.specs.declared.event.Event.TheVariants.{Pass}
+use Rattle.fj_rules.specs.Climbs.{passed, path}
+use Rattle.fj_rules.specs.Runs.{grown}
 use Rattle.fj_machine.proofs.steps.end.pass.pass_all.Given as goal
 
 -- so many were passed, and the next one stands at that place of the way

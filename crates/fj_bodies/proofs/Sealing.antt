@@ -1,0 +1,35 @@
+-- What has happened is handed out in parts.
+use Rattle.std.proofs.Common.{ℕ, ◌≡◌, ◌≤◌, List, None, sym, subst}
+use Rattle.std.specs.Prelude.{Result, Ok, Err, OnOk, OnErr}
+use Rattle.fj_rules.specs.declared.refusal.Refusal.{Refusal}
+use Rattle.fj_rules.specs.Pasts.{Past, sealed_now}
+use Rattle.fj_rules.specs.Epochs.{IsPast, seal_refusal}
+use Rattle.fj_rules.proofs.Headline.Sealing.{seal_past}
+use Rattle.fj_slots.specs.Shelves.{Entries}
+use Rattle.fj_bodies.specs.Stores.{IsStored}
+use Rattle.fj_bodies.specs.declared.due.Due.{Due}
+use Rattle.fj_bodies.specs.DueTasks.{AreDue}
+
+-- what holds of a store speaks of its events and its pool, and both stay
+pub seal_stored : {B R T : Type 0} (r : Result T Refusal) (past new : Past) (bodies : Entries B) (results : Entries R) (ts : List ℕ) → IsStored past bodies results ts
+    → OnOk r (seal_refusal past ≡ None) → OnOk r (new ≡ sealed_now past) → OnErr r (new ≡ past) → IsStored new bodies results ts
+seal_stored {B} {R} {T} (Ok part) past new bodies results ts is may sealed stays = subst (λ (p : Past). IsStored p bodies results ts) (sym sealed) (record {
+  run = subst IsPast sealed (seal_past (Ok part) past new is.run may sealed stays);
+  bodies_held = is.bodies_held;
+  results_kept = is.results_kept;
+  results_given = is.results_given;
+  taken_kept = is.taken_kept;
+  apart = is.apart;
+  hooks_kept = is.hooks_kept;
+})
+seal_stored {B} {R} {T} (Err r) past new bodies results ts is may sealed stays = subst (λ (p : Past). IsStored p bodies results ts) (sym stays) is
+
+pub seal_tasks : {T : Type 0} (r : Result T Refusal) (past new : Past) (room : ℕ) → OnOk r (new ≡ sealed_now past) → OnErr r (new ≡ past) → past.pool.limits.tasks ≤ room
+    → new.pool.limits.tasks ≤ room
+seal_tasks (Ok part) past new room sealed stays within = rw sealed within
+seal_tasks (Err r) past new room sealed stays within = rw stays within
+
+pub seal_due : {T : Type 0} (r : Result T Refusal) (past new : Past) (ts : List ℕ) (before : Due) → OnOk r (new ≡ sealed_now past) → OnErr r (new ≡ past) → AreDue past.events ts before
+    → AreDue new.events ts before
+seal_due (Ok part) past new ts before sealed stays are = rw sealed are
+seal_due (Err r) past new ts before sealed stays are = rw stays are

@@ -1,0 +1,170 @@
+use Rattle.std.proofs.Common.{refl, sym, ap, subst, ◌∙◌}
+use Rattle.fj_rules.specs.declared.step.Step.TheVariants.{End}
+use Rattle.fj_bodies.specs.Fitting.{Fits}
+use Rattle.fj_rules.proofs.Steps.RunsGrow.{history_more}
+use Rattle.fj_bodies.proofs.Completing.{end_fired, end_unfired, not_over, popped, popped_runs, popped_ends, filled_hand, fired_fits, unfired_fits, fired_stored, out_stored, in_stored, end_kept, end_free, end_room, ends_in_hook, ends_over_out, ends_over_in}
+use Rattle.fj_rules.proofs.Steps.AboutTasks.{end_about}
+use Rattle.fj_bodies.proofs.Calms.{refused_steps}
+use Rattle.fj_bodies.proofs.DueTasks.{step_due}
+use Rattle.fj_bodies.proofs.Refused.{end_refused}
+use Rattle.fj_bodies.proofs.store.Store.end.Goals as goal
+
+-- ---- the hook came
+
+pub pop-t-requires : goal.pop-t-requires
+pop-t-requires g c =
+    let past = c.self.inside.machine in
+    let fits : Fits past c.args.hand.now = subst (λ p. Fits p c.args.hand.now) (ap (λ s. s.past) (sym c.self.view_is)) c.requires.fits in
+    let fired = end_fired past c.worker.result c.in-Hook.c c.args.ending c.make.result c.make.ensures.step.0 c.in-Hook.is in
+    filled_hand past c.args.hand.now c.worker.result c.in-Hook.c fits c.worker.ensures fired.runs
+
+pub invariant_of-self : goal.invariant_of-self
+invariant_of-self g c =
+    let past = c.self.inside.machine in
+    let fits : Fits past c.args.hand.now = subst (λ p. Fits p c.args.hand.now) (ap (λ s. s.past) (sym c.self.view_is)) c.requires.fits in
+    let fired = end_fired past c.worker.result c.in-Hook.c c.args.ending c.make.result c.make.ensures.step.0 c.in-Hook.is in (
+      fired_stored past c.make.new.machine c.worker.result c.in-Hook.c c.args.ending _ _ _ _ c.self.invariant.0 fired c.make.ensures.step.1 c.make.ensures.bodies,
+      rw (c.make.ensures.room, c.make.ensures.step.1) c.self.invariant.1,
+      rw c.make.ensures.step.1 c.self.invariant.2,
+      rw c.make.ensures.step.1 c.self.invariant.3,
+      rw c.make.ensures.step.1 c.self.invariant.4,
+      λ free. rw c.after-self-inside.ensures (step_due past c.make.new.machine (End c.worker.result c.args.ending) _ _ _ c.pop-t.result.0 c.self.inside.due c.self.invariant.0 c.make.ensures.step.1
+          (end_about past c.worker.result c.pop-t.result.0 c.args.ending c.self.invariant.0.run (popped_runs past c.args.hand.now c.pop-t.new.self c.worker.result c.pop-t.result.0 c.pop-t.result.1 fits c.worker.ensures c.pop-t.ensures.popped))
+          (c.self.invariant.5 free)),
+    )
+
+pub returns-in-Hook-clause-ends : goal.returns-in-Hook-clause-ends
+returns-in-Hook-clause-ends g c =
+    let past = c.self.inside.machine in
+    let hand = c.args.hand.now in
+    let fits : Fits past hand = subst (λ p. Fits p hand) (ap (λ s. s.past) (sym c.self.view_is)) c.requires.fits in
+    let fired = end_fired past c.worker.result c.in-Hook.c c.args.ending c.make.result c.make.ensures.step.0 c.in-Hook.is in
+    let one = popped past hand c.pop-t.new.self c.worker.result c.in-Hook.c c.pop-t.result.0 c.pop-t.result.1 fits c.worker.ensures c.pop-t.ensures.popped fired.runs in
+    rw (← c.self.view_is) (
+      c.if-self.false,
+      refl,
+      ends_in_hook _ (record { past = c.make.new.machine; bodies = c.make.new.bodies; results = c.self.inside.results; taken = c.self.inside.taken.items; stuck = c.self.inside.stuck }) _ hand c.pop-t.new.self c.give_hook.new.self
+          c.worker.result c.pop-t.result.0 c.in-Hook.c c.args.ending c.pop-t.result.1 c.worker.ensures one (sym c.in-Hook.is ∙ c.make.ensures.step.0, c.make.ensures.step.1) c.pop-t.ensures.popped c.give_hook.ensures refl c.make.ensures.bodies c.release_due.ensures,
+    )
+
+pub returns-in-Hook-clause-fits : goal.returns-in-Hook-clause-fits
+returns-in-Hook-clause-fits g c =
+    let past = c.self.inside.machine in
+    let hand = c.args.hand.now in
+    let fits : Fits past hand = subst (λ p. Fits p hand) (ap (λ s. s.past) (sym c.self.view_is)) c.requires.fits in
+    let fired = end_fired past c.worker.result c.in-Hook.c c.args.ending c.make.result c.make.ensures.step.0 c.in-Hook.is in
+    fired_fits past c.make.new.machine _ hand c.pop-t.new.self c.give_hook.new.self c.worker.result c.in-Hook.c c.pop-t.result.0 c.pop-t.result.1 _ c.release_due.ensures.tasks c.self.invariant.0.run fits c.worker.ensures c.pop-t.ensures.popped
+    c.give_hook.ensures c.make.ensures.step.1 fired (ap (λ s. s.past) c.release_due.ensures.were)
+
+-- ---- it is refused
+
+pub returns-in_default-refusal-clause-ends : goal.returns-in_default-refusal-clause-ends
+returns-in_default-refusal-clause-ends g c =
+    let past = c.self.inside.machine in
+    let hand = c.args.hand.now in
+    let fits : Fits past hand = subst (λ p. Fits p hand) (ap (λ s. s.past) (sym c.self.view_is)) c.requires.fits in
+    let why = end_refused past hand c.worker.result c.args.ending c.make.result c.in-Refused.refusal fits c.worker.ensures c.make.ensures.step.0 c.in-Refused.is c.in_default-refusal.not-LogFull in
+    let same = c.make.ensures.refused _ c.in-Refused.is in
+    rw (← c.self.view_is, same.0, same.1, ← c.worker.ensures)
+    (c.if-self.false, (refused_steps past c.make.new.machine (End c.worker.result c.args.ending) c.make.result _ c.make.ensures.step c.in-Refused.is same.0, refl), refl, why)
+
+-- ---- no hook came
+
+pub pop-t-requires-in_default : goal.pop-t-requires-in_default
+pop-t-requires-in_default g c =
+    let past = c.self.inside.machine in
+    let fits : Fits past c.args.hand.now = subst (λ p. Fits p c.args.hand.now) (ap (λ s. s.past) (sym c.self.view_is)) c.requires.fits in
+    let over = end_unfired past c.worker.result c.args.ending c.make.result c.make.ensures.step.0 c.in_default.not-Hook c.in_default.not-Refused in
+    filled_hand past c.args.hand.now c.worker.result over.0 fits c.worker.ensures over.1.runs
+
+pub is_gone_now-requires : goal.is_gone_now-requires
+is_gone_now-requires g c =
+    let past = c.self.inside.machine in
+    let hand = c.args.hand.now in
+    let fits : Fits past hand = subst (λ p. Fits p hand) (ap (λ s. s.past) (sym c.self.view_is)) c.requires.fits in
+    let over = end_unfired past c.worker.result c.args.ending c.make.result c.make.ensures.step.0 c.in_default.not-Hook c.in_default.not-Refused in
+    let ends = popped_ends past hand c.pop-t-in_default.new.self c.worker.result c.pop-t-in_default.result.0 c.pop-t-in_default.result.1 _ fits c.worker.ensures c.pop-t-in_default.ensures.popped over in
+    end_kept past c.make.new.machine c.worker.result c.pop-t-in_default.result.0 c.args.ending _ _ _ c.self.invariant.0 ends c.make.ensures.step.1
+
+pub invariant_of-self-then-is_gone_now : goal.invariant_of-self-then-is_gone_now
+invariant_of-self-then-is_gone_now g c =
+    let past = c.self.inside.machine in
+    let hand = c.args.hand.now in
+    let fits : Fits past hand = subst (λ p. Fits p hand) (ap (λ s. s.past) (sym c.self.view_is)) c.requires.fits in
+    let over = end_unfired past c.worker.result c.args.ending c.make.result c.make.ensures.step.0 c.in_default.not-Hook c.in_default.not-Refused in
+    let ends = popped_ends past hand c.pop-t-in_default.new.self c.worker.result c.pop-t-in_default.result.0 c.pop-t-in_default.result.1 _ fits c.worker.ensures c.pop-t-in_default.ensures.popped over in (
+      out_stored past c.make.new.machine c.worker.result c.pop-t-in_default.result.0 c.args.ending _ _ _ _ c.self.invariant.0 ends c.make.ensures.step.1 c.make.ensures.bodies (sym c.is_gone_now.ensures ∙ c.if-is_gone_now.true),
+      rw (c.make.ensures.room, c.make.ensures.step.1) c.self.invariant.1,
+      rw c.make.ensures.step.1 c.self.invariant.2,
+      rw c.make.ensures.step.1 c.self.invariant.3,
+      rw c.make.ensures.step.1 c.self.invariant.4,
+      λ free. rw c.after-self-inside-in_default.ensures (step_due past c.make.new.machine (End c.worker.result c.args.ending) _ _ _ c.pop-t-in_default.result.0 c.self.inside.due c.self.invariant.0 c.make.ensures.step.1
+          (end_about past c.worker.result c.pop-t-in_default.result.0 c.args.ending c.self.invariant.0.run (popped_runs past c.args.hand.now c.pop-t-in_default.new.self c.worker.result c.pop-t-in_default.result.0 c.pop-t-in_default.result.1 fits c.worker.ensures c.pop-t-in_default.ensures.popped))
+          (c.self.invariant.5 free)),
+    )
+
+pub returns-then-is_gone_now : goal.returns-then-is_gone_now
+returns-then-is_gone_now g c =
+    let past = c.self.inside.machine in
+    let hand = c.args.hand.now in
+    let fits : Fits past hand = subst (λ p. Fits p hand) (ap (λ s. s.past) (sym c.self.view_is)) c.requires.fits in
+    let over = end_unfired past c.worker.result c.args.ending c.make.result c.make.ensures.step.0 c.in_default.not-Hook c.in_default.not-Refused in
+    let ends = popped_ends past hand c.pop-t-in_default.new.self c.worker.result c.pop-t-in_default.result.0 c.pop-t-in_default.result.1 _ fits c.worker.ensures c.pop-t-in_default.ensures.popped over in
+    record {
+      ends = rw (← c.self.view_is) (
+        c.if-self.false,
+        ends_over_out _ (record { past = c.make.new.machine; bodies = c.make.new.bodies; results = c.self.inside.results; taken = c.self.inside.taken.items; stuck = c.self.inside.stuck }) _ hand c.pop-t-in_default.new.self
+            c.worker.result c.pop-t-in_default.result.0 c.args.ending c.pop-t-in_default.result.1 c.make.result c.worker.ensures c.make.ensures.step (not_over c.make.result c.in_default.not-Hook c.in_default.not-Refused)
+            c.pop-t-in_default.ensures.popped (sym c.is_gone_now.ensures ∙ c.if-is_gone_now.true) refl c.make.ensures.bodies c.release_due-then-is_gone_now.ensures,
+      );
+      fits = unfired_fits past c.make.new.machine _ hand c.pop-t-in_default.new.self c.worker.result c.pop-t-in_default.result.0 c.pop-t-in_default.result.1 _ c.release_due-then-is_gone_now.ensures.tasks c.self.invariant.0.run fits c.worker.ensures
+          c.pop-t-in_default.ensures.popped c.make.ensures.step.1 ends (ap (λ s. s.past) c.release_due-then-is_gone_now.ensures.were);
+    }
+
+pub put-requires : goal.put-requires
+put-requires g c =
+    let past = c.self.inside.machine in
+    let hand = c.args.hand.now in
+    let fits : Fits past hand = subst (λ p. Fits p hand) (ap (λ s. s.past) (sym c.self.view_is)) c.requires.fits in
+    let over = end_unfired past c.worker.result c.args.ending c.make.result c.make.ensures.step.0 c.in_default.not-Hook c.in_default.not-Refused in
+    let ends = popped_ends past hand c.pop-t-in_default.new.self c.worker.result c.pop-t-in_default.result.0 c.pop-t-in_default.result.1 _ fits c.worker.ensures c.pop-t-in_default.ensures.popped over in
+    record {
+      free = end_free past c.make.new.machine c.worker.result c.pop-t-in_default.result.0 c.args.ending _ _ _ _ c.self.invariant.0 ends c.make.ensures.bodies;
+      room = end_room past c.make.new.machine c.worker.result c.pop-t-in_default.result.0 c.make.new.bodies.room c.args.ending _ _ _ _ c.self.invariant.0 ends c.make.ensures.step.1 c.make.ensures.bodies (rw c.make.ensures.room c.self.invariant.1);
+    }
+
+pub invariant_of-self-in_default : goal.invariant_of-self-in_default
+invariant_of-self-in_default g c =
+    let past = c.self.inside.machine in
+    let hand = c.args.hand.now in
+    let fits : Fits past hand = subst (λ p. Fits p hand) (ap (λ s. s.past) (sym c.self.view_is)) c.requires.fits in
+    let over = end_unfired past c.worker.result c.args.ending c.make.result c.make.ensures.step.0 c.in_default.not-Hook c.in_default.not-Refused in
+    let ends = popped_ends past hand c.pop-t-in_default.new.self c.worker.result c.pop-t-in_default.result.0 c.pop-t-in_default.result.1 _ fits c.worker.ensures c.pop-t-in_default.ensures.popped over in (
+      in_stored past c.make.new.machine c.worker.result c.pop-t-in_default.result.0 c.args.ending _ _ _ c.pop-t-in_default.result.1 _ _ c.self.invariant.0 ends c.make.ensures.step.1 c.make.ensures.bodies (sym c.is_gone_now.ensures ∙ c.if-is_gone_now.false)
+          c.put.ensures.entries,
+      rw (c.put.ensures.room, c.make.ensures.room, c.make.ensures.step.1) c.self.invariant.1,
+      rw c.make.ensures.step.1 c.self.invariant.2,
+      rw c.make.ensures.step.1 c.self.invariant.3,
+      rw c.make.ensures.step.1 c.self.invariant.4,
+      λ free. rw c.after-self-inside-in_default.ensures (step_due past c.make.new.machine (End c.worker.result c.args.ending) _ _ _ c.pop-t-in_default.result.0 c.self.inside.due c.self.invariant.0 c.make.ensures.step.1
+          (end_about past c.worker.result c.pop-t-in_default.result.0 c.args.ending c.self.invariant.0.run (popped_runs past c.args.hand.now c.pop-t-in_default.new.self c.worker.result c.pop-t-in_default.result.0 c.pop-t-in_default.result.1 fits c.worker.ensures c.pop-t-in_default.ensures.popped))
+          (c.self.invariant.5 free)),
+    )
+
+pub returns-else-is_gone_now : goal.returns-else-is_gone_now
+returns-else-is_gone_now g c =
+    let past = c.self.inside.machine in
+    let hand = c.args.hand.now in
+    let fits : Fits past hand = subst (λ p. Fits p hand) (ap (λ s. s.past) (sym c.self.view_is)) c.requires.fits in
+    let over = end_unfired past c.worker.result c.args.ending c.make.result c.make.ensures.step.0 c.in_default.not-Hook c.in_default.not-Refused in
+    let ends = popped_ends past hand c.pop-t-in_default.new.self c.worker.result c.pop-t-in_default.result.0 c.pop-t-in_default.result.1 _ fits c.worker.ensures c.pop-t-in_default.ensures.popped over in
+    record {
+      ends = rw (← c.self.view_is) (
+        c.if-self.false,
+        ends_over_in _ (record { past = c.make.new.machine; bodies = c.put.new.self; results = c.self.inside.results; taken = c.self.inside.taken.items; stuck = c.self.inside.stuck }) _ hand c.pop-t-in_default.new.self
+            c.worker.result c.pop-t-in_default.result.0 c.args.ending c.pop-t-in_default.result.1 c.make.result _ c.worker.ensures c.make.ensures.step (not_over c.make.result c.in_default.not-Hook c.in_default.not-Refused)
+            c.pop-t-in_default.ensures.popped (sym c.is_gone_now.ensures ∙ c.if-is_gone_now.false) refl c.make.ensures.bodies c.put.ensures.entries c.release_due-in_default.ensures,
+      );
+      fits = unfired_fits past c.make.new.machine _ hand c.pop-t-in_default.new.self c.worker.result c.pop-t-in_default.result.0 c.pop-t-in_default.result.1 _ c.release_due-in_default.ensures.tasks c.self.invariant.0.run fits c.worker.ensures
+          c.pop-t-in_default.ensures.popped c.make.ensures.step.1 ends (ap (λ s. s.past) c.release_due-in_default.ensures.were);
+    }

@@ -1,0 +1,6 @@
+use Rattle.std.proofs.Common.{ap}
+use Rattle.fj_slots.specs.Shelves.{entries}
+use Rattle.fj_bodies.proofs.store.Store.into_parts.Goals as goal
+
+pub returns-clause-results : goal.returns-clause-results
+returns-clause-results g c = ap (λ s. entries s.results) c.self.view_is

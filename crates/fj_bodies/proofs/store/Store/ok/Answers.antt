@@ -1,0 +1,88 @@
+use Rattle.std.proofs.Common.{map, refl, sym, ap, subst, ◌∙◌}
+use Rattle.fj_rules.specs.declared.event.Event.TheVariants.{Rel}
+use Rattle.fj_rules.specs.declared.step.Step.TheVariants.{End}
+use Rattle.fj_rules.specs.declared.step.Ending.TheVariants.{Ok as EndOk}
+use Rattle.fj_rules.specs.Runs.{grown}
+use Rattle.fj_bodies.specs.Fitting.{Fits}
+use Rattle.fj_rules.proofs.Steps.Answered.{ok_done, ok_replies, end_free}
+use Rattle.fj_bodies.proofs.Endings.{ok_stored, filled, newest_kept, ok_fits, asker_is}
+use Rattle.fj_bodies.proofs.Calms.{refused_steps}
+use Rattle.fj_bodies.proofs.Completing.{popped_runs, ok_first, ok_last}
+use Rattle.fj_bodies.proofs.Refused.{end_refused}
+use Rattle.fj_rules.proofs.Steps.AboutTasks.{end_about}
+use Rattle.fj_bodies.proofs.DueTasks.{step_due}
+use Rattle.fj_bodies.proofs.store.Store.ok.Goals as goal
+
+pub pop-t-requires : goal.pop-t-requires
+pop-t-requires g c =
+    let past = c.self.inside.machine in
+    let fits : Fits past c.args.hand.now = subst (λ p. Fits p c.args.hand.now) (ap (λ s. s.past) (sym c.self.view_is)) c.requires.fits in
+    filled past c.args.hand.now c.worker.result _ fits c.worker.ensures (ok_done past c.worker.result c.step.result c.step.ensures.step.0 c.in-Done.is)
+
+pub invariant_of-self : goal.invariant_of-self
+invariant_of-self g c =
+    let past = c.self.inside.machine in
+    let fits : Fits past c.args.hand.now = subst (λ p. Fits p c.args.hand.now) (ap (λ s. s.past) (sym c.self.view_is)) c.requires.fits in (
+      ok_stored past c.step.new.self c.worker.result _ _ _ c.self.invariant.0 c.step.ensures.step.1 (ok_done past c.worker.result c.step.result c.step.ensures.step.0 c.in-Done.is),
+      rw c.step.ensures.step.1 c.self.invariant.1,
+      rw c.step.ensures.step.1 c.self.invariant.2,
+      rw c.step.ensures.step.1 c.self.invariant.3,
+      rw c.step.ensures.step.1 c.self.invariant.4,
+      λ free. rw c.after-self-inside.ensures (step_due past c.step.new.self (End c.worker.result EndOk) _ _ _ c.pop-t.result.0 c.self.inside.due c.self.invariant.0 c.step.ensures.step.1
+          (end_about past c.worker.result c.pop-t.result.0 EndOk c.self.invariant.0.run (popped_runs past c.args.hand.now c.pop-t.new.self c.worker.result c.pop-t.result.0 c.pop-t.result.1 fits c.worker.ensures c.pop-t.ensures.popped))
+          (c.self.invariant.5 free)),
+    )
+
+pub new-requires : goal.new-requires
+new-requires g c =
+    let past = c.self.inside.machine in
+    let fits : Fits past c.args.hand.now = subst (λ p. Fits p c.args.hand.now) (ap (λ s. s.past) (sym c.self.view_is)) c.requires.fits in
+    let free = end_free past c.worker.result c.step.result c.step.ensures.step.0 c.in-Done.is in
+    let asks = asker_is past c.args.hand.now c.pop-t.new.self c.worker.result c.pop-t.result.0 c.pop-t.result.1 fits c.worker.ensures free c.pop-t.ensures.popped in
+    rw c.into_key.ensures (rw asks at c.requires.right)
+
+pub keep-requires-clause-kept : goal.keep-requires-clause-kept
+keep-requires-clause-kept g c =
+    let past = c.self.inside.machine in
+    let fits : Fits past c.args.hand.now = subst (λ p. Fits p c.args.hand.now) (ap (λ s. s.past) (sym c.self.view_is)) c.requires.fits in
+    rw c.step.ensures.step.1
+    (newest_kept past c.args.hand.now c.pop-t.new.self c.worker.result c.pop-t.result.0 c.pop-t.result.1 c.self.invariant.0.run fits c.worker.ensures c.pop-t.ensures.popped
+    (ok_done past c.worker.result c.step.result c.step.ensures.step.0 c.in-Done.is))
+
+pub keep-requires-clause-first : goal.keep-requires-clause-first
+keep-requires-clause-first g c =
+    let past = c.self.inside.machine in
+    let fits : Fits past c.args.hand.now = subst (λ p. Fits p c.args.hand.now) (ap (λ s. s.past) (sym c.self.view_is)) c.requires.fits in
+    ok_first past c.args.hand.now c.pop-t.new.self c.worker.result c.pop-t.result.0 c.pop-t.result.1 _ _ _ c.self.invariant.0 fits c.worker.ensures c.pop-t.ensures.popped
+    (ok_done past c.worker.result c.step.result c.step.ensures.step.0 c.in-Done.is)
+
+pub keep-requires-clause-last : goal.keep-requires-clause-last
+keep-requires-clause-last g c =
+    let past = c.self.inside.machine in
+    let fits : Fits past c.args.hand.now = subst (λ p. Fits p c.args.hand.now) (ap (λ s. s.past) (sym c.self.view_is)) c.requires.fits in
+    ok_last past c.step.new.self c.args.hand.now c.pop-t.new.self c.worker.result c.pop-t.result.0 c.pop-t.result.1 c.self.invariant.0.run fits c.worker.ensures c.pop-t.ensures.popped
+    (ok_done past c.worker.result c.step.result c.step.ensures.step.0 c.in-Done.is) c.step.ensures.step.1
+
+pub returns-in-Done-clause-fits : goal.returns-in-Done-clause-fits
+returns-in-Done-clause-fits g c =
+    let past = c.self.inside.machine in
+    let fits : Fits past c.args.hand.now = subst (λ p. Fits p c.args.hand.now) (ap (λ s. s.past) (sym c.self.view_is)) c.requires.fits in
+    ok_fits past c.step.new.self _ c.args.hand.now c.pop-t.new.self c.worker.result c.pop-t.result.0 c.pop-t.result.1 _ c.release_due.ensures.tasks c.self.invariant.0.run fits
+    c.worker.ensures c.pop-t.ensures.popped c.step.ensures.step.1
+    (ok_done past c.worker.result c.step.result c.step.ensures.step.0 c.in-Done.is)
+    (ap (λ s. s.past) c.release_due.ensures.were ∙ ap (λ p. grown p (map Rel c.release_due.ensures.tasks)) c.keep.ensures.past)
+
+pub unreachable-requires : goal.unreachable-requires
+unreachable-requires g c =
+    let past = c.self.inside.machine in
+    ok_replies past c.worker.result c.step.result c.step.ensures.step.0 c.in_default.not-Done c.in_default.not-Refused
+
+pub returns-in-Refused-clause-ends : goal.returns-in-Refused-clause-ends
+returns-in-Refused-clause-ends g c =
+    let past = c.self.inside.machine in
+    let hand = c.args.hand.now in
+    let fits : Fits past hand = subst (λ p. Fits p hand) (ap (λ s. s.past) (sym c.self.view_is)) c.requires.fits in
+    let why = end_refused past hand c.worker.result EndOk c.step.result c.in-Refused.refusal fits c.worker.ensures c.step.ensures.step.0 c.in-Refused.is c.in_default-refusal.not-LogFull in
+    let same = c.step.ensures.refused _ c.in-Refused.is in
+    rw (← c.self.view_is, same, ← c.worker.ensures)
+    (c.if-self.false, (refused_steps past c.step.new.self (End c.worker.result EndOk) c.step.result _ c.step.ensures.step c.in-Refused.is same, refl), refl, why)

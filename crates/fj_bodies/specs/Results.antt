@@ -1,0 +1,111 @@
+-- Results are kept, and taken out.
+use Rattle.std.specs.Prelude.{ℕ, ◌≡◌, ◌⊎◌, Bool, true, false, Option, Some, None, Result, Ok, Err, [], ◌∷◌, ◌++◌}
+use Rattle.fj_rules.specs.declared.refusal.Refusal.{Refusal}
+use Rattle.fj_rules.specs.declared.refusal.Refusal.TheVariants.{Unknown, NotDone}
+use Rattle.fj_rules.specs.declared.status.Status.{Status}
+use Rattle.fj_rules.specs.declared.status.Status.TheVariants.{Undone, Normal, Exceptional, Cancelled}
+use Rattle.fj_rules.specs.Lists.{is_in}
+use Rattle.fj_rules.specs.Tasks.{is_kept}
+use Rattle.fj_rules.specs.Places.{place, is_gone}
+use Rattle.fj_rules.specs.Statuses.{status, is_undone}
+use Rattle.fj_bodies.specs.declared.body.Heard.TheVariants as hears
+use Rattle.fj_bodies.specs.declared.body.Told.{Told}
+use Rattle.fj_bodies.specs.declared.body.Told.TheVariants as told
+use Rattle.fj_bodies.specs.declared.outcomes.Outcome.{Outcome}
+use Rattle.fj_bodies.specs.declared.outcomes.Outcome.TheVariants as outcome
+use Rattle.fj_slots.specs.Shelves.{entries, with_entry, without_entry}
+use Rattle.fj_bodies.specs.Stores.{StoreState}
+use Rattle.fj_bodies.specs.Releases.{Releases}
+
+module _ {B K O : Type 0} where
+  -- a result is kept under this number; or, since that task's result was taken, it is dropped
+  abbrev pub KeepsUnless : Bool → StoreState B K O → ℕ → K × O → StoreState B K O → Type 0
+  KeepsUnless true old t kept new = new ≡ old
+  KeepsUnless false old t kept new = (entries new.results ≡ with_entry (entries old.results) t kept) × (new ≡ record old { results = new.results })
+
+  abbrev pub Keeps : StoreState B K O → ℕ → K × O → StoreState B K O → Type 0
+  Keeps old t kept new = KeepsUnless (is_in t old.taken) old t kept new
+
+  -- the task is marked as taken, and has no result any more
+  abbrev pub Marks : StoreState B K O → ℕ → StoreState B K O → Type 0
+  Marks old t new = (entries new.results ≡ without_entry (entries old.results) t) × (new ≡ record old { results = new.results; taken = old.taken ++ t ∷ [] })
+
+  -- a result is taken out, and its task is marked for its release; or there is none, and nothing has changed
+  abbrev pub TakesOut : StoreState B K O → ℕ → Option (K × O) → StoreState B K O → Type 0
+  TakesOut old t None new = (entries old.results t ≡ None) × (new ≡ old)
+  TakesOut old t (Some kept) new = (entries old.results t ≡ Some kept) × Marks old t new
+
+  -- a result is taken out, and then what can be is released, its task too; or there is none, and nothing has changed
+  abbrev pub TakesAndReleases : StoreState B K O → ℕ → Option (K × O) → StoreState B K O → Type 0
+  TakesAndReleases old t None new = TakesOut old t None new
+  TakesAndReleases old t (Some kept) new = (mid : StoreState B K O) × TakesOut old t (Some kept) mid × Releases mid new
+
+  -- the result of a task that has one and is gone
+  pub record Takes (old : StoreState B K O) (t : ℕ) (kept : K × O) (new : StoreState B K O) : Type 0 where
+    pub free : old.stuck ≡ false
+    pub is : is_kept old.past.events t ≡ true
+    pub gone : is_gone (place old.past.events t) ≡ true
+    pub has : entries old.results t ≡ Some kept
+    pub mid : StoreState B K O
+    pub marks : Marks old t mid
+    pub releases : Releases mid new
+
+  -- a body takes a result: of no kept task it is Unknown; where the task is not gone, or has no result, NotDone
+  abbrev pub TakesResult : StoreState B K O → ℕ → Told B K O → StoreState B K O → Type 0
+  TakesResult old t (told.Hear (hears.Got k o)) new = Takes old t (k, o) new
+  TakesResult old t (told.Hear (hears.Refused Unknown)) new = (old.stuck ≡ false) × (is_kept old.past.events t ≡ false) × (new ≡ old)
+  TakesResult old t (told.Hear (hears.Refused NotDone)) new =
+      (old.stuck ≡ false) × (is_kept old.past.events t ≡ true) × ((is_gone (place old.past.events t) ≡ false) ⊎ (entries old.results t ≡ None)) × (new ≡ old)
+  TakesResult old t (told.Stuck None) new = (old.stuck ≡ true) × (new ≡ old)
+  TakesResult old t _ new = ⊥
+
+  -- a task's result is dropped, and then what can be is released, the task too
+  pub record GivesUp (old : StoreState B K O) (t : ℕ) (new : StoreState B K O) : Type 0 where
+    pub free : old.stuck ≡ false
+    pub is : is_kept old.past.events t ≡ true
+    pub first : is_in t old.taken ≡ false
+    pub mid : StoreState B K O
+    pub marks : Marks old t mid
+    pub releases : Releases mid new
+
+  -- nobody asks for it any more: of a task that is not kept, or that was taken before, it is Unknown
+  abbrev pub LetsGo : StoreState B K O → ℕ → Told B K O → StoreState B K O → Type 0
+  LetsGo old t (told.Hear hears.Went) new = GivesUp old t new
+  LetsGo old t (told.Hear (hears.Refused r)) new = (old.stuck ≡ false) × (r ≡ Unknown) × ((is_in t old.taken ≡ true) ⊎ (is_kept old.past.events t ≡ false)) × (new ≡ old)
+  LetsGo old t (told.Stuck None) new = (old.stuck ≡ true) × (new ≡ old)
+  LetsGo old t _ new = ⊥
+
+  -- what is told of a task with this status, and with this result if one was kept
+  abbrev pub outcome_of : Status → Option (K × O) → Outcome B K O
+  outcome_of Normal kept = outcome.Normal kept
+  outcome_of (Exceptional code) kept = outcome.Exceptional code
+  outcome_of Cancelled kept = outcome.Cancelled
+  outcome_of Undone kept = outcome.Cancelled
+
+  -- how the task ended
+  abbrev pub status_in : Outcome B K O → Status
+  status_in (outcome.Normal kept) = Normal
+  status_in (outcome.Exceptional code) = Exceptional code
+  status_in outcome.Cancelled = Cancelled
+
+  -- the result with its key, if there is one
+  abbrev pub kept_in : Outcome B K O → Option (K × O)
+  kept_in (outcome.Normal kept) = kept
+  kept_in (outcome.Exceptional code) = None
+  kept_in outcome.Cancelled = None
+
+  -- the outcome of a done task is given, and its result is taken out; then what can be is released
+  pub record Tells (old : StoreState B K O) (t : ℕ) (told : Outcome B K O) (new : StoreState B K O) : Type 0 where
+    pub is : is_kept old.past.events t ≡ true
+    pub first : is_in t old.taken ≡ false
+    pub done : is_undone (status old.past.events t) ≡ false
+    pub told_is : told ≡ outcome_of (status old.past.events t) (entries old.results t)
+    pub mid : StoreState B K O
+    pub marks : Marks old t mid
+    pub releases : Releases mid new
+
+  -- it was taken before, or is undone, or is told
+  abbrev pub Collects : StoreState B K O → ℕ → Option (Result (Outcome B K O) Refusal) → StoreState B K O → Type 0
+  Collects old t (Some (Err r)) new = (r ≡ Unknown) × ((is_in t old.taken ≡ true) ⊎ (is_kept old.past.events t ≡ false)) × (new ≡ old)
+  Collects old t None new = (is_kept old.past.events t ≡ true) × (is_in t old.taken ≡ false) × (is_undone (status old.past.events t) ≡ true) × (new ≡ old)
+  Collects old t (Some (Ok told)) new = Tells old t told new

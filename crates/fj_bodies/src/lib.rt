@@ -1,0 +1,20 @@
+//! A machine with the bodies that no worker holds and the results that were not taken: each action of a pool as one step, with the moving of
+//! its body.
+#![tactic(auto)]
+
+mod body;
+mod choices;
+mod due;
+mod hooked;
+mod kept_result;
+mod moves;
+mod outcomes;
+mod places;
+mod plain;
+mod store;
+mod tries;
+
+pub use body::{Ask, Body, Heard, Told};
+pub use kept_result::KeptResult;
+pub use outcomes::{Outcome, told_outcome};
+pub use store::Store;

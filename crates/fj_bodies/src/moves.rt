@@ -1,0 +1,35 @@
+ghost use Rattle.std.specs.Prelude.{[], ◌≡◌, ◌≤◌, drop, length};
+ghost use Rattle.fj_rules.specs.declared.refusal.Refusal.{Refusal as RefusalCase};
+ghost use Rattle.fj_rules.specs.Runs.{Steps};
+ghost use Rattle.fj_rules.specs.Pasts.{gone_since};
+ghost use Rattle.fj_rules.specs.Epochs.{IsPast};
+ghost use Rattle.fj_slots.specs.Shelves.{entries, without_entries};
+ghost use Rattle.fj_bodies.specs.Stores.{went};
+
+use fj_machine::Machine;
+use fj_rules::{Said, Step};
+use fj_slots::SerialMap;
+
+/// Makes a step, and drops the bodies of the tasks that come to be gone by it.
+pub fn make<B: Drop>(machine: &mut Machine, bodies: &mut SerialMap<B>, asked: &Step) -> Said
+    requires { IsPast machine.old }
+    ensures step { Steps machine.old asked.now result machine.new }
+    ensures bodies { entries bodies.new ≡ without_entries (entries bodies.old) (went machine.old machine.new) }
+    ensures room { bodies.new.room ≡ bodies.old.room }
+    ensures refused { (r : RefusalCase) → result ≡ Said.Refused r → (machine.new ≡ machine.old) × (bodies.new ≡ bodies.old) }
+{
+    let before = machine.gone().len();
+    let said = machine.step(asked);
+    sweep_since(bodies, machine, before);
+    said
+}
+
+/// Drops the bodies of the tasks that came to be gone since so many were. Precondition: so many are gone.
+pub fn sweep_since<B: Drop>(bodies: &mut SerialMap<B>, machine: &Machine, before: usize)
+    requires { before ≤ length (gone_since machine.now) }
+    ensures entries { entries bodies.new ≡ without_entries (entries bodies.old) (drop before (gone_since machine.now)) }
+    ensures room { bodies.new.room ≡ bodies.old.room }
+    ensures stays { drop before (gone_since machine.now) ≡ [] → bodies.new ≡ bodies.old }
+{
+    bodies.sweep(&machine.gone()[before..]);
+}

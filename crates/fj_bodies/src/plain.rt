@@ -1,0 +1,21 @@
+ghost use Rattle.fj_bodies.specs.Releases.{ReleasesPlain};
+
+use fj_machine::Machine;
+use fj_rules::{Owner, Place, Refusal, Said, Serial, Status, Step, SubId, WorkerId};
+
+/// Releases a task if it is plain and can be released. Tells whether it did; if not, nothing has changed.
+#[inline(always)]
+pub fn release_plain(machine: &mut Machine, t: Serial) -> bool
+    ensures { ReleasesPlain machine.old t result machine.new }
+{
+    // The check wants each type inside a reply to be named where one is moved.
+    let _inside: Option<(Place, Owner, Status, Refusal, Serial, SubId, WorkerId)> = None;
+    if !machine.is_plain(t) {
+        return false;
+    }
+    match machine.step(&Step::Release { t }) {
+        Said::Done => true,
+        Said::Refused(_) => false,
+        _ => unreachable!(),
+    }
+}

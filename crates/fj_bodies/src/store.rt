@@ -1,0 +1,125 @@
+ghost use Rattle.std.specs.Prelude.{◌≡◌, IfOk, [], true, false};
+ghost use Rattle.fj_rules.specs.Bounds.{IsWithin};
+ghost use Rattle.fj_rules.specs.Epochs.{IsPast};
+ghost use Rattle.fj_rules.specs.Pasts.{fresh};
+ghost use Rattle.fj_slots.specs.Shelves.{entries, no_entries};
+
+mod accept;
+mod ask;
+mod choose;
+mod collect;
+mod end;
+mod fits;
+mod release;
+mod seal;
+mod shut;
+
+use crate::body::Body;
+use crate::due::Due;
+use crate::kept_result::KeptResult;
+use fj_machine::Machine;
+use fj_rules::{Limits, Mode, OutOfMemory};
+use fj_slots::{SerialMap, SerialSet};
+use std::alloc::Global;
+use std::marker::Model;
+
+/// A machine, the bodies that no worker holds, the results that were not taken, and the tasks that wait for their release. In Java a task is
+/// its body and holds its result, and is garbage once nobody refers to it.
+///
+/// A call that a body asks for answers the refusal of its step as the machine gives it, and then nothing has changed. Once the store is stuck
+/// it answers `Stuck`, with the body that came, and nothing changes.
+#[derive(Drop)]
+pub struct Store<B: Body> {
+    machine: Machine,
+    bodies: SerialMap<B>,
+    results: SerialMap<KeptResult<B>>,
+    /// Kept tasks whose outcome or result was taken: each goes as soon as it can.
+    taken: SerialSet,
+    /// Which of them may be such that they can be released: none, but where a step has just been made.
+    due: Due,
+    stuck: bool,
+}
+
+impl<B: Body> Model for Store<B> {
+    ghost use Rattle.std.specs.Prelude.{◌≡◌, ◌≤◌, false};
+    ghost use Rattle.fj_slots.specs.Shelves.{entries};
+    ghost use Rattle.fj_bodies.specs.Stores.{StoreState, IsStored};
+    ghost use Rattle.fj_bodies.specs.DueTasks.{AreDue};
+
+    ghost Value = { StoreState B B.Key B.Out };
+
+    ghost view = { λ s. record {
+      past = s.machine;
+      bodies = s.bodies;
+      results = s.results;
+      taken = s.taken.items;
+      stuck = s.stuck;
+    } };
+
+    ghost invariant = { λ s.
+        IsStored s.machine (entries s.bodies) (entries s.results) s.taken.items
+        × (s.machine.pool.limits.tasks ≤ s.bodies.room)
+        × (s.machine.pool.limits.tasks ≤ s.results.room)
+        × (s.machine.pool.limits.tasks ≤ s.taken.room)
+        × (s.machine.pool.limits.tasks ≤ 4096)
+        × (s.stuck ≡ false → AreDue s.machine.events s.taken.items s.due) };
+}
+
+impl<B: Body> Store<B> {
+    /// Nothing has happened. All the memory that is needed later is taken here, but that of seals. `OutOfMemory` where memory is refused.
+    pub fn new(alloc: Global, mode: Mode, limits: Limits) -> Result<Store<B>, OutOfMemory>
+        ensures past { IfOk result (λ s. s.past ≡ fresh mode limits) }
+        ensures bodies { IfOk result (λ s. entries s.bodies ≡ no_entries) }
+        ensures results { IfOk result (λ s. entries s.results ≡ no_entries) }
+        ensures taken { IfOk result (λ s. s.taken ≡ []) }
+        ensures free { IfOk result (λ s. s.stuck ≡ false) }
+    {
+        let room = limits.tasks() as usize;
+        // Tells that the limits are within their ranges.
+        let _workers = limits.workers();
+        let bodies = SerialMap::new(alloc, room)?;
+        let results = SerialMap::new(alloc, room)?;
+        let taken = SerialSet::new(alloc, room)?;
+        let Ok(machine) = Machine::new(alloc, mode, limits) else {
+            return Err(OutOfMemory);
+        };
+        Ok(Store {
+            machine,
+            bodies,
+            results,
+            taken,
+            due: Due::Nothing,
+            stuck: false,
+        })
+    }
+
+    /// How large the pool may grow.
+    pub fn limits(&self) -> Limits
+        ensures limits { result ≡ self.now.past.pool.limits }
+        ensures within { IsWithin result.workers result.submitters result.tasks result.events }
+        ensures run { IsPast self.now.past }
+    {
+        self.machine.limits()
+    }
+
+    /// The machine beneath: its history, and what that shows.
+    pub fn machine(&self) -> &Machine
+        ensures { result.now ≡ self.now.past }
+    {
+        &self.machine
+    }
+
+    /// Whether it is stuck: something that has to be made found no room in the history.
+    pub fn is_stuck(&self) -> bool
+        ensures { result ≡ self.now.stuck }
+    {
+        self.stuck
+    }
+
+    /// It is stuck from now on.
+    pub fn stick(&mut self)
+        ensures { self.new ≡ record self.old { stuck = true } }
+    {
+        self.stuck = true;
+    }
+}

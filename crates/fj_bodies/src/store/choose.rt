@@ -1,0 +1,138 @@
+ghost use Rattle.std.specs.Prelude.{◌≡◌, [], None};
+ghost use Rattle.fj_rules.specs.Answers.{answer};
+ghost use Rattle.fj_bodies.specs.Turns.{ToldRight};
+ghost use Rattle.fj_bodies.specs.Fitting.{Fits};
+ghost use Rattle.fj_rules.specs.ChoiceTaken.{TakesChoice};
+ghost use Rattle.fj_bodies.specs.Choosing.{Chooses, Polls, Helps, Joins};
+
+use crate::body::{Body, Heard, Told};
+use crate::choices::Chosen;
+use crate::due::after;
+use crate::store::Store;
+use fj_rules::{Owner, Place, Refusal, Said, Serial, Status, Step, SubId, WorkerId};
+use fj_slots::Hand;
+
+impl<B: Body> Store<B> {
+    /// Makes a step that takes the worker's choice, and moves the body that belongs to it.
+    #[inline(always)]
+    fn choose(&mut self, hand: &mut Hand<B>, asked: &Step) -> Chosen<B>
+        requires fits { Fits self.old.past hand.old }
+        requires takes { TakesChoice hand.old.worker (answer self.old.past asked.now).0 (answer self.old.past asked.now).1 }
+        ensures chooses { Chooses self.old hand.old asked.now result self.new hand.new }
+        ensures fits { Fits self.new.past hand.new }
+    {
+        // The check wants each type inside a reply to be named where one is moved.
+        let _inside: Option<(Place, Owner, Status, Refusal, Serial, SubId, WorkerId)> = None;
+        match self.machine.step(asked) {
+            Said::Run(t) => match self.bodies.take(t) {
+                Some(body) => {
+                    hand.push(t, body);
+                    Chosen::Run(t)
+                }
+                None => unreachable!(),
+            },
+            Said::Skip(t) => match self.bodies.take(t) {
+                Some(body) => {
+                    self.due = after(self.due, t);
+                    self.release_due();
+                    Chosen::Skip(t, body)
+                }
+                None => unreachable!(),
+            },
+            Said::None => Chosen::Idle,
+            Said::Normal => Chosen::Normal,
+            Said::Exceptional(code) => Chosen::Exceptional(code),
+            Said::Cancelled => Chosen::Cancelled,
+            Said::Refused(refusal) => Chosen::Refused(refusal),
+            _ => unreachable!(),
+        }
+    }
+
+    /// An idle worker asks for its next task. It is stuck where the history is full. Precondition: the hand fits and is empty.
+    #[inline(always)]
+    pub fn poll(&mut self, hand: &mut Hand<B>) -> Told<B>
+        requires fits { Fits self.old.past hand.old }
+        requires idle { (hand.old.stack ≡ []) × (hand.old.hook ≡ None) }
+        ensures polls { Polls self.old hand.old result self.new hand.new }
+        ensures fits { Fits self.new.past hand.new }
+    {
+        if self.stuck {
+            return Told::Stuck(None);
+        }
+        let r = hand.take_word();
+        let asked = Step::Poll {
+            w: hand.worker(),
+            r,
+        };
+        match self.choose(hand, &asked) {
+            Chosen::Run(t) => Told::Run(t),
+            Chosen::Skip(t, body) => Told::Skip(t, body),
+            Chosen::Idle => Told::None,
+            Chosen::Refused(_) => {
+                self.stuck = true;
+                Told::Stuck(None)
+            }
+            _ => unreachable!(),
+        }
+    }
+
+    /// The running task helps: `ForkJoinTask.helpQuiesce` by one task. Precondition: the hand fits.
+    pub fn help(&mut self, hand: &mut Hand<B>) -> Told<B>
+        requires fits { Fits self.old.past hand.old }
+        ensures helps { Helps self.old hand.old result self.new hand.new }
+        ensures fits { Fits self.new.past hand.new }
+    {
+        if self.stuck {
+            return Told::Stuck(None);
+        }
+        let r = hand.take_word();
+        let asked = Step::Help {
+            w: hand.worker(),
+            r,
+        };
+        match self.choose(hand, &asked) {
+            Chosen::Run(t) => Told::Run(t),
+            Chosen::Skip(t, body) => Told::Skip(t, body),
+            Chosen::Idle => Told::None,
+            Chosen::Refused(refusal) => Told::Hear(Heard::Refused(refusal)),
+            _ => unreachable!(),
+        }
+    }
+
+    /// The running task joins another one, by one turn: `ForkJoinTask.join`. Precondition: the hand fits.
+    ///
+    /// Of a done task it tells how it ended; a result is taken out, and its task released as soon as it can be. Of an undone one it takes the
+    /// worker's choice.
+    #[inline(always)]
+    pub fn join(&mut self, hand: &mut Hand<B>, t: Serial) -> Told<B>
+        requires fits { Fits self.old.past hand.old }
+        ensures joins { Joins self.old hand.old t result self.new hand.new }
+        ensures right { ToldRight B.right result }
+        ensures fits { Fits self.new.past hand.new }
+    {
+        if self.stuck {
+            return Told::Stuck(None);
+        }
+        let r = hand.take_word();
+        let asked = Step::Join {
+            w: hand.worker(),
+            t,
+            r,
+        };
+        match self.choose(hand, &asked) {
+            Chosen::Run(u) => Told::Run(u),
+            Chosen::Skip(u, body) => Told::Skip(u, body),
+            Chosen::Idle => Told::None,
+            Chosen::Normal => match self.take_and_release(t) {
+                Some(kept) => {
+                    let (key, out) = kept.into_parts();
+                    Told::Hear(Heard::Got(key, out))
+                }
+                None => Told::Hear(Heard::Bare),
+            },
+            Chosen::Exceptional(code) => Told::Hear(Heard::Failed(code)),
+            Chosen::Cancelled => Told::Hear(Heard::Cancelled),
+            Chosen::Refused(refusal) => Told::Hear(Heard::Refused(refusal)),
+        }
+    }
+}

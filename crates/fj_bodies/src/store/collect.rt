@@ -1,0 +1,115 @@
+ghost use Rattle.std.specs.Prelude.{◌≡◌, true, None};
+ghost use Rattle.fj_rules.specs.Tasks.{is_kept};
+ghost use Rattle.fj_bodies.specs.Stores.{GivesNoMore};
+ghost use Rattle.fj_bodies.specs.Turns.{ToldRight};
+ghost use Rattle.fj_bodies.specs.Results.{Keeps, LetsGo, TakesAndReleases, TakesResult, Collects};
+ghost use Rattle.fj_slots.specs.Shelves.{entries};
+
+use crate::body::{Body, Heard, Told};
+use crate::kept_result::KeptResult;
+use crate::outcomes::{Outcome, told_outcome};
+use crate::places::is_gone;
+use crate::store::Store;
+use fj_rules::{Refusal, Serial};
+
+impl<B: Body> Store<B> {
+    /// Keeps the one result of a task under its number, or drops it where the task's result was taken. Preconditions: the task is kept, has no
+    /// result, and gives no other.
+    #[inline(always)]
+    pub(crate) fn keep(&mut self, t: Serial, kept: KeptResult<B>)
+        requires kept { is_kept self.old.past.events t ≡ true }
+        requires first { entries self.old.results t ≡ None }
+        requires last { GivesNoMore self.old.past.events t }
+        ensures kept { Keeps self.old t kept self.new }
+        ensures past { self.new.past ≡ self.old.past }
+    {
+        if self.taken.has(t) {
+            return;
+        }
+        self.results.put(t, kept);
+    }
+
+    /// Takes a result out, and releases its task as soon as it can be.
+    #[inline(always)]
+    pub(crate) fn take_and_release(&mut self, t: Serial) -> Option<KeptResult<B>>
+        ensures { TakesAndReleases self.old t result self.new }
+    {
+        match self.results.take(t) {
+            Some(kept) => {
+                self.release_taken(t);
+                Some(kept)
+            }
+            None => None,
+        }
+    }
+
+    /// A body takes the result of a task that is gone. `Unknown` of a task that is not kept, `NotDone` where it is not gone or has no result.
+    ///
+    /// The task is released as soon as it can be.
+    pub fn take(&mut self, t: Serial) -> Told<B>
+        ensures takes { TakesResult self.old t result self.new }
+        ensures right { ToldRight B.right result }
+    {
+        if self.stuck {
+            return Told::Stuck(None);
+        }
+        match self.machine.place(t) {
+            Some(place) => {
+                if !is_gone(place) {
+                    return Told::Hear(Heard::Refused(Refusal::NotDone));
+                }
+                match self.take_and_release(t) {
+                    Some(kept) => {
+                        let (key, out) = kept.into_parts();
+                        Told::Hear(Heard::Got(key, out))
+                    }
+                    None => Told::Hear(Heard::Refused(Refusal::NotDone)),
+                }
+            }
+            None => Told::Hear(Heard::Refused(Refusal::Unknown)),
+        }
+    }
+
+    /// A body wants no result of a task any more, nor shall anybody else: the task is released as soon as it can be, at once or when it has
+    /// ended, and its result is dropped. `Unknown` where its outcome or result was taken before, or it is not kept.
+    pub fn release(&mut self, t: Serial) -> Told<B>
+        ensures { LetsGo self.old t result self.new }
+    {
+        if self.stuck {
+            return Told::Stuck(None);
+        }
+        if self.taken.has(t) {
+            return Told::Hear(Heard::Refused(Refusal::Unknown));
+        }
+        match self.machine.status(t) {
+            Some(_) => {
+                let _unneeded = self.results.take(t);
+                self.release_taken(t);
+                Told::Hear(Heard::Went)
+            }
+            None => Told::Hear(Heard::Refused(Refusal::Unknown)),
+        }
+    }
+
+    /// The outcome of a task, which is taken out: the task is released as soon as it can be.
+    ///
+    /// None while it is undone. `Unknown` where it was taken out before, or is not kept.
+    pub fn collect(&mut self, t: Serial) -> Option<Result<Outcome<B>, Refusal>>
+        ensures { Collects self.old t result self.new }
+    {
+        if self.taken.has(t) {
+            return Some(Err(Refusal::Unknown));
+        }
+        match self.machine.status(t) {
+            Some(status) => {
+                if status.is_undone() {
+                    return None;
+                }
+                let kept = self.results.take(t);
+                self.release_taken(t);
+                Some(Ok(told_outcome(status, kept)))
+            }
+            None => Some(Err(Refusal::Unknown)),
+        }
+    }
+}

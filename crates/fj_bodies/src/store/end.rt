@@ -1,0 +1,149 @@
+ghost use Rattle.std.specs.Prelude.{◌≡◌, IfSome};
+ghost use Rattle.fj_slots.specs.Hands.{asker};
+ghost use Rattle.fj_bodies.specs.Fitting.{Fits};
+ghost use Rattle.fj_bodies.specs.Endings.{EndsBody, EndsOk};
+ghost use Rattle.fj_bodies.specs.HookEndings.{EndsHook};
+
+use crate::body::{Body, Heard, Told};
+use crate::due::after;
+use crate::kept_result::KeptResult;
+use crate::moves::{make, sweep_since};
+use crate::places::is_gone_now;
+use crate::store::Store;
+use fj_rules::{Ending, Owner, Place, Refusal, Said, Serial, Status, Step, SubId, WorkerId};
+use fj_slots::Hand;
+
+impl<B: Body> Store<B> {
+    /// The body of the running plain task ends, with its result. Preconditions: the hand fits, and the result is right for its body's key.
+    ///
+    /// The body of a completer hears `NotCompleter`. Where the history has no room the store is stuck, here and in the next two.
+    #[inline(always)]
+    pub fn ok(&mut self, hand: &mut Hand<B>, out: B::Out) -> Told<B>
+        requires fits { Fits self.old.past hand.old }
+        requires right { IfSome (asker hand.old) (λ b. ∥ B.right (B.key_of b.1) out ∥₁) }
+        ensures ends { EndsOk B.key_of self.old hand.old out result self.new hand.new }
+        ensures fits { Fits self.new.past hand.new }
+    {
+        // The check wants each type inside a reply to be named where one is moved.
+        let _inside: Option<(Place, Owner, Status, Refusal, Serial, SubId, WorkerId)> = None;
+        if self.stuck {
+            return Told::Stuck(None);
+        }
+        match self.machine.step(&Step::End {
+            w: hand.worker(),
+            ending: Ending::Ok,
+        }) {
+            Said::Done => {
+                let (t, body) = hand.pop();
+                self.due = after(self.due, t);
+                self.keep(t, KeptResult::new(body.into_key(), out));
+                self.release_due();
+                Told::Over(None)
+            }
+            Said::Refused(refusal) => match refusal {
+                Refusal::LogFull => {
+                    self.stuck = true;
+                    Told::Stuck(None)
+                }
+                other => Told::Hear(Heard::Refused(other)),
+            },
+            _ => unreachable!(),
+        }
+    }
+    /// The running body ends without a result: `Quiet`, `Try`, `Pass`, `Complete` or `Fail`. Precondition: the hand fits.
+    ///
+    /// Where the hook of its own task comes, the body goes on in it. If not, it goes out where its task is gone, and stays here where that is
+    /// open. The body of a plain task hears `NotCompleter`, but of `Fail`.
+    pub fn end(&mut self, hand: &mut Hand<B>, ending: Ending) -> Told<B>
+        requires fits { Fits self.old.past hand.old }
+        ensures ends { EndsBody self.old hand.old ending result self.new hand.new }
+        ensures fits { Fits self.new.past hand.new }
+    {
+        // The check wants each type inside a reply to be named where one is moved.
+        let _inside: Option<(Place, Owner, Status, Refusal, Serial, SubId, WorkerId)> = None;
+        if self.stuck {
+            return Told::Stuck(None);
+        }
+        let asked = Step::End {
+            w: hand.worker(),
+            ending,
+        };
+        match make(&mut self.machine, &mut self.bodies, &asked) {
+            Said::Hook(c) => {
+                let (t, body) = hand.pop();
+                hand.give_hook(t, body);
+                self.due = after(self.due, t);
+                self.release_due();
+                Told::Hook(c, c)
+            }
+            Said::Refused(refusal) => match refusal {
+                Refusal::LogFull => {
+                    self.stuck = true;
+                    Told::Stuck(None)
+                }
+                other => Told::Hear(Heard::Refused(other)),
+            },
+            _ => {
+                let (t, body) = hand.pop();
+                self.due = after(self.due, t);
+                if is_gone_now(&self.machine, t) {
+                    self.release_due();
+                    return Told::Over(Some(body));
+                }
+                self.bodies.put(t, body);
+                self.release_due();
+                Told::Over(None)
+            }
+        }
+    }
+
+    /// The hook in the hand ends, with its result: `CountedCompleter.onCompletion` has returned. Preconditions: the hand fits, and the result
+    /// is right for the key of the hook's body.
+    ///
+    /// Where the hook of its parent comes, the parent's body goes on in it. A hand without a hook hears `NotRunning`.
+    pub fn hook_done(&mut self, hand: &mut Hand<B>, out: B::Out) -> Told<B>
+        requires fits { Fits self.old.past hand.old }
+        requires right { IfSome hand.old.hook (λ b. ∥ B.right (B.key_of b.1) out ∥₁) }
+        ensures ends { EndsHook B.key_of self.old hand.old out result self.new hand.new }
+        ensures fits { Fits self.new.past hand.new }
+    {
+        // The check wants each type inside a reply to be named where one is moved.
+        let _inside: Option<(Place, Owner, Status, Refusal, Serial, SubId, WorkerId)> = None;
+        if self.stuck {
+            return Told::Stuck(None);
+        }
+        let w = hand.worker();
+        // Tells that no hand has two hooks.
+        let _hook = self.machine.hook(w);
+        let before = self.machine.gone().len();
+        match self.machine.step(&Step::HookDone { w }) {
+            Said::Hook(p) => match self.bodies.take(p) {
+                Some(above) => {
+                    let (c, body) = hand.take_hook();
+                    sweep_since(&mut self.bodies, &self.machine, before);
+                    hand.give_hook(p, above);
+                    self.due = after(self.due, c);
+                    self.keep(c, KeptResult::new(body.into_key(), out));
+                    self.release_due();
+                    Told::Hook(p, c)
+                }
+                None => unreachable!(),
+            },
+            Said::Refused(refusal) => match refusal {
+                Refusal::LogFull => {
+                    self.stuck = true;
+                    Told::Stuck(None)
+                }
+                other => Told::Hear(Heard::Refused(other)),
+            },
+            _ => {
+                let (c, body) = hand.take_hook();
+                sweep_since(&mut self.bodies, &self.machine, before);
+                self.due = after(self.due, c);
+                self.keep(c, KeptResult::new(body.into_key(), out));
+                self.release_due();
+                Told::Over(None)
+            }
+        }
+    }
+}

@@ -1,0 +1,153 @@
+ghost use Rattle.std.specs.Prelude.{◌≡◌, ◌+◌, true, false, None};
+ghost use Rattle.fj_rules.specs.Lists.{is_in};
+ghost use Rattle.fj_rules.specs.Tasks.{is_kept};
+ghost use Rattle.fj_slots.specs.Shelves.{entries};
+ghost use Rattle.fj_bodies.specs.Releases.{NoneGoesFrom, Releases, ReleasesFrom, ReleasesTaken, Tries};
+ghost use Rattle.fj_bodies.specs.DueTasks.{ReleasesHere, ReleasesUp};
+
+use crate::body::Body;
+use crate::due::{Due, after, is_all, is_nothing, only};
+use crate::hooked::is_hooked;
+use crate::plain::release_plain;
+use crate::store::Store;
+use crate::tries::{HistoryFull, Tried};
+use fj_rules::{Owner, Place, Refusal, Said, Serial, Status, Step, SubId, WorkerId};
+
+impl<B: Body> Store<B> {
+    /// Releases a task whose outcome or result was taken as soon as it can be: a plain one mostly at once, without a mark. Preconditions: the
+    /// task is kept, was not taken before, and has no result.
+    #[inline(always)]
+    pub(crate) fn release_taken(&mut self, t: Serial)
+        requires kept { is_kept self.old.past.events t ≡ true }
+        requires free { is_in t self.old.taken ≡ false }
+        requires none { entries self.old.results t ≡ None }
+        ensures { ReleasesTaken self.old t self.new }
+    {
+        if !self.stuck && is_nothing(self.due) && release_plain(&mut self.machine, t) {
+            return;
+        }
+        self.release_marked(t);
+    }
+
+    /// Marks a task for its release, and releases what can be. Preconditions: as above.
+    fn release_marked(&mut self, t: Serial)
+        requires kept { is_kept self.old.past.events t ≡ true }
+        requires free { is_in t self.old.taken ≡ false }
+        requires none { entries self.old.results t ≡ None }
+        ensures { ReleasesTaken self.old t self.new }
+    {
+        self.taken.push(t);
+        self.due = after(self.due, t);
+        self.release_due();
+    }
+
+    /// Releases what can be released of the tasks whose outcome or result was taken: the one that the last step was about, then its parent,
+    /// and so on. All of them are tried only after a stop, and where the store is stuck.
+    #[inline(always)]
+    pub(crate) fn release_due(&mut self)
+        ensures { Releases self.old self.new }
+    {
+        if self.taken.as_slice().is_empty() {
+            self.due = Due::Nothing;
+            return;
+        }
+        // Where the history is full, the store is stuck from now on.
+        let _full = self.release_found();
+        self.due = Due::Nothing;
+    }
+
+    /// Releases from what is due upwards, or whichever can be released.
+    fn release_found(&mut self) -> Result<(), HistoryFull>
+        ensures { Releases self.old self.new }
+    {
+        if self.stuck {
+            return self.release_all();
+        }
+        if is_all(self.due) {
+            return self.release_all();
+        }
+        match only(self.due) {
+            Some(t) => self.release_up(t),
+            None => Ok(()),
+        }
+    }
+
+    /// Releases what can be released, whichever it is: from each of the taken tasks upwards, the newest first. A release lets none go but its
+    /// parent, so one pass is enough.
+    fn release_all(&mut self) -> Result<(), HistoryFull>
+        ensures { Releases self.old self.new }
+    {
+        let mut i = self.taken.as_slice().len();
+        while i > 0 {
+            i -= 1;
+            self.release_from(i)?;
+        }
+        Ok(())
+    }
+
+    /// Releases from the taken task at this place upwards, if one stands there: releases before may have left fewer. Precondition: of the taken
+    /// tasks behind this place none can be released.
+    fn release_from(&mut self, i: usize) -> Result<(), HistoryFull>
+        requires { NoneGoesFrom (i + 1) self.old }
+        ensures { ReleasesFrom i self.old result self.new }
+    {
+        if i >= self.taken.as_slice().len() {
+            return Ok(());
+        }
+        let t = self.taken.as_slice()[i];
+        self.release_up(t)
+    }
+
+    /// Releases a task if it was taken and can be released, then so its parent, and so on.
+    fn release_up(&mut self, t: Serial) -> Result<(), HistoryFull>
+        ensures { ReleasesUp t self.old result self.new }
+    {
+        let mut next = Some(t);
+        while let Some(u) = next {
+            next = self.release_here(u)?;
+        }
+        Ok(())
+    }
+
+    /// Releases a task if it was taken and can be released. Tells its parent, if it was released and has one.
+    fn release_here(&mut self, t: Serial) -> Result<Option<Serial>, HistoryFull>
+        ensures { ReleasesHere t self.old result self.new }
+    {
+        if !self.taken.has(t) {
+            return Ok(None);
+        }
+        let parent = self.machine.parent(t);
+        match self.try_release(t) {
+            Tried::Released => Ok(parent),
+            Tried::Needed => Ok(None),
+            Tried::Full => Err(HistoryFull),
+        }
+    }
+
+    /// Releases this one, if it can be.
+    fn try_release(&mut self, t: Serial) -> Tried
+        requires { is_in t self.old.taken ≡ true }
+        ensures { Tries self.old t result self.new }
+    {
+        // The check wants each type inside a reply to be named where one is moved.
+        let _inside: Option<(Place, Owner, Status, Refusal, Serial, SubId, WorkerId)> = None;
+        if is_hooked(&self.machine, t) {
+            return Tried::Needed;
+        }
+        match self.machine.step(&Step::Release { t }) {
+            Said::Done => {
+                self.taken.take_out(t);
+                self.due = Due::All;
+                Tried::Released
+            }
+            Said::Refused(refusal) => match refusal {
+                Refusal::LogFull => {
+                    self.stuck = true;
+                    Tried::Full
+                }
+                _ => Tried::Needed,
+            },
+            _ => unreachable!(),
+        }
+    }
+}

@@ -1,0 +1,54 @@
+ghost use Rattle.std.specs.Prelude.{◌≡◌};
+ghost use Rattle.fj_rules.specs.Epochs.{IsPast};
+ghost use Rattle.fj_slots.specs.Shelves.{entries};
+ghost use Rattle.fj_bodies.specs.Sealing.{Seals, is_half_full};
+
+use crate::body::Body;
+use crate::kept_result::KeptResult;
+use crate::store::Store;
+use fj_machine::Machine;
+use fj_rules::{Refusal, Sealed};
+use fj_slots::SerialMap;
+use std::alloc::Global;
+
+impl<B: Body> Store<B> {
+    /// Hands out what has happened since the last seal, and goes on with an empty history. The bodies, the results and what was taken stay,
+    /// and task numbers go on.
+    ///
+    /// It is refused by `LogFull` where the store is stuck, else by `NotIdle` where the machine is not quiescent, else by `Closed` after a
+    /// shutdown or a stop, else by `LogFull` where the events, the sealed ones too, and the seals are more than 2^62, else by `OutOfMemory`,
+    /// and then changes nothing.
+    pub fn seal(&mut self, alloc: Global) -> Result<Sealed, Refusal>
+        ensures { Seals self.old result self.new }
+    {
+        if self.stuck {
+            return Err(Refusal::LogFull);
+        }
+        self.machine.seal(alloc)
+    }
+
+    /// Whether the history since the last seal is longer than half its limit.
+    pub fn is_half_full(&self) -> bool
+        ensures { result ≡ is_half_full self.now.past }
+    {
+        let events = self.limits().events() as usize;
+        self.machine.history().len() > events / 2
+    }
+
+    /// The machine, and the results that were not taken, each under its task's number. The bodies that no worker holds are dropped.
+    pub fn into_parts(self) -> (Machine, SerialMap<KeptResult<B>>)
+        ensures past { result.0 ≡ self.past }
+        ensures results { entries result.1 ≡ entries self.results }
+        ensures run { IsPast self.past }
+    {
+        let Store {
+            machine,
+            bodies: _,
+            results,
+            taken: _,
+            due: _,
+            stuck: _,
+        } = self;
+        (machine, results)
+    }
+}

@@ -1,0 +1,55 @@
+ghost use Rattle.std.specs.Prelude.{◌≡◌, ◌<◌, length, Some, None};
+ghost use Rattle.fj_trees.specs.Trees.{IsTree};
+ghost use Rattle.fj_trees.specs.TreeValues.{node_value};
+ghost use Rattle.fj_fold.specs.Tallies.{IsTally, numbers_from};
+
+use crate::family::Family;
+
+/// What values are computed modulo.
+const MODULUS: u64 = 1_000_000_007;
+
+/// How far the value of a node is summed.
+#[derive(Clone, Copy)]
+pub(crate) struct ChildSum {
+    pub(crate) node: u32,
+    /// The child whose value comes next, if one is left.
+    pub(crate) child: Option<u32>,
+    /// What that value is multiplied by: 1 at the first child, 2 at the second.
+    pub(crate) weight: u32,
+    /// The node's own value and the weighted values of the children before, modulo 1,000,000,007.
+    pub(crate) sum: u64,
+}
+
+impl ChildSum {
+    /// The own value of a node. Precondition: there is such a node.
+    pub(crate) fn new(family: &Family, node: u32) -> ChildSum
+        requires { node < length family.now }
+        ensures tally { IsTally family.now result }
+        ensures node { result.node ≡ node }
+        ensures tree { IsTree family.now }
+    {
+        ChildSum {
+            node,
+            child: family.first_child(node),
+            weight: 1,
+            sum: u64::from(family.own_value(node)),
+        }
+    }
+
+    /// With the value of the next child. Preconditions: it is the next one, and its value.
+    pub(crate) fn add(self, family: &Family, child: u32, value: u64) -> ChildSum
+        requires tally { IsTally family.now self }
+        requires child { self.child ≡ Some child }
+        requires value { value ≡ node_value family.now child }
+        ensures tally { IsTally family.now result }
+        ensures node { result.node ≡ self.node }
+        ensures nearer { numbers_from (length family.now) result.child < numbers_from (length family.now) self.child }
+    {
+        ChildSum {
+            node: self.node,
+            child: family.next_sibling(child),
+            weight: self.weight + 1,
+            sum: (self.sum + u64::from(self.weight) * value) % MODULUS,
+        }
+    }
+}

@@ -1,0 +1,11 @@
+use crate::fate::Fate;
+use crate::node::NodeId;
+
+/// A step of a run.
+#[derive(Clone, Copy, Debug, PartialEq)]
+pub enum GraphStep {
+    /// The body that calls the work of this node was handed to the pool.
+    Begun(NodeId),
+    /// It was told what became of this node.
+    Ended(NodeId, Fate),
+}

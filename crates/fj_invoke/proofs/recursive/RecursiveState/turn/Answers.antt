@@ -1,0 +1,23 @@
+use Rattle.std.proofs.Common.{sym, ap, map}
+use base.Stored.{Coded-set}
+use Rattle.fj_invoke.specs.Recursions.{rest_value, left_value, tail_value}
+use Rattle.fj_invoke.proofs.Tails.{rest_gives}
+use Rattle.fj_invoke.proofs.recursive.RecursiveState.turn.Goals as goal
+
+pub begin-requires : goal.begin-requires
+begin-requires g c =
+    rest_gives (tail_value g.J.Divide.combined (map (left_value g.J.Divide.value) c.args.self.now.lefts.items)) _ _ _
+    (Coded-set g.row.J-Out.coded _ _) c.args.self.now.total
+    (ap (rest_value g.J.Divide.key_of g.J.Divide.value g.J.Divide.combined) (sym c.in-Going.ensures.value))
+
+pub after_fork-requires : goal.after_fork-requires
+after_fork-requires g c =
+    rest_gives (tail_value g.J.Divide.combined (map (left_value g.J.Divide.value) c.args.self.now.lefts.items)) _ _ _
+    (Coded-set g.row.J-Out.coded _ _) c.args.self.now.total
+    (ap (rest_value g.J.Divide.key_of g.J.Divide.value g.J.Divide.combined) (sym c.in-Forking.ensures.value))
+
+pub after_join-requires-clause-total : goal.after_join-requires-clause-total
+after_join-requires-clause-total g c =
+    rest_gives (tail_value g.J.Divide.combined (map (left_value g.J.Divide.value) c.args.self.now.lefts.items)) _ _ _
+    (Coded-set g.row.J-Out.coded _ _) c.args.self.now.total
+    (ap (rest_value g.J.Divide.key_of g.J.Divide.value g.J.Divide.combined) (sym c.in-Waiting.ensures.value))

@@ -1,0 +1,2 @@
+-- Lines and what they say.
+pub mod Reading

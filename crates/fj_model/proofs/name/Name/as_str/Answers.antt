@@ -1,5 +1,0 @@
-use Rattle.fj_model.proofs.Reading2.NameLaws.{name_utf8}
-use Rattle.fj_model.proofs.name.Name.as_str.Goals as goal
-
-pub unreachable-requires : goal.unreachable-requires
-unreachable-requires c = c.in_default.ensures.cases.0 (rw c.as_bytes.ensures.bytes (name_utf8 _ c.as_bytes.ensures.name))

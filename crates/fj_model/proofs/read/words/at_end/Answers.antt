@@ -1,5 +1,0 @@
-use Rattle.fj_model.proofs.Reading.WordLaws.{is_last_at}
-use Rattle.fj_model.proofs.read.words.at_end.Goals as goal
-
-pub returns : goal.returns
-returns c = is_last_at c.args.behind.now c.is_empty.result c.is_empty.ensures

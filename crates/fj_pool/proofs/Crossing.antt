@@ -1,0 +1,62 @@
+-- A pool may be lent to other threads, where its bodies, keys and results may go to them.
+use denote.Param.Send.{IsSend, IsSync, sendable}
+use denote.Param.SendFields.{declared_send, declared_sync, as_row_send, as_row_sync}
+use denote.RattleType.{RattleType}
+use Rattle.std.proofs.Crossing.{crosses, sync}
+use Rattle.std.specs.declared.cmp.PartialEq as PartialEq
+use Rattle.fj_rules.proofs.ids.SubId.TheSendSync.{the_send as submitter_send}
+use Rattle.fj_gate.proofs.entrant.Entrant.TheSendSync.{the_send as entrant_send}
+use Rattle.fj_lane.proofs.rest.Rest.TheSendSync.{the_send as rest_send}
+use Rattle.fj_lane.specs.contracts.rest.Rest as Rest
+use Rattle.fj_agreement.proofs.end.End.TheSendSync.{the_send as end_send}
+use Rattle.fj_bodies.specs.declared.body.Body as Body
+use Rattle.fj_core.proofs.Crossing.{core_send}
+use Rattle.fj_core.specs.contracts.pool_core.Core as Core
+use Rattle.fj_pool.proofs.condvars.Condvars.TheSendSync.{the_sync as condvars_sync}
+use Rattle.fj_pool.proofs.waits.Waits.TheSendSync.{the_send as waits_send}
+use Rattle.fj_pool.specs.declared.naming.Naming as Naming
+use Rattle.fj_pool.specs.contracts.guarded.Guarded as Guarded
+use Rattle.fj_pool.specs.contracts.guarded.Guarded.TheInside as GuardedInside
+use Rattle.fj_pool.specs.contracts.locked.Locked as Locked
+use Rattle.fj_pool.specs.contracts.locked.Locked.TheInside as LockedInside
+use Rattle.fj_pool.specs.contracts.pool.Pool as Pool
+
+module _ (B N K O : RattleType) (g : Body.Ghosts B.Denot K.Denot O.Denot) (e : PartialEq.Ghosts K.Denot) (n : Naming.Ghosts N.Denot) (b : IsSend B) (k : IsSend K) (o : IsSend O) (named : IsSend N) where
+  rest_row : IsSend (Rest.the_row B)
+  rest_row = rest_send B b
+
+  guarded_inner : IsSend (GuardedInside.the_row B N K O g e n)
+  guarded_inner = declared_send (GuardedInside.the_type B N K O g e n) (
+    as_row_send (Core.the_field B K O g e) (core_send B K O g e b k o),
+    (
+      search (sendable, crosses, as_row_send, waits_send),
+      (
+        search (sendable, crosses, as_row_send, entrant_send),
+        (search (sendable, crosses, as_row_send, rest_row), (search (sendable, crosses, as_row_send, submitter_send), (search (sendable, crosses, as_row_send, named), tt))),
+      ),
+    ),
+  )
+
+  guarded_send : IsSend (Guarded.the_row B N K O g e n)
+  guarded_send = record { owned = λ d vs x. (guarded_inner.owned x.0 vs, tt); leaving = λ k d w. tt }
+
+  locked_inner : IsSend (LockedInside.the_row B N K O g e n)
+  locked_inner = declared_send (LockedInside.the_type B N K O g e n) (
+    as_row_send (Guarded.the_field B N K O g e n) guarded_send,
+    (search (sendable, crosses, as_row_send, end_send), tt),
+  )
+
+  locked_send : IsSend (Locked.the_row B N K O g e n)
+  locked_send = record { owned = λ d vs x. (locked_inner.owned x.0 vs, tt); leaving = λ k d w. tt }
+
+  pub pool_sync : IsSync (Pool.the_row B N K O g e n)
+  pool_sync = declared_sync (Pool.the_type B N K O g e n) (
+    search (sendable, crosses, as_row_sync, sync) depth 20,
+    (
+      search (sendable, as_row_sync) depth 20,
+      (
+        search (sendable, crosses, as_row_sync, locked_send) depth 20,
+        (search (sendable, crosses, as_row_sync, condvars_sync) depth 20, tt),
+      ),
+    ),
+  )

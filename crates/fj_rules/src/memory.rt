@@ -1,0 +1,42 @@
+use crate::refusal::Refusal;
+use std::alloc::{AllocError, AllocFailed};
+use thiserror::Error;
+
+/// Memory was refused.
+#[derive(Clone, Copy, Debug, Error)]
+#[error("out of memory")]
+pub struct OutOfMemory;
+
+impl From<AllocError> for OutOfMemory {
+    fn from(_error: AllocError) -> OutOfMemory {
+        OutOfMemory
+    }
+}
+
+impl<T: Drop> From<AllocFailed<T>> for OutOfMemory {
+    fn from(_failed: AllocFailed<T>) -> OutOfMemory {
+        OutOfMemory
+    }
+}
+
+impl From<AllocError> for Refusal {
+    ghost use Rattle.std.specs.Prelude.{◌≡◌};
+    ghost use Rattle.fj_rules.specs.declared.refusal.Refusal.TheVariants as refusal;
+
+    ghost from_gives = { λ _ given. given ≡ refusal.OutOfMemory };
+
+    fn from(_error: AllocError) -> Refusal {
+        Refusal::OutOfMemory
+    }
+}
+
+impl From<OutOfMemory> for Refusal {
+    ghost use Rattle.std.specs.Prelude.{◌≡◌};
+    ghost use Rattle.fj_rules.specs.declared.refusal.Refusal.TheVariants as refusal;
+
+    ghost from_gives = { λ _ given. given ≡ refusal.OutOfMemory };
+
+    fn from(_error: OutOfMemory) -> Refusal {
+        Refusal::OutOfMemory
+    }
+}

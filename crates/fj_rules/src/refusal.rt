@@ -1,0 +1,79 @@
+use thiserror::Error;
+
+/// Why a call was refused. A refused call changes nothing, but for two marks: a submitter keeps that it was told `Closed`, a pool that it is
+/// stuck.
+///
+/// Where several hold, a step is answered the first in this order: `NoSuch`, `NotIdle`, `NotRunning`, `Unknown`, `NotCompleter`,
+/// `NotDone`, `OwnStack`, `Closed`, `CountTooLarge`, `TooManyTasks`, `LogFull`.
+#[derive(Clone, Copy, Debug, PartialEq, Error)]
+pub enum Refusal {
+    /// 1: nothing more is accepted.
+    #[error("nothing more is accepted")]
+    Closed,
+    /// 2: as many tasks are kept as the limit allows.
+    #[error("as many tasks are kept as the limit allows")]
+    TooManyTasks,
+    /// 3: the events of the step do not fit into the history.
+    #[error("the events of the step do not fit into the history")]
+    LogFull,
+    /// 4: there is no such submitter or worker.
+    #[error("there is no such submitter or worker")]
+    NoSuch,
+    /// 5: the task was never accepted, or was released.
+    #[error("the task was never accepted, or was released")]
+    Unknown,
+    /// 6: the worker runs no task, or has no completion action in its hand.
+    #[error("the worker runs nothing")]
+    NotRunning,
+    /// 7: an undone task on the worker's own stack can't be joined by it.
+    #[error("the task is on the worker's own stack")]
+    OwnStack,
+    /// 8: the task is of the wrong kind for this step.
+    #[error("the task is of the wrong kind")]
+    NotCompleter,
+    /// 9: the task is not gone, or a kept task names it as its parent.
+    #[error("the task is still needed")]
+    NotDone,
+    /// 10: a pending count would pass 65,535.
+    #[error("a pending count would pass 65535")]
+    CountTooLarge,
+    /// 11: the lane has taken as many tasks as its capacity.
+    #[error("the lane has taken as many tasks as its capacity")]
+    LaneSpent,
+    /// 12: memory was refused.
+    #[error("out of memory")]
+    OutOfMemory,
+    /// 13: a limit is out of its range.
+    #[error("a limit is out of its range")]
+    BadLimits,
+    /// 14: the worker is not idle, or has a completion action in its hand.
+    #[error("the worker is not idle")]
+    NotIdle,
+}
+
+impl Refusal {
+    ghost use Rattle.std.specs.Prelude.{◌≡◌};
+    ghost use Rattle.fj_rules.specs.Refusals.{refusal_number};
+
+    /// The number that a reply prints for this refusal, 1 to 14.
+    pub fn number(self) -> u32
+        ensures { result ≡ refusal_number self }
+    {
+        match self {
+            Refusal::Closed => 1,
+            Refusal::TooManyTasks => 2,
+            Refusal::LogFull => 3,
+            Refusal::NoSuch => 4,
+            Refusal::Unknown => 5,
+            Refusal::NotRunning => 6,
+            Refusal::OwnStack => 7,
+            Refusal::NotCompleter => 8,
+            Refusal::NotDone => 9,
+            Refusal::CountTooLarge => 10,
+            Refusal::LaneSpent => 11,
+            Refusal::OutOfMemory => 12,
+            Refusal::BadLimits => 13,
+            Refusal::NotIdle => 14,
+        }
+    }
+}

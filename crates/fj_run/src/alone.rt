@@ -1,0 +1,72 @@
+ghost use Rattle.std.specs.Prelude.{◌≡◌, IfErr};
+ghost use Rattle.fj_run.specs.Runs.{RefusesRun, told_of};
+
+use crate::play::Play;
+use crate::playing::with_pool;
+use crate::running::Running;
+use crate::settings::Settings;
+use fj_pool::{Body, Naming, Outcome, Turnstile};
+use fj_rules::{Refusal, SubId};
+use std::alloc::Global;
+use std::sync::Wait;
+use std::thread::Threads;
+
+/// Submits one body, and awaits its outcome.
+#[derive(Drop)]
+struct Alone<B> {
+    body: Option<B>,
+}
+
+impl<B: Body> Play<B> for Alone<B> {
+    type Out = Result<Outcome<B>, Refusal>;
+
+    fn play<N: Naming, R: Wait>(
+        &mut self,
+        pool: &mut Running<'_, '_, B, N, R>,
+    ) -> Result<Outcome<B>, Refusal> {
+        let Some(body) = self.body.take() else {
+            return Err(Refusal::Unknown);
+        };
+        match pool.submit(SubId(0), body) {
+            Ok(ticket) => pool.await_done(ticket),
+            Err((refusal, _)) => Err(refusal),
+        }
+    }
+}
+
+/// Runs a body to its outcome, in a pool of its own: a thread for each worker, and none that outlives the call. A result in the outcome is
+/// right for the key beside it. It follows `ForkJoinPool.invoke`.
+///
+/// The pool is made by these settings, for one submission. The turnstile is asked before the first turn of each body.
+///
+/// `LogFull` where the history is full. `OutOfMemory` where memory is refused, or a thread cannot be started; then the body is not run.
+pub fn run_alone<B: Body + Send, T: Turnstile + Sync, R: Threads + Wait + Sync>(
+    rt: &R,
+    alloc: Global,
+    settings: Settings,
+    body: B,
+    turnstile: &T,
+) -> Result<Outcome<B>, Refusal>
+where
+    B::Key: Send,
+    B::Out: Send,
+    ensures { IfErr result RefusesRun }
+{
+    let player = Alone { body: Some(body) };
+    match with_pool(rt, alloc, settings.for_one(), player, turnstile) {
+        Ok(played) => told(played.out),
+        Err(_) => Err(Refusal::OutOfMemory),
+    }
+}
+
+/// The answer of a run: `LogFull` stays, any other refusal becomes `OutOfMemory`.
+fn told<B: Body>(answer: Result<Outcome<B>, Refusal>) -> Result<Outcome<B>, Refusal>
+    ensures told { result ≡ told_of answer }
+    ensures err { IfErr result RefusesRun }
+{
+    match answer {
+        Ok(outcome) => Ok(outcome),
+        Err(Refusal::LogFull) => Err(Refusal::LogFull),
+        Err(_) => Err(Refusal::OutOfMemory),
+    }
+}

@@ -1,0 +1,26 @@
+//! One body is run to its outcome, by workers in threads, in a pool of its own.
+//!
+//! ```
+//! let outcome = run_alone(&rt, alloc, Settings::workers(4)?, body, &Open)?;
+//! ```
+#![tactic(auto)]
+
+mod alone;
+mod crew;
+mod play;
+mod playing;
+mod results;
+mod running;
+mod settings;
+mod submitters;
+
+pub use alone::run_alone;
+pub use fj_pool::{
+    Ask, Body, Glance, Heard, KeptResult, Naming, Open, Outcome, Record, Ticket, Turnstile,
+};
+pub use fj_rules::{Kind, Limits, Mode, Refusal, Sealed, Serial, SubId, WorkerId};
+pub use play::Play;
+pub use playing::{Played, with_pool};
+pub use results::{NoResult, result_in};
+pub use running::Running;
+pub use settings::Settings;

@@ -1,0 +1,128 @@
+ghost use Rattle.std.specs.Prelude.{◌≡◌, [], ◌++◌, IfErr, IfOk, IfSome, length, true};
+ghost use Rattle.fj_core.specs.Cores.{AreParts};
+ghost use Rattle.fj_rules.specs.Epochs.{IsPast};
+ghost use Rattle.fj_pool.specs.Lanes.{lanes_of};
+ghost use Rattle.fj_pool.specs.Winding.{AreEmpty, has_terminated, submissions};
+
+use crate::crew::{Crew, Ran, run_all};
+use crate::play::Play;
+use crate::settings::Settings;
+use crate::submitters::Submitters;
+use fj_pool::{Body, Naming, Parts, Pool, Record, Turnstile};
+use fj_rules::Refusal;
+use std::alloc::Global;
+use std::marker::Brand;
+use std::sync::Wait;
+use std::thread::Threads;
+
+/// What came of a play.
+#[derive(Drop)]
+pub struct Played<B: Body, P, O> {
+    /// Who has played.
+    pub player: P,
+    /// What it gave.
+    pub out: O,
+    /// What is left of the pool.
+    pub record: Record<B>,
+}
+
+/// Opens a pool, starts a thread for each worker, and plays. Then the pool is shut down, whatever came of the play; it ends when all that was
+/// submitted was run, and is wound up: what came of the play, with the player and the record of the pool. No thread outlives the call. In Java, from 19 on,
+/// `try (ForkJoinPool pool = new ForkJoinPool(n)) { .. }`.
+///
+/// The turnstile is asked before the first turn of each body: `Open` holds nobody.
+///
+/// `OutOfMemory` where memory is refused, or a thread cannot be started; then nothing is played, and the player comes back.
+pub fn with_pool<B: Body + Send, P: Play<B> + Drop, T: Turnstile + Sync, R: Threads + Wait + Sync>(
+    rt: &R,
+    alloc: Global,
+    settings: Settings,
+    player: P,
+    turnstile: &T,
+) -> Result<Played<B, P, P::Out>, (Refusal, P)>
+where
+    B::Key: Send,
+    B::Out: Send,
+    ensures run { IfOk result (λ r. IsPast r.record.machine) }
+    // The parts that were handed out, and then those of the record, are the history up to the last seal.
+    ensures history { IfOk result (λ r. AreParts (r.record.archive.handed ++ r.record.archive.kept) r.record.machine) }
+    ensures at_close { IfOk result (λ r. IfSome r.record.closed (λ n. r.record.admitted ≡ n)) }
+    // As many were taken in as the machine accepted.
+    ensures taken_in { IfOk result (λ r. length r.record.bookings.bookings ≡ submissions r.record.machine) }
+    ensures terminated { IfOk result (λ r. r.record.terminated ≡ has_terminated r.record.closed r.record.machine) }
+    ensures emptied { IfOk result (λ r. r.record.terminated ≡ true → AreEmpty r.record.lanes.items) }
+    ensures err { IfErr result (λ e. e.0 ≡ Refusal.OutOfMemory) }
+{
+    let places = settings.limits().tasks();
+    match Parts::new(
+        alloc,
+        settings.mode(),
+        settings.limits(),
+        settings.lane_capacity(),
+        settings.start(),
+    ) {
+        Ok(parts) => open_and_play::<B, Brand, P, T, R>(
+            rt, alloc, parts, places, player, turnstile,
+        ),
+        Err(_) => Err((Refusal::OutOfMemory, player)),
+    }
+}
+
+/// The same with these parts, under this name. Preconditions: the name is that of the parts.
+fn open_and_play<
+    B: Body + Send,
+    N: Naming + Send + Sync,
+    P: Play<B> + Drop,
+    T: Turnstile + Sync,
+    R: Threads + Wait + Sync,
+>(
+    rt: &R,
+    alloc: Global,
+    parts: Parts<B>,
+    places: u32,
+    player: P,
+    turnstile: &T,
+) -> Result<Played<B, P, P::Out>, (Refusal, P)>
+where
+    B::Key: Send,
+    B::Out: Send,
+    requires gate { N.gate ≡ parts.closer.gate }
+    requires lanes { N.lanes ≡ lanes_of parts.core.lanes }
+    requires pool { N.pool ≡ parts.core.store.past.pool }
+    requires hands { N.hands ≡ parts.pairs }
+    ensures run { IfOk result (λ r. IsPast r.record.machine) }
+    ensures history { IfOk result (λ r. AreParts (r.record.archive.handed ++ r.record.archive.kept) r.record.machine) }
+    ensures at_close { IfOk result (λ r. IfSome r.record.closed (λ n. r.record.admitted ≡ n)) }
+    ensures taken_in { IfOk result (λ r. length r.record.bookings.bookings ≡ submissions r.record.machine) }
+    ensures terminated { IfOk result (λ r. r.record.terminated ≡ has_terminated r.record.closed r.record.machine) }
+    ensures emptied { IfOk result (λ r. r.record.terminated ≡ true → AreEmpty r.record.lanes.items) }
+    ensures err { IfErr result (λ e. e.0 ≡ Refusal.OutOfMemory) }
+{
+    match Pool::<B, N>::open(alloc, parts) {
+        Ok((pool, hands, submitters, closer)) => {
+            let crew = Crew {
+                pool: &pool,
+                rt,
+                turnstile,
+                places,
+            };
+            let submitters = Submitters::new(submitters);
+            let Ran {
+                player,
+                out,
+                submitters,
+                closer,
+            } = run_all(alloc, &crew, hands, submitters, closer, player);
+            let record = pool.wind_up(submitters.into_all(), closer);
+            match out {
+                Some(out) => Ok(Played {
+                    player,
+                    out,
+                    record,
+                }),
+                None => Err((Refusal::OutOfMemory, player)),
+            }
+        }
+        Err(_) => Err((Refusal::OutOfMemory, player)),
+    }
+}

@@ -1,0 +1,119 @@
+ghost use Rattle.std.specs.Prelude.{◌<◌, IfSome, length};
+
+use crate::submitters::Submitters;
+use fj_pool::{Body, Glance, Naming, Outcome, Pool, Ticket};
+use fj_rules::{Refusal, Sealed, SubId};
+use std::sync::Wait;
+
+/// A pool whose workers are at work, with all its submitters.
+#[derive(Drop)]
+pub struct Running<'p, 'r, B: Body, N: Naming, R> {
+    pool: &'p Pool<B, N>,
+    rt: &'r R,
+    submitters: Submitters<B, N>,
+    /// How many tasks may be live.
+    places: u32,
+    /// How many outcomes were not asked for yet.
+    outstanding: u32,
+}
+
+impl<'p, 'r, B: Body, N: Naming, R: Wait> Running<'p, 'r, B, N, R> {
+    /// Nothing was submitted yet.
+    pub(crate) fn new(
+        pool: &'p Pool<B, N>,
+        rt: &'r R,
+        submitters: Submitters<B, N>,
+        places: u32,
+    ) -> Running<'p, 'r, B, N, R> {
+        Running {
+            pool,
+            rt,
+            submitters,
+            places,
+            outstanding: 0,
+        }
+    }
+
+    /// All submitters, by their numbers.
+    pub(crate) fn into_submitters(self) -> Submitters<B, N> {
+        let Running {
+            pool: _,
+            rt: _,
+            submitters,
+            places: _,
+            outstanding: _,
+        } = self;
+        submitters
+    }
+
+    /// How many submitters there are, each with a lane of its own.
+    pub fn submitters(&self) -> usize {
+        self.submitters.len()
+    }
+
+    /// How many more bodies a submitter takes in its life. None where there is no such submitter.
+    pub fn left(&self, submitter: SubId) -> Option<u32> {
+        self.submitters.left(submitter)
+    }
+
+    /// How many outcomes were not asked for yet.
+    pub fn outstanding(&self) -> u32 {
+        self.outstanding
+    }
+
+    /// Submits a body: `ForkJoinPool.submit`. It takes no lock and waits for nobody. Its outcome is told under the ticket.
+    ///
+    /// `TooManyTasks` where as many outcomes are outstanding as there may be live tasks: each submission is to find a place. `NoSuch` where there
+    /// is no such submitter, `LaneSpent` where that has taken as many as it takes in its life. The body comes back each time.
+    pub fn submit(&mut self, submitter: SubId, body: B) -> Result<Ticket, (Refusal, B)> {
+        if self.outstanding >= self.places {
+            return Err((Refusal::TooManyTasks, body));
+        }
+        let ticket = self.submitters.submit(submitter, body)?;
+        self.outstanding = self.outstanding.saturating_add(1);
+        Ok(ticket)
+    }
+
+    /// Waits for an outcome, which is told once: `Pool::await_done`.
+    pub fn await_done(&mut self, ticket: Ticket) -> Result<Outcome<B>, Refusal> {
+        let answer = self.pool.await_done(self.rt, ticket);
+        self.outstanding = self.outstanding.saturating_sub(1);
+        answer
+    }
+
+    /// The outcome, if it can be told now: `Pool::try_done`.
+    pub fn try_done(&mut self, ticket: Ticket) -> Option<Result<Outcome<B>, Refusal>> {
+        let answer = self.pool.try_done(self.rt, ticket)?;
+        self.outstanding = self.outstanding.saturating_sub(1);
+        Some(answer)
+    }
+
+    /// Waits for the first of several outcomes, in their order, that can be told, and gives its place among them: `Pool::await_any`.
+    pub fn await_any(&mut self, tickets: &[Ticket]) -> Option<(usize, Result<Outcome<B>, Refusal>)>
+        ensures place { IfSome result (λ told. told.0 < length tickets.now) }
+    {
+        let told = self.pool.await_any(self.rt, tickets)?;
+        self.outstanding = self.outstanding.saturating_sub(1);
+        Some(told)
+    }
+
+    /// Cancels what was submitted: `Pool::cancel`.
+    pub fn cancel(&self, ticket: Ticket) -> Result<bool, Refusal> {
+        self.pool.cancel(self.rt, ticket)
+    }
+
+    /// Whether all that was submitted has ended: `Pool::is_quiescent`.
+    pub fn is_quiescent(&self) -> bool {
+        self.pool.is_quiescent(self.rt)
+    }
+
+    /// What the pool does at this moment: `Pool::glance`.
+    pub fn glance(&self) -> Glance {
+        self.pool.glance(self.rt)
+    }
+
+    /// The sealed parts of the history that nobody has taken yet: `Pool::take_parts`.
+    pub fn take_parts(&self) -> Vec<Sealed> {
+        self.pool.take_parts(self.rt)
+    }
+}

@@ -1,9 +1,0 @@
-use Rattle.std.proofs.Common.{◌-◌, length, refl, ◌∙◌}
-use Rattle.fj_shelf.proofs.Beside.{length_zip, number_at}
-use Rattle.fj_shelf.proofs.hand.Hand.running.Goals as goal
-
-pub returns : goal.returns
-returns g c =
-    let q = c.self.inside in
-    rw (← c.self.view_is, length_zip q.serials.items q.bodies.items c.self.invariant.4, number_at q.serials.items q.bodies.items (length q.serials.items - 1) c.self.invariant.4)
-    (c.copied.ensures ∙ c.last.ensures.value ∙ rw c.deref.ensures.value refl)

@@ -1,6 +1,0 @@
-use Rattle.fj_shelf.proofs.Standing.{nothing_stands}
-use Rattle.fj_shelf.proofs.shelf.Shelf.new.Goals as goal
-
-pub returns-clause-entries : goal.returns-clause-entries
-returns-clause-entries g c =
-    rw (c.in_ok-new.ensures, c.in_ok-new-2.ensures) (nothing_stands {T = g.row.T.Denot} c.args.room c.requires).1

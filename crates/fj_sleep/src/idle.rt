@@ -1,0 +1,45 @@
+ghost use Rattle.std.specs.Prelude.{◌≡◌, ◌≤◌, ◌*◌, IfSome};
+ghost use Rattle.std.specs.Duration.{as_nanos};
+ghost use Rattle.fj_sleep.specs.declared.idle.TheConstants.{LONGEST_SLEEP};
+
+use crate::sleeps::Sleeps;
+use std::time::Duration;
+
+/// How often a worker looks for work before it sleeps in between.
+const YIELDS: u32 = 16;
+
+/// The first sleep, in microseconds.
+const FIRST_SLEEP: u64 = 16;
+
+/// The longest sleep, in microseconds.
+const LONGEST_SLEEP: u64 = 800;
+
+/// How a worker waits that finds nothing to do: it yields, and after some rounds it sleeps, longer and longer, since a push into a lane
+/// wakes nobody.
+#[derive(Drop)]
+pub struct Idle {
+    rounds: u32,
+    sleeps: Sleeps,
+    ghost longest: { sleeps.longest ≡ LONGEST_SLEEP },
+}
+
+impl Idle {
+    /// It has just done something.
+    pub fn new() -> Idle {
+        Idle {
+            rounds: 0,
+            sleeps: Sleeps::new(FIRST_SLEEP, LONGEST_SLEEP),
+        }
+    }
+
+    /// It rests. How long to sleep before the next look; none where a yield is enough.
+    pub fn next_sleep(&mut self) -> Option<Duration>
+        ensures { IfSome result (λ sleep. as_nanos sleep ≤ LONGEST_SLEEP * 1_000) }
+    {
+        if self.rounds < YIELDS {
+            self.rounds += 1;
+            return None;
+        }
+        Some(self.sleeps.next_sleep())
+    }
+}

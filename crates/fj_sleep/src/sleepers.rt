@@ -1,0 +1,170 @@
+ghost use Rattle.std.specs.Prelude.{◌≡◌, ◌≢◌, ◌≤◌, ◌<◌, ◌↔◌, IsTrue, IfOk, MatchOption, Some, None, false, length, replicate, slice_index_or, slice_set};
+ghost use Rattle.fj_sleep.specs.Places.{aim, is_awake, is_due, is_waiting};
+ghost use Rattle.fj_sleep.specs.Sleeping.{IsAt, NobodyIs};
+ghost use Rattle.fj_sleep.specs.Waking.{PassesOn, with_resting};
+
+mod choice;
+mod waking;
+
+use crate::places::MAX_PLACES;
+use crate::sleeper::Sleeper;
+use choice::any_resting;
+use std::alloc::{AllocError, Global};
+use std::marker::Model;
+
+/// Those who may sleep, each at a place of its own. One of those who rest is the lookout: it looks for work now and then, and the others
+/// sleep until they are woken. A place that there is not is nobody's: a call with it changes nothing.
+#[derive(Drop)]
+pub struct Sleepers<T: Copy> {
+    pub(crate) places: Vec<Sleeper<T>>,
+    pub(crate) lookout: Option<usize>,
+    /// Where it is false, nobody waits.
+    waiting: bool,
+    /// Where it is false, nobody rests.
+    resting: bool,
+    /// Where it is false, nobody is to be woken.
+    due: bool,
+}
+
+impl<T: Copy> Model for Sleepers<T> {
+    ghost use Rattle.fj_sleep.specs.Sleeping.{AreNoted, SleepState};
+
+    ghost Value = { SleepState T };
+
+    ghost view = { λ s. record { places = s.places.items; lookout = s.lookout } };
+
+    ghost invariant = { λ s. AreNoted s.places.items s.lookout s.waiting s.resting s.due };
+}
+
+impl<T: Copy> Sleepers<T> {
+    /// So many places, at which nobody sleeps. An error where memory is refused, and no other. Precondition: they are `MAX_PLACES` at most.
+    pub fn new(alloc: Global, places: usize) -> Result<Sleepers<T>, AllocError>
+        requires { places ≤ MAX_PLACES }
+        ensures { IfOk result (λ s. s ≡ record { places = replicate places Sleeper.Awake; lookout = None }) }
+    {
+        let mut awake = Vec::with_capacity(alloc, places)?;
+        for _place in 0..places {
+            awake.push(Sleeper::Awake)?;
+        }
+        Ok(Sleepers {
+            places: awake,
+            lookout: None,
+            waiting: false,
+            resting: false,
+            due: false,
+        })
+    }
+
+    /// A place at which nobody sleeps; none only where somebody does at each.
+    pub fn free_place(&self) -> Option<usize>
+        ensures { MatchOption result (NobodyIs is_awake self.now.places) (λ p. IsAt is_awake self.now.places p) }
+    {
+        choice::any_awake(&self.places)
+    }
+
+    /// Whether somebody may wait. It is false only where nobody does.
+    #[inline(always)]
+    pub fn waits(&self) -> bool
+        ensures { result ≡ false → NobodyIs is_waiting self.now.places }
+    {
+        self.waiting
+    }
+
+    /// Whether somebody may have to be woken. It is false only where nobody has.
+    #[inline(always)]
+    pub fn may_be_due(&self) -> bool
+        ensures { result ≡ false → NobodyIs is_due self.now.places }
+    {
+        self.due
+    }
+
+    /// What is waited for at this place.
+    #[inline(always)]
+    pub fn waited_for(&self, place: usize) -> Option<T>
+        ensures { result ≡ aim (slice_index_or self.now.places place Sleeper.Awake) }
+    {
+        if place < self.places.len() {
+            self.places[place].aim()
+        } else {
+            None
+        }
+    }
+
+    /// Whether this is the place of the lookout.
+    #[inline(always)]
+    pub fn is_lookout(&self, place: usize) -> bool
+        ensures { IsTrue result ↔ (self.now.lookout ≡ Some place) }
+    {
+        match self.lookout {
+            Some(lookout) => lookout == place,
+            None => false,
+        }
+    }
+
+    /// The thread at this place has nothing to do. It becomes the lookout where there is none.
+    #[inline(always)]
+    pub fn rest(&mut self, place: usize)
+        ensures there { place < length self.old.places → self.new ≡ with_resting self.old place }
+        ensures beyond { length self.old.places ≤ place → self.new ≡ self.old }
+    {
+        if place < self.places.len() {
+            self.places[place] = Sleeper::Resting;
+            self.resting = true;
+            self.lookout = match self.lookout {
+                Some(lookout) => Some(lookout),
+                None => Some(place),
+            };
+        }
+    }
+
+    /// The thread at this place waits until this is over.
+    #[inline(always)]
+    pub fn wait(&mut self, place: usize, t: T)
+        ensures { self.new ≡ record self.old { places = slice_set self.old.places place (Sleeper.Waiting t) } }
+    {
+        if place < self.places.len() {
+            self.places[place] = Sleeper::Waiting(t);
+            self.waiting = true;
+        }
+    }
+
+    /// The thread at this place is back from its sleep. The lookout stays the lookout, since it looks now.
+    #[inline(always)]
+    pub fn come_back(&mut self, place: usize)
+        ensures { self.new ≡ record self.old { places = slice_set self.old.places place Sleeper.Awake } }
+    {
+        if place < self.places.len() {
+            self.places[place] = Sleeper::Awake;
+        }
+    }
+
+    /// The thread at this place has something to do. If it was the lookout, one of those that rest takes its place and is to be woken, so that
+    /// it looks more often; where nobody rests, there is no lookout.
+    #[inline(always)]
+    pub fn begin(&mut self, place: usize)
+        ensures lookout { self.old.lookout ≡ Some place → PassesOn self.old self.new }
+        ensures other { self.old.lookout ≢ Some place → self.new ≡ self.old }
+    {
+        if self.is_lookout(place) {
+            self.pass_on();
+        }
+    }
+
+    /// Another one is the lookout from now on, or nobody.
+    #[inline(never)]
+    fn pass_on(&mut self)
+        ensures { PassesOn self.old self.new }
+    {
+        match any_resting(&self.places) {
+            Some(next) => {
+                self.places[next] = Sleeper::Due;
+                self.lookout = Some(next);
+                self.due = true;
+            }
+            None => {
+                self.lookout = None;
+                self.resting = false;
+            }
+        }
+    }
+}

@@ -1,6 +1,0 @@
-use Rattle.std.proofs.Common.{ap}
-use Rattle.fj_shelf.specs.Shelves.{entries}
-use Rattle.fj_store.proofs.store.Store.into_parts.Goals as goal
-
-pub returns-clause-results : goal.returns-clause-results
-returns-clause-results g c = ap (λ s. entries s.results) c.self.view_is

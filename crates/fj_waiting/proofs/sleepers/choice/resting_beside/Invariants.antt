@@ -1,8 +1,0 @@
-use Rattle.std.proofs.Common.{◌≡◌, ◌<◌, ℕ, Some}
-use Rattle.fj_waiting.specs.Places.{is_resting}
-use Rattle.fj_waiting.specs.Sleeping.{IsAt}
-use Rattle.fj_waiting.proofs.sleepers.choice.resting_beside.Given as goal
-
--- nobody rests so far but the lookout
-abbrev pub invariant-loop-place : goal.invariant-loop-place
-invariant-loop-place g l = (p : ℕ) → p < l.place → IsAt is_resting l.places p → l.lookout ≡ Some p

@@ -1,0 +1,45 @@
+//! Tests of jobs: `invoke` and trees that are folded, by workers in threads, against worked values and against loops; bodies that fail and
+//! stops, at each turn and after each action in turn, of a core that is driven by hand and of a pool in threads. A wait in a test for another
+//! thread is bounded.
+#![tactic(auto)]
+
+#[cfg(test)]
+mod body_by_hand;
+#[cfg(test)]
+mod body_tests;
+#[cfg(test)]
+mod by_hand;
+#[cfg(test)]
+mod drawn;
+#[cfg(test)]
+mod failing;
+#[cfg(test)]
+mod failing_tests;
+#[cfg(test)]
+mod fold_tests;
+#[cfg(test)]
+mod folds;
+#[cfg(test)]
+mod hungry;
+#[cfg(test)]
+mod lazies;
+#[cfg(test)]
+mod lazy_tests;
+#[cfg(test)]
+mod making_tests;
+#[cfg(test)]
+mod meeting;
+#[cfg(test)]
+mod one_by_one;
+#[cfg(test)]
+mod range_tests;
+#[cfg(test)]
+mod stop_tests;
+#[cfg(test)]
+mod sums;
+#[cfg(test)]
+mod trees;
+#[cfg(test)]
+mod value_tests;
+#[cfg(test)]
+mod worker_tests;

@@ -1,0 +1,205 @@
+//! The answers to a script, by each of the calls that make its steps.
+use crate::script::Line;
+use crate::shown::{part, shown};
+use anyhow::Result;
+use fj_lines::{Reply, read_head, read_step};
+use fj_machine::{Machine, run_epochs};
+use fj_replay::{replayed, upgraded};
+use fj_rules::{
+    Answer, Ending, Kind, Limits, Mode, Move, OutOfMemory, Owner, Place, Refusal, Said, Sealed,
+    Serial, Status, Step, SubId, SubmittedKind, WorkerId,
+};
+use std::alloc::Global;
+use std::fmt::Write;
+use std::str;
+
+/// How the lines of a script are handed on: one by one to a machine, which also shows what stands there; in one list to `run_epochs`; as
+/// text to `replayed`; or as text to `upgraded`, and what that writes to `replayed`.
+#[derive(Clone, Copy, Debug, PartialEq)]
+pub enum Way {
+    Machine,
+    RunEpochs,
+    Replayed,
+    Upgraded,
+}
+
+impl Way {
+    /// Whether it answers such a line.
+    pub fn takes(self, asked: &str) -> bool {
+        match self {
+            Way::Machine => true,
+            Way::RunEpochs => move_of(asked).is_some(),
+            Way::Replayed | Way::Upgraded => read_step(asked.as_bytes()).is_ok(),
+        }
+    }
+
+    /// The answers to the lines that it takes, a line each.
+    pub fn answers(
+        self,
+        alloc: Global,
+        mode: Mode,
+        limits: Limits,
+        head: &str,
+        lines: &[Line<'_>],
+    ) -> Result<String> {
+        match self {
+            Way::Machine => of_machine(alloc, mode, limits, lines),
+            Way::RunEpochs => of_run_epochs(
+                alloc,
+                mode,
+                limits,
+                moves_in(alloc, lines)?.as_slice(),
+            ),
+            Way::Replayed => of_replayed(alloc, &script_of(alloc, head, lines)?),
+            Way::Upgraded => of_upgraded(alloc, &script_of(alloc, head, lines)?),
+        }
+    }
+}
+
+/// What a heading says, if it is one.
+pub fn heading(head: &str) -> Option<(Mode, Limits)> {
+    let (mode, numbers) = read_head(head.as_bytes()).ok()?;
+    let [workers, submitters, tasks, events] = numbers;
+    let limits = Limits::new(workers, submitters, tasks, events).ok()?;
+    Some((mode, limits))
+}
+
+/// The answers of a new machine. It has one way out, since each proves the drop of the machine.
+fn of_machine(alloc: Global, mode: Mode, limits: Limits, lines: &[Line<'_>]) -> Result<String> {
+    let mut machine = Machine::new(alloc, mode, limits)?;
+    asked_of(alloc, &mut machine, &limits, lines)
+}
+
+/// The answers of a machine that is lent.
+fn asked_of(
+    alloc: Global,
+    machine: &mut Machine,
+    limits: &Limits,
+    lines: &[Line<'_>],
+) -> Result<String> {
+    let mut text = String::new(alloc);
+    for line in lines {
+        writeln!(text, "{}", answer(alloc, machine, limits, line.asked)?)?;
+    }
+    Ok(text)
+}
+
+/// The reply to a step or a seal, or what the machine shows.
+fn answer(alloc: Global, machine: &mut Machine, limits: &Limits, asked: &str) -> Result<String> {
+    match move_of(asked) {
+        Some(Move::Step(step)) => {
+            Ok(format!(in alloc; "{}", Reply::new(machine.step(&step), limits))?)
+        }
+        Some(Move::Seal) => match machine.seal(alloc) {
+            Ok(sealed) => part(alloc, &sealed),
+            Err(refusal) => Ok(format!(in alloc; "refused {}", refusal.number())?),
+        },
+        None => shown(alloc, machine, asked),
+    }
+}
+
+/// The move that a line asks for, if it is one.
+fn move_of(asked: &str) -> Option<Move> {
+    // The check wants each type inside a step to be named where one is moved.
+    let _inside: Option<(Kind, SubmittedKind, Ending, Serial, SubId, WorkerId)> = None;
+    if asked == "seal" {
+        return Some(Move::Seal);
+    }
+    match read_step(asked.as_bytes()) {
+        Ok(step) => Some(Move::Step(step)),
+        Err(_) => None,
+    }
+}
+
+fn moves_in(alloc: Global, lines: &[Line<'_>]) -> Result<Vec<Move>> {
+    // As in `move_of`.
+    let _inside: Option<(Step, Kind, SubmittedKind, Ending, Serial, SubId, WorkerId)> = None;
+    let mut moves = Vec::new(alloc);
+    for line in lines {
+        if let Some(asked) = move_of(line.asked) {
+            moves.push(asked)?;
+        }
+    }
+    Ok(moves)
+}
+
+/// The answers of `run_epochs`.
+fn of_run_epochs(alloc: Global, mode: Mode, limits: Limits, moves: &[Move]) -> Result<String> {
+    let (parts, answers) = without_machine(alloc, mode, limits, moves)?;
+    told(alloc, &limits, parts.as_slice(), answers.as_slice())
+}
+
+/// What `run_epochs` gives but for the machine, which is dropped here.
+fn without_machine(
+    alloc: Global,
+    mode: Mode,
+    limits: Limits,
+    moves: &[Move],
+) -> Result<(Vec<Sealed>, Vec<Answer>), OutOfMemory> {
+    // As in `move_of`.
+    let _inside: Option<(Said, Place, Status, Owner, Refusal, Serial, SubId, WorkerId)> = None;
+    let (_machine, parts, answers) = run_epochs(alloc, mode, limits, moves)?;
+    Ok((parts, answers))
+}
+
+/// The lines of answers. Each seal that was made has handed out the next part.
+fn told(alloc: Global, limits: &Limits, parts: &[Sealed], answers: &[Answer]) -> Result<String> {
+    let mut text = String::new(alloc);
+    let mut parts = parts.iter();
+    for answer in answers {
+        match answer {
+            Answer::Said(said) => writeln!(text, "{}", Reply::new(*said, limits))?,
+            Answer::Sealed => match parts.next() {
+                Some(sealed) => writeln!(text, "{}", part(alloc, sealed)?)?,
+                None => writeln!(text, "no part")?,
+            },
+            Answer::Refused(refusal) => writeln!(text, "refused {}", refusal.number())?,
+        }
+    }
+    Ok(text)
+}
+
+/// The heading, and the steps among the lines.
+fn script_of(alloc: Global, head: &str, lines: &[Line<'_>]) -> Result<String> {
+    let mut text = String::new(alloc);
+    writeln!(text, "{head}")?;
+    for line in lines {
+        if read_step(line.asked.as_bytes()).is_ok() {
+            writeln!(text, "{}", line.asked)?;
+        }
+    }
+    Ok(text)
+}
+
+fn of_replayed(alloc: Global, script: &str) -> Result<String> {
+    match replayed(alloc, script.as_bytes()) {
+        Ok(replies) => Ok(str::from_utf8(replies.as_slice())?.to_string(alloc)?),
+        Err(fault) => Ok(format!(in alloc; "{fault}")?),
+    }
+}
+
+/// The replies to a script in which tasks have names: each of its lines is handed on as it is.
+pub fn of_named(alloc: Global, title: &str, lines: &[Line<'_>]) -> Result<String> {
+    let mut text = String::new(alloc);
+    writeln!(text, "{title}")?;
+    for line in lines {
+        writeln!(text, "{}", line.asked)?;
+    }
+    of_replayed(alloc, &text)
+}
+
+/// The replies to a script as version 2, in which task T goes by T again, and not by tT.
+fn of_upgraded(alloc: Global, script: &str) -> Result<String> {
+    let Ok(later) = upgraded(alloc, script.as_bytes()) else {
+        return of_replayed(alloc, script);
+    };
+    let replies = of_replayed(alloc, str::from_utf8(later.as_slice())?)?;
+    let mut text = String::new(alloc);
+    for reply in replies.lines() {
+        match reply.split_once(" t") {
+            Some((verb, number)) => writeln!(text, "{verb} {number}")?,
+            None => writeln!(text, "{reply}")?,
+        }
+    }
+    Ok(text)
+}

@@ -1,0 +1,111 @@
+use fj_lines::read_step;
+use fj_machine::{Machine, run_epochs};
+use fj_rules::{
+    Answer, Ending, Kind, Limits, Mode, Move, OutOfMemory, Refusal, Said, Serial, Step, SubId,
+    SubmittedKind, WorkerId,
+};
+use std::alloc::Global;
+use std::test::*;
+
+/// A machine with an open completer and a gone task, both kept: 7 events, 1 open, 1 gone.
+fn made(rt: &HostRuntime) -> Result<Machine, Fail> {
+    let mut machine = Machine::new(rt.alloc(), Mode::Async, Limits::new(1, 1, 4, 7)?)?;
+    let w = WorkerId(0);
+    let s = SubId(0);
+    let completer = SubmittedKind::Completer {
+        relay: true,
+        count: 1,
+    };
+    let quiet = Step::End {
+        w,
+        ending: Ending::Quiet,
+    };
+    let ok = Step::End {
+        w,
+        ending: Ending::Ok,
+    };
+    let poll = Step::Poll { w, r: 0 };
+    machine.step(&Step::Submit { s, kind: completer });
+    machine.step(&Step::Submit {
+        s,
+        kind: SubmittedKind::Plain,
+    });
+    for step in [poll, quiet, poll, ok] {
+        machine.step(&step);
+    }
+    Ok(machine)
+}
+
+/// Whether it is as it was made.
+fn is_as_made(machine: &Machine) -> bool {
+    machine.history().len() == 7
+        && machine.gone() == [Serial(1)].as_slice()
+        && machine.open() == [Serial(0)].as_slice()
+        && machine.epoch() == 0
+}
+
+/// `tests/refused_memory/seal.sh` refuses each allocation of this test in turn, and reads what it prints.
+#[test]
+fn a_seal_without_memory_changes_nothing(rt: HostRuntime) -> Result<(), Fail> {
+    let mut machine = made(&rt)?;
+    assert!(rt; is_as_made(&machine));
+    let part = match machine.seal(rt.alloc()) {
+        Ok(part) => part,
+        Err(refusal) => {
+            assert_eq!(rt; refusal, Refusal::OutOfMemory);
+            assert!(rt; is_as_made(&machine));
+            println!(rt; "a seal was refused")?;
+            machine.seal(rt.alloc())?
+        }
+    };
+    assert_eq!(rt; part.events.len(), 7);
+    assert_eq!(rt; part.gone.as_slice(), [Serial(1)].as_slice());
+    assert_eq!(rt; machine.history().len(), 0);
+    assert_eq!(rt; machine.open(), [Serial(0)].as_slice());
+    Ok(())
+}
+
+/// The move that a line asks for; what is no step is a seal.
+fn move_of(line: &str) -> Move {
+    // The check wants each type inside a step to be named where one is moved.
+    let _inside: Option<(Kind, SubmittedKind, Ending, Serial, SubId, WorkerId)> = None;
+    match read_step(line.as_bytes()) {
+        Ok(step) => Move::Step(step),
+        Err(_) => Move::Seal,
+    }
+}
+
+/// Another task is submitted behind the seal.
+fn moves(alloc: Global) -> Result<Vec<Move>, OutOfMemory> {
+    // As in `move_of`.
+    let _inside: Option<(Step, Kind, SubmittedKind, Ending, Serial, SubId, WorkerId)> = None;
+    let mut moves = Vec::new(alloc);
+    for line in ["submit 0", "poll 0 0", "end 0 ok", "seal", "submit 0"] {
+        moves.push(move_of(line))?;
+    }
+    Ok(moves)
+}
+
+/// `tests/refused_memory/seal.sh` does the same with this one.
+#[test]
+fn a_list_goes_on_behind_a_seal_without_memory(rt: HostRuntime) -> Result<(), Fail> {
+    let alloc = rt.alloc();
+    let moves = moves(alloc)?;
+    let limits = Limits::new(1, 1, 2, 5)?;
+    let (machine, parts, mut answers) = run_epochs(alloc, Mode::Async, limits, moves.as_slice())?;
+    assert_eq!(rt; answers.len(), 5);
+    let last = answers.pop();
+    assert!(rt; matches!(last, Some(Answer::Said(Said::Task(Serial(1))))));
+    match answers.pop() {
+        Some(Answer::Sealed) => {
+            assert_eq!(rt; (parts.len(), machine.history().len()), (1, 1));
+        }
+        Some(Answer::Refused(refusal)) => {
+            assert_eq!(rt; refusal, Refusal::OutOfMemory);
+            assert_eq!(rt; (parts.len(), machine.history().len()), (0, 5));
+            println!(rt; "a seal was refused")?;
+        }
+        _ => panic!(&rt; "a seal has the reply to a step"),
+    }
+    Ok(())
+}

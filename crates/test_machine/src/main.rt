@@ -1,0 +1,61 @@
+//! Tests of the machine from outside: a program that replays the scripts of text files, and tests that give a machine threads and
+//! random steps.
+//!
+//! `test_machine FILE..` tells of each file how many scripts it has. A script that gives another reply than the file says is told on standard
+//! error, with its place; then the exit status is 1.
+#![tactic(auto)]
+
+mod answers;
+#[cfg(test)]
+mod epoch_tests;
+#[cfg(test)]
+mod open_tests;
+#[cfg(test)]
+mod picks;
+#[cfg(test)]
+mod place_tests;
+#[cfg(test)]
+mod random_epoch_tests;
+mod report;
+#[cfg(test)]
+mod report_tests;
+#[cfg(test)]
+mod run_tests;
+mod script;
+mod shown;
+#[cfg(test)]
+mod tally;
+#[cfg(test)]
+mod thread_tests;
+
+use crate::report::report_on;
+use crate::script::Form;
+use anyhow::{Result, bail};
+use std::{env, fs};
+
+fn main(rt: HostRuntime) -> Result<()> {
+    let alloc = rt.alloc();
+    let args: Vec<String> = env::args(&rt)?.collect(alloc)?;
+    if args.len() < 2 {
+        bail!("usage: test_machine FILE..");
+    }
+    let mut is_well = true;
+    for name in args.iter().skip(1) {
+        let text = fs::read_to_string(&rt, name.as_str())?;
+        let form = if name.ends_with(".md") {
+            Form::Document
+        } else {
+            Form::Plain
+        };
+        let found = report_on(alloc, name, &text, form)?;
+        println!(rt; "scripts in {name}: {}", found.scripts)?;
+        if !found.mismatches.is_empty() {
+            eprint!(rt; "{}", found.mismatches)?;
+            is_well = false;
+        }
+    }
+    if !is_well {
+        bail!("not each script gave its replies");
+    }
+    Ok(())
+}
