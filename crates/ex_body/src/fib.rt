@@ -1,18 +1,18 @@
 use fj_free::{Ask, Free, Heard, Kind, Turns};
 
-/// A number of Fibonacci, by forks and joins.
+/// A Fibonacci number, by forks and joins.
 #[derive(Drop)]
 pub struct Fib {
-    /// Which one.
+    /// Which one, counted from 0.
     pub n: u32,
-    /// The smaller one of the two that it is made of, once it is known.
+    /// The smaller of the two numbers that make it up, once it is known.
     pub smaller: u64,
 }
 
-/// Below this it is computed alone.
+/// Smaller ones are computed in place.
 const SMALL: u32 = 20;
 
-/// The same by one thread.
+/// The same on one thread.
 fn alone(n: u32) -> u64 {
     let (mut this, mut next) = (0u64, 1u64);
     for _ in 0..n {

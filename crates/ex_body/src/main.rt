@@ -1,4 +1,4 @@
-//! A body of which nothing is promised: the 90th number of Fibonacci, by forks and joins.
+//! A body of which nothing is promised: the 90th Fibonacci number, by forks and joins.
 #![tactic(auto)]
 
 mod fib;

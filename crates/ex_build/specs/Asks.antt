@@ -18,7 +18,7 @@ task_in (Adding me) = Some me
 task_in (Forking me) = Some me
 task_in Taking = None
 
--- the same once this is heard: the first turn tells it
+-- the same once this is heard: the first turn gives it
 abbrev pub own_task : {B K O : Type 0} → Course → Heard B K O → Option ℕ
 own_task New (Start me) = Some me
 own_task course _ = task_in course
@@ -27,12 +27,12 @@ own_task course _ = task_in course
 abbrev pub HasTask : Option ℕ → Course → Type 0
 HasTask own course = IfSome (task_in course) (λ me. own ≡ Some me)
 
--- how a body with these sources ends: it tries to, or fails by the code of its compiler
+-- how a body with these sources ends: by `Try`, or with the code of its compiler
 abbrev pub end_of : {B K O : Type 0} → Source → Ask B K O
 end_of (Compiles own) = Try
 end_of (Fails code) = Fail code
 
--- it forks the body of this target under this task, as a completer that passes its codes on; where there is none it fails by 404
+-- it forks the body of this target under this task, as a completer that relays its codes; where there is none it fails with 404
 abbrev pub ForksTarget : {B K O : Type 0} → (B → K) → Option K → ℕ → Ask B K O → Type 0
 ForksTarget key_of (Some target) me (Fork body kind) = (key_of body ≡ target) × (kind ≡ Completer true 0 (Some me))
 ForksTarget key_of (Some target) me _ = ⊥

@@ -1,4 +1,4 @@
--- What a target is built to.
+-- The artifact of a target.
 pub mod Artifacts
 -- What the body of a target asks.
 pub mod Asks

@@ -1,6 +1,6 @@
 ghost use Rattle.std.specs.Prelude.{◌≡◌, ◌+◌, ◌^◌, ◌≤◌, IfNone, IfSome, sum};
 
-/// What was built.
+/// The result of a target.
 #[derive(Drop)]
 pub struct Artifact {
     /// Its bytes: those of its own objects and of its parts.
@@ -9,7 +9,7 @@ pub struct Artifact {
     pub parts: Vec<u64>,
 }
 
-/// Links objects of so many bytes with parts of these sizes. None where the artifact would be too large.
+/// Links objects of so many bytes with parts of these sizes. None where the artifact would have 2^64 bytes or more.
 pub fn link(own: u32, parts: Vec<u64>) -> Option<Artifact>
     ensures parts { IfSome result (λ a. a.parts.items ≡ parts.items) }
     ensures size { IfSome result (λ a. a.size ≡ own + sum parts.items) }
@@ -19,7 +19,7 @@ pub fn link(own: u32, parts: Vec<u64>) -> Option<Artifact>
     Some(Artifact { size, parts })
 }
 
-/// The bytes of both together. None where they are too many.
+/// The bytes of both together. None where they are 2^64 or more.
 fn size_of(own: u32, parts: &[u64]) -> Option<u64>
     ensures size { IfSome result (λ size. size ≡ own + sum parts.now) }
     ensures too_large { IfNone result (2 ^ 64 ≤ own + sum parts.now) }

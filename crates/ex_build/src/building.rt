@@ -11,20 +11,20 @@ use std::alloc::Global;
 use std::sync::Wait;
 use std::thread::Threads;
 
-/// The most tasks of a pool for one build that are live at a time.
+/// The most live tasks in the pool of a build.
 const TASKS: u32 = 4_096;
 
-/// The most events of a build.
+/// The most events in its history.
 const EVENTS: u32 = 65_536;
 
-/// Builds target 0 of a plan with all that it needs, by so many workers in threads.
+/// Builds target 0 of a plan with all that it needs, by so many worker threads.
 ///
-/// What two targets need is built for each of them: a completer has one parent, so what is built is a tree. A plan in which a target needs
-/// itself runs out of room.
+/// A target that two others need is built twice: a completer has one parent, so a build is a tree. A plan in which a target needs itself
+/// runs out of room.
 ///
-/// `Failed` where a target fails, whichever it is. `Refused` where the number of workers is not from 1 to 32, where memory or a thread was
-/// refused, or the history is full. `NoTarget` where the plan is empty. `Lost` where an artifact is too large, or memory was refused to its
-/// list of parts.
+/// `Failed` where some target fails. `Refused` where the number of workers is not from 1 to 32, an allocation of the pool fails, a thread
+/// cannot be started, or the history is full. `NoTarget` where the plan is empty. `Lost` where an artifact is too large, or its list of
+/// parts cannot be allocated.
 pub fn build<R: Threads + Wait + Sync>(
     rt: &R,
     alloc: Global,
@@ -54,7 +54,7 @@ pub fn build<R: Threads + Wait + Sync>(
     }
 }
 
-/// The artifact of a result, if that stands under this target. Precondition: it is right for its key.
+/// The artifact of a result, if that is under this target. Precondition: it is right for its key.
 fn artifact_under<'p>(
     target: &Target<'p>,
     key: Target<'p>,

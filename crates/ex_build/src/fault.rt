@@ -4,17 +4,17 @@ use thiserror::Error;
 /// Why nothing was built.
 #[derive(Clone, Copy, Debug, PartialEq, Error)]
 pub enum Fault {
-    /// A target failed with this code, and with it all that stand on it: that of a compiler; 404 where an input is not in the plan; 12 where
+    /// A target failed with this code, and so did all that need it: that of a compiler; 404 where an input is not in the plan; 12 where
     /// there was no room for a target, or it has more inputs than a pending count takes.
     #[error("failed with code {0}")]
     Failed(u32),
-    /// The pool was refused, or its run: as `run_alone` says.
+    /// The pool or its run was refused, for the reasons of `run_alone`.
     #[error("{0}")]
     Refused(Refusal),
     /// The plan is empty.
     #[error("no target")]
     NoTarget,
-    /// An artifact was not had: memory was refused while it was linked, or it is too large.
+    /// There is no artifact: out of memory while it was linked, or it is too large.
     #[error("lost")]
     Lost,
 }

@@ -1,4 +1,4 @@
-//! A build: each target is a completer that waits for its inputs, and is linked of its own objects and theirs by its completion action.
+//! A build: each target is a completer that waits for its inputs; its completion action links its own objects and theirs.
 //!
 //! ```
 //! let app = Target { source: Source::Compiles(100), inputs: &[1, 2] };   // target 0, of targets 1 and 2

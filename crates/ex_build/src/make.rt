@@ -14,7 +14,7 @@ use std::mem;
 /// The code of a target for which there is no room: the number of `OutOfMemory`.
 const NO_ROOM: u32 = 12;
 
-/// The code of a target that needs one which is not in the plan.
+/// The code of a target that needs one not in the plan.
 const NO_TARGET: u32 = 404;
 
 /// How far a target has come.
@@ -30,7 +30,7 @@ pub enum Course {
     Taking,
 }
 
-/// The body of a target: it forks a body for each input, compiles its own sources meanwhile, and is linked by its completion action.
+/// The body of a target: it forks a body for each input, compiles its own sources meanwhile, and links in its completion action.
 #[derive(Drop)]
 pub struct Make<'p> {
     plan: &'p [Target<'p>],
@@ -43,7 +43,7 @@ pub struct Make<'p> {
 }
 
 impl<'p> Make<'p> {
-    /// The body of a target of a plan. It takes no memory.
+    /// The body of a target of a plan. It allocates nothing.
     pub fn new(alloc: Global, plan: &'p [Target<'p>], target: Target<'p>) -> Make<'p>
         ensures target { result.target ≡ target.entry }
         ensures plan { result.plan.now ≡ plan.now }
@@ -57,7 +57,7 @@ impl<'p> Make<'p> {
         }
     }
 
-    /// Raises the pending count of this task, its own, by the number of its inputs.
+    /// Raises the pending count of its own task by the number of its inputs.
     fn wait(&self, me: u64) -> Ask<Make<'p>>
         ensures right { AskRight IsRight self.now.target result }
         ensures own { AsksUnder (Some me) result }
@@ -69,7 +69,7 @@ impl<'p> Make<'p> {
         }
     }
 
-    /// Forks the next input for this task, its own; compiles where none is left.
+    /// Forks the next input under its own task; compiles where none is left.
     fn fork(&self, me: u64) -> Ask<Make<'p>>
         ensures right { AskRight IsRight self.now.target result }
         ensures nearer { Nearer (vec_len self.now.forked) (length self.now.target.inputs.now) result }
@@ -121,7 +121,7 @@ impl<'p> Make<'p> {
         }
     }
 
-    /// What is linked of its own objects and of the parts that were taken, if these are all.
+    /// Links its own objects and the parts that were taken. None if parts are missing, or the artifact is too large.
     fn linked(&mut self) -> Option<Artifact>
         ensures target { self.new.target ≡ self.old.target }
         ensures course { self.new.course ≡ self.old.course }

@@ -9,7 +9,7 @@ pub enum Source {
     Fails(u32),
 }
 
-/// What is to be built: its own sources, and the targets of which it is linked too, by their numbers in the plan.
+/// What is to be built: its own sources, and the targets that are linked in, by their numbers in the plan.
 #[derive(Clone, Copy, Debug, PartialEq, Eq)]
 pub struct Target<'p> {
     /// Its own sources.

@@ -38,7 +38,7 @@ const OF_ITSELF: [Target<'static>; 1] = [Target {
     inputs: &[0],
 }];
 
-/// The size of all, by one worker and by four, with what is needed twice built for both.
+/// The size of all, by one worker and by four; what is needed twice is built twice.
 #[test]
 fn a_build_has_the_sizes_of_its_targets(rt: HostRuntime) -> Result<(), Fail> {
     for workers in [1, 4] {
@@ -63,7 +63,8 @@ fn a_target_that_fails_fails_the_build(rt: HostRuntime) -> Result<(), Fail> {
     Ok(())
 }
 
-/// What cannot be built is told as what it is: an input that is missing, a target that needs itself, no target, no such number of workers.
+/// Plans that cannot be built, each with its error: an input that is missing, a target that needs itself, no target, a wrong number of
+/// workers.
 #[test]
 fn plans_that_cannot_be_built(rt: HostRuntime) -> Result<(), Fail> {
     for workers in [1, 4] {

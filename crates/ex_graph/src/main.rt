@@ -1,5 +1,5 @@
-//! A graph of targets. Each line of standard input is a target: how long its compiler takes, where 0 fails, and the numbers of the targets that it needs.
-//! What became of each is written.
+//! A graph of targets. Each line of standard input is a target: how long its compiler takes, where 0 fails, and the numbers of the targets
+//! that it needs. The fate of each is written.
 #![tactic(auto)]
 
 mod compiler;

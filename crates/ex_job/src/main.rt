@@ -1,4 +1,4 @@
-//! A job of one's own. The numbers on standard input, one a line, are written in order: each half is sorted by a worker, if one has nothing to do.
+//! A job of one's own: the numbers on standard input, one a line, are written in order. A half is sorted by another worker, if one is idle.
 #![tactic(auto)]
 
 mod sort;

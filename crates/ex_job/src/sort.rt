@@ -3,10 +3,10 @@ ghost use Rattle.std.specs.Prelude.{◌≡◌, ◌<◌, ℕ, ⊤, IfOk, IfErr, l
 use fj_try::TryDivide;
 use std::alloc::{AllocError, Global};
 
-/// How many numbers one worker sorts at once.
+/// The most numbers that are sorted at once.
 const BLOCK: usize = 4_096;
 
-/// Sorts numbers. It fails where memory is refused.
+/// Sorts numbers. It fails where out of memory.
 #[derive(Drop)]
 pub struct Sort<'t> {
     /// The numbers.
@@ -55,7 +55,7 @@ impl<'t> TryDivide for Sort<'t> {
     {
         let (mut sorted, mut right) = (left.1, right.1);
         sorted.append(&mut right)?;
-        // A stable sort merges what is sorted in two runs.
+        // A stable sort merges two sorted runs.
         sorted.sort()?;
         Ok(((), sorted))
     }

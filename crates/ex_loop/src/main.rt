@@ -1,4 +1,4 @@
-//! A loop over data. Of the numbers on standard input, one a line: their sum, and the place of the first one above a hundred.
+//! A loop over data: the sum of the numbers on standard input, one a line, and the place of the first one above a hundred.
 #![tactic(auto)]
 
 mod above;

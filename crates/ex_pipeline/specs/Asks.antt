@@ -8,12 +8,12 @@ use Rattle.ex_pipeline.specs.declared.item.Item.{Item}
 use Rattle.ex_pipeline.specs.declared.stage.Stage.{Stage}
 use Rattle.ex_pipeline.specs.Stages.{after}
 
--- how many arrivals a stage waits for before which this one stands: one, that of its next stage; the last waits for none
+-- how many arrivals the stage before this one waits for: one, that of its next stage; the last waits for none
 abbrev pub arrivals_before : Option Stage → ℕ
 arrivals_before None = 0
 arrivals_before (Some next) = 1
 
--- as what a stage is forked under a task: a completer that passes its codes on
+-- the kind under which a stage is forked under a task: a completer that relays its codes
 abbrev pub kind_of : Stage → ℕ → Kind
 kind_of stage me = Completer true (arrivals_before (after stage)) (Some me)
 

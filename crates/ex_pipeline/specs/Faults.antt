@@ -7,7 +7,7 @@ use Rattle.fj_run.specs.declared.results.NoResult.TheVariants as none
 use Rattle.ex_pipeline.specs.declared.fault.Fault.{Fault}
 use Rattle.ex_pipeline.specs.declared.fault.Fault.TheVariants.{Failed, Refused, Lost}
 
--- what is told where an outcome has no result
+-- the fault where an outcome has no result
 abbrev pub fault_of : NoResult → Fault
 fault_of (none.Failed code) = Failed code
 fault_of none.Missing = Lost

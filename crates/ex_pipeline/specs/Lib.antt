@@ -1,4 +1,4 @@
--- What the stages make of a number.
+-- The maps of the stages.
 pub mod Stages
 -- What the body of a stage asks.
 pub mod Asks

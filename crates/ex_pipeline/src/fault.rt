@@ -4,13 +4,14 @@ use thiserror::Error;
 /// Why an event has no level.
 #[derive(Clone, Copy, Debug, PartialEq, Error)]
 pub enum Fault {
-    /// It was given up with this code: 1 to 4 where the stage of that number rejected it, 12 where there was no room for a stage.
+    /// It was rejected, or dropped, with this code: 1 to 4 where the stage of that number rejected it, 12 where there was no room for a
+    /// stage.
     #[error("failed with code {0}")]
     Failed(u32),
-    /// The pool was refused, or its run: as `run_alone` says.
+    /// The pool or its run was refused, for the reasons of `run_alone`.
     #[error("{0}")]
     Refused(Refusal),
-    /// A stage has not had the result of the next one. No pool answers so.
+    /// A stage did not get the result of the next one. This does not happen in a pool.
     #[error("lost")]
     Lost,
 }

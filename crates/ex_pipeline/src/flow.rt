@@ -7,7 +7,7 @@ ghost use Rattle.ex_pipeline.specs.Stages.{IsRight, after, item_of, number_of, r
 use crate::item::Item;
 use fj_run::{Ask, Body, Heard, Kind, Serial};
 
-/// The code of an event for whose next stage there is no room: the number of `OutOfMemory`.
+/// The code of an event without room for its next stage: the number of `OutOfMemory`.
 const NO_ROOM: u32 = 12;
 
 /// How far a stage has come.
@@ -23,7 +23,7 @@ pub enum Course {
     Taking,
 }
 
-/// The body of a stage. It does its part, and forks the next stage; its completion action gives the result of that one.
+/// The body of a stage. It does its part, and forks the next stage; its completion action returns the result of that one.
 #[derive(Drop)]
 pub struct Flow {
     item: Item,
@@ -31,7 +31,7 @@ pub struct Flow {
 }
 
 impl Flow {
-    /// The body of a stage that is given a number.
+    /// The body of a stage for this item.
     pub fn new(item: Item) -> Flow
         ensures { result.item ≡ item }
     {
@@ -41,7 +41,7 @@ impl Flow {
         }
     }
 
-    /// Its first turn, as this task: it does its part, and forks the next stage, or is the last.
+    /// The first turn, as this task: does its part, and forks the next stage, unless it is the last.
     fn begin(&mut self, me: Serial) -> Ask<Flow>
         ensures item { self.new.item ≡ self.old.item }
         ensures rejected { run self.old.item.stage self.old.item.value ≡ None → result ≡ Ask.Fail (number_of self.old.item.stage) }
@@ -57,7 +57,7 @@ impl Flow {
             return Ask::Try;
         };
         self.course = Course::Forking;
-        // It waits for one arrival, unless it is the last.
+        // It waits for one arrival, unless it is the last stage.
         let kind = Kind::Completer {
             relay: true,
             count: u32::from(next.stage.next().is_some()),
@@ -66,7 +66,7 @@ impl Flow {
         Ask::Fork(Flow::new(next), kind)
     }
 
-    /// Its completion action: the result of the last stage is its own, that of another one that of the next.
+    /// The completion action. The result of the last stage is its own, that of any other stage the next one's.
     fn complete(&mut self, next: Option<Serial>) -> Ask<Flow>
         ensures item { self.new.item ≡ self.old.item }
         ensures right { AskRight IsRight self.old.item result }
@@ -84,7 +84,7 @@ impl Flow {
         }
     }
 
-    /// The result of a stage came. It is that of this one, if that is the next.
+    /// A turn after the result of a stage. It is that of this one, if it is the next stage's. Precondition: it is right for its key.
     fn got(&self, item: Item, level: Option<u32>) -> Ask<Flow>
         requires { ∥ IsRight item level ∥₁ }
         ensures right { AskRight IsRight self.now.item result }
@@ -139,7 +139,7 @@ impl Body for Flow {
             }
             (Course::Ended(next), Heard::Hook(_)) => self.complete(next),
             (Course::Taking, Heard::Got(item, level)) => self.got(item, level),
-            // No pool answers so, but to say that there is no room for the next stage.
+            // A pool only answers so where there is no room for the next stage.
             (Course::Taking, _) => Ask::HookDone(None),
             _ => Ask::Fail(NO_ROOM),
         }

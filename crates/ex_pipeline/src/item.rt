@@ -3,7 +3,7 @@ ghost use Rattle.ex_pipeline.specs.Stages.{after, item_of, result_from, run};
 
 use crate::stage::Stage;
 
-/// A number that a stage is given.
+/// The input of a stage.
 #[derive(Clone, Copy, Debug, PartialEq, Eq)]
 pub struct Item {
     /// The stage.
@@ -13,7 +13,7 @@ pub struct Item {
 }
 
 impl Item {
-    /// What the next stage is given. None where the number is rejected, and after the last stage.
+    /// The input of the next stage. None where the number is rejected, and after the last stage.
     pub fn passed_on(self) -> Option<Item>
         ensures next { result ≡ item_of (after self.stage) (run self.stage self.value) }
         ensures rest { IfSome result (λ n. result_from self.stage self.value ≡ result_from n.stage n.value) }

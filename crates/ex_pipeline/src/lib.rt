@@ -1,4 +1,4 @@
-//! An event pipeline: what a sensor sends goes through four stages, each a completer that the one before it forks, and the last one gives
+//! An event pipeline: the word of a sensor goes through four stages, each a completer forked by the one before it, and the last one gives
 //! the level of an alarm.
 //!
 //! ```

@@ -17,10 +17,10 @@ const TASKS: u32 = 4;
 /// The most events of their history.
 const EVENTS: u32 = 64;
 
-/// The level of the alarm that an event gives, by so many workers in threads.
+/// The alarm level of an event, by so many worker threads.
 ///
-/// `Failed` with 1 to 4 where the stage of that number rejects it. `Refused` where the number of workers is not from 1 to 32, or memory or a
-/// thread was refused. The other faults no pool answers.
+/// `Failed` with 1 to 4 where the stage of that number rejects it. `Refused` where the number of workers is not from 1 to 32, an allocation
+/// fails, or a thread cannot be started. The other faults do not happen in a pool.
 pub fn process<R: Threads + Wait + Sync>(
     rt: &R,
     alloc: Global,
@@ -50,7 +50,7 @@ pub fn process<R: Threads + Wait + Sync>(
     }
 }
 
-/// The level of a result, if that stands under this number. Precondition: it is right for its key.
+/// The level in a result, if it is under this item. Precondition: it is right for its key.
 fn level_under(item: Item, key: Item, level: Option<u32>) -> Result<u32, Fault>
     requires { ∥ IsRight key level ∥₁ }
     ensures level { IfOk result (λ v. ∥ result_from item.stage item.value ≡ Some v ∥₁) }

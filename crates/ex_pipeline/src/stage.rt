@@ -1,12 +1,12 @@
 ghost use Rattle.std.specs.Prelude.{◌≡◌, MatchOption, ℕ};
 ghost use Rattle.ex_pipeline.specs.Stages.{after, and_then, number_of, result_from, run};
 
-/// A stage: it makes a number of the one that it is given, or rejects that.
+/// A stage: it maps a number to another, or rejects it.
 #[derive(Clone, Copy, Debug, PartialEq, Eq)]
 pub enum Stage {
-    /// From the word of a sensor, 10 in bits 12 and up, to its count, 0 to 4,095. It rejects other words.
+    /// From the word of a sensor, with 10 in bits 12 and up, to its count, 0 to 4,095. It rejects other words.
     Decode,
-    /// From a count to millivolts. It rejects 0, which a broken wire gives, and what is no count.
+    /// From a count to millivolts. It rejects 0, which a broken wire gives, and 4,096 or more.
     Scale,
     /// From millivolts to tenths of a degree. It rejects less than 500.
     Convert,
@@ -15,7 +15,7 @@ pub enum Stage {
 }
 
 impl Stage {
-    /// What it makes of a number; None where it rejects it.
+    /// The number to which it maps a number; None where it rejects that.
     pub fn run(self, value: u32) -> Option<u32>
         ensures { result ≡ run self value }
     {
@@ -41,7 +41,7 @@ impl Stage {
         }
     }
 
-    /// Its number, 1 to 4: the code with which an event fails that it rejects.
+    /// Its number, 1 to 4: the code of an event that it rejects.
     pub fn code(self) -> u32
         ensures { result ≡ number_of self }
     {

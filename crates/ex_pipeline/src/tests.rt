@@ -30,7 +30,7 @@ fn events_have_their_levels(rt: HostRuntime) -> Result<(), Fail> {
     Ok(())
 }
 
-/// Each stage rejects an event in turn, and the event fails with its number.
+/// Each stage in turn rejects an event, which fails with the number of the stage.
 #[test]
 fn each_stage_rejects_an_event(rt: HostRuntime) -> Result<(), Fail> {
     for (word, code) in [

@@ -1,4 +1,4 @@
-//! The primes of a range, counted by a job that divides: an example of a job of one's own.
+//! How many numbers of a range are prime, by a divide-and-conquer job: an example of a job of one's own.
 //!
 //! ```
 //! let primes = compute(Primes { range: BlockedRange::new(0, 99, 10) }); // 25

@@ -2,7 +2,7 @@ use super::*;
 use fj_jobs::{BlockedRange, compute};
 use std::test::Fail;
 
-/// The counts of primes below powers of ten, and around the first ones, as tables of primes have them.
+/// The counts of primes below powers of ten, and around the first primes, from tables.
 #[test]
 fn counts_of_primes(rt: HostRuntime) -> Result<(), Fail> {
     for (from, to, primes) in [

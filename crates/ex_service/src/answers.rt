@@ -6,7 +6,7 @@ use fj_serve::{Reported, Sink};
 pub struct Answers {
     /// The answers, in the order of the events.
     pub answers: Vec<u64>,
-    /// Whether one was lost: a handler gave none, or memory was refused.
+    /// Whether an answer was lost: its handler gave none, or out of memory.
     pub lost: bool,
 }
 

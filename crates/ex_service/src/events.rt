@@ -2,10 +2,10 @@ use crate::event::Event;
 use fj_serve::Source;
 use std::collections::VecDeque;
 
-/// Where the events come from.
+/// The source of the events.
 #[derive(Drop)]
 pub struct Events {
-    /// The numbers of those that have not come yet.
+    /// The numbers of those still to come.
     pub numbers: VecDeque<u32>,
 }
 

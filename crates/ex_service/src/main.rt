@@ -22,7 +22,7 @@ fn main(rt: HostRuntime) -> Result<()> {
         answers: Vec::new(alloc),
         lost: false,
     };
-    // At most so many events are under way.
+    // The most events under way.
     let window = Window::in_order(100);
     let served = match serve(
         &rt,

@@ -18,7 +18,7 @@ fn main(rt: HostRuntime) -> ExitCode {
     ExitCode::from(status)
 }
 
-/// Only the words and the buffer of the output can fail here. The runtime starts threads, as `threads`, for its `main` alone.
+/// An error comes only from the arguments or the output buffer. Only `main` gets a runtime that starts threads: it is `threads`.
 fn run<H: Threads + Wait + Sync>(
     rt: &HostRuntime,
     threads: &H,

@@ -1,7 +1,7 @@
 -- An end as its callers see it.
 use Rattle.atomic_table.specs.Seated.{TableId}
 
--- of which pair it is, and what it knows
+-- its pair, and what it knows
 pub record EndState (V : Type 0) : Type 0 where
   pub pair : TableId
   pub value : V

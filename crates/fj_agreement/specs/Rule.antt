@@ -1,4 +1,4 @@
--- What all seats of a pair know together, and what a load tells of it.
+-- What all seats of a pair know together, and what a load proves of it.
 use Rattle.std.specs.Prelude.{◌≡◌, ℕ, List, length, All, sum_by}
 use mathlib.Core.Option.{some}
 use lib.ListN.{get_elem?}
@@ -20,6 +20,6 @@ module _ {V : Type 0} where
   abbrev pub IsAgreed : State (Unit {0}) (List V) → Type 0
   IsAgreed s = Agree s.views
 
-  -- a load tells the seat that all that it knows is one value
+  -- a load proves that all that the seat knows is one value
   abbrev pub Meets : Step (Unit {0}) → Me (Unit {0}) (List V) → ℕ → Me (Unit {0}) (List V) → Type 0
   Meets st m found m' = (m' ≡ m) × (value : V) × KnowsOnly value m.0

@@ -1,11 +1,12 @@
-//! How a value to agree on is picked by a call whose caller passes something that tells it.
+//! How a call picks a value to agree on, by an argument that has it.
 use crate::values::{Agreed, Known};
 use std::marker::{Brand, PhantomData};
 
-/// A value to agree on, or none: a call can pick only over an impl without bounds, which has no value of each type.
+/// A value to agree on, or none: a call can pick only over an impl without bounds, which does not have a value of every type.
 pub trait Chosen<V> {
     ghost use Rattle.std.specs.Prelude.{Option};
 
+    /// That value.
     ghost chosen: { Option V };
 }
 

@@ -7,8 +7,7 @@ use std::marker::{Brand, Model};
 use std::mem;
 use std::sync::Arc;
 
-/// One of the two ends of a pair. It knows a value, the same as the other one does. It may go to another thread. Java has no
-/// counterpart.
+/// One of the two ends of a pair. It knows a value, the same as the other end. It may be sent to another thread. Java has no counterpart.
 pub struct End<V: Known> {
     pub(crate) table: Arc<Word<V>>,
     pub(crate) token: Token<V>,
@@ -21,7 +20,7 @@ impl<V: Known> Model for End<V> {
 
     ghost Value = { EndState V };
 
-    // There is always one value, so the default is never read.
+    // There is always exactly one value, so the default is never used.
     ghost view = { λ e. record { pair = e.token.table_id; value = slice_index_or e.token.me.0 0 V.first } };
 
     ghost invariant = { λ e. record {
@@ -32,7 +31,7 @@ impl<V: Known> Model for End<V> {
     } };
 }
 
-// By hand, since a derive would ask it of V too.
+// By hand, since a derive would need `V: Drop` too.
 impl<V: Known> Drop for End<V> {
     fn drop(self) {
         let End { table: _, token: _ } = self;
@@ -40,7 +39,7 @@ impl<V: Known> Drop for End<V> {
 }
 
 impl<V: Known> End<V> {
-    /// The two ends meet: what they know is the same value. Nothing changes. It costs four loads.
+    /// Proves that the two ends know the same value. Nothing changes. It costs four loads.
     ///
     /// Precondition: they are the ends of one pair.
     #[inline(always)]
@@ -55,7 +54,7 @@ impl<V: Known> End<V> {
         other.token = loads.split_seat::<Half>(&mut self.token);
     }
 
-    /// Both ends know another value from now on, which the caller picks. It costs three loads.
+    /// Both ends know a new value from now on, which the caller picks. It costs three loads.
     ///
     /// Precondition: they are the ends of one pair.
     #[inline(always)]
@@ -69,7 +68,7 @@ impl<V: Known> End<V> {
         other.token = loads.split_seat::<Anew<A>>(&mut self.token);
     }
 
-    /// Both ends know from now on what `teller` tells, which is not read. It costs three loads.
+    /// Both ends know the value of `teller` from now on, which is not read. It costs three loads.
     ///
     /// Precondition: they are the ends of one pair.
     #[inline(always)]
@@ -82,7 +81,7 @@ impl<V: Known> End<V> {
     }
 }
 
-/// Both ends know what was chosen, which is what `teller` tells. Preconditions: it is; they are the ends of one pair.
+/// Both ends know the chosen value from now on. Preconditions: it is the value of `_teller`; they are the ends of one pair.
 #[inline(always)]
 fn agree_as<V: Known, C: Chosen<V>, T: Tells<V>>(one: &mut End<V>, other: &mut End<V>, _teller: &T)
     requires chosen { C.chosen ≡ Some (T.told _teller.now) }
@@ -93,7 +92,7 @@ fn agree_as<V: Known, C: Chosen<V>, T: Tells<V>>(one: &mut End<V>, other: &mut E
     one.agree::<TheChosen<C>>(other);
 }
 
-/// A token takes in what another one knows, which then knows nothing. Preconditions: both are of this word, and hold no slot.
+/// Moves what the other token knows into this one. Preconditions: both are of this word, and hold no slot.
 #[inline(always)]
 fn gather<V: Known>(loads: &Loads<V>, token: &mut Token<V>, other: &mut Token<V>)
     requires table { (token.old.table_id ≡ loads.now.table_id) × (other.old.table_id ≡ loads.now.table_id) × (loads.now.table_id.words ≡ 1) }
@@ -102,7 +101,7 @@ fn gather<V: Known>(loads: &Loads<V>, token: &mut Token<V>, other: &mut Token<V>
     ensures token { token.new.me ≡ (token.old.me.0 ++ other.old.me.0, []) }
     ensures other { other.new.me ≡ ([], []) }
 {
-    // A join takes the other token by value, so a placeholder is left in `self`.
+    // A join takes the other token by value, so a placeholder is left for it.
     let spare = loads.split_seat::<Spare>(token);
     let taken = mem::replace(other, spare);
     loads.join_seat::<Together>(token, taken);

@@ -9,7 +9,7 @@ use std::sync::Arc;
 
 /// The two ends of a new pair. Both know the first value of their type. Java has no counterpart.
 ///
-/// `OutOfMemory` where memory is refused, and no other error. No other call of this crate takes memory.
+/// `OutOfMemory` if an allocation fails, and no other error. No other call of this crate allocates.
 pub fn pair<V: Known>(alloc: Global) -> Result<(End<V>, End<V>), OutOfMemory>
     ensures pair { IfOk result (λ r. r.0.pair ≡ r.1.pair) }
     ensures first { IfOk result (λ r. (r.0.value ≡ V.first) × (r.1.value ≡ V.first)) }

@@ -6,12 +6,12 @@ use std::alloc::Global;
 use std::marker::Brand;
 use std::test::*;
 
-/// Ends of these tests know a number.
+/// In these tests ends know a number.
 impl Known for u64 {
     ghost first = { 0 };
 }
 
-/// A number tells itself.
+/// The value of a number is itself.
 impl Tells<u64> for u64 {
     ghost told = { λ n. n };
 }
@@ -20,7 +20,7 @@ impl Agreed<u64> for Brand {
     ghost value = { 0 };
 }
 
-/// Both know a number that the caller has.
+/// Both ends know a number of the caller's from now on.
 fn agree_as_picked<A: Agreed<u64>>(one: &mut End<u64>, other: &mut End<u64>, _number: u64)
     requires picked { A.value ≡ _number }
     requires pair { one.old.pair ≡ other.old.pair }
@@ -30,7 +30,7 @@ fn agree_as_picked<A: Agreed<u64>>(one: &mut End<u64>, other: &mut End<u64>, _nu
     one.agree::<A>(other);
 }
 
-/// Ends that have agreed on both numbers, one after another, and met before, between and after that.
+/// Ends that have agreed on both numbers in turn, and met before, between and after that.
 fn agreed(alloc: Global, first: u64, second: u64) -> Result<(End<u64>, End<u64>), OutOfMemory>
     ensures pair { IfOk result (λ r. r.0.pair ≡ r.1.pair) }
     ensures value { IfOk result (λ r. (r.0.value ≡ second) × (r.1.value ≡ second)) }
@@ -55,7 +55,7 @@ fn ends_agree_and_the_word_stays(rt: HostRuntime) -> Result<(), Fail> {
     Ok(())
 }
 
-/// An end whose other one is gone is an end all the same.
+/// An end whose other end was dropped still works.
 #[test]
 fn an_end_outlives_the_other(rt: HostRuntime) -> Result<(), Fail> {
     let (one, other) = pair::<u64>(rt.alloc())?;

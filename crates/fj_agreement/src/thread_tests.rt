@@ -9,7 +9,7 @@ use std::thread::Threads;
 
 const ROUNDS: u32 = 2000;
 
-/// Names the pair of which one end lies under the lock, so that who comes with the other end is known to have that, by its type.
+/// Names the pair of which the lock guards one end: so by its type a thread is known to bring the other end.
 trait Named {
     ghost use Rattle.atomic_table.specs.Seated.{TableId};
 
@@ -40,7 +40,7 @@ impl<N: Named> Model for Hand<N> {
     ghost invariant = { λ h. (h.end.pair ≡ N.pair) × (h.end.value ≡ h.count) };
 }
 
-/// What lies under the lock: a count of its own, with the other end, and the hand while no thread has it.
+/// What the lock guards: a count of its own, with the other end, and the hand while no thread has it.
 #[derive(Drop)]
 struct Kept<N: Named> {
     count: u64,
@@ -59,7 +59,7 @@ impl<N: Named> Model for Kept<N> {
     ghost invariant = { λ k. (k.end.pair ≡ N.pair) × (k.end.value ≡ k.count) };
 }
 
-/// Both count one more. They were the same: nobody has counted under the lock without the hand.
+/// Increments both counts. They were the same: nobody has counted under the lock without the hand.
 fn count<N: Named>(kept: &mut Kept<N>, hand: &mut Hand<N>)
     ensures same { kept.old ≡ hand.old }
     ensures still { kept.new ≡ hand.new }
@@ -85,7 +85,7 @@ fn count_with<N: Named>(rt: &impl Wait, kept: &Mutex<Kept<N>>, mut hand: Hand<N>
     kept.hand = Some(hand);
 }
 
-/// Takes the hand out from under the lock, has it outside for a while, and counts, again and again. How often it had it.
+/// Takes the hand, keeps it outside the lock for a while, and counts, again and again. Returns how often it had it.
 fn take_turns<N: Named>(rt: &impl Wait, kept: &Mutex<Kept<N>>) -> u64 {
     let mut turns = 0u64;
     for _ in 0..ROUNDS {
@@ -101,7 +101,7 @@ fn take_turns<N: Named>(rt: &impl Wait, kept: &Mutex<Kept<N>>) -> u64 {
     turns
 }
 
-/// What two threads have counted that hand one end back and forth: the turns of each, the count under the lock, and that of the hand.
+/// What two threads count that pass one end back and forth: the turns of each, the count under the lock, and that of the hand.
 fn race<N: Named + Send + Drop, R: Threads + Wait + Sync>(
     rt: &R,
     one: End<u64>,

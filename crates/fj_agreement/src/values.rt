@@ -1,19 +1,19 @@
-//! What ends know, and by what they agree on it.
+//! What ends know, and how they agree on it.
 
-/// A type of which the ends of a pair know a value. No such value is ever made: it exists in proofs alone.
+/// A type whose values the ends of a pair may know. No such value is ever made: it exists in proofs alone.
 pub trait Known {
     /// What the ends of a new pair know.
     ghost first: { Self };
 }
 
-/// A value to agree on. The caller picks it, where it passes `Brand` for a type parameter with this bound.
+/// A value to agree on. A caller picks it when it passes `Brand` for a type parameter with this bound.
 pub trait Agreed<V> {
     /// The value.
     ghost value: { V };
 }
 
-/// Of a type of the program: the value to agree on that each of its values tells, as a hand tells what it holds.
+/// A type of the program whose values each have a value to agree on, as a hand has what it holds.
 pub trait Tells<V> {
-    /// What it tells.
+    /// The value to agree on.
     ghost told: { Self → V };
 }

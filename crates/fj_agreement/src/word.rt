@@ -1,29 +1,29 @@
-//! The word of a pair, the loads of it, and what the seats on it know.
+//! The atomic word of a pair, the loads of it, and what the seats on it know.
 //!
-//! The word is 0 and stays 0. What an end knows is the view of its seat on the word, and a view changes only at a step on the word:
-//! so each change, and each look at what two views have in common, is one load.
+//! The word is 0 and stays 0. What an end knows is the view of its seat on the word. A view changes only at a step on the word: so each
+//! change, and each comparison of two views, is one load.
 //!
-//! A view is a list: the value, once for each end that the seat stands for. The rule says that all entries of all views are one value,
-//! and that there are two of them. To meet or to agree puts both into one seat:
+//! A view is a list: the value, once for each end that the seat has. The invariant: all entries of all views are one value, and there are
+//! two of them. To meet or to agree puts both into one seat:
 //!
-//! | Load | The one seat | The other seat | What is learnt, or why it keeps the rule |
+//! | Load | The one seat | The other seat | What is learnt, or why it keeps the invariant |
 //! |---|---|---|---|
 //! | | v | w | |
-//! | `Spare`: a new seat without a value is cut off, and put in place of the other one | v | | |
+//! | `Spare`: a new seat without a value is split off, and replaces the other one | v | | |
 //! | `Together`: the other seat, which was taken out, is joined to the one | v w | | |
-//! | `Meet`, where they meet | v w | | v and w are the same, by the rule |
-//! | `Half`: cut in two again | v | w | |
-//! | `Anew`, where they agree: both get another value | a | a | the one seat had both values, so nobody else knows any |
+//! | `Meet`, if they meet | v w | | v and w are the same, by the invariant |
+//! | `Half`: split in two again | v | w | |
+//! | `Anew`, if they agree: both get a new value | a | a | the one seat had both values, so no other seat has any |
 use crate::values::{Agreed, Known};
 use atomic_table::{Join, Play, Seat, Shared, Split, Table, TableRule};
 use std::alloc::Global;
 use std::collections::LinkedList;
 use std::marker::PhantomData;
 
-/// What a seat knows: the value, once for each end that it stands for. It exists in proofs alone: no list is made.
+/// What a seat knows: the value, once for each end that it has. It exists in proofs alone: no list is made.
 pub type Knowledge<V> = LinkedList<V>;
 
-/// The rule over what all seats know.
+/// The invariant over what all seats know.
 pub struct AgreementRule;
 
 impl<V: Known> TableRule<(), Knowledge<V>, ()> for AgreementRule {
@@ -32,20 +32,20 @@ impl<V: Known> TableRule<(), Knowledge<V>, ()> for AgreementRule {
 
     ghost holds = { λ _. IsAgreed };
 
-    // The first seat stands for both ends.
+    // The first seat has both ends.
     ghost first = { λ _. V.first ∷ V.first ∷ [] };
 }
 
 /// The word. It needs no slots beside it.
 pub type Word<V> = Table<(), Knowledge<V>, (), AgreementRule, Global>;
 
-/// What of the word has the loads.
+/// The part of the word that has the loads.
 pub type Loads<V> = Shared<(), Knowledge<V>, (), AgreementRule>;
 
 /// The right to step on the word, with what its holder knows. It has no bytes.
 pub type Token<V> = Seat<(), Knowledge<V>>;
 
-/// A look of a seat: all that it knows is one value.
+/// A load by which a seat learns that all it knows is one value.
 pub struct Meet;
 
 impl<V> Play<(), Knowledge<V>> for Meet {
@@ -54,7 +54,7 @@ impl<V> Play<(), Knowledge<V>> for Meet {
     ghost then = { Meets };
 }
 
-/// A seat that knows nothing is cut off.
+/// A seat that knows nothing is split off.
 pub struct Spare;
 
 impl<V> Split<Knowledge<V>> for Spare {
@@ -65,7 +65,7 @@ impl<V> Split<Knowledge<V>> for Spare {
     ghost right = { λ _. [] };
 }
 
-/// A seat takes in what another one knows.
+/// A seat takes over what another one knows.
 pub struct Together;
 
 impl<V> Join<Knowledge<V>> for Together {
@@ -76,7 +76,7 @@ impl<V> Join<Knowledge<V>> for Together {
     ghost spent = { [] };
 }
 
-/// A seat that stands for both ends keeps the first value, and a new one gets the other.
+/// A seat with both ends keeps the first value, and a new one gets the other.
 pub struct Half;
 
 impl<V> Split<Knowledge<V>> for Half {
@@ -87,7 +87,7 @@ impl<V> Split<Knowledge<V>> for Half {
     ghost right = { λ known. drop 1 known };
 }
 
-/// A seat that stands for both ends knows another value from then on, and so does a new one.
+/// A seat with both ends gets a new value, and so does a new seat.
 pub struct Anew<A> {
     value: PhantomData<A>,
 }

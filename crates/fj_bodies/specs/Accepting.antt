@@ -10,7 +10,7 @@ use Rattle.fj_slots.specs.Shelves.{entries, with_entry}
 use Rattle.fj_bodies.specs.Stores.{StoreState}
 
 module _ {B K O : Type 0} where
-  -- the machine's step; then the body stands under the new number; or the step is refused, or the store stuck, and the body is handed back
+  -- the machine's step, and the body is stored under the new number; or the step is refused, or the store stuck, and the body is handed back
   abbrev pub Accepts : StoreState B K O → Step → B → Told B K O → StoreState B K O → Type 0
   Accepts old asked body (told.Hear (hears.Task t)) new =
       (old.stuck ≡ false) × Steps old.past asked (says.Task t) new.past × (entries new.bodies ≡ with_entry (entries old.bodies) t body) × (new ≡ record old { past = new.past; bodies = new.bodies })

@@ -1,4 +1,4 @@
--- Steps that hand no task out and end no body.
+-- Steps that hand out no task and end no body.
 use Rattle.std.specs.Prelude.{◌≡◌, Bool, true, false, None}
 use Rattle.fj_rules.specs.declared.refusal.Refusal.TheVariants.{LogFull}
 use Rattle.fj_rules.specs.declared.step.Step.{Step}
@@ -26,14 +26,14 @@ is_calm (ask.State t) = true
 is_calm ask.IsQuiescent = true
 is_calm _ = false
 
--- whether such a reply tells of the root, made normal by the step or done before
+-- whether the reply is one to QuietRoot: the root was made normal by the step, or was done before
 abbrev pub is_root : Said → Bool
 is_root (says.Root c) = true
 is_root (says.Spent c) = true
 is_root _ = false
 
 module _ {B K O : Type 0} where
-  -- the step was made; the bodies of the tasks that came to be gone are dropped; then what can be is released
+  -- the step was made, and the bodies of the tasks that became gone are dropped; then what can be is released
   pub record Drops (old : StoreState B K O) (asked : Step) (reply : Said) (new : StoreState B K O) : Type 0 where
     pub mid : StoreState B K O
     pub step : Steps old.past asked reply mid.past
@@ -41,7 +41,7 @@ module _ {B K O : Type 0} where
     pub others : mid ≡ record old { past = mid.past; bodies = mid.bodies }
     pub releases : Releases mid new
 
-  -- so, or it was refused, and nothing has changed
+  -- the same, or the step was refused, and nothing has changed
   abbrev pub Makes : StoreState B K O → Step → Said → StoreState B K O → Type 0
   Makes old asked (says.Refused r) new = Refuses old asked (says.Refused r) new
   Makes old asked reply new = Drops old asked reply new
@@ -60,7 +60,7 @@ module _ {B K O : Type 0} where
   QuietsRoot old asked (told.Stuck None) new = WasStuck old new
   QuietsRoot old asked _ new = ⊥
 
-  -- a task is cancelled, or gets a code
+  -- a task is cancelled, or ended with a code
   abbrev pub Settles : StoreState B K O → Step → Told B K O → StoreState B K O → Type 0
   Settles old asked (told.Hear hears.Yes) new = (old.stuck ≡ false) × Drops old asked says.Yes new
   Settles old asked (told.Hear hears.No) new = (old.stuck ≡ false) × Drops old asked says.No new
@@ -68,14 +68,14 @@ module _ {B K O : Type 0} where
   Settles old asked (told.Stuck None) new = WasStuck old new
   Settles old asked _ new = ⊥
 
-  -- where a task is, and how far it has come
+  -- the place and the status of a task
   abbrev pub Shows : StoreState B K O → Step → Told B K O → StoreState B K O → Type 0
   Shows old asked (told.Hear (hears.Is p s)) new = (old.stuck ≡ false) × Moves old asked (says.State p s) new
   Shows old asked (told.Hear (hears.Refused r)) new = (old.stuck ≡ false) × Refuses old asked (says.Refused r) new
   Shows old asked (told.Stuck None) new = WasStuck old new
   Shows old asked _ new = ⊥
 
-  -- no submissions are taken any more, or all is stopped; or there was no room for that, and it is stuck
+  -- a shutdown or a stop was made; or the history had no room for it, and the store is stuck
   abbrev pub Shuts : StoreState B K O → Step → Bool → StoreState B K O → Type 0
   Shuts old asked true new = Drops old asked says.Done new
   Shuts old asked false new = Steps old.past asked (says.Refused LogFull) old.past × (new ≡ record old { stuck = true })

@@ -26,11 +26,11 @@ module _ {B K O : Type 0} where
   abbrev pub Refuses : StoreState B K O → Step → Said → StoreState B K O → Type 0
   Refuses old asked reply new = Steps old.past asked reply old.past × (new ≡ old)
 
-  -- it was stuck, and nothing has changed
+  -- the store was stuck, and nothing has changed
   abbrev pub WasStuck : StoreState B K O → StoreState B K O → Type 0
   WasStuck old new = (old.stuck ≡ true) × (new ≡ old)
 
-  -- it is stuck now, since the step found no room
+  -- the store gets stuck, since the history has no room for the step
   abbrev pub GetsStuck : StoreState B K O → Step → StoreState B K O → Type 0
   GetsStuck old asked new = (old.stuck ≡ false) × Steps old.past asked (says.Refused LogFull) old.past × (new ≡ record old { stuck = true })
 
@@ -43,7 +43,7 @@ module _ {B K O : Type 0} where
     pub held : hand' ≡ with_body hand t body
     pub others : new ≡ record old { past = new.past; bodies = new.bodies }
 
-  -- the step skipped the task, and its body went out; then what could be was released
+  -- the step skipped the task, and its body is handed out; then what could be was released
   pub record Skips (old : StoreState B K O) (asked : Step) (t : ℕ) (body : B) (new : StoreState B K O) : Type 0 where
     pub mid : StoreState B K O
     pub step : Steps old.past asked (says.Skip t) mid.past
@@ -52,7 +52,7 @@ module _ {B K O : Type 0} where
     pub others : mid ≡ record old { past = mid.past; bodies = mid.bodies }
     pub releases : Releases mid new
 
-  -- such a step, with the moving of its body
+  -- a step that takes the worker's choice, and moves the body
   abbrev pub Chooses : StoreState B K O → HandState B → Step → Chosen B K O → StoreState B K O → HandState B → Type 0
   Chooses old hand asked (chosen.Run t) new hand' = HandsOut old hand asked t new hand'
   Chooses old hand asked (chosen.Skip t body) new hand' = Skips old asked t body new × (hand' ≡ hand)
@@ -62,7 +62,7 @@ module _ {B K O : Type 0} where
   Chooses old hand asked chosen.Cancelled new hand' = Moves old asked says.Cancelled new × (hand' ≡ hand)
   Chooses old hand asked (chosen.Refused r) new hand' = Refuses old asked (says.Refused r) new × (hand' ≡ hand)
 
-  -- a poll: it uses a scan word, unless it was stuck
+  -- a poll: it uses a scan word, unless the store was stuck
   abbrev pub Polls : StoreState B K O → HandState B → Told B K O → StoreState B K O → HandState B → Type 0
   Polls old hand (told.Run t) new hand' = (old.stuck ≡ false) × HandsOut old (with_next_word hand) (ask.Poll hand.worker hand.word) t new hand'
   Polls old hand (told.Skip t body) new hand' = (old.stuck ≡ false) × Skips old (ask.Poll hand.worker hand.word) t body new × (hand' ≡ with_next_word hand)
@@ -80,7 +80,7 @@ module _ {B K O : Type 0} where
   Helps old hand (told.Stuck None) new hand' = WasStuck old new × (hand' ≡ hand)
   Helps old hand _ new hand' = ⊥
 
-  -- a join of a done task that gives its result: that is taken out, and what can be is released
+  -- a join of a done task that has a result: that is taken out, and what can be is released
   pub record Gives (old : StoreState B K O) (asked : Step) (t : ℕ) (kept : K × O) (new : StoreState B K O) : Type 0 where
     pub mid : StoreState B K O
     pub out : StoreState B K O

@@ -1,4 +1,4 @@
--- Which of the tasks whose outcome or result was taken may be such that they can be released.
+-- Which of the tasks whose outcome or result was taken may be releasable.
 use Rattle.std.specs.Prelude.{ℕ, ◌≡◌, Bool, true, false, drop, List, [], ◌∷◌, Option, Some, None, Result, Ok, Err, ⊤}
 use Rattle.fj_rules.specs.declared.event.Event.{Event}
 use Rattle.fj_rules.specs.declared.step.Step.{Step}
@@ -11,17 +11,17 @@ use Rattle.fj_bodies.specs.declared.tries.HistoryFull.{HistoryFull}
 use Rattle.fj_bodies.specs.Releases.{NoneGoesFrom, Releases, ReleasesSome, released_of}
 use Rattle.fj_rules.specs.Releasable.{can_go}
 
--- none of these can be released but this one
+-- at most this one of these can be released
 abbrev pub OnlyGoes : List Event → List ℕ → ℕ → Type 0
 OnlyGoes h ts t = (u : ℕ) → is_in u ts ≡ true → can_go h u ≡ true → u ≡ t
 
--- none of these can be released but what is due
+-- only due ones of these can be released
 abbrev pub AreDue : List Event → List ℕ → Due → Type 0
 AreDue h ts due.Nothing = (u : ℕ) → is_in u ts ≡ true → can_go h u ≡ false
 AreDue h ts (due.One t) = OnlyGoes h ts t
 AreDue h ts due.All = ⊤
 
--- the one that is due, where none is but one
+-- the only task that is due, if there is exactly one
 abbrev pub only : Due → Option ℕ
 only due.Nothing = None
 only (due.One t) = Some t
@@ -54,16 +54,16 @@ after_step before ask.Stop = due.All
 after_step before _ = before
 
 module _ {B K O : Type 0} where
-  -- of the taken tasks that stand from this place on none can be released but this one
+  -- of the taken tasks from this index on at most this one can be released
   abbrev pub OnlyGoesFrom : ℕ → StoreState B K O → ℕ → Type 0
   OnlyGoesFrom from s t = OnlyGoes s.past.events (drop from s.taken) t
 
-  -- some tasks were released, and from each place on from where only this one could be, none can be now; or the history was full
+  -- some tasks were released; if from an index on only this one could be, none from there on can be now; or the history was full
   abbrev pub ReleasesUp : ℕ → StoreState B K O → Result ⊤ HistoryFull → StoreState B K O → Type 0
   ReleasesUp t old (Ok done) new = ReleasesSome old new × ((from : ℕ) → OnlyGoesFrom from old t → NoneGoesFrom from new)
   ReleasesUp t old (Err full) new = Releases old new
 
-  -- it was released, and from each such place on only its parent can be now; or, where none is told, as above
+  -- it was released, and from each such index on only its parent can be now; or, if no parent is returned, as above
   abbrev pub ReleasesHere : ℕ → StoreState B K O → Result (Option ℕ) HistoryFull → StoreState B K O → Type 0
   ReleasesHere t old (Ok (Some p)) new =
       (is_in t old.taken ≡ true) × (can_go old.past.events t ≡ true) × (new ≡ released_of old (t ∷ [])) × ((from : ℕ) → OnlyGoesFrom from old t → OnlyGoesFrom from new p)

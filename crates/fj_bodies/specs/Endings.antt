@@ -19,13 +19,13 @@ use Rattle.fj_bodies.specs.Releases.{Releases}
 use Rattle.fj_bodies.specs.Results.{Keeps}
 use Rattle.fj_bodies.specs.Choosing.{Refuses, WasStuck, GetsStuck}
 
--- whether such a reply to the end of a body or of a hook hands out no hook
+-- whether a reply to the end of a body or of a hook is no hook and no refusal
 abbrev pub is_over : Said → Bool
 is_over (says.Hook c) = false
 is_over (says.Refused r) = false
 is_over _ = true
 
--- which refusal an ending hears of, by the hook and the bodies of its hand: a running body that ends hears only that its task is of the other kind
+-- how an ending is refused, by the hook and the bodies of its hand: a running body hears only that its task is of the other kind
 abbrev pub end_refusal : {A B : Type 0} → Option A → List B → Refusal
 end_refusal (Some hook) bodies = NotIdle
 end_refusal None [] = NotRunning
@@ -44,7 +44,7 @@ module _ {B K O : Type 0} where
     pub kept : Keeps mid task (key_of body, out) done
     pub releases : Releases done new
 
-  -- the ending Ok. Where it finds no room the body hears nothing, and the store is stuck
+  -- the ending Ok. If the history has no room the body hears nothing, and the store is stuck
   abbrev pub EndsOk : (B → K) → StoreState B K O → HandState B → O → Told B K O → StoreState B K O → HandState B → Type 0
   EndsOk key_of old hand out (told.Over None) new hand' = (old.stuck ≡ false) × Finishes key_of old hand out new hand'
   EndsOk key_of old hand out (told.Hear (hears.Refused r)) new hand' =
@@ -52,12 +52,12 @@ module _ {B K O : Type 0} where
   EndsOk key_of old hand out (told.Stuck None) new hand' = (WasStuck old new ⊎ GetsStuck old (ask.End hand.worker ending.Ok) new) × (hand' ≡ hand)
   EndsOk key_of old hand out _ new hand' = ⊥
 
-  -- where the body goes when it has ended and no hook came: out, if its task is gone now, and to the store, where its task is open now
+  -- where the body goes when it has ended and no hook began: out, if its task is gone now, and to the store if not
   abbrev pub LeftOver : StoreState B K O → ℕ → B → Option B → StoreState B K O → Type 0
   LeftOver old t body (Some out) mid = (is_gone (place mid.past.events t) ≡ true) × (out ≡ body) × (entries mid.bodies ≡ still_held old mid.past) × (mid ≡ record old { past = mid.past; bodies = mid.bodies })
   LeftOver old t body None mid = (is_gone (place mid.past.events t) ≡ false) × (entries mid.bodies ≡ with_entry (still_held old mid.past) t body) × (mid ≡ record old { past = mid.past; bodies = mid.bodies })
 
-  -- the running body ended, and no hook came; then what can be is released
+  -- the running body ended, and no hook began; then what can be is released
   pub record EndsOver (old : StoreState B K O) (hand : HandState B) (ending : Ending) (out : Option B) (new : StoreState B K O) (hand' : HandState B) : Type 0 where
     pub mid : StoreState B K O
     pub task : ℕ
@@ -69,7 +69,7 @@ module _ {B K O : Type 0} where
     pub goes : LeftOver old task body out mid
     pub releases : Releases mid new
 
-  -- the running body ended, and the hook of its own task came: the body goes on in it; then what can be is released
+  -- the running body ended, and the hook of its own task began: the body stays in the hand for it; then what can be is released
   pub record EndsInHook (old : StoreState B K O) (hand : HandState B) (ending : Ending) (t : ℕ) (new : StoreState B K O) (hand' : HandState B) : Type 0 where
     pub mid : StoreState B K O
     pub rest : HandState B

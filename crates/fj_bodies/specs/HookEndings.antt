@@ -17,7 +17,7 @@ use Rattle.fj_bodies.specs.Choosing.{Refuses, WasStuck, GetsStuck}
 use Rattle.fj_bodies.specs.Endings.{is_over}
 
 module _ {B K O : Type 0} where
-  -- the hook ended with a result, and no other came: the result is kept beside the body's key; then what can be is released
+  -- the hook ended with a result, and no other began: the result is kept beside the body's key; then what can be is released
   pub record EndsHookOver (key_of : B → K) (old : StoreState B K O) (hand : HandState B) (out : O) (new : StoreState B K O) (hand' : HandState B) : Type 0 where
     pub mid : StoreState B K O
     pub done : StoreState B K O
@@ -33,7 +33,7 @@ module _ {B K O : Type 0} where
     pub kept : Keeps mid task (key_of body, out) done
     pub releases : Releases done new
 
-  -- the hook ended with a result, and the parent's came: the parent's body goes from the store to the hook
+  -- the hook ended with a result, and the parent's began: the parent's body goes from the store to the hand, for its hook
   pub record EndsHookInHook (key_of : B → K) (old : StoreState B K O) (hand : HandState B) (out : O) (p task : ℕ) (new : StoreState B K O) (hand' : HandState B) : Type 0 where
     pub mid : StoreState B K O
     pub done : StoreState B K O

@@ -1,4 +1,4 @@
--- What a body hears, asks and is told.
+-- What a body hears and asks, and the answers to actions.
 pub mod Turns
 -- A store, and what holds of it.
 pub mod Stores
@@ -6,7 +6,7 @@ pub mod Stores
 pub mod Fitting
 -- Tasks are released.
 pub mod Releases
--- Which tasks may be such that they can be released.
+-- Which tasks may be releasable.
 pub mod DueTasks
 -- Tasks are accepted.
 pub mod Accepting
@@ -20,5 +20,5 @@ pub mod Endings
 pub mod HookEndings
 -- Steps that end no body and hand none out.
 pub mod Asking
--- What has happened is handed out in parts.
+-- The history is handed out in parts.
 pub mod Sealing

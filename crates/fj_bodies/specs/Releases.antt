@@ -23,7 +23,7 @@ ReleasesPlain old t true new = (is_completer old.events t ≡ false) × Steps ol
 ReleasesPlain old t false new = new ≡ old
 
 module _ {B K O : Type 0} where
-  -- no task that was taken can be released any more; or one could be, and the store is stuck, since the history is full
+  -- no taken task can be released now; or one could be, and the store is stuck, since the history is full
   abbrev pub Rests : Bool → StoreState B K O → Type 0
   Rests stuck s =
       ((s.stuck ≡ stuck) × ((t : ℕ) → is_in t s.taken ≡ true → can_go s.past.events t ≡ false))
@@ -33,7 +33,7 @@ module _ {B K O : Type 0} where
   abbrev pub released_of : StoreState B K O → List ℕ → StoreState B K O
   released_of s ts = record s { past = grown s.past (map Rel ts); taken = without s.taken ts }
 
-  -- some of the taken tasks were released, each as it could be, and no taken one can be now; or the history was full
+  -- some of the taken tasks were released, each when it could be, and no taken one can be now; or the history was full
   pub record Releases (old : StoreState B K O) (new : StoreState B K O) : Type 0 where
     pub tasks : List ℕ
     pub were_taken : AreAmong tasks old.taken
@@ -51,15 +51,15 @@ module _ {B K O : Type 0} where
   Tries old t tried.Full new = (can_go old.past.events t ≡ true) × (limit old.past ≤ length old.past.events) × (new ≡ record old { stuck = true })
   Tries old t tried.Needed new = (can_go old.past.events t ≡ false) × (new ≡ old)
 
-  -- some of the taken tasks were released, each as it could be
+  -- some of the taken tasks were released, each when it could be
   abbrev pub ReleasesSome : StoreState B K O → StoreState B K O → Type 0
   ReleasesSome old new = (ts : List ℕ) × AreAmong ts old.taken × CanAllGo old.past.events ts × (new ≡ released_of old ts)
 
-  -- of the taken tasks that stand from this place on none can be released
+  -- no taken task from this index on can be released
   abbrev pub NoneGoesFrom : ℕ → StoreState B K O → Type 0
   NoneGoesFrom from s = (t : ℕ) → is_in t (drop from s.taken) ≡ true → can_go s.past.events t ≡ false
 
-  -- some were released, and of those that stand from this place on none can be now; or the history was full
+  -- some were released, and of those from this index on none can be now; or the history was full
   abbrev pub ReleasesFrom : ℕ → StoreState B K O → Result ⊤ HistoryFull → StoreState B K O → Type 0
   ReleasesFrom from old (Ok done) new = ReleasesSome old new × NoneGoesFrom from new
   ReleasesFrom from old (Err full) new = Releases old new

@@ -18,7 +18,7 @@ use Rattle.fj_bodies.specs.Stores.{StoreState}
 use Rattle.fj_bodies.specs.Releases.{Releases}
 
 module _ {B K O : Type 0} where
-  -- a result is kept under this number; or, since that task's result was taken, it is dropped
+  -- a result is kept under this number; or it is dropped, as the task is marked as taken
   abbrev pub KeepsUnless : Bool → StoreState B K O → ℕ → K × O → StoreState B K O → Type 0
   KeepsUnless true old t kept new = new ≡ old
   KeepsUnless false old t kept new = (entries new.results ≡ with_entry (entries old.results) t kept) × (new ≡ record old { results = new.results })
@@ -50,7 +50,7 @@ module _ {B K O : Type 0} where
     pub marks : Marks old t mid
     pub releases : Releases mid new
 
-  -- a body takes a result: of no kept task it is Unknown; where the task is not gone, or has no result, NotDone
+  -- a body takes a result: Unknown if the task is not kept; NotDone if it is not gone, or has no result
   abbrev pub TakesResult : StoreState B K O → ℕ → Told B K O → StoreState B K O → Type 0
   TakesResult old t (told.Hear (hears.Got k o)) new = Takes old t (k, o) new
   TakesResult old t (told.Hear (hears.Refused Unknown)) new = (old.stuck ≡ false) × (is_kept old.past.events t ≡ false) × (new ≡ old)
@@ -68,14 +68,14 @@ module _ {B K O : Type 0} where
     pub marks : Marks old t mid
     pub releases : Releases mid new
 
-  -- nobody asks for it any more: of a task that is not kept, or that was taken before, it is Unknown
+  -- a body gives up a task: Unknown if it is not kept, or was taken before
   abbrev pub LetsGo : StoreState B K O → ℕ → Told B K O → StoreState B K O → Type 0
   LetsGo old t (told.Hear hears.Went) new = GivesUp old t new
   LetsGo old t (told.Hear (hears.Refused r)) new = (old.stuck ≡ false) × (r ≡ Unknown) × ((is_in t old.taken ≡ true) ⊎ (is_kept old.past.events t ≡ false)) × (new ≡ old)
   LetsGo old t (told.Stuck None) new = (old.stuck ≡ true) × (new ≡ old)
   LetsGo old t _ new = ⊥
 
-  -- what is told of a task with this status, and with this result if one was kept
+  -- the outcome of a task with this status, and with this result if one was kept
   abbrev pub outcome_of : Status → Option (K × O) → Outcome B K O
   outcome_of Normal kept = outcome.Normal kept
   outcome_of (Exceptional code) kept = outcome.Exceptional code
@@ -94,7 +94,7 @@ module _ {B K O : Type 0} where
   kept_in (outcome.Exceptional code) = None
   kept_in outcome.Cancelled = None
 
-  -- the outcome of a done task is given, and its result is taken out; then what can be is released
+  -- the outcome of a done task is returned, and its result is taken out; then what can be is released
   pub record Tells (old : StoreState B K O) (t : ℕ) (told : Outcome B K O) (new : StoreState B K O) : Type 0 where
     pub is : is_kept old.past.events t ≡ true
     pub first : is_in t old.taken ≡ false
@@ -104,7 +104,7 @@ module _ {B K O : Type 0} where
     pub marks : Marks old t mid
     pub releases : Releases mid new
 
-  -- it was taken before, or is undone, or is told
+  -- Unknown if it was taken before or is not kept; none while it is undone; else its outcome
   abbrev pub Collects : StoreState B K O → ℕ → Option (Result (Outcome B K O) Refusal) → StoreState B K O → Type 0
   Collects old t (Some (Err r)) new = (r ≡ Unknown) × ((is_in t old.taken ≡ true) ⊎ (is_kept old.past.events t ≡ false)) × (new ≡ old)
   Collects old t None new = (is_kept old.past.events t ≡ true) × (is_in t old.taken ≡ false) × (is_undone (status old.past.events t) ≡ true) × (new ≡ old)

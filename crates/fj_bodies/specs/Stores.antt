@@ -36,7 +36,7 @@ has_body h t = is_in t (tasks h) && is_waiting (place h t)
 abbrev pub NoneReleased : List Event → Type 0
 NoneReleased h = (c : ℕ) → is_in c (hooked h) ≡ true → is_in c (released h) ≡ true → ⊥
 
--- the body of each queued or open task stands there, and no other
+-- the bodies are those of the queued and open tasks
 abbrev pub HoldsBodies : {B : Type 0} → List Event → Entries B → Type 0
 HoldsBodies h bodies = (t : ℕ) → is_there bodies t ≡ has_body h t
 
@@ -50,7 +50,7 @@ abbrev pub IsGiven : Bool → List Event → ℕ → Type 0
 IsGiven false h t = is_gone (place h t) ≡ true
 IsGiven true h t = (is_spent h t ≡ true) × (is_in t (hooked h) ≡ false)
 
--- no result of the task comes any more
+-- the task gives no further result
 abbrev pub GivesNoMore : List Event → ℕ → Type 0
 GivesNoMore h t = IsGiven (is_completer h t) h t
 
@@ -69,11 +69,11 @@ pub record IsStored {B R : Type 0} (past : Past) (bodies : Entries B) (results :
   -- no task is released while its completion action is in a hand
   pub hooks_kept : NoneReleased past.events
 
--- the tasks that came to be gone between the two
+-- the tasks that became gone between the two
 abbrev pub went : Past → Past → List ℕ
 went old new = drop (length (gone old.events)) (gone new.events)
 
 module _ {B K O : Type 0} where
-  -- the bodies without those of the tasks that went since
+  -- the bodies without those of the tasks that became gone since
   abbrev pub still_held : StoreState B K O → Past → Entries B
   still_held old past = without_entries (entries old.bodies) (went old.past past)

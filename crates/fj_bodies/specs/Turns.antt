@@ -1,4 +1,4 @@
--- What a body hears, asks and is told.
+-- What a body hears and asks, and the answers to actions.
 use Rattle.std.specs.Prelude.{ℕ, ◌<◌, ⊤}
 use Rattle.fj_bodies.specs.declared.body.Heard.{Heard}
 use Rattle.fj_bodies.specs.declared.body.Heard.TheVariants.{Got}
@@ -12,13 +12,13 @@ abbrev pub HeardRight : {B K O : Type 0} → (K → O → Type 0) → Heard B K 
 HeardRight right (Got k o) = ∥ right k o ∥₁
 HeardRight right _ = ⊤
 
--- what is asked gives only a result that is right for the key
+-- a result that is given is right for the key
 abbrev pub AskRight : {B K O : Type 0} → (K → O → Type 0) → K → Ask B K O → Type 0
 AskRight right k (AskOk o) = ∥ right k o ∥₁
 AskRight right k (HookDone o) = ∥ right k o ∥₁
 AskRight right k _ = ⊤
 
--- what is told is right for the key beside it
+-- a result in an answer is right for the key beside it
 abbrev pub ToldRight : {B K O : Type 0} → (K → O → Type 0) → Told B K O → Type 0
 ToldRight right (Hear heard) = HeardRight right heard
 ToldRight right _ = ⊤

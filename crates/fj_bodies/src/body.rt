@@ -7,32 +7,32 @@ use fj_rules::{Kind, Place, Refusal, Serial, Status};
 pub enum Heard<B: Body> {
     /// Its first turn, as this task: `RecursiveTask.compute` begins.
     Start(Serial),
-    /// Its completion action begins, since this task arrived last: `CountedCompleter.onCompletion(caller)`.
+    /// Its completion action begins, caused by this task: `CountedCompleter.onCompletion(caller)`.
     Hook(Serial),
     /// The forked body, or the trigger, is this task.
     Task(Serial),
-    /// The fork or trigger was refused, and here is its body.
+    /// The fork or trigger was refused: its body comes back.
     Handed(B, Refusal),
-    /// The result of the joined or taken task, with its key. It is right for it.
+    /// The key of the joined or taken task, and its result, which is right for that key.
     Got(B::Key, B::Out),
-    /// The joined task ended without a fault, and has no result, or none any more: a join or a take had it, or its outcome was told to
-    /// somebody else.
+    /// The joined task ended normally and has no result, or none any more: a join, a take or a caller of its outcome got it, or a release
+    /// dropped it.
     Bare,
     /// The joined task ended exceptionally, with this code.
     Failed(u32),
     /// The joined task was cancelled, or stopped.
     Cancelled,
-    /// What was asked was refused, and changed nothing. A result that came with it is dropped.
+    /// The request was refused, and changed nothing. A result that came with it is dropped.
     Refused(Refusal),
     /// Whether the worker ran another task meanwhile, or skipped one.
     Helped(bool),
-    /// The pending count that an addition gave.
+    /// The pending count after an addition.
     Count(u32),
-    /// What was asked was done.
+    /// The request was carried out.
     Went,
-    /// The task was ended by this.
+    /// The task was ended by this request, or a cancel found it cancelled.
     Yes,
-    /// The task was done before.
+    /// The task was done already; for a cancel: and not cancelled.
     No,
     /// Where the task is, and how it ended.
     Is(Place, Status),
@@ -41,19 +41,19 @@ pub enum Heard<B: Body> {
 /// What a body asks.
 #[derive(Drop)]
 pub enum Ask<B: Body> {
-    /// A new task in the own queue: `ForkJoinTask.fork`. It hears `Task` or `Handed`.
+    /// Pushes a new task onto the worker's queue: `ForkJoinTask.fork`. It hears `Task` or `Handed`.
     Fork(B, Kind),
-    /// A new completer with this pending count, which only arrivals fire: it is in no queue. It hears `Task` or `Handed`.
+    /// A new completer with this pending count, which only arrivals fire: it is never queued. It hears `Task` or `Handed`.
     Trigger(B, u32),
     /// The result of a task, once it is done; other tasks are run meanwhile: `ForkJoinTask.join`. It hears `Got`, `Bare`, `Failed`, `Cancelled`
     /// or `Refused`.
     Join(Serial),
-    /// One other task is run, if there is one: `ForkJoinTask.helpQuiesce` by one task. It hears `Helped` or `Refused`.
+    /// Runs one other task, if there is one: `ForkJoinTask.helpQuiesce` for one task. It hears `Helped` or `Refused`.
     Help,
-    /// The result of a task that is gone, which has one. It hears `Got` or `Refused`.
+    /// The result of a gone task that has one. It hears `Got` or `Refused`.
     Take(Serial),
-    /// Nobody asks for the result or the outcome of a task any more: it gives its place back as soon as it has ended, and its result is dropped.
-    /// In Java a task that nobody refers to is garbage. It hears `Went` or `Refused`.
+    /// Gives up the result and the outcome of a task: it is released as soon as it can be, and its result is dropped. In Java a task without
+    /// references is garbage. It hears `Went` or `Refused`.
     Release(Serial),
     /// Raises a pending count: `CountedCompleter.addToPendingCount`. It hears `Count` or `Refused`.
     Add(Serial, u32),
@@ -61,53 +61,53 @@ pub enum Ask<B: Body> {
     QuietRoot(Serial),
     /// Cancels a task: `ForkJoinTask.cancel`. It hears `Yes`, `No` or `Refused`.
     Cancel(Serial),
-    /// Ends a task with a code: `ForkJoinTask.completeExceptionally`. It hears `Yes`, `No` or `Refused`.
+    /// Ends a task exceptionally, with a code: `ForkJoinTask.completeExceptionally`. It hears `Yes`, `No` or `Refused`.
     Fault(Serial, u32),
     /// Where a task is, and how it ended. It hears `Is` or `Refused`.
     State(Serial),
-    /// Ends the body of a plain task with a result, which is right for its key: `RecursiveTask.compute` returns. Where the task is a completer
+    /// Ends the body of a plain task with a result, which is right for its key: `RecursiveTask.compute` returns. If the task is a completer,
     /// the body hears `Refused`, and the result is dropped.
     Ok(B::Out),
-    /// Ends the body of a completer without a result, and completes nothing: `CountedCompleter.compute` returns. So do the next three; where
-    /// the task is plain the body hears `Refused`.
+    /// Ends the body of a completer without a result, and without an arrival: `CountedCompleter.compute` returns. Here and in the next three
+    /// the body of a plain task hears `Refused`.
     Quiet,
     /// Ends the body and arrives: `CountedCompleter.tryComplete`.
     Try,
     /// Ends the body and arrives without a completion action: `CountedCompleter.propagateCompletion`.
     Pass,
-    /// Ends the body, and its completion action comes whatever is pending: `CountedCompleter.complete`.
+    /// Ends the body and runs its completion action, whatever is pending: `CountedCompleter.complete`.
     Complete,
-    /// Ends any body with this code: it throws.
+    /// Ends any body exceptionally, with this code: `compute` throws.
     Fail(u32),
     /// Ends the completion action with a result, which is right for its key: `CountedCompleter.onCompletion` returns. A body that runs no
     /// completion action hears `Refused`.
     HookDone(B::Out),
 }
 
-/// What an action of the core answers.
+/// The answer to an action of a worker.
 #[derive(Drop)]
 pub enum Told<B: Body> {
-    /// The running body, or the hook, goes on with this.
+    /// The running body, or the hook, hears this in its next turn.
     Hear(Heard<B>),
     /// The body of this task is on top of the hand, for its first turn.
     Run(Serial),
-    /// This task was done before it began, and here is its body.
+    /// This task was done before it began; here is its body.
     Skip(Serial, B),
     /// No task is queued.
     None,
-    /// A completion action is in the hand: that of the first task, by the arrival of the second one.
+    /// A completion action is in the hand: that of the first task, caused by the second.
     Hook(Serial, Serial),
-    /// The body, or the completion action, has ended. The body is here if its task is gone and it gave no result.
+    /// The body, or the completion action, has ended. The body is returned if it gave no result and its task is gone.
     Over(Option<B>),
-    /// Something found no room in the history, now or before, and nothing was done. A body that came with the ask is here.
+    /// The history had no room, now or before, and nothing was done. A body that came with the request is returned.
     Stuck(Option<B>),
 }
 
-/// A task's work, by turns.
+/// The work of a task, in turns.
 pub trait Body: Drop {
     ghost use Rattle.fj_bodies.specs.Turns.{HeardRight, AskRight, Nearer};
 
-    /// What a body is for. It stays beside its result.
+    /// What a body is for. It is kept beside the result.
     type Key: Eq + Drop;
 
     /// A result: `ForkJoinTask.getRawResult`.
@@ -122,14 +122,14 @@ pub trait Body: Drop {
     /// This result is right for this key.
     ghost right: { Self.Key → Self.Out → Type 0 };
 
-    /// How many turns it takes at most before its next ending: after one that was refused it is free, as after one that was made.
+    /// At most so many turns come before it asks for its next ending. Once it asks, whether refused or not, the bound may be any.
     ghost turns: { Self → ℕ };
 
     /// What it is for.
     fn key(&self) -> &Self::Key
         ensures { result.now ≡ key_of self.now };
 
-    /// The same, of a body that has ended.
+    /// The same, from a body that has ended.
     fn into_key(self) -> Self::Key
         ensures { result ≡ key_of self };
 
@@ -137,8 +137,8 @@ pub trait Body: Drop {
     fn rooted(&self) -> Option<u16>
         ensures { result ≡ rooted_as self.now };
 
-    /// One turn: what it asks, having heard this. Precondition: a result that is heard is right for its key. A turn leaves key and kind, a
-    /// result that it gives is right for the key, and it asks for an ending or brings the body nearer to one.
+    /// One turn: hears this, and asks. Precondition: a result that is heard is right for its key. A turn keeps the key and how the body is
+    /// submitted, a result that it gives is right for the key, and it asks for an ending or brings the body nearer to one.
     fn turn(&mut self, heard: Heard<Self>) -> Ask<Self>
         requires { HeardRight right heard }
         ensures key { key_of self.new ≡ key_of self.old }

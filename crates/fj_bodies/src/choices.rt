@@ -1,7 +1,7 @@
 use crate::body::Body;
 use fj_rules::{Refusal, Serial};
 
-/// What came of a step that takes the worker's choice, or of a join of a done task.
+/// The outcome of a step that takes the worker's choice, or of a join of a done task.
 #[derive(Drop)]
 pub enum Chosen<B: Body> {
     Run(Serial),

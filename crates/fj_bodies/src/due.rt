@@ -3,18 +3,18 @@ ghost use Rattle.fj_bodies.specs.DueTasks.{after as after_in, after_step as afte
 
 use fj_rules::{Serial, Step};
 
-/// Which of the tasks whose outcome or result was taken may be such that they can be released.
+/// Which of the taken tasks, those whose outcome or result was taken, may be releasable.
 #[derive(Clone, Copy)]
 pub enum Due {
     /// None.
     Nothing,
-    /// None but this.
+    /// At most this.
     One(Serial),
     /// Any.
     All,
 }
 
-/// The one that is due, where none is but one.
+/// The only task that is due, if there is exactly one.
 pub fn only(due: Due) -> Option<Serial>
     ensures { result ≡ only_in due }
 {

@@ -5,7 +5,7 @@ ghost use Rattle.fj_rules.specs.Releasable.{is_hooked as is_hooked_in};
 use fj_machine::Machine;
 use fj_rules::{Serial, WorkerId};
 
-/// Whether the completion action of a task is in some hand.
+/// Whether the completion action of a task is in some worker's hand.
 pub fn is_hooked(machine: &Machine, t: Serial) -> bool
     requires { IsPast machine.now }
     ensures { result ≡ is_hooked_in machine.now.events t }

@@ -3,7 +3,7 @@ ghost use Rattle.std.specs.Prelude.{◌≡◌};
 use crate::body::Body;
 use std::marker::Model;
 
-/// A result beside the key of the body that gave it, for which it is right.
+/// A result with the key of the body that gave it, for which it is right.
 #[derive(Drop)]
 pub struct KeptResult<B: Body> {
     key: B::Key,
@@ -19,7 +19,7 @@ impl<B: Body> Model for KeptResult<B> {
 }
 
 impl<B: Body> KeptResult<B> {
-    /// A result beside its key. Precondition: it is right for that.
+    /// A result with its key. Precondition: it is right for that key.
     pub fn new(key: B::Key, out: B::Out) -> KeptResult<B>
         requires { ∥ B.right key out ∥₁ }
         ensures { result ≡ (key, out) }

@@ -1,5 +1,5 @@
-//! A machine with the bodies that no worker holds and the results that were not taken: each action of a pool as one step, with the moving of
-//! its body.
+//! A machine with the bodies that no worker holds and the results that were not taken. Each action of a pool is one step, which also moves
+//! the body.
 #![tactic(auto)]
 
 mod body;

@@ -10,7 +10,7 @@ use fj_machine::Machine;
 use fj_rules::{Said, Step};
 use fj_slots::SerialMap;
 
-/// Makes a step, and drops the bodies of the tasks that come to be gone by it.
+/// Makes a step, and drops the stored bodies of the tasks that become gone by it.
 pub fn make<B: Drop>(machine: &mut Machine, bodies: &mut SerialMap<B>, asked: &Step) -> Said
     requires { IsPast machine.old }
     ensures step { Steps machine.old asked.now result machine.new }
@@ -24,7 +24,7 @@ pub fn make<B: Drop>(machine: &mut Machine, bodies: &mut SerialMap<B>, asked: &S
     said
 }
 
-/// Drops the bodies of the tasks that came to be gone since so many were. Precondition: so many are gone.
+/// Drops the bodies of the gone tasks from index `before` on. Precondition: `before` is at most the number of tasks gone since the seal.
 pub fn sweep_since<B: Drop>(bodies: &mut SerialMap<B>, machine: &Machine, before: usize)
     requires { before ≤ length (gone_since machine.now) }
     ensures entries { entries bodies.new ≡ without_entries (entries bodies.old) (drop before (gone_since machine.now)) }

@@ -8,17 +8,17 @@ use fj_rules::Status;
 /// How a submitted task ended.
 #[derive(Drop)]
 pub enum Outcome<B: Body> {
-    /// Without a fault, and with a result if one was kept. A root that is made normal by Pass or QuietRoot has none,
-    /// unless its completion action is in a hand then, and gives one before the outcome is told.
+    /// Normally, and with a result if one was kept. A root that is made normal by Pass or QuietRoot has none, unless its completion action
+    /// is in a hand then, and gives one before the outcome is taken.
     Normal(Option<KeptResult<B>>),
     /// With this code.
     Exceptional(u32),
-    /// It was cancelled, or stopped.
+    /// It was cancelled, or the pool was stopped.
     Cancelled,
 }
 
 impl<B: Body> Outcome<B> {
-    /// How the task ended: `ForkJoinTask.isCompletedNormally`, `isCancelled`, and the code in the place of `getException`.
+    /// How the task ended: `ForkJoinTask.isCompletedNormally`, `isCancelled`, and a code instead of `getException`.
     pub fn status(&self) -> Status
         ensures { result ≡ status_in self.now }
     {
@@ -29,7 +29,7 @@ impl<B: Body> Outcome<B> {
         }
     }
 
-    /// The result with its key, if it is normal and has one: `ForkJoinTask.getRawResult`.
+    /// The result with its key, if the task ended normally and has one: `ForkJoinTask.getRawResult`.
     pub fn into_kept(self) -> Option<KeptResult<B>>
         ensures { result ≡ kept_in self }
     {
@@ -41,7 +41,7 @@ impl<B: Body> Outcome<B> {
     }
 }
 
-/// What is told of a task that ended so.
+/// The outcome of a task with this status and this result.
 pub fn told_outcome<B: Body>(status: Status, kept: Option<KeptResult<B>>) -> Outcome<B>
     ensures { result ≡ outcome_of status kept }
 {

@@ -5,7 +5,7 @@ ghost use Rattle.fj_rules.specs.Tasks.{is_kept};
 use fj_machine::Machine;
 use fj_rules::{Place, Serial};
 
-/// Whether a task at this place is gone.
+/// Whether this place is that of a gone task.
 pub fn is_gone(place: Place) -> bool
     ensures { result ≡ is_gone place }
 {
@@ -15,7 +15,7 @@ pub fn is_gone(place: Place) -> bool
     }
 }
 
-/// Whether a kept task is gone.
+/// Whether a task is gone. Precondition: it is kept.
 pub fn is_gone_now(machine: &Machine, t: Serial) -> bool
     requires { is_kept machine.now.events t ≡ true }
     ensures { result ≡ is_gone (place machine.now.events t) }

@@ -3,12 +3,12 @@ ghost use Rattle.fj_bodies.specs.Releases.{ReleasesPlain};
 use fj_machine::Machine;
 use fj_rules::{Owner, Place, Refusal, Said, Serial, Status, Step, SubId, WorkerId};
 
-/// Releases a task if it is plain and can be released. Tells whether it did; if not, nothing has changed.
+/// Releases a task if it is plain and can be released. Returns false if it did not; then nothing has changed.
 #[inline(always)]
 pub fn release_plain(machine: &mut Machine, t: Serial) -> bool
     ensures { ReleasesPlain machine.old t result machine.new }
 {
-    // The check wants each type inside a reply to be named where one is moved.
+    // For the proof: each type inside a moved reply is named.
     let _inside: Option<(Place, Owner, Status, Refusal, Serial, SubId, WorkerId)> = None;
     if !machine.is_plain(t) {
         return false;

@@ -23,19 +23,19 @@ use fj_slots::{SerialMap, SerialSet};
 use std::alloc::Global;
 use std::marker::Model;
 
-/// A machine, the bodies that no worker holds, the results that were not taken, and the tasks that wait for their release. In Java a task is
-/// its body and holds its result, and is garbage once nobody refers to it.
+/// A machine, the bodies that no worker holds, the results that were not taken, and the tasks that wait for their release. In Java a task
+/// is its body and holds its result, and is garbage once it has no references.
 ///
-/// A call that a body asks for answers the refusal of its step as the machine gives it, and then nothing has changed. Once the store is stuck
-/// it answers `Stuck`, with the body that came, and nothing changes.
+/// If the machine refuses the step of a body, the body hears that refusal, and nothing has changed. Once the store is stuck, calls for
+/// a body answer `Stuck`, return a body that came, and change nothing.
 #[derive(Drop)]
 pub struct Store<B: Body> {
     machine: Machine,
     bodies: SerialMap<B>,
     results: SerialMap<KeptResult<B>>,
-    /// Kept tasks whose outcome or result was taken: each goes as soon as it can.
+    /// Kept tasks whose outcome or result was taken: each is released as soon as it can be.
     taken: SerialSet,
-    /// Which of them may be such that they can be released: none, but where a step has just been made.
+    /// Which of them may be releasable: none, except just after a step.
     due: Due,
     stuck: bool,
 }
@@ -66,7 +66,7 @@ impl<B: Body> Model for Store<B> {
 }
 
 impl<B: Body> Store<B> {
-    /// Nothing has happened. All the memory that is needed later is taken here, but that of seals. `OutOfMemory` where memory is refused.
+    /// A store in which nothing has happened. Allocates all memory except that of seals. `OutOfMemory` if an allocation fails.
     pub fn new(alloc: Global, mode: Mode, limits: Limits) -> Result<Store<B>, OutOfMemory>
         ensures past { IfOk result (λ s. s.past ≡ fresh mode limits) }
         ensures bodies { IfOk result (λ s. entries s.bodies ≡ no_entries) }
@@ -75,7 +75,7 @@ impl<B: Body> Store<B> {
         ensures free { IfOk result (λ s. s.stuck ≡ false) }
     {
         let room = limits.tasks() as usize;
-        // Tells that the limits are within their ranges.
+        // For the proof: the limits are in range.
         let _workers = limits.workers();
         let bodies = SerialMap::new(alloc, room)?;
         let results = SerialMap::new(alloc, room)?;
@@ -102,21 +102,21 @@ impl<B: Body> Store<B> {
         self.machine.limits()
     }
 
-    /// The machine beneath: its history, and what that shows.
+    /// The machine, with its history.
     pub fn machine(&self) -> &Machine
         ensures { result.now ≡ self.now.past }
     {
         &self.machine
     }
 
-    /// Whether it is stuck: something that has to be made found no room in the history.
+    /// Whether it is stuck: the history had no room for a step that must be made.
     pub fn is_stuck(&self) -> bool
         ensures { result ≡ self.now.stuck }
     {
         self.stuck
     }
 
-    /// It is stuck from now on.
+    /// Makes it stuck, permanently.
     pub fn stick(&mut self)
         ensures { self.new ≡ record self.old { stuck = true } }
     {

@@ -1,14 +1,14 @@
-/// What came of the try to release a task.
+/// The outcome of a try to release a task.
 #[derive(Clone, Copy)]
 pub enum Tried {
     /// It was released.
     Released,
-    /// It is needed yet.
+    /// It cannot be released yet.
     Needed,
     /// It could be released, but the history is full.
     Full,
 }
 
-/// What could be released next found no room in the history.
+/// The history had no room for the next release.
 #[derive(Clone, Copy)]
 pub struct HistoryFull;

@@ -1,4 +1,4 @@
--- What the commands that do a job write, and how they end.
+-- What the commands that run a job write, and how they end.
 use Rattle.std.specs.Prelude.{ℕ, ◌≡◌, ◌+◌, ◌-◌, ◌<◌, ◌≤◌, ◌⊎◌, List, [], ◌∷◌, ◌++◌, codes, decimal, Option, Some, None}
 use Rattle.std.specs.Int.{div_ceil}
 use Rattle.std.specs.Io.KnownBytes.{Appends, IsAtEnd}
@@ -56,15 +56,15 @@ abbrev pub status_of_refusal : Refusal → ℕ
 status_of_refusal OutOfMemory = 4
 status_of_refusal _ = 3
 
--- a job ended with this exit status, whose value has this line: 0 where it was written; where a write failed some beginning of it was; else
--- nothing
+-- a job, whose value has this line, ended with this exit status: 0 where the line was written; where a write failed a prefix of it was;
+-- else nothing
 pub record EndsJob (status : ℕ) (line : List ℕ) (start now : Option (List ℕ)) : Type 0 where
   pub known : (status ≡ 0) ⊎ ((status ≡ 3) ⊎ ((status ≡ 4) ⊎ (status ≡ 5)))
   pub written : status ≡ 0 → Appends start now line
   pub begun : status ≡ 5 → AppendsSome start now line
   pub silent : (status ≡ 3) ⊎ (status ≡ 4) → now ≡ start
 
--- the same of a job over a range, which is done where it has at most as many blocks as may be, and else ends with 2
+-- the same of a job over a range, which is run if it has at most `MAX_BLOCKS` blocks, and else ends with 2
 abbrev pub EndsRange : RangeOptions → ℕ → List ℕ → Option (List ℕ) → Option (List ℕ) → Type 0
 EndsRange o status line start now =
     ((MAX_BLOCKS < blocks_of o) × (status ≡ 2) × (now ≡ start)) ⊎ ((blocks_of o ≤ MAX_BLOCKS) × EndsJob status line start now)
@@ -83,7 +83,7 @@ status_of_fault (Line n) = 3
 status_of_fault Memory = 4
 status_of_fault Read = 5
 
--- no tree was read, as this exit status tells, and nothing was written
+-- no tree was read, by this exit status, and nothing was written
 abbrev pub ReadsNoTree : ℕ → Option (List ℕ) → Option (List ℕ) → Option (List ℕ) → Type 0
 ReadsNoTree status before start now =
     (fault : TreeFault) × (status ≡ status_of_fault fault) × ((input : List ℕ) → before ≡ Some input → FaultOf fault input) × (now ≡ start)

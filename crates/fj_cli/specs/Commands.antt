@@ -19,7 +19,7 @@ replay_line =
 abbrev pub script_line : App
 script_line = with_subcommand replay_line (new_app (codes "upgrade")).top
 
--- what a parse reads of the whole command line
+-- the whole command line, as a parse sees it
 abbrev pub whole_line : App
 whole_line = with_subcommand (with_subcommand (with_subcommand (with_subcommand script_line sum_line.top) min_line.top) find_line.top) tree_line.top
 
@@ -31,11 +31,11 @@ replay_words = codes "fj" ∷ codes "replay" ∷ []
 abbrev pub upgrade_words : List Text
 upgrade_words = codes "fj" ∷ codes "upgrade" ∷ []
 
--- the words of the one or the other
+-- the words of either
 abbrev pub IsForScript : List Text → Type 0
 IsForScript words = (words ≡ replay_words) ⊎ (words ≡ upgrade_words)
 
--- the command that a parse meets in these words, if it meets one, with what they give for its options
+-- the command that a parse finds in these words, if there is one, with their values of its options
 abbrev pub command_in : List Text → Option (Text × List Row)
 command_in words = subcommand_of whole_line words
 
@@ -67,10 +67,10 @@ faults_in words = fault_of whole_line words
 abbrev pub AsksToShow : List Text → Type 0
 AsksToShow words = IsAmong DisplayHelp (faults_in words) ⊎ IsAmong DisplayVersion (faults_in words)
 
--- an error of this kind tells of a fault in the words
+-- an error of this kind is a usage error
 abbrev pub TellsOfFault : ErrorKind → Type 0
 TellsOfFault kind = (kind ≢ OutOfMemory) × (kind ≢ DisplayHelp) × (kind ≢ DisplayVersion)
 
--- there is a fault in the words
+-- the words have a usage error
 abbrev pub IsAtFault : List Text → Type 0
 IsAtFault words = (kind : ErrorKind) × IsAmong kind (faults_in words) × (kind ≢ DisplayHelp) × (kind ≢ DisplayVersion)

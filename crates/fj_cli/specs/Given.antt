@@ -1,4 +1,4 @@
--- What the arguments give for the options of a command.
+-- The values of a command's options in the arguments.
 use Rattle.std.specs.Prelude.{ℕ, ⊤, ◌≡◌, ◌↔◌, Bool, true, List, Option, Some}
 use Rattle.std.specs.Prelude.{codes}
 use Rattle.std.specs.Str.Parse.{IsNumeral, digits_value, without_leading_plus}
@@ -13,7 +13,7 @@ abbrev pub Gives : List Row → Text → ℕ → Type 0
 Gives rows option n =
     (text : Text) × (one_of option rows ≡ Some text) × IsNumeral 10 (without_leading_plus text) × (n ≡ digits_value 10 (without_leading_plus text))
 
--- this says whether a flag is given, by its text
+-- whether a flag is given, by its text
 abbrev pub GivesFlag : List Row → Text → Bool → Type 0
 GivesFlag rows flag given = (given ≡ true) ↔ (one_of flag rows ≡ Some (codes "true"))
 
@@ -29,7 +29,7 @@ pub record GivesFunction (rows : List Row) (f : FunctionOptions) : Type 0 where
   pub add : Gives rows (codes "add") f.add
   pub modulus : Gives rows (codes "mod") f.modulus
 
--- what is to be run has what they give
+-- the command to run has these values
 abbrev pub GivesOptions : List Row → Subcommand → Type 0
 GivesOptions rows Replay = ⊤
 GivesOptions rows Upgrade = ⊤
@@ -47,6 +47,6 @@ name_of (Min o f) = codes "min"
 name_of (Find o f want) = codes "find"
 name_of (Tree workers) = codes "tree"
 
--- the command of this name, with these options, is what is to be run
+-- the command of this name, with these options, is the command to run
 abbrev pub IsAsked : Option (Text × List Row) → Subcommand → Type 0
 IsAsked met asked = (rows : List Row) × (met ≡ Some (name_of asked, rows)) × GivesOptions rows asked

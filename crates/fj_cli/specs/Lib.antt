@@ -3,11 +3,11 @@ pub use Rattle.fj_replay.specs.Scripts
 pub use Rattle.fj_replay.specs.Faults
 -- how an option is declared
 pub mod Options
--- what the arguments give for the options of a command
+-- the values of a command's options in the arguments
 pub mod Given
 -- the command line, and what its arguments ask for
 pub mod Commands
--- what the commands that do a job write
+-- what the commands that run a job write
 pub mod Answers
--- what an exit status says
+-- the meaning of exit statuses
 pub mod Statuses

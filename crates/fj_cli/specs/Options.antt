@@ -10,7 +10,7 @@ abbrev pub required_rule : Text → ℕ → ℕ → Bool → Rule
 required_rule name least most required =
     record (new_rule name) { long = Some name; action = Some Set; value_names = 1; parser = Some (Unsigned least most); required = required }
 
--- an option with a number from 1 on, which is 1 where it is not given
+-- an option with a number from 1 on, 1 by default
 abbrev pub defaulted_rule : Text → ℕ → Rule
 defaulted_rule name most = record (required_rule name 1 most false) { defaults = codes "1" ∷ [] }
 

@@ -1,4 +1,4 @@
--- What an exit status says.
+-- The meaning of exit statuses.
 use Rattle.std.specs.Prelude.{ℕ, ◌≡◌, ◌≢◌, ◌⊎◌, List, Option, Result, MatchResult}
 use Rattle.clap.specs.Words.{Text}
 use Rattle.std.specs.declared.io.ErrorKind.{ErrorKind}
@@ -21,11 +21,11 @@ status_of Memory = 4
 status_of Read = 5
 status_of Write = 5
 
--- a script ended so, and this is the exit status: 5 also where what was written of it could not be flushed
+-- a script ended so, with this exit status: 5 also where what was written could not be flushed
 abbrev pub IsEndOf : {A : Type 0} → Result A ReplayFault → ℕ → Type 0
 IsEndOf ended status = (status ≡ 5) ⊎ MatchResult ended (λ _. status ≡ 0) (λ fault. status ≡ status_of fault)
 
--- a script that stood here before its first line ended by a fault of this status
+-- a script that began at this stage ended by a fault of this status
 abbrev pub EndsBy : ScriptStage → ℕ → Option (List ℕ) → Option (List ℕ) → Option (List ℕ) → Option (List ℕ) → Type 0
 EndsBy first status before ahead start now =
     (fault : ReplayFault) × (b : List ℕ) × (status ≡ status_of fault) × EndsFrom first fault b before ahead start now
@@ -34,12 +34,12 @@ EndsBy first status before ahead start now =
 abbrev pub StatusOfNoWords : ErrorKind → ℕ → Type 0
 StatusOfNoWords kind status = (kind ≡ InvalidData → status ≡ 2) × (kind ≢ InvalidData → status ≡ 4)
 
--- what status 0 says of the arguments of a replay: a script was replayed; and of those of an upgrade: one was written as version 2
+-- status 0 means, for the arguments of a replay, that a script was replayed; for those of an upgrade, that one was written as version 2
 pub record EndsKnown (words : List Text) (status : ℕ) (before ahead start now : Option (List ℕ)) : Type 0 where
   pub replayed : words ≡ replay_words → status ≡ 0 → Replays before ahead start now
   pub upgraded : words ≡ upgrade_words → status ≡ 0 → Upgrades before ahead start now
 
--- a script that stood here before its first line ended with this exit status
+-- a script that began at this stage ended with this exit status
 pub record EndsScript (first : ScriptStage) (status : ℕ) (Done Begun : Type 0) (before ahead start now : Option (List ℕ)) : Type 0 where
   pub known : (status ≡ 0) ⊎ ((status ≡ 3) ⊎ ((status ≡ 4) ⊎ (status ≡ 5)))
   pub done : status ≡ 0 → Done
@@ -67,8 +67,8 @@ EndsCommand (Min o f) status before ahead start now = (ahead ≡ before) × Ends
 EndsCommand (Find o f want) status before ahead start now = (ahead ≡ before) × EndsRange o status (hit_line (hit_of o f want)) start now
 EndsCommand (Tree workers) status before ahead start now = EndsTree status before ahead start now
 
--- no command was run, and nothing read: at 0 the words ask for help or the version, at 2 there is a fault in them, or they name no command
--- for scripts; at 2 and 4 nothing was written
+-- no command was run, and nothing read: at 0 the words ask for help or the version, at 2 they have a usage error, or they name no
+-- command for scripts; at 2 and 4 nothing was written
 pub record EndsUnrun (words : List Text) (status : ℕ) (before ahead start now : Option (List ℕ)) : Type 0 where
   pub known : (status ≡ 0) ⊎ ((status ≡ 2) ⊎ ((status ≡ 4) ⊎ (status ≡ 5)))
   pub unread : ahead ≡ before

@@ -1,4 +1,4 @@
-//! What a command tells: its answer on standard output, or why it has none on standard error.
+//! The output of a command: its answer on standard output, or an error on standard error.
 ghost use Rattle.std.specs.Prelude.{◌≡◌, ℕ, List, IfErr, IfOk, OnOk, OnErr, string_bytes};
 ghost use Rattle.std.specs.Io.KnownBytes.{Appends};
 ghost use Rattle.fj_streams.specs.Beginnings.{AppendsSome};
@@ -9,7 +9,7 @@ use fj_streams::{flush_whole, write_whole};
 use std::alloc::AllocError;
 use std::io::{self, Write};
 
-/// Writes a text on standard error, and gives the status. No exit status tells that the write failed too.
+/// Writes a text to standard error, and answers the status. A failure of this write is ignored.
 pub fn told<E: Write>(err: &mut E, text: &str, status: u8) -> u8
     ensures { result ≡ status }
 {
@@ -17,7 +17,7 @@ pub fn told<E: Write>(err: &mut E, text: &str, status: u8) -> u8
     status
 }
 
-/// Tells why a job has no value, and gives the exit status.
+/// Writes why a job has no value, and answers the exit status: 4 for `OutOfMemory`, otherwise 3.
 pub fn refused<E: Write>(refusal: Refusal, err: &mut E) -> u8
     ensures { result ≡ status_of_refusal refusal }
 {
@@ -30,7 +30,7 @@ pub fn refused<E: Write>(refusal: Refusal, err: &mut E) -> u8
     }
 }
 
-/// Writes a line, and flushes it.
+/// Writes a line, and flushes it. On an error a part of it, or nothing, was written.
 #[tactic(auto, using(fj_replay::proofs::Begun::all_some, fj_streams::proofs::Bytes::appends_keeps))]
 fn written<W: Write>(out: &mut W, line: &str) -> io::Result<()>
     ensures ok { OnOk result (Appends (W.contents out.old) (W.contents out.new) line.now) }
@@ -42,7 +42,7 @@ fn written<W: Write>(out: &mut W, line: &str) -> io::Result<()>
     }
 }
 
-/// Writes the line of an answer: 0 where it was written and flushed, 4 where memory was refused to the line, 5 where a write or the flush
+/// Writes the line of an answer: 0 where it was written and flushed, 4 where out of memory for the line, 5 where a write or the flush
 /// failed.
 pub fn answered<W: Write, E: Write>(
     line: Result<String, AllocError>,

@@ -1,4 +1,4 @@
-//! The command line: what its arguments ask for.
+//! The command line: parses the arguments.
 ghost use Rattle.std.specs.Prelude.{◌≡◌, ◌≢◌, ◌↔◌, Some, IfOk, IfErr, IfSome, codes};
 ghost use Rattle.clap.specs.Walk.{texts};
 ghost use Rattle.clap.specs.Words.{HasKind, subcommand_name_of, subcommand_rows_of};
@@ -17,7 +17,7 @@ use given::{read_function, read_range, read_want, read_workers};
 pub use options::{FunctionOptions, RangeOptions, Workers};
 use std::alloc::Global;
 
-/// What is to be run.
+/// The command to run.
 #[derive(Clone, Copy)]
 pub enum Subcommand {
     /// The replies to a script on standard input.
@@ -34,7 +34,8 @@ pub enum Subcommand {
     Tree(Workers),
 }
 
-/// Reads the arguments, of which the first is the program's name. `None` if they ask for no command.
+/// Parses the arguments, the first being the program's name. `None` if they ask for no command. An error for a usage error, for help or
+/// the version, or out of memory.
 pub fn read<'a>(alloc: Global, words: &'a [&'a str]) -> Result<Option<Subcommand>, Error>
     ensures asked { IfOk result (λ asked. IfSome asked (λ a. Asks (texts words.entry.now) a)) }
     ensures replay { IfOk result (λ asked. (asked ≡ Some Subcommand.Replay) ↔ Names (codes "replay") (texts words.entry.now)) }
@@ -48,7 +49,7 @@ pub fn read<'a>(alloc: Global, words: &'a [&'a str]) -> Result<Option<Subcommand
     }
 }
 
-/// What the arguments ask for.
+/// The command that the arguments ask for.
 fn asked(matches: &ArgMatches) -> Option<Subcommand>
     ensures asked { IfSome result (λ a. IsAsked (subcommand_rows_of matches.now) a) }
     ensures replay { (result ≡ Some Subcommand.Replay) ↔ (subcommand_name_of matches.now ≡ Some (codes "replay")) }
@@ -63,7 +64,7 @@ fn asked(matches: &ArgMatches) -> Option<Subcommand>
     asked_job(matches)
 }
 
-/// Which job the arguments ask for.
+/// The job that the arguments ask for.
 fn asked_job(matches: &ArgMatches) -> Option<Subcommand>
     ensures asked { IfSome result (λ a. IsAsked (subcommand_rows_of matches.now) a) }
     ensures job { IfSome result (λ a. (a ≢ Subcommand.Replay) × (a ≢ Subcommand.Upgrade)) }

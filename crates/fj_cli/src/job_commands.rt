@@ -1,4 +1,4 @@
-//! The commands that do a job over a range: each starts a pool of its own, and writes the value of its job.
+//! The commands that run a job over a range: each starts a pool of its own, and writes the value of its job.
 ghost use Rattle.std.specs.Prelude.{◌≡◌, ◌<◌, ◌≤◌, IfNone, IfOk, IfSome};
 ghost use Rattle.fj_rules.specs.declared.limits.TheConstants.{MAX_EVENTS, MAX_TASKS};
 ghost use Rattle.fj_rules.specs.Bounds.{bounds};
@@ -17,12 +17,12 @@ use std::io::Write;
 use std::sync::Wait;
 use std::thread::Threads;
 
-/// More blocks than this are a fault of the command line: the events of more tasks might not fit into a history.
+/// The most blocks of a job; more are a usage error, since the events of more tasks might not fit into a history.
 pub const MAX_BLOCKS: u64 = 200_000;
 
 const TOO_MANY: &str = "too many leaves\n";
 
-/// Writes the sum of a range, and gives the exit status.
+/// Writes the sum of a range, and answers the exit status.
 pub fn run_sum<H: Threads + Wait + Sync, W: Write, E: Write>(
     rt: &H,
     alloc: Global,
@@ -41,8 +41,8 @@ pub fn run_sum<H: Threads + Wait + Sync, W: Write, E: Write>(
     }
 }
 
-/// Writes the least value of a function over a range with the first number that has it, `none` where the range is empty, and gives the
-/// exit status.
+/// Writes the least value of a function over a range with the first number that has it, `none` where the range is empty, and answers
+/// the exit status.
 pub fn run_min<H: Threads + Wait + Sync, W: Write, E: Write>(
     rt: &H,
     alloc: Global,
@@ -64,7 +64,7 @@ pub fn run_min<H: Threads + Wait + Sync, W: Write, E: Write>(
     }
 }
 
-/// Writes the first number of a range at which a function has a value, `none` where there is none, and gives the exit status.
+/// Writes the first number of a range at which a function has a value, `none` where there is none, and answers the exit status.
 pub fn run_find<H: Threads + Wait + Sync, W: Write, E: Write>(
     rt: &H,
     alloc: Global,
@@ -91,7 +91,7 @@ pub fn run_find<H: Threads + Wait + Sync, W: Write, E: Write>(
     }
 }
 
-/// The blocks that are asked for. None where they are too many.
+/// The range in blocks. None where they are more than [`MAX_BLOCKS`].
 fn blocks(options: RangeOptions) -> Option<BlockedRange>
     ensures some { IfSome result (λ range. (range.numbers.from ≡ options.from) × (range.numbers.count ≡ count_of options) × (range.grain ≡ options.grain)) }
     ensures few { IfSome result (λ range. blocks_of options ≤ MAX_BLOCKS) }
@@ -110,7 +110,7 @@ fn linear(function: FunctionOptions) -> LinearMod
     LinearMod::new(function.mul, function.add, function.modulus)
 }
 
-/// The value of a job, by as many workers as are asked for.
+/// The value of a job, by the number of workers asked for.
 fn value<J: Divide + Send, H: Threads + Wait + Sync>(
     rt: &H,
     alloc: Global,
@@ -130,7 +130,7 @@ where
     }
 }
 
-/// The limits of a pool with as many workers as are asked for, and as much room as may be.
+/// The limits of a pool with so many workers, one submitter, and the largest limits of tasks and events.
 fn limits_of(workers: Workers) -> Limits
     ensures { result ≡ bounds workers.count 1 MAX_TASKS MAX_EVENTS }
 {

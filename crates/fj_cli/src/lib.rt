@@ -1,8 +1,8 @@
 //! The command line of the program `fj`.
 //!
-//! [`fj`] runs a command over any reader and writers. Who calls it has beside it what the commands stand on: of `fj_replay` [`replay`],
-//! [`upgrade`], both of a script in memory, and [`ReplayFault`]; of `fj_streams` the readers and writers of which contracts know the calls;
-//! of `fj_invoke` the jobs that divide, with [`compute`], [`invoke`] and [`invoke_lazily`]; of `fj_fold` trees, with
+//! [`fj`] runs a command over any reader and writers. The crate also exports what the commands use: of `fj_replay` [`replay`],
+//! [`upgrade`], both of a script in memory, and [`ReplayFault`]; of `fj_streams` readers and writers whose contracts count calls;
+//! of `fj_invoke` divide-and-conquer jobs, with [`compute`], [`invoke`] and [`invoke_lazily`]; of `fj_fold` trees, with
 //! [`read_tree`] and [`fold_tree`].
 #![tactic(auto)]
 

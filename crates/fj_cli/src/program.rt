@@ -19,10 +19,10 @@ use std::io::{self, Read, Write};
 use std::sync::Wait;
 use std::thread::Threads;
 
-/// Runs a command, and gives the exit status. `words` are the arguments, of which the first is the program's name.
+/// Runs a command, and answers the exit status. `words` are the arguments, the first being the program's name.
 ///
-/// 0: it was run, or help or the version was asked for and written to `out`. 2: a fault of the arguments. 3: a fault of the input, or a job
-/// that the pool refused. 4: out of memory. 5: a read or a write failed. For all but 0 a text is sent to `err`, which may fail. `out` is
+/// 0: it was run, or help or the version was asked for and written to `out`. 2: a usage error. 3: a fault of the input, or a job that
+/// the pool refused. 4: out of memory. 5: a read or a write failed. For all but 0 a text is sent to `err`, which may fail. `out` is
 /// flushed after a command, and after help or the version; a failed flush gives 5.
 #[tactic(auto, using(crate::proofs::Answered::shown_asks, crate::proofs::Answered::else_at_fault, crate::proofs::Ended::status_of_command, crate::proofs::Ended::known_of_replay))]
 pub fn fj<H: Threads + Wait + Sync, R: Read, W: Write, E: Write>(
@@ -34,10 +34,10 @@ pub fn fj<H: Threads + Wait + Sync, R: Read, W: Write, E: Write>(
     err: &mut E,
 ) -> u8
     ensures status { (result ≡ 0) ⊎ ((result ≡ 2) ⊎ ((result ≡ 3) ⊎ ((result ≡ 4) ⊎ (result ≡ 5)))) }
-    // The arguments of a replay and of an upgrade run one, which is to its end at 0.
+    // The arguments of a replay and of an upgrade run one, to its end where the status is 0.
     ensures known { IsForScript (texts words.entry.now) → result ≢ 2 }
     ensures done { EndsKnown (texts words.entry.now) result (R.remaining input.old) (R.remaining input.new) (W.contents out.old) (W.contents out.new) }
-    // What the status says, whatever the arguments.
+    // The meaning of the status, for any arguments.
     ensures ends { EndsProgram (texts words.entry.now) result (R.remaining input.old) (R.remaining input.new) (W.contents out.old) (W.contents out.new) }
 {
     match read(alloc, words) {
@@ -70,8 +70,7 @@ fn run<H: Threads + Wait + Sync, R: Read, W: Write, E: Write>(
     }
 }
 
-/// Tells what stops the program before a command runs: an argument that is no text, or that it is out of memory. Gives
-/// the exit status.
+/// Writes why the arguments could not be read, and answers the exit status: 2 where one is not UTF-8, otherwise 4, as out of memory.
 pub fn without_words<E: Write>(error: &io::Error, err: &mut E) -> u8
     ensures { StatusOfNoWords (error_kind error.now) result }
 {
@@ -86,7 +85,7 @@ pub fn without_words<E: Write>(error: &io::Error, err: &mut E) -> u8
     }
 }
 
-/// Tells why the arguments name no command, or what they ask for of the command line itself.
+/// Writes why the arguments name no command, or the help or version that they ask for, and answers the exit status.
 fn without_command<W: Write, E: Write>(error: &Error, out: &mut W, err: &mut E) -> u8
     ensures status { (result ≡ 0) ⊎ ((result ≡ 2) ⊎ ((result ≡ 4) ⊎ (result ≡ 5))) }
     ensures out_of_memory { kind_of error.now ≡ ErrorKind.OutOfMemory → result ≡ 4 }

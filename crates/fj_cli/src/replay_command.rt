@@ -5,7 +5,7 @@ use fj_replay::replay;
 use std::alloc::Global;
 use std::io::{Read, Write};
 
-/// Replays a script, and gives the exit status.
+/// Replays a script, and answers the exit status.
 pub fn run_replay<R: Read, W: Write, E: Write>(
     alloc: Global,
     input: &mut R,

@@ -17,8 +17,8 @@ fn status(fault: ReplayFault) -> u8
     }
 }
 
-/// Flushes what was written of a script, and gives the exit status. A fault's text goes to `err`; where the flush fails, that is the fault
-/// that is told.
+/// Flushes what was written of a script, and answers the exit status. A fault's text goes to `err`; a failed flush is reported instead of
+/// another fault.
 pub fn end_script<W: Write, E: Write>(
     ended: Result<(), ReplayFault>,
     out: &mut W,
@@ -33,7 +33,7 @@ pub fn end_script<W: Write, E: Write>(
         Err(fault) if flushed => fault,
         _ => ReplayFault::Write,
     };
-    // No exit status tells that standard error failed too.
+    // A failure of standard error is ignored.
     let _ = writeln!(err, "{fault}");
     status(fault)
 }

@@ -12,7 +12,7 @@ use std::io::{Read, Write};
 use std::sync::Wait;
 use std::thread::Threads;
 
-/// Reads a tree to the end of the input, writes its value, and gives the exit status.
+/// Reads a tree to the end of the input, writes its value, and answers the exit status.
 pub fn run_tree<H: Threads + Wait + Sync, R: Read, W: Write, E: Write>(
     rt: &H,
     alloc: Global,
@@ -29,7 +29,7 @@ pub fn run_tree<H: Threads + Wait + Sync, R: Read, W: Write, E: Write>(
     }
 }
 
-/// Folds the tree, and writes its value.
+/// Folds the tree, writes its value, and answers the exit status.
 fn fold<H: Threads + Wait + Sync, W: Write, E: Write>(
     rt: &H,
     alloc: Global,
@@ -38,7 +38,7 @@ fn fold<H: Threads + Wait + Sync, W: Write, E: Write>(
     out: &mut W,
     err: &mut E,
 ) -> u8
-    // A tree that was read is one.
+    // The nodes are a tree.
     ensures tree { IsTree nodes.now }
     ensures job { EndsJob result (number_line (node_value nodes.now 0)) (W.contents out.old) (W.contents out.new) }
 {
@@ -49,7 +49,7 @@ fn fold<H: Threads + Wait + Sync, W: Write, E: Write>(
     }
 }
 
-/// Tells why no tree was read, and gives the exit status.
+/// Writes why no tree was read, and answers the exit status.
 fn told_of_fault<E: Write>(fault: TreeFault, err: &mut E) -> u8
     ensures { result ≡ status_of_fault fault }
 {

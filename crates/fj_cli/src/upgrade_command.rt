@@ -5,7 +5,7 @@ use fj_replay::upgrade;
 use std::alloc::Global;
 use std::io::{Read, Write};
 
-/// Writes a script of version 1 as version 2, and gives the exit status.
+/// Writes a script of version 1 as version 2, and answers the exit status.
 pub fn run_upgrade<R: Read, W: Write, E: Write>(
     alloc: Global,
     input: &mut R,

@@ -18,18 +18,18 @@ use Rattle.fj_bodies.specs.Endings.{EndsOk, EndsBody}
 use Rattle.fj_bodies.specs.HookEndings.{EndsHook}
 
 module _ {B K O : Type 0} where
-  -- the body that comes with an ask
+  -- the body that comes with an ask, if one does
   abbrev pub body_with : Ask B K O → Option B
   body_with (asks.Fork body kind) = Some body
   body_with (asks.Trigger body count) = Some body
   body_with _ = None
 
-  -- the body that came is handed back
+  -- `NotIdle`, with the body that came
   abbrev pub handed_back : Option B → Told B K O
   handed_back (Some body) = told.Hear (hears.Handed body NotIdle)
   handed_back None = told.Hear (hears.Refused NotIdle)
 
-  -- where a hook asks what only a body may: it hears so, or that the store is stuck
+  -- the answer to a hook that asks what only a body may: that, or that the store is stuck
   abbrev pub unserved : Bool → Option B → Told B K O
   unserved true body = told.Stuck body
   unserved false body = handed_back body
@@ -69,6 +69,6 @@ module _ {B K O : Type 0} where
   ActsWhere true key_of old hand ask answer new hand' = ActsInHook key_of old hand ask answer new hand'
   ActsWhere false key_of old hand ask answer new hand' = ActsInBody key_of old hand ask answer new hand'
 
-  -- one action, with the moving of its body
+  -- one action, which also moves the body
   abbrev pub Acts : (B → K) → StoreState B K O → HandState B → Ask B K O → Told B K O → StoreState B K O → HandState B → Type 0
   Acts key_of old hand ask answer new hand' = ActsWhere (is_some hand.hook) key_of old hand ask answer new hand'

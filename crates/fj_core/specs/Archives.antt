@@ -1,4 +1,4 @@
--- The sealed parts of a history: those that were handed out, and those behind them, which are kept.
+-- The sealed parts of a history: first those that were handed out, then those that are kept.
 use Rattle.std.specs.Prelude.{ℕ, ◌<◌, List, [], ◌++◌, length, Option, Some, None}
 use Rattle.fj_rules.specs.declared.epoch.Sealed.{Sealed}
 
@@ -8,7 +8,7 @@ pub record Archived : Type 0 where
   pub kept : List Sealed
   pub room : ℕ
 
--- what was handed out, as the archive shows it from which parts were taken last
+-- all parts handed out, where this was the archive before the last ones were
 abbrev pub handed_in : Option Archived → List Sealed
 handed_in None = []
 handed_in (Some before) = before.handed ++ before.kept

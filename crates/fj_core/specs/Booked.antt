@@ -25,12 +25,12 @@ booked_under bookings ticket = option_map (λ b. b.serial) (find (is_under ticke
 abbrev pub HasTask : List Booking → ℕ → Type 0
 HasTask bookings t = (place : ℕ) × (booking : Booking) × (slice_get bookings place ≡ Some booking) × (booking.serial ≡ t)
 
--- for each ticket in the table the place of the first booking under it
+-- for each ticket in the table the index of the first booking under it
 pub record IsIndex (bookings : List Booking) (first : List (Option ℕ)) : Type 0 where
   pub there : (ticket place : ℕ) → slice_get first ticket ≡ Some (Some place) → (place < length bookings) × (slice_get bookings place ≡ find (is_under ticket) bookings)
   pub absent : (ticket : ℕ) → slice_get first ticket ≡ Some None → find (is_under ticket) bookings ≡ None
 
--- a table with an entry for this ticket, where the table reaches it and has none
+-- the table with an entry for this ticket, if the table reaches it and has none
 abbrev pub mark_if : Option (Option ℕ) → List (Option ℕ) → ℕ → ℕ → List (Option ℕ)
 mark_if (Some None) first ticket place = slice_set first ticket (Some place)
 mark_if _ first ticket place = first

@@ -17,7 +17,7 @@ module _ {B K O : Type 0} where
   CancelsTask old t (Ok false) new = Drops old (Cancel t) says.No new
   CancelsTask old t (Err r) new = Refuses old (Cancel t) (says.Refused r) new
 
-  -- of a ticket under which nothing was taken in it is Unknown
+  -- Unknown if nothing was taken in under the ticket
   abbrev pub CancelsBooked : Option ℕ → CoreState B K O → Result Bool Refusal → CoreState B K O → Type 0
   CancelsBooked (Some t) old answer new = CancelsTask old.store t answer new.store × ChangesStore old new
   CancelsBooked None old answer new = (answer ≡ Err Unknown) × (new ≡ old)

@@ -1,10 +1,10 @@
--- The closing number, and which step is made where it is reached.
+-- The closing number, and which step is made once it is reached.
 use Rattle.std.specs.Prelude.{ℕ, ◌≡◌, ◌≤◌, Bool, true, false, ◌||◌, List, Option, Some, None, nat_le}
 use Rattle.fj_rules.specs.declared.event.Event.{Event}
 use Rattle.fj_rules.specs.Allowed.{is_closed, is_stopped}
 use Rattle.fj_core.specs.declared.cutoff.Cutoff.{Cutoff}
 
--- whether so many submissions reach the number
+-- whether the number is known, and at most `taken_in`
 abbrev pub is_due : Option ℕ → ℕ → Bool
 is_due None taken_in = false
 is_due (Some n) taken_in = nat_le n taken_in
@@ -14,15 +14,15 @@ abbrev pub first_set : Option ℕ → ℕ → Option ℕ
 first_set (Some m) n = Some m
 first_set None n = Some n
 
--- whether `Close` or `Stop` stands
+-- whether `Close` or `Stop` was made
 abbrev pub is_over : List Event → Bool
 is_over h = is_closed h || is_stopped h
 
--- the number was set, and so many submissions reach it
+-- the number was set, and `taken_in` submissions reach it
 abbrev pub IsReached : Option ℕ → ℕ → Type 0
 IsReached number taken_in = (n : ℕ) × (number ≡ Some n) × (n ≤ taken_in)
 
--- `Close` or `Stop` stands only where the number was reached; there one of them stands, `Stop` where it is to be made, unless the core is stuck
+-- `Close` or `Stop` is made only if the number was reached; then one of them is, `Stop` if the Cutoff says so, unless the core is stuck
 pub record IsClosing (h : List Event) (taken_in : ℕ) (closing : Cutoff) (stuck : Bool) : Type 0 where
   pub only : is_over h ≡ true → IsReached closing.number taken_in
   pub there : stuck ≡ false → IsReached closing.number taken_in → is_over h ≡ true

@@ -72,7 +72,7 @@ module _ {B K O : Type 0} where
   unless_due true = Some (Err Unknown)
   unless_due false = None
 
-  -- the outcome of the task that was booked under a ticket; of a ticket under which nothing will be booked any more it is Unknown
+  -- the outcome of the task that was booked under a ticket; Unknown if nothing was or will be booked under it
   abbrev pub CollectsBooked : Option ℕ → CoreState B K O → Option (Result (Outcome B K O) Refusal) → CoreState B K O → Type 0
   CollectsBooked (Some t) old answer new = Collects old.store t answer new.store × ChangesStore old new
   CollectsBooked None old answer new = (answer ≡ unless_due (is_due old.closing.number (length old.bookings))) × (new ≡ old)
@@ -85,7 +85,7 @@ module _ {B K O : Type 0} where
   abbrev pub CollectsTicket : CoreState B K O → ℕ → Option (Result (Outcome B K O) Refusal) → CoreState B K O → Type 0
   CollectsTicket old ticket answer new = CollectsUnless old.store.stuck (booked_under old.bookings ticket) old answer new
 
-  -- whether the task that was booked is undone; where none was, whether one may still be
+  -- whether the task that was booked is undone; if none was, whether one may still be
   abbrev pub is_pending : Option ℕ → CoreState B K O → Bool
   is_pending (Some t) core = is_kept core.store.past.events t && is_undone (status core.store.past.events t)
   is_pending None core = not (is_due core.closing.number (length core.bookings))

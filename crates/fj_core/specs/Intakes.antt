@@ -19,7 +19,7 @@ use Rattle.fj_core.specs.Closings.{is_due, is_over}
 use Rattle.fj_core.specs.Closes.{Dues}
 use Rattle.fj_core.specs.Cores.{CoreState, ChangesStore}
 
--- as what a body is submitted
+-- the kind under which a body is submitted
 abbrev pub kind_rooted : Option ℕ → SubmittedKind
 kind_rooted None = submitted.Plain
 kind_rooted (Some count) = submitted.Completer true count
@@ -37,21 +37,21 @@ abbrev pub with_drained : {B : Type 0} → DrainState B → Parcel B → DrainSt
 with_drained lane parcel = record lane { drained = lane.drained ++ parcel ∷ [] }
 
 module _ {B K O : Type 0} where
-  -- there is no room; where that is for an event of a quiescent machine, the store is stuck from now on
+  -- there is no room; if it is for an event and the machine is quiescent, the store is stuck from now on
   pub record FindsFull (old : StoreState B K O) (s : ℕ) (r : Refusal) (new : StoreState B K O) : Type 0 where
     pub free : old.stuck ≡ false
     pub goes_on : is_over old.past.events ≡ false
     pub refused : refused_now old.past s ≡ Some r
     pub sticks : new ≡ record old { stuck = is_log_full r && is_quiet old.past.pool.limits old.past.events }
 
-  -- what is answered before the lane is looked into; None where a submission would not be refused
+  -- the answer before a look into the lane; None if a submission would not be refused
   abbrev pub Readies : StoreState B K O → ℕ → Option Intake → StoreState B K O → Type 0
   Readies old s (Some (intake.Full r)) new = ((old.stuck ≡ true) × (r ≡ LogFull) × (new ≡ old)) ⊎ FindsFull old s r new
   Readies old s (Some intake.Empty) new = (old.stuck ≡ false) × (is_over old.past.events ≡ true) × (new ≡ old)
   Readies old s (Some (intake.Took t)) new = ⊥
   Readies old s None new = (old.stuck ≡ false) × (is_over old.past.events ≡ false) × (refused_now old.past s ≡ None) × (new ≡ old)
 
-  -- a body is submitted as it says
+  -- a body is submitted as `Body::rooted` says
   pub record Submits (rooted_as : B → Option ℕ) (old : StoreState B K O) (s : ℕ) (body : B) (serial : ℕ) (new : StoreState B K O) : Type 0 where
     pub step : Steps old.past (ask.Submit s (kind_rooted (rooted_as body))) (says.Task serial) new.past
     pub body_put : entries new.bodies ≡ with_entry (entries old.bodies) serial body
@@ -66,8 +66,8 @@ module _ {B K O : Type 0} where
     pub at : slice_get old.lanes s ≡ Some lane
     pub missed : new ≡ record old { lanes = slice_set old.lanes s (record lane { missed = lane.missed + 1 }) }
 
-  -- a parcel was taken in: it is the next of its lane, its body is submitted as it says, the task is booked under its ticket, and what is
-  -- due then is made
+  -- a parcel was taken in: it is the next of its lane, its body is submitted as it says, the task is booked under its ticket, and a step
+  -- that is due then is made
   pub record TakesIn (rooted_as : B → Option ℕ) (old : CoreState B K O) (s serial : ℕ) (new : CoreState B K O) : Type 0 where
     pub free : old.store.stuck ≡ false
     pub goes_on : is_over old.store.past.events ≡ false

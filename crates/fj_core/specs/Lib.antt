@@ -1,4 +1,4 @@
--- what was taken in, and which task stands under a ticket
+-- what was taken in, and under which tickets
 pub mod Booked
 -- the closing number
 pub mod Closings

@@ -16,18 +16,18 @@ may_be_sealed past = is_half_full past && not (is_over past.events) && is_quiet 
 
 module _ {B K O : Type 0} where
   -- whether nothing is taken in before the next seal: the history is more than half full, the machine is open and not quiescent, and no Stop
-  -- is to be made
+  -- is pending
   abbrev pub holds_back : CoreState B K O → Bool
   holds_back core =
       is_half_full core.store.past && not (is_over core.store.past.events) && not core.closing.stopping && not (is_quiet core.store.past.pool.limits core.store.past.events)
 
-  -- the store hands its part out, which is kept behind those before it, and nothing else has changed
+  -- the store hands out its part, which is appended to the kept ones, and nothing else has changed
   pub record KeepsPart (old new : CoreState B K O) : Type 0 where
     pub part : Sealed
     pub hands : HandsPart old.store part new.store
     pub others : new ≡ record old { store = new.store; parts = old.parts ++ part ∷ [] }
 
-  -- LogFull where it is stuck, else OutOfMemory where there is no place for a part, else as the machine refuses it
+  -- LogFull if it is stuck, else OutOfMemory if there is no room for a part, else the machine's refusal
   abbrev pub RefusesCoreSeal : CoreState B K O → Refusal → Type 0
   RefusesCoreSeal core r = ((core.store.stuck ≡ true) × (r ≡ LogFull)) ⊎ ((core.store.stuck ≡ false) × ((r ≡ OutOfMemory) ⊎ RefusesSeal core.store.past r))
 

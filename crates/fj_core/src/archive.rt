@@ -6,12 +6,12 @@ use std::marker::Model;
 use std::mem;
 use std::snapshot::Snapshot;
 
-/// The sealed parts of a history, in order: those that were handed out, and those behind them, which are kept. Java has no counterpart.
+/// The sealed parts of a history, in order: first those that were handed out, then those that are kept. Java has no counterpart.
 ///
-/// Only proofs read what was handed out, so nothing of it is kept when the program runs.
+/// Only proofs read the parts that were handed out: at run time nothing of them is kept.
 #[derive(Drop)]
 pub struct Archive {
-    // the archive as it was when parts were taken from it last: a value without bytes
+    // the archive as it was when parts were last taken from it: a value without bytes
     before: Option<Snapshot<Archive>>,
     kept: Vec<Sealed>,
 }
@@ -30,7 +30,7 @@ impl Model for Archive {
 
     ghost invariant = { λ a. HadParts (option_map (λ s. s.value) a.before) };
 
-    // fewer parts had been handed out before some were taken
+    // each archive in `before` had handed out fewer parts
     ghost size = { λ v. length v.handed };
 }
 
@@ -45,7 +45,7 @@ impl Archive {
         }
     }
 
-    /// Room for a part more. An error changes nothing but the room.
+    /// Reserves room for one more part. An error changes nothing but the room.
     pub(crate) fn reserve(&mut self) -> Result<(), AllocError>
         ensures room { OnOk result (length self.new.kept < self.new.room) }
         ensures same { self.new ≡ record self.old { room = self.new.room } }
@@ -53,7 +53,7 @@ impl Archive {
         self.kept.reserve(1)
     }
 
-    /// One part more, behind those before it. Precondition: there is room for it.
+    /// Appends a part. Precondition: there is room for it.
     pub(crate) fn push(&mut self, part: Sealed)
         requires { length self.old.kept < self.old.room }
         ensures { self.new ≡ record self.old { kept = self.old.kept ++ part ∷ [] } }
@@ -61,7 +61,7 @@ impl Archive {
         self.kept.push_reserved(part);
     }
 
-    /// The parts that are kept, the oldest first: from then on they count as handed out. It takes no memory.
+    /// Hands out the kept parts, the oldest first. It allocates nothing.
     pub(crate) fn take(&mut self, alloc: Global) -> Vec<Sealed>
         ensures parts { result.items ≡ self.old.kept }
         ensures handed { self.new ≡ record { handed = self.old.handed ++ self.old.kept; kept = []; room = self.new.room } }
@@ -82,7 +82,7 @@ impl Archive {
         self.kept.as_slice()
     }
 
-    /// The parts that are kept, the oldest first, and nothing else.
+    /// The same, consuming the archive.
     pub fn into_kept(self) -> Vec<Sealed>
         ensures { result.items ≡ self.kept }
     {

@@ -7,11 +7,11 @@ use fj_rules::{OutOfMemory, Serial};
 use std::alloc::Global;
 use std::marker::Model;
 
-/// What was taken in, in order, each found by its ticket without a walk. Java has no counterpart: there a task is its own ticket.
+/// What was taken in, in order, indexed by ticket. Java has no counterpart: there a task is its own ticket.
 #[derive(Drop)]
 pub struct Bookings {
     list: Vec<Booking>,
-    /// By ticket: the place of the first booking under it.
+    /// By ticket: the index of the first booking under it.
     first: Vec<Option<u32>>,
     room: u32,
 }
@@ -28,7 +28,7 @@ impl Model for Bookings {
 }
 
 impl Bookings {
-    /// No bookings, with room for so many, and for the tickets below that number. Refused only where out of memory.
+    /// No bookings, with room for `room` bookings, and for the tickets below that number. Refused only if out of memory.
     pub fn new(alloc: Global, room: u32) -> Result<Bookings, OutOfMemory>
         ensures { IfOk result (λ b. b ≡ record { bookings = []; room = room }) }
     {
@@ -39,7 +39,7 @@ impl Bookings {
         })
     }
 
-    /// How many there are.
+    /// The number of bookings.
     pub fn len(&self) -> usize
         ensures { result ≡ length self.now.bookings }
     {
@@ -53,7 +53,7 @@ impl Bookings {
         self.list.len() < self.room as usize
     }
 
-    /// One more, at the end. Precondition: there is room.
+    /// Appends a booking. Precondition: there is room.
     pub fn push(&mut self, booking: Booking)
         requires { length self.old.bookings < self.old.room }
         ensures { self.new ≡ record self.old { bookings = self.old.bookings ++ booking ∷ [] } }
@@ -64,7 +64,7 @@ impl Bookings {
 
     /// The task that was taken in first under a ticket. None if none was.
     ///
-    /// A ticket that is not below the room is none that a gate of so many admissions draws; it is looked for by a walk.
+    /// A gate of `room` admissions draws only tickets below `room`; others are found by a linear search.
     pub fn find(&self, ticket: Ticket) -> Option<Serial>
         ensures { result ≡ booked_under self.now.bookings ticket }
     {
@@ -80,7 +80,7 @@ impl Bookings {
         }
     }
 
-    /// Whether this task was taken in. It is looked for by halves, since tasks are taken in by rising number.
+    /// Whether this task was taken in. It is found by binary search, since tasks are taken in by rising number.
     pub fn has_task(&self, t: Serial) -> bool
         ensures { result ≡ true → HasTask self.now.bookings t }
     {
@@ -95,14 +95,14 @@ impl Bookings {
     }
 }
 
-/// The entry of the table for a ticket, where the table reaches it.
+/// The entry of the table for a ticket, if the table reaches it.
 fn entry(first: &[Option<u32>], ticket: Ticket) -> Option<Option<u32>>
     ensures { result ≡ slice_get first.now ticket }
 {
     first.get(ticket.0 as usize).copied()
 }
 
-/// Puts a place into the table for a ticket that has none.
+/// Enters an index for a ticket, unless it has one or the table does not reach it.
 fn mark(first: &mut Vec<Option<u32>>, ticket: Ticket, place: u32)
     ensures { first.new.items ≡ marked first.old.items ticket place }
 {

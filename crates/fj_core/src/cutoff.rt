@@ -1,17 +1,17 @@
 ghost use Rattle.std.specs.Prelude.{◌≡◌, None, false};
 ghost use Rattle.fj_core.specs.Closings.{first_set, is_due};
 
-/// At which submission the machine is shut down, and by which step. Java has no counterpart: its pools shut down at once.
+/// After how many submissions the machine is shut down, and by which step. Java has no counterpart: its pools shut down at once.
 #[derive(Clone, Copy, Debug, PartialEq)]
 pub struct Cutoff {
-    /// How many submissions are taken in before it, once that is known.
+    /// The closing number: how many submissions are taken in before the step, once that is known.
     pub number: Option<u64>,
     /// Whether the step is Stop. If not, it is Shutdown.
     pub stopping: bool,
 }
 
 impl Cutoff {
-    /// No number, and no Stop.
+    /// No number yet, and Shutdown.
     pub fn new() -> Cutoff
         ensures { result ≡ record { number = None; stopping = false } }
     {
@@ -21,7 +21,7 @@ impl Cutoff {
         }
     }
 
-    /// The same with this number, if there was none: the first one stays.
+    /// The same with this number, if there was none. The first one stays.
     pub fn at(self, number: u64) -> Cutoff
         ensures { result ≡ record self { number = first_set self.number number } }
     {
@@ -31,7 +31,7 @@ impl Cutoff {
         }
     }
 
-    /// Whether so many submissions reach the number.
+    /// Whether the number is known, and at most `taken_in`.
     pub fn is_due(&self, taken_in: usize) -> bool
         ensures { result ≡ is_due self.now.number taken_in }
     {

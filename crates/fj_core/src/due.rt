@@ -5,7 +5,7 @@ ghost use Rattle.fj_bodies.specs.Asking.{Shuts};
 use crate::cutoff::Cutoff;
 use fj_bodies::{Body, Store};
 
-/// Makes the Shutdown or the Stop, if so many submissions reach the closing number, unless the store is stuck.
+/// Makes the Shutdown or the Stop, if `taken_in` submissions reach the closing number, unless the store is stuck.
 pub fn make_due<B: Body>(store: &mut Store<B>, closing: Cutoff, taken_in: usize)
     ensures { Dues (is_due closing.number taken_in) closing.stopping store.old store.new }
 {
@@ -14,7 +14,7 @@ pub fn make_due<B: Body>(store: &mut Store<B>, closing: Cutoff, taken_in: usize)
     }
 }
 
-/// Makes the Stop, or the Shutdown. False where the history is full: then the store is stuck.
+/// Makes the Stop, or the Shutdown. False if the history is full: then the store is stuck.
 fn shut<B: Body>(store: &mut Store<B>, stopping: bool) -> bool
     ensures { Shuts store.old (shut_step stopping) result store.new }
 {

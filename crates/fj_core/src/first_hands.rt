@@ -5,7 +5,7 @@ use fj_rules::WorkerId;
 use fj_slots::Hand;
 use std::alloc::{AllocError, Global};
 
-/// The empty hand of each worker. Worker w scans from `start + w` on.
+/// An empty hand for each worker. Worker w begins its scans with the word `start + w`, modulo 2^32.
 pub fn new_hands<B: Drop>(
     alloc: Global,
     workers: u32,

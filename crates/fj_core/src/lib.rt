@@ -1,4 +1,4 @@
-//! The core of a pool: what a worker does while it holds the lock.
+//! The core of a pool: the state that its lock guards, and what is done with it while the lock is held.
 #![tactic(auto)]
 
 mod archive;

@@ -30,8 +30,9 @@ pub use remains::Remains;
 use std::alloc::Global;
 use std::marker::Model;
 
-/// All of a pool that is behind its lock: the store, the drains of the lanes, what was taken in, the closing number, and the sealed parts of
-/// the history. Each call is one action of a worker, of who asks from outside, or of the lanes. Java has no counterpart: its pool has no lock.
+/// The state of a pool that its lock guards: the store, the drains of the lanes, the bookings, the closing number, and the sealed parts of
+/// the history. Each call is one action of a worker, of a caller from outside, or of the lanes. Java has no counterpart: its pool has no
+/// lock.
 #[derive(Drop)]
 pub struct Core<B: Body> {
     store: Store<B>,
@@ -57,10 +58,10 @@ impl<B: Body> Model for Core<B> {
 }
 
 impl<B: Body> Core<B> {
-    /// A core in which nothing has happened, and the empty hand of each worker. All the memory that is needed later is taken here,
-    /// but that of seals; it is refused only where out of memory.
+    /// A core in which nothing has happened, and an empty hand for each worker. Allocates all memory except that of seals. `OutOfMemory` if
+    /// an allocation fails.
     ///
-    /// Preconditions: one drain for each submitter, each of a lane of this capacity, from which nothing was taken.
+    /// Preconditions: one drain for each submitter, each of a lane of this capacity, at most `MAX_CAPACITY`, from which nothing was taken.
     pub fn new(
         alloc: Global,
         mode: Mode,
@@ -89,7 +90,7 @@ impl<B: Body> Core<B> {
         Ok((core, hands))
     }
 
-    /// How large the pool may grow. There is a worker and a submitter at least.
+    /// How large the pool may grow. There is at least one worker and one submitter.
     pub fn limits(&self) -> Limits
         ensures limits { result ≡ self.now.store.past.pool.limits }
         ensures within { IsWithin result.workers result.submitters result.tasks result.events }
@@ -98,14 +99,14 @@ impl<B: Body> Core<B> {
         self.store.limits()
     }
 
-    /// The machine beneath: its history, and what that shows.
+    /// The machine, with its history.
     pub fn machine(&self) -> &Machine
         ensures { result.now ≡ self.now.store.past }
     {
         self.store.machine()
     }
 
-    /// An idle worker asks for its next task. `Stuck` where the core is stuck, and where the history is full, by which it gets stuck.
+    /// An idle worker asks for its next task. `Stuck` if the core is stuck, or gets stuck since the history is full.
     /// Preconditions: the hand fits, and has no body and no hook.
     #[inline(always)]
     pub fn poll(&mut self, hand: &mut Hand<B>) -> Told<B>
@@ -119,12 +120,12 @@ impl<B: Body> Core<B> {
         self.store.poll(hand)
     }
 
-    /// The outcome of the task that was taken in first under a ticket, once it is done: it is told once, and the task is then released as
+    /// The outcome of the task that was taken in first under a ticket, once it is done. It is delivered once; then the task is released as
     /// soon as it can be.
     ///
-    /// `LogFull` where the core is stuck. `Unknown` where the outcome was told before, where a join or a take has had the result, or
-    /// where so many submissions were taken in as there will be, none of them under this ticket. None while nothing was taken in under it,
-    /// and while its task is undone.
+    /// `LogFull` if the core is stuck. `Unknown` if the outcome was delivered before, if a join, a take or a release has had the result, or if
+    /// the closing number is reached and nothing was taken in under this ticket. None while nothing was taken in under it, and while its
+    /// task is undone.
     pub fn collect(&mut self, ticket: Ticket) -> Option<Result<Outcome<B>, Refusal>>
         ensures collects { CollectsTicket self.old ticket result self.new }
         ensures stays { StaysInside self.old.store self.new.store }
@@ -144,10 +145,10 @@ impl<B: Body> Core<B> {
         }
     }
 
-    /// Cancels the task that was taken in first under a ticket: `ForkJoinTask.cancel`. Whether it is cancelled now; false where it has ended
-    /// otherwise.
+    /// Cancels the task that was taken in first under a ticket: `ForkJoinTask.cancel`. True if it is cancelled now, also if it was before;
+    /// false if it ended otherwise.
     ///
-    /// `LogFull` where the core is stuck, or there is no room for the event. `Unknown` where nothing was taken in under it, or its task was
+    /// `LogFull` if the core is stuck, or the history has no room for the event. `Unknown` if nothing was taken in under it, or its task was
     /// released.
     pub fn cancel(&mut self, ticket: Ticket) -> Result<bool, Refusal>
         ensures cancels { CancelsTicket self.old ticket result self.new }
@@ -181,15 +182,15 @@ impl<B: Body> Core<B> {
         self.bookings.find(ticket)
     }
 
-    /// Whether the core is stuck: something that has to be made found no room in the history.
+    /// Whether the core is stuck: the history had no room for a step that must be made.
     pub fn is_stuck(&self) -> bool
         ensures { result ≡ self.now.store.stuck }
     {
         self.store.is_stuck()
     }
 
-    /// Whether the outcome under a ticket is still to come: the core is not stuck, and the task that was taken in first under it is undone;
-    /// or nothing was taken in under it, and fewer submissions were taken in than there will be.
+    /// Whether the outcome under a ticket is still to come: the core is not stuck, and the task that was taken in first under it is undone,
+    /// or nothing was taken in under it and the closing number is not reached.
     pub fn is_awaited(&self, ticket: Ticket) -> bool
         ensures { result ≡ is_awaited self.now ticket }
     {
@@ -202,7 +203,7 @@ impl<B: Body> Core<B> {
         }
     }
 
-    /// Whether a task is kept and undone: not `ForkJoinTask.isDone`. It also serves where the core is stuck.
+    /// Whether a task is kept and undone: not `ForkJoinTask.isDone`. It also answers if the core is stuck.
     pub fn is_undone(&self, t: Serial) -> bool
         ensures { result ≡ is_kept self.now.store.past.events t && is_undone (status self.now.store.past.events t) }
     {

@@ -1,10 +1,10 @@
--- The first item that is wanted.
+-- The first wanted item.
 use Rattle.std.specs.Prelude.{ℕ, ◌≡◌, ◌==◌, ◌&&◌, Bool, true, List, Option, slice_range}
 use Rattle.std.specs.List.{position_from}
 use Rattle.std.proofs.Common.{arith, refl}
 use Rattle.std.proofs.lemmas.Bool.Decides.{nat_tests}
 
--- the place of the first item between two places that is wanted
+-- the place of the first wanted item between two places
 abbrev pub first_in : {T : Type 0} → (T → Bool) → List T → ℕ → ℕ → Option ℕ
 first_in wants items from to = position_from wants from (slice_range items from to)
 

@@ -1,4 +1,4 @@
 -- blocks of items
 pub mod Blocks
--- the first item that is wanted
+-- the first wanted item
 pub mod Firsts

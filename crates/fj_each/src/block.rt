@@ -1,25 +1,25 @@
 ghost use Rattle.std.specs.Prelude.{◌≡◌, ◌<◌, ◌≤◌, IfSome};
 
-/// Items in a row, by their places.
+/// Consecutive items, by their places.
 #[derive(Clone, Copy, PartialEq, Eq, Debug)]
 pub struct Block {
     /// The first place.
     pub from: usize,
-    /// The place behind the last one.
+    /// The place after the last one.
     pub to: usize,
     ghost ordered: { from ≤ to },
 }
 
-/// In how many blocks, about, what a pool does of a loop is cut: many for each worker, and few enough that their ends cost nothing.
+/// Into about how many blocks a pool's part of a loop is cut: many for each worker, and few enough that their ends cost nothing.
 const BLOCKS: usize = 1_024;
 
 impl Block {
-    /// How many items are done in a row where a pool does this block.
+    /// How many items are done at a time where a pool does this block.
     pub fn grain(self) -> usize {
         (self.to - self.from) / BLOCKS
     }
 
-    /// Its two halves, unless it has at most so many items, or one.
+    /// Its two halves; None where it has at most `grain` items, or fewer than 2.
     pub fn halves(self, grain: usize) -> Option<(Block, Block)>
         ensures ends { IfSome result (λ p. (p.0.from ≡ self.from) × (p.0.to ≡ p.1.from) × (p.1.to ≡ self.to)) }
         ensures some { IfSome result (λ p. (self.from < p.1.from) × (p.1.from < self.to)) }

@@ -5,12 +5,12 @@ use crate::block::Block;
 use crate::each::Each;
 use fj_jobs::Divide;
 
-/// A part of a loop over a range. It gives nothing.
+/// A part of a loop over a range. It has no value.
 #[derive(Drop)]
 pub struct Every<'f, E: Each> {
     /// The numbers.
     pub block: Block,
-    /// How many are done in a row.
+    /// How many are done at a time.
     pub grain: usize,
     /// What is done with them.
     pub each: &'f E,

@@ -15,10 +15,11 @@ pub struct Find<'d, 'p, T, P: Wanted<T>, N: Search<T>> {
     pub items: &'d [T],
     /// Which of them.
     pub block: Block,
-    /// How many are looked at in a row.
+    /// How many are tested at a time.
     pub grain: usize,
     /// What is looked for.
     pub wanted: &'p P,
+    /// The type that names the items, and what is wanted.
     pub of: PhantomData<N>,
     ghost named: { ∥ items.now ≡ N.items ∥₁ },
     ghost asked: { (x : T) → P.wants wanted.now x ≡ N.wants x },
@@ -26,7 +27,7 @@ pub struct Find<'d, 'p, T, P: Wanted<T>, N: Search<T>> {
 }
 
 impl<'d, 'p, T, P: Wanted<T>, N: Search<T>> Find<'d, 'p, T, P, N> {
-    /// The same of this part of it. Precondition: the items have it.
+    /// The same of this part of it. Precondition: it is within the items.
     fn of_block(&self, block: Block) -> Find<'d, 'p, T, P, N>
         requires { block.to ≤ length self.now.items.now }
         ensures { result.block ≡ block }
@@ -86,7 +87,7 @@ impl<'d, 'p, T, P: Wanted<T>, N: Search<T>> Divide for Find<'d, 'p, T, P, N> {
     ghost same_value = { λ a b e. same_first N.wants N.items a.from a.to b.from b.to e };
 }
 
-/// The first place in a block at which an item is wanted. Precondition: the items have that block.
+/// The first place in a block at which an item is wanted. Precondition: the block is within the items.
 pub fn first_in<T, P: Wanted<T>>(items: &[T], block: Block, wanted: &P) -> Option<usize>
     requires { block.to ≤ length items.now }
     ensures { result ≡ first_in (P.wants wanted.now) items.now block.from block.to }

@@ -15,11 +15,11 @@ use std::sync::Wait;
 use std::thread::Threads;
 use std::time::Clock;
 
-/// The place of the first item of a slice that is wanted, by workers in threads; None where none is. Blocks right of the best place so far are not
-/// begun, and a worker there stops behind its present block.
+/// The place of the first wanted item of a slice, by worker threads; None where no item is wanted. Blocks right of the best place so far
+/// are not begun, and a worker there stops after its present block.
 ///
-/// It begins on the calling thread, and makes a pool only where what is left takes longer than that; one worker needs none. `LogFull` where the
-/// history is full, `OutOfMemory` where memory is refused or a thread cannot be started.
+/// It begins on the calling thread, and makes a pool only where about half a millisecond or more is left; one worker needs none. `LogFull`
+/// where the history is full, `OutOfMemory` where an allocation fails or a thread cannot be started.
 pub fn find_first<T: Sync, P: Wanted<T> + Sync, R: Threads + Wait + Clock + Sync>(
     rt: &R,
     alloc: Global,
@@ -52,8 +52,8 @@ pub fn find_first<T: Sync, P: Wanted<T> + Sync, R: Threads + Wait + Clock + Sync
     Ok(None)
 }
 
-/// The place of the first item from a place on that is wanted, by a pool. Preconditions: there is that place, and the type names these items and what
-/// is wanted.
+/// The place of the first wanted item from a place on, by a pool. Preconditions: there is that place, and the type names these items and
+/// what is wanted.
 fn find_rest<N: Search<T> + Send, T: Sync, P: Wanted<T> + Sync, R: Threads + Wait + Sync>(
     rt: &R,
     alloc: Global,

@@ -1,6 +1,6 @@
 use std::marker::Brand;
 
-/// The items of a loop: a name by which the types of its parts know them, so that two places say what a part is of.
+/// The items of a loop: a type that names them for its parts, so that two places determine a part.
 pub trait Items<T> {
     ghost use Rattle.std.specs.Prelude.{List};
 

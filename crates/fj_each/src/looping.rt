@@ -12,11 +12,12 @@ use std::sync::Wait;
 use std::thread::Threads;
 use std::time::Clock;
 
-/// Does something with each block of a range, by workers in threads: `IntStream.range(..).parallel().forEach`. The blocks are disjoint, in no order
-/// in time, and together the range. Precondition: the range ends at most at the limit.
+/// Does something with each block of a range, by worker threads: `IntStream.range(..).parallel().forEach`. The blocks are disjoint, and
+/// together the range; they are done in no particular order. Precondition: the range ends at most at the limit.
 ///
-/// It begins on the calling thread, and makes a pool only where what is left takes longer than that; one worker needs none. `LogFull` where the
-/// history is full, `OutOfMemory` where memory is refused to the pool or a thread cannot be started; what was done by then stays done.
+/// It begins on the calling thread, and makes a pool only where about half a millisecond or more is left; one worker needs none. `LogFull`
+/// where the history is full, `OutOfMemory` where an allocation of the pool fails or a thread cannot be started; what was done by then
+/// stays done.
 pub fn for_each<E: Each + Sync, R: Threads + Wait + Clock + Sync>(
     rt: &R,
     alloc: Global,

@@ -1,12 +1,12 @@
 use std::time::{Clock, Instant};
 
-/// For how long a loop runs on the calling thread at least, in nanoseconds: before that its pace cannot be told.
+/// How long a loop runs on the calling thread at least, in nanoseconds: before that its pace is unknown.
 const SAMPLE: u64 = 50_000;
 
-/// How long what is left has to take so that a pool is made for it, in nanoseconds: a pool of four workers costs a third of that.
+/// How long what is left has to take for a pool to be made, in nanoseconds: a pool of four workers costs a third of that.
 const WORTH: u64 = 500_000;
 
-/// How fast a loop gets on, by which it is told whether a pool is worth its making.
+/// How fast a loop runs, to decide whether a pool is worth making.
 #[derive(Drop)]
 pub struct Pace<'r, R> {
     clock: &'r R,
@@ -15,7 +15,7 @@ pub struct Pace<'r, R> {
 }
 
 impl<'r, R: Clock> Pace<'r, R> {
-    /// It begins now.
+    /// Starts now.
     pub fn start(clock: &'r R) -> Pace<'r, R> {
         Pace {
             clock,
@@ -23,8 +23,7 @@ impl<'r, R: Clock> Pace<'r, R> {
         }
     }
 
-    /// Whether what is left will take so long that a pool should do it, where so many items are done and so many are left. Without a clock it
-    /// should.
+    /// Whether a pool should do what is left, after `done` items, with `left` to go. True where the clock cannot be read.
     pub fn is_worth_a_pool(&self, done: usize, left: usize) -> bool {
         let Some(start) = self.start else {
             return true;

@@ -15,17 +15,18 @@ pub struct Part<'d, 'm, T, M, N: Items<T>> {
     pub items: &'d [T],
     /// Which of them.
     pub block: Block,
-    /// How many are done in a row.
+    /// How many are done at a time.
     pub grain: usize,
     /// What is done.
     pub reduce: &'m M,
+    /// The type that names the items.
     pub of: PhantomData<N>,
     ghost named: { ∥ items.now ≡ N.items ∥₁ },
     ghost within: { block.to ≤ length items.now },
 }
 
 impl<'d, 'm, T, M, N: Items<T>> Part<'d, 'm, T, M, N> {
-    /// The same of this part of it. Precondition: the items have it.
+    /// The same of this part of it. Precondition: it is within the items.
     fn of_block(&self, block: Block) -> Part<'d, 'm, T, M, N>
         requires { block.to ≤ length self.now.items.now }
         ensures { result.block ≡ block }
@@ -45,7 +46,7 @@ impl<'d, 'm, T, M: Reduce<T>, N: Items<T>> TryDivide for Part<'d, 'm, T, M, N> {
 
     type Out = M::Out;
 
-    /// None where two parts are no neighbours, which no pool has happen.
+    /// None where two parts are not adjacent, which does not happen in a pool.
     type Error = Option<M::Error>;
 
     ghost key_of = { λ j. j.block };

@@ -15,12 +15,12 @@ use std::sync::Wait;
 use std::thread::Threads;
 use std::time::Clock;
 
-/// What a slice gives, by blocks and by workers in threads: each block is mapped, and what two blocks in a row give is combined, the left one first.
-/// Where the blocks end depends on the schedule; what is promised does not: it is what `gives` says of the whole slice.
+/// Reduces a slice, by worker threads: each block is mapped, and the values of adjacent blocks are combined, the left one first. Where the
+/// blocks end depends on the schedule; what is promised does not: it is what `gives` says of the whole slice.
 ///
-/// It begins on the calling thread, and makes a pool only where what is left takes longer than that; one worker needs none. `Failed` with the
-/// first failure from the left. `Refused` with `LogFull` where the history is full, and with `OutOfMemory` where memory is refused to the
-/// pool or a thread cannot be started.
+/// It begins on the calling thread, and makes a pool only where about half a millisecond or more is left; one worker needs none. `Failed`
+/// with the first failure from the left. `Refused` with `LogFull` where the history is full, and with `OutOfMemory` where an allocation of
+/// the pool fails or a thread cannot be started.
 pub fn map_reduce<T: Sync, M: Reduce<T> + Sync, R: Threads + Wait + Clock + Sync>(
     rt: &R,
     alloc: Global,
@@ -53,7 +53,7 @@ where
     Ok(out)
 }
 
-/// What the items between two places give. Precondition: there are such places.
+/// The value of the items between two places. Precondition: there are such places.
 fn map_block<T, M: Reduce<T>>(
     alloc: Global,
     items: &[T],
@@ -72,7 +72,7 @@ fn map_block<T, M: Reduce<T>>(
     }
 }
 
-/// What two blocks in a row give, from what the left and the right one do.
+/// The value of two adjacent blocks, from those of the left and the right one.
 fn combined<T, M: Reduce<T>>(
     alloc: Global,
     left: M::Out,
@@ -87,7 +87,7 @@ fn combined<T, M: Reduce<T>>(
     }
 }
 
-/// What the items from a place on give, by a pool. Preconditions: there is that place, and the type names these items.
+/// The value of the items from a place on, by a pool. Preconditions: there is that place, and the type names these items.
 fn reduce_rest<N: Items<T> + Send, T: Sync, M: Reduce<T> + Sync, R: Threads + Wait + Sync>(
     rt: &R,
     alloc: Global,

@@ -1,6 +1,6 @@
 use std::marker::Brand;
 
-/// The items of a search, and what is wanted of them: a name by which the types of its parts know both.
+/// The items of a search, and what is wanted of them: a type that names both for its parts.
 pub trait Search<T> {
     ghost use Rattle.std.specs.Prelude.{List, Bool};
 

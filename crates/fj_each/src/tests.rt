@@ -11,7 +11,7 @@ use std::thread;
 use std::thread::Threads;
 use std::time::{Clock, Duration};
 
-/// How long an item takes, in microseconds, where a pool is to do them and where none is.
+/// How long an item takes, in microseconds: with a pool, and without.
 const PAUSES: [u64; 2] = [50, 0];
 
 /// How many items there are.
@@ -65,7 +65,7 @@ impl<C: Clock> Reduce<u32> for Listing<'_, C> {
     }
 }
 
-/// Blocks are combined in their order, by any number of workers, whether a pool does them or not.
+/// Blocks are combined in order, by any number of workers, with a pool or without.
 #[test]
 fn a_slice_is_reduced_in_order(rt: HostRuntime) -> Result<(), Fail> {
     for workers in [1, 2, 4] {
@@ -90,7 +90,7 @@ fn a_slice_is_reduced_in_order(rt: HostRuntime) -> Result<(), Fail> {
     Ok(())
 }
 
-/// Of several failures the first one from the left is told, whichever came first.
+/// Of several failures the first one from the left is reported, whichever came first.
 #[test]
 fn the_first_failure_from_the_left_is_told(rt: HostRuntime) -> Result<(), Fail> {
     const FAILING: [(&[u32], u32); 3] = [(&[0], 0), (&[299, 150], 150), (&[298, 299], 298)];
@@ -116,7 +116,7 @@ fn the_first_failure_from_the_left_is_told(rt: HostRuntime) -> Result<(), Fail> 
     Ok(())
 }
 
-/// Wants an item from a number on; looking at one takes a while.
+/// Wants each item from a number on; testing one takes a while.
 #[derive(Drop)]
 struct From<'c, C> {
     clock: &'c C,
@@ -163,7 +163,7 @@ fn the_first_wanted_item_is_found(rt: HostRuntime) -> Result<(), Fail> {
     Ok(())
 }
 
-/// Counts at each number how often it was done.
+/// Counts how often each number was done.
 #[derive(Drop)]
 struct Counts<'c, C> {
     clock: &'c C,
@@ -220,7 +220,7 @@ fn each_number_of_a_range_is_done_once(rt: HostRuntime) -> Result<(), Fail> {
     Ok(())
 }
 
-/// Waits in each block, for so many turns that each yield, until another block is begun meanwhile.
+/// Waits in each block, yielding a bounded number of times, until another block has begun.
 #[derive(Drop)]
 struct Meeting {
     inside: AtomicU32,
@@ -242,7 +242,7 @@ impl Each for Meeting {
     }
 }
 
-/// Two workers do blocks beside each other.
+/// Two workers do blocks concurrently.
 #[test]
 fn blocks_are_done_beside_each_other(rt: HostRuntime) -> Result<(), Fail> {
     let meeting = Meeting {

@@ -13,11 +13,11 @@ use Rattle.fj_trees.specs.TreeValues.{children}
 use Rattle.fj_fold.specs.declared.fold_progress.FoldStage.{FoldStage}
 use Rattle.fj_fold.specs.declared.fold_progress.FoldStage.TheVariants.{Adding, Forking}
 
--- a completer of some parent that waits for nothing yet, and passes a code on
+-- a completer under some parent with pending count 0, which relays a code
 abbrev pub IsChildKind : Kind → Type 0
 IsChildKind kind = (parent : ℕ) × (kind ≡ Completer true 0 (Some parent))
 
--- only this: to add the number of its children, to fork completers, to end by trying or as out of memory, to take results and give one
+-- only this: to add the number of its children, to fork completers, to end by `Try` or as out of memory, to take results and give one
 abbrev pub AsksAsNode : {B K O : Type 0} → List Node → ℕ → Ask B K O → Type 0
 AsksAsNode nodes p (Add c n) = n ≡ length (children nodes p)
 AsksAsNode nodes p (Fork body kind) = IsChildKind kind
@@ -33,7 +33,7 @@ task_in (Adding me) = Some me
 task_in (Forking me) = Some me
 task_in _ = None
 
--- the same once this is heard: the first turn tells it
+-- the same once this is heard: the first turn gives it
 abbrev pub own_task : {B K O : Type 0} → FoldStage → Heard B K O → Option ℕ
 own_task stage (Start me) = Some me
 own_task stage _ = task_in stage

@@ -1,4 +1,4 @@
--- How far a body has come that folds a node.
+-- How far a body that folds a node has come.
 use Rattle.std.specs.Prelude.{ℕ, ◌+◌, ◌*◌, List, Option, IfSome}
 use Rattle.fj_trees.specs.declared.node.Node.{Node}
 use Rattle.fj_fold.specs.declared.fold_progress.FoldStage.{FoldStage}
@@ -7,7 +7,7 @@ use Rattle.fj_fold.specs.declared.fold_progress.FoldProgress.{FoldProgress}
 use Rattle.fj_fold.specs.Families.{IsChild}
 use Rattle.fj_fold.specs.Tallies.{IsTally, numbers_from}
 
--- what is summed is right, and who is forked next is a child
+-- the partial sum is right, and the next one forked is a child
 pub record IsCourse (nodes : List Node) (course : FoldProgress) : Type 0 where
   pub tally : IsTally nodes course.tally
   pub next : IfSome course.next (λ c. IsChild nodes course.tally.node c)

@@ -1,8 +1,8 @@
 -- the nodes of a tree with their first children and their next siblings
 pub mod Families
--- how far the value of a node is summed
+-- partial sums of the values of nodes
 pub mod Tallies
--- how far a body has come that folds a node
+-- how far a body that folds a node has come
 pub mod Courses
 -- what the body of a node asks
 pub mod Asks

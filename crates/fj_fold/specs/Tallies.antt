@@ -1,4 +1,4 @@
--- How far the value of a node is summed.
+-- Partial sums of the values of nodes.
 use Rattle.std.specs.Prelude.{ℕ, ◌≡◌, ◌+◌, ◌-◌, ◌%◌, ◌<◌, ◌≤◌, List, [], length, map, Option, Some, None, IfSome}
 use Rattle.fj_trees.specs.declared.node.Node.{Node}
 use Rattle.fj_trees.specs.TreeValues.{children_from, node_value, weighted}

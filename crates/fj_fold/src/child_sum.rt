@@ -5,23 +5,23 @@ ghost use Rattle.fj_fold.specs.Tallies.{IsTally, numbers_from};
 
 use crate::family::Family;
 
-/// What values are computed modulo.
+/// The modulus of all values.
 const MODULUS: u64 = 1_000_000_007;
 
-/// How far the value of a node is summed.
+/// A partial sum of the value of a node.
 #[derive(Clone, Copy)]
 pub(crate) struct ChildSum {
     pub(crate) node: u32,
-    /// The child whose value comes next, if one is left.
+    /// The next child to add, if one is left.
     pub(crate) child: Option<u32>,
-    /// What that value is multiplied by: 1 at the first child, 2 at the second.
+    /// The factor of its value: 1 for the first child, 2 for the second.
     pub(crate) weight: u32,
     /// The node's own value and the weighted values of the children before, modulo 1,000,000,007.
     pub(crate) sum: u64,
 }
 
 impl ChildSum {
-    /// The own value of a node. Precondition: there is such a node.
+    /// The sum of a node's own value alone. Precondition: there is such a node.
     pub(crate) fn new(family: &Family, node: u32) -> ChildSum
         requires { node < length family.now }
         ensures tally { IsTally family.now result }
@@ -36,7 +36,7 @@ impl ChildSum {
         }
     }
 
-    /// With the value of the next child. Preconditions: it is the next one, and its value.
+    /// Adds the value of the next child. Preconditions: `child` is the next one, and `value` its value.
     pub(crate) fn add(self, family: &Family, child: u32, value: u64) -> ChildSum
         requires tally { IsTally family.now self }
         requires child { self.child ≡ Some child }

@@ -10,7 +10,7 @@ use fj_trees::Nodes;
 use std::alloc::Global;
 use std::marker::Model;
 
-/// A tree in which each node leads to its first child and to its next sibling, so that a body finds its children without a walk over all
+/// A tree with links from each node to its first child and to its next sibling, so that a body finds its children without a walk over all
 /// nodes. Java has no counterpart.
 #[derive(Drop)]
 pub struct Family {
@@ -30,7 +30,7 @@ impl Model for Family {
 }
 
 impl Family {
-    /// The family of a tree. `OutOfMemory` where memory was refused.
+    /// The family of a tree. `OutOfMemory` where an allocation fails.
     pub fn new(alloc: Global, nodes: &Nodes) -> Result<Family, OutOfMemory>
         ensures { IfOk result (λ family. family ≡ nodes.now) }
     {

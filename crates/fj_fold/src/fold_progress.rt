@@ -1,6 +1,6 @@
 use crate::child_sum::ChildSum;
 
-/// What a body does that folds a node. Its task stands in it as a plain number.
+/// The stage of a body that folds a node. Its task is kept as a plain number.
 #[derive(Clone, Copy)]
 pub(crate) enum FoldStage {
     /// Nothing yet.
@@ -15,12 +15,12 @@ pub(crate) enum FoldStage {
     Taking,
 }
 
-/// How far a body has come that folds a node.
+/// How far a body that folds a node has come.
 #[derive(Clone, Copy)]
 pub(crate) struct FoldProgress {
     pub(crate) stage: FoldStage,
     /// The child that is forked next, if one is left.
     pub(crate) next: Option<u32>,
-    /// What is summed of the node's value.
+    /// The partial sum of the node's value.
     pub(crate) tally: ChildSum,
 }

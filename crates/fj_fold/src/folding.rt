@@ -16,10 +16,10 @@ use std::sync::Wait;
 use std::thread::Threads;
 
 /// The value of the root of a tree, folded by so many workers, a thread for each: `ForkJoinPool.invoke` of a `CountedCompleter`. The
-/// turnstile is asked before the first turn of each node's body. Precondition: 1 to 32 workers.
+/// turnstile is called before the first turn of each node's body. Precondition: 1 to 32 workers.
 ///
-/// `LogFull` where the history is full, or the root failed with that refusal's number. `OutOfMemory` where memory or a thread was refused,
-/// and where the root has no result otherwise.
+/// `LogFull` where the history is full, or the root failed with that refusal's number. `OutOfMemory` where an allocation fails or a thread
+/// cannot be started, and where the root has no result for any other reason.
 pub fn fold_tree<R: Threads + Wait + Sync, T: Turnstile + Sync>(
     rt: &R,
     alloc: Global,
@@ -32,7 +32,7 @@ pub fn fold_tree<R: Threads + Wait + Sync, T: Turnstile + Sync>(
     ensures ok { IfOk result (λ value. value ≡ node_value nodes.now 0) }
     ensures err { IfErr result RefusesRun }
 {
-    // Tells that a tree has a root.
+    // For the proof: a tree has a root.
     let _nodes = nodes.as_slice();
     match Family::new(alloc, nodes) {
         Ok(family) => fold_in::<Brand, R, T>(rt, alloc, workers, &family, turnstile),
@@ -77,7 +77,7 @@ fn fold_in<F: NamedTree + Send, R: Threads + Wait + Sync, T: Turnstile + Sync>(
     }
 }
 
-/// The limits of a pool with so many workers, and as much room as may be. Precondition: 1 to 32 workers.
+/// The limits of a pool with so many workers, and otherwise as large as possible. Precondition: 1 to 32 workers.
 fn limits_of(workers: u32) -> Limits
     requires some { 0 < workers }
     requires few { workers ≤ MAX_WORKERS }

@@ -4,8 +4,8 @@ ghost use Rattle.fj_trees.specs.TreeValues.{node_value};
 use crate::child_sum::ChildSum;
 use crate::family::Family;
 
-/// The value of a node, without a pool and without memory: from its children's, which are computed so too. It recurses as deep as the tree
-/// below the node. Precondition: there is such a node.
+/// Computes the value of a node recursively, without a pool or allocation. It recurses as deep as the tree below the node. Precondition:
+/// there is such a node.
 pub(crate) fn value_in_place(family: &Family, node: u32) -> u64
     requires { node < length family.now }
     ensures { result ≡ node_value family.now node }

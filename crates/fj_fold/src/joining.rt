@@ -1,4 +1,4 @@
-//! The nodes of a tree are joined to their children.
+//! Links the nodes of a tree to their children.
 ghost use Rattle.std.specs.Prelude.{◌≡◌, ◌<◌, length, map, IfOk};
 ghost use Rattle.fj_trees.specs.Trees.{IsTree};
 ghost use Rattle.fj_fold.specs.Families.{IsFamily, IsJoined, alone, member_at, nodes_of, with_joined};
@@ -8,7 +8,7 @@ use fj_rules::OutOfMemory;
 use fj_trees::Node;
 use std::alloc::Global;
 
-/// The nodes, each alone.
+/// The nodes, without links. `OutOfMemory` where an allocation fails.
 pub(crate) fn each_alone(alloc: Global, nodes: &[Node]) -> Result<Vec<Member>, OutOfMemory>
     ensures { IfOk result (λ members. members.items ≡ map alone nodes.now) }
 {
@@ -19,7 +19,7 @@ pub(crate) fn each_alone(alloc: Global, nodes: &[Node]) -> Result<Vec<Member>, O
     Ok(members)
 }
 
-/// Joins each node of a tree to its children, the last child first. Preconditions: they are a tree, and each is alone.
+/// Links each node of a tree to its children, the last child first. Preconditions: they are a tree, without links.
 pub(crate) fn join(members: &mut [Member])
     requires tree { IsTree (nodes_of members.old) }
     requires alone { members.old ≡ map alone (nodes_of members.old) }
@@ -35,7 +35,8 @@ pub(crate) fn join(members: &mut [Member])
     }
 }
 
-/// Joins a child to its parent, before the other children. Preconditions: the parent is an earlier node, and has fewer than 4,000 children.
+/// Links a child to its parent, before the other children. Preconditions: `child` is a node with a number below 4,000, and `parent` an
+/// earlier one with fewer than 4,000 children.
 fn join_child(members: &mut [Member], parent: usize, child: usize)
     requires child { child < length members.old }
     requires small { child < 4000 }

@@ -3,20 +3,20 @@ ghost use Rattle.fj_fold.specs.Families.{alone, before_sibling, with_child};
 
 use fj_trees::Node;
 
-/// A node of a tree, with what leads to its children.
+/// A node of a tree, with links to its first child and its next sibling.
 #[derive(Clone, Copy)]
 pub(crate) struct Member {
     pub(crate) node: Node,
     /// How many children it has.
     pub(crate) children: u32,
-    /// The first of them.
+    /// The first child.
     pub(crate) first: Option<u32>,
     /// The next child of its parent.
     pub(crate) next: Option<u32>,
 }
 
 impl Member {
-    /// A node that stands alone.
+    /// A node without links.
     pub(crate) fn alone(node: Node) -> Member
         ensures { result ≡ alone node }
     {
@@ -28,14 +28,14 @@ impl Member {
         }
     }
 
-    /// The same before this sibling.
+    /// The same, before this sibling.
     pub(crate) fn before(self, next: Option<u32>) -> Member
         ensures { result ≡ before_sibling self next }
     {
         Member { next, ..self }
     }
 
-    /// The same with this child before its others. Precondition: it has fewer than 4,000.
+    /// The same, with this child before its others. Precondition: it has fewer than 4,000.
     pub(crate) fn with_child(self, child: u32) -> Member
         requires { self.children < 4000 }
         ensures { result ≡ with_child self child }

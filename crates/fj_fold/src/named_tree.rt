@@ -1,7 +1,7 @@
 use std::marker::Brand;
 
-/// The tree that bodies fold: a name by which their type knows the nodes, so that the number of a node alone says what its value is. Each
-/// call that makes such bodies picks it. Java has no counterpart.
+/// The tree that bodies fold: a type by which a body's type names the nodes, so that the number of a node alone determines its value. Each
+/// call that makes such bodies chooses it. Java has no counterpart.
 pub trait NamedTree {
     ghost use Rattle.std.specs.Prelude.{List};
     ghost use Rattle.fj_trees.specs.declared.node.Node.{Node};

@@ -20,14 +20,14 @@ use std::alloc::{AllocError, Global};
 use std::marker::PhantomData;
 
 /// The body of a node: it forks a body for each child and sums their values in its completion action, as a `CountedCompleter` that sums a
-/// tree. It borrows the family, so it is as small for a node with 4,000 children as for a leaf until it forks them. It stands in a box, since a
-/// pool moves a body several times.
+/// tree. It borrows the family: until it forks them, it is as small for a node with 4,000 children as for a leaf. It is boxed, since a pool
+/// moves a body several times.
 #[derive(Drop)]
 pub struct TreeFold<'a, F: NamedTree> {
     inside: Box<FoldState<'a, F>>,
 }
 
-/// What the body of a node has.
+/// The state of the body of a node.
 #[derive(Drop)]
 pub struct FoldState<'a, F: NamedTree> {
     family: &'a Family,
@@ -40,8 +40,8 @@ pub struct FoldState<'a, F: NamedTree> {
 }
 
 impl<'a, F: NamedTree> TreeFold<'a, F> {
-    /// The body of a node. An error where memory is refused. Preconditions: the family is that of the tree that the type names, and has such a
-    /// node.
+    /// The body of a node. `AllocError` where out of memory. Preconditions: the family is that of the tree that the type names, and has
+    /// such a node.
     pub fn new(
         alloc: Global,
         family: &'a Family,
@@ -70,7 +70,7 @@ impl<'a, F: NamedTree> TreeFold<'a, F> {
 }
 
 impl<'a, F: NamedTree> FoldState<'a, F> {
-    /// Its first turn, as this task: raises its pending count by the number of its children.
+    /// The first turn, as this task: raises the pending count by the number of children.
     fn begin(&mut self, me: u64) -> Ask<TreeFold<'a, F>>
         ensures key { self.new.course.tally.node ≡ self.old.course.tally.node }
         ensures right { AskRight (λ k o. o ≡ node_value F.nodes k) self.old.course.tally.node result }
@@ -86,7 +86,7 @@ impl<'a, F: NamedTree> FoldState<'a, F> {
         Ask::Add(Serial(me), self.family.children(self.course.tally.node))
     }
 
-    /// Its pending count was raised.
+    /// A turn after the pending count was raised.
     fn added(&mut self) -> Ask<TreeFold<'a, F>>
         ensures key { self.new.course.tally.node ≡ self.old.course.tally.node }
         ensures right { AskRight (λ k o. o ≡ node_value F.nodes k) self.old.course.tally.node result }
@@ -101,7 +101,7 @@ impl<'a, F: NamedTree> FoldState<'a, F> {
         self.fork(me)
     }
 
-    /// A child was forked as this task.
+    /// A turn after a child was forked as this task.
     fn forked(&mut self, child: u64) -> Ask<TreeFold<'a, F>>
         ensures key { self.new.course.tally.node ≡ self.old.course.tally.node }
         ensures right { AskRight (λ k o. o ≡ node_value F.nodes k) self.old.course.tally.node result }
@@ -119,7 +119,7 @@ impl<'a, F: NamedTree> FoldState<'a, F> {
         }
     }
 
-    /// Its completion action begins.
+    /// The completion action begins.
     fn hooked(&mut self) -> Ask<TreeFold<'a, F>>
         ensures key { self.new.course.tally.node ≡ self.old.course.tally.node }
         ensures right { AskRight (λ k o. o ≡ node_value F.nodes k) self.old.course.tally.node result }
@@ -135,7 +135,7 @@ impl<'a, F: NamedTree> FoldState<'a, F> {
         self.take()
     }
 
-    /// The result of a child came, or one under another key.
+    /// A turn after a result, of the next child or under another key. Precondition: it is right for its key.
     fn got(&mut self, key: u32, value: u64) -> Ask<TreeFold<'a, F>>
         requires { ∥ value ≡ node_value F.nodes key ∥₁ }
         ensures key { self.new.course.tally.node ≡ self.old.course.tally.node }
@@ -157,7 +157,7 @@ impl<'a, F: NamedTree> FoldState<'a, F> {
         self.add(child, value)
     }
 
-    /// What was asked was refused, or something else was heard. In its completion action it computes the value of the child in place; before
+    /// A turn after a refusal, or anything unexpected. In its completion action the body computes the value of the child in place; before
     /// that it fails.
     fn go_on_without(&mut self) -> Ask<TreeFold<'a, F>>
         ensures key { self.new.course.tally.node ≡ self.old.course.tally.node }
@@ -177,7 +177,7 @@ impl<'a, F: NamedTree> FoldState<'a, F> {
         self.add(child, value)
     }
 
-    /// Forks the next child, or ends where none is left. It fails where memory for the child's body is refused.
+    /// Forks the next child, or ends where none is left. Fails where out of memory for the child's body.
     fn fork(&mut self, me: u64) -> Ask<TreeFold<'a, F>>
         ensures key { self.new.course.tally.node ≡ self.old.course.tally.node }
         ensures right { AskRight (λ k o. o ≡ node_value F.nodes k) self.old.course.tally.node result }
@@ -197,7 +197,7 @@ impl<'a, F: NamedTree> FoldState<'a, F> {
         }
     }
 
-    /// Forks the next child. Preconditions: it is this one, and this is its body.
+    /// Forks the next child. Preconditions: `child` is the next one, and `body` is its body.
     fn fork_child(&mut self, me: u64, child: u32, body: TreeFold<'a, F>) -> Ask<TreeFold<'a, F>>
         requires next { self.old.course.next ≡ Some child }
         requires body { body.inside.value.course.tally.node ≡ child }
@@ -220,7 +220,7 @@ impl<'a, F: NamedTree> FoldState<'a, F> {
         Ask::Fork(body, kind)
     }
 
-    /// Takes the result of the next child, or ends with the sum where none is left. Precondition: it is in its completion action.
+    /// Takes the result of the next child, or ends with the sum where none is left. Precondition: the body is in its completion action.
     fn take(&mut self) -> Ask<TreeFold<'a, F>>
         requires { self.old.course.stage ≡ FoldStage.Taking }
         ensures key { self.new.course.tally.node ≡ self.old.course.tally.node }
@@ -242,7 +242,8 @@ impl<'a, F: NamedTree> FoldState<'a, F> {
         }
     }
 
-    /// Adds the value of the next child. Preconditions: it is in its completion action, this is the next child, and its value.
+    /// Adds the value of the next child. Preconditions: the body is in its completion action, `child` is the next child, and `value` its
+    /// value.
     fn add(&mut self, child: u32, value: u64) -> Ask<TreeFold<'a, F>>
         requires stage { self.old.course.stage ≡ FoldStage.Taking }
         requires child { self.old.course.tally.child ≡ Some child }
@@ -258,7 +259,7 @@ impl<'a, F: NamedTree> FoldState<'a, F> {
         self.take()
     }
 
-    /// Ends with the code of a run that is out of memory.
+    /// Fails with the code of `OutOfMemory`.
     fn fail(&mut self) -> Ask<TreeFold<'a, F>>
         ensures key { self.new.course.tally.node ≡ self.old.course.tally.node }
         ensures right { AskRight (λ k o. o ≡ node_value F.nodes k) self.old.course.tally.node result }
@@ -272,7 +273,7 @@ impl<'a, F: NamedTree> FoldState<'a, F> {
         Ask::Fail(Refusal::OutOfMemory.number())
     }
 
-    /// Takes a turn.
+    /// Takes a turn. Precondition: a result that it hears is right for its key.
     fn turn(&mut self, heard: Heard<TreeFold<'a, F>>) -> Ask<TreeFold<'a, F>>
         requires { HeardRight (λ k o. o ≡ node_value F.nodes k) heard }
         ensures key { self.new.course.tally.node ≡ self.old.course.tally.node }
@@ -282,7 +283,7 @@ impl<'a, F: NamedTree> FoldState<'a, F> {
         ensures own { AsksUnder (own_task self.old.course.stage heard.entry) result }
         ensures stays { HasTask (own_task self.old.course.stage heard.entry) self.new.course.stage }
     {
-        // It is looked at, and not taken apart: the check does not do that to an enum with a `Serial` in a type that holds a reference.
+        // Matched by reference: the prover does not take apart an enum with a `Serial` in a type that holds a reference.
         match &heard {
             Heard::Start(me) => self.begin(me.0),
             Heard::Count(_) => self.added(),

@@ -1,2 +1,2 @@
--- what a job gave, or why it gave nothing
+-- the result of a job, or why it has none
 pub mod Results

@@ -1,4 +1,4 @@
--- What a job gave, or why it gave nothing.
+-- The result of a job, or why it has none.
 use Rattle.std.specs.Prelude.{⊤, Result, Ok, Err}
 use Rattle.fj_run.specs.Runs.{RefusesRun}
 use Rattle.fj_run.specs.declared.results.NoResult.{NoResult}
@@ -12,7 +12,7 @@ out_in (Ok kept) = Ok kept.1
 out_in (Err (none.Failed code)) = Err (Failed code)
 out_in (Err none.Missing) = Err Missing
 
--- a run is refused where the history was full, or memory or a thread was refused
+-- a run is refused where the history is full, an allocation fails or a thread cannot be started
 abbrev pub IsTold : Unfinished → Type 0
 IsTold (Refused refusal) = RefusesRun refusal
 IsTold _ = ⊤

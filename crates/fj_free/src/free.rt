@@ -3,12 +3,12 @@ ghost use Rattle.std.specs.Prelude.{◌≡◌, ◌+◌, ◌^◌};
 use crate::turns::Turns;
 use fj_run::{Ask, Body, Heard};
 
-/// The code with which a job fails that has taken all its turns. It is the greatest that there is: a job's own codes can be lower ones, and those that
-/// are numbers of refusals are 1 to 14.
+/// The code with which a job fails that has taken all its turns: the greatest code, so that a job's own codes can be lower. The numbers of
+/// refusals are 1 to 14.
 pub const SPENT: u32 = u32::MAX;
 
-/// A job as the body of a task: plain where it is submitted, and what the fork says where it is forked. It has the key `()`, and every result is right for
-/// it. Java's `ForkJoinTask`, with no clause.
+/// A job as the body of a task: plain where it is submitted, of the fork's kind where it is forked. Its key is `()`, and every result is
+/// right for it. Java's `ForkJoinTask`, without a contract.
 #[derive(Drop)]
 pub struct Free<J> {
     job: J,
@@ -17,9 +17,9 @@ pub struct Free<J> {
     key: (),
 }
 
-// Without a bound: else a call in a job's own turn would lead back to that turn, which the check does not cover.
+// Without a bound: otherwise a call in a job's own turn would lead back to that turn, which the prover does not cover.
 impl<J> Free<J> {
-    /// A job that may take 2^64 - 1 turns: no end of them in practice.
+    /// A job that may take 2^64 - 1 turns: unlimited in practice.
     pub fn new(job: J) -> Free<J>
         ensures job { result.job ≡ job }
         ensures left { result.left + 1 ≡ 2 ^ 64 }
@@ -27,7 +27,7 @@ impl<J> Free<J> {
         Free::with_turns(job, u64::MAX)
     }
 
-    /// A job that may take so many turns. Where it would take one more it fails by `SPENT`.
+    /// A job that may take so many turns; instead of one more it fails with `SPENT`.
     pub fn with_turns(job: J, turns: u64) -> Free<J>
         ensures job { result.job ≡ job }
         ensures left { result.left ≡ turns }

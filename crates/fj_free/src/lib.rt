@@ -18,8 +18,8 @@ pub use fj_run::{
 };
 pub use free::{Free, SPENT};
 pub use running::{out_of, run_free};
-/// Two closures by two threads, and none that outlives the call. What their own clauses say of their results is known of the pair. It makes no
-/// pool: rayon's `join` without one.
+/// Runs two closures on two threads, neither of which outlives the call. What their own contracts say of their results is known of the
+/// pair. It makes no pool: rayon's `join` without one.
 pub use std::thread::join;
 pub use turns::Turns;
 pub use unfinished::Unfinished;

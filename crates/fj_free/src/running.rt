@@ -12,8 +12,8 @@ use std::thread::Threads;
 
 /// Runs a job to its end, in a pool of its own: a thread for each worker, and none that outlives the call. It follows `ForkJoinPool.invoke`.
 ///
-/// `Refused` where the history is full, or memory or a thread was refused. `Failed` where the job failed, with its code; `Missing` where it was
-/// cancelled, or ended without a result.
+/// `Refused` where the history is full, an allocation fails, or a thread cannot be started. `Failed` where the job failed, with its code;
+/// `Missing` where it was cancelled, or ended without a result.
 pub fn run_free<J: Turns + Send, R: Threads + Wait + Sync>(
     rt: &R,
     alloc: Global,
@@ -30,7 +30,7 @@ where
     }
 }
 
-/// What a job gave, that has ended so.
+/// The result of a job, from its outcome.
 ///
 /// `Failed` where it failed, with its code; `Missing` where it was cancelled, or ended without a result.
 pub fn out_of<J: Turns>(outcome: Outcome<Free<J>>) -> Result<J::Out, Unfinished>

@@ -1,14 +1,14 @@
 use super::*;
 use std::test::Fail;
 
-/// One of Fibonacci's numbers, counted from 0: of the two before it the greater one is forked, and the smaller one computed in place.
+/// A Fibonacci number, counted from 0: of the two before it the greater one is forked, and the smaller one computed in place.
 #[derive(Drop)]
 struct Fib {
     nth: u32,
     smaller: u64,
 }
 
-/// What it gives: the number, and why the last body was handed back, if one was.
+/// Its result: the number, and why the last body was handed back, if one was.
 #[derive(Clone, Copy)]
 struct Found {
     number: u64,
@@ -62,7 +62,7 @@ impl Turns for Fib {
     }
 }
 
-/// A job that gives nothing.
+/// A job without a result.
 #[derive(Drop)]
 enum Barren {
     FailsBy(u32),
@@ -97,7 +97,7 @@ fn a_job_that_forks_and_joins_gives_its_result(rt: HostRuntime) -> Result<(), Fa
     Ok(())
 }
 
-/// With three places the third job has its body back, and goes on.
+/// With room for three tasks the third job gets its body back, and goes on.
 #[test]
 fn a_job_has_its_body_back_where_there_is_no_place(rt: HostRuntime) -> Result<(), Fail> {
     let settings = Settings::with_limits(Limits::new(2, 1, 3, 1_000)?);

@@ -3,7 +3,7 @@ use fj_run::{Ask, Heard};
 
 /// A job in turns, of which nothing is promised.
 pub trait Turns: Drop + Sized {
-    /// What it gives.
+    /// Its result.
     type Out: Drop;
 
     /// One turn: what it asks, having heard this.

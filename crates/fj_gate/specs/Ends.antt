@@ -1,4 +1,4 @@
--- The two kinds of end of a gate as their callers see them, and what looks and closes do to them.
+-- The two kinds of end of a gate as their callers see them, and what queries and closes do to them.
 use Rattle.std.specs.Prelude.{◌≡◌, ℕ, ◌+◌, ◌≤◌, List, [], ◌∷◌, ◌++◌, Bool, true, false, Option, Some, None, IsSome, flat_map}
 use Rattle.atomic_table.specs.Seated.{TableId}
 use Rattle.fj_gate.specs.declared.closer.Closing.{Closing}
@@ -6,7 +6,8 @@ use Rattle.fj_gate.specs.declared.closer.Closing.TheVariants.{First, Already}
 use Rattle.fj_gate.specs.declared.look.Look.{Look}
 use Rattle.fj_gate.specs.declared.look.Look.TheVariants.{Open, Closed}
 
--- the gate, the tickets that this entrant drew, in order, whether it was told Closed, the greatest count that it has seen, and how many tickets it may draw
+-- the gate, the tickets that this entrant drew, in order, whether it was told Closed, the greatest count that it has seen, and how many
+-- tickets it may draw
 pub record EntrantState : Type 0 where
   pub gate : TableId
   pub drawn : List ℕ
@@ -37,17 +38,17 @@ drawn_by entrants = flat_map (λ e. e.drawn) entrants
 abbrev pub Draws : EntrantState → ℕ → EntrantState → Type 0
 Draws e ticket e' = (e.told ≡ false) × (e.seen ≤ ticket) × (e' ≡ record e { drawn = e.drawn ++ ticket ∷ []; seen = ticket + 1 })
 
--- An entrant's look. A count is not below what it has seen, and comes only to one that was not told Closed; Closed is remembered
+-- An entrant's query. A count is not below what it has seen, and comes only if it was not told Closed; Closed is remembered
 abbrev pub Looked : EntrantState → Look → EntrantState → Type 0
 Looked e (Open n) e' = (e.told ≡ false) × (e.seen ≤ n) × (e' ≡ record e { seen = n })
 Looked e Closed e' = e' ≡ record e { told = true }
 
--- The closer's look. A count is not below what it has seen, and comes exactly where it has not closed
+-- The closer's query. A count is not below what it has seen, and comes exactly if it has not closed
 abbrev pub Watched : CloserState → Look → CloserState → Type 0
 Watched c (Open n) c' = (c.closed ≡ None) × (c.seen ≤ n) × (c' ≡ record c { seen = n })
 Watched c Closed c' = IsSome c.closed × (c' ≡ c)
 
--- The first close sets the closing number, which is not below what the closer has seen. A later one tells it again
+-- The first close sets the closing number, which is not below what the closer has seen. A later one returns it again
 abbrev pub ClosedBy : CloserState → Closing → CloserState → Type 0
 ClosedBy c (First n) c' = (c.closed ≡ None) × (c.seen ≤ n) × (c' ≡ record c { closed = Some n; seen = n })
 ClosedBy c (Already n) c' = (c.closed ≡ Some n) × (c.seen ≤ n) × (c' ≡ c)

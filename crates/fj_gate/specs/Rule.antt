@@ -1,4 +1,4 @@
--- The gate's rule: what its word is, beside what each seat has drawn, seen and been told. It holds between any two steps.
+-- The gate's invariant: what its word is, beside what each seat has drawn, seen and been told. It holds between any two steps.
 use Rattle.std.specs.Prelude.{◌≡◌, ◌⊎◌, ℕ, ◌+◌, ◌*◌, ◌≤◌, List, length, slice_index, Some, None, flat_map, sum_by}
 use mathlib.Core.Option.{some}
 use lib.ListN.{get_elem?}
@@ -16,7 +16,7 @@ joined views = flat_map (λ v. v.drawn) views
 abbrev pub admitted : List View → ℕ
 admitted views = length (joined views)
 
--- how many entrants were told Closed by an exchange of an admission
+-- how many entrants were told Closed by an admission
 abbrev pub turned_away : List View → ℕ
 turned_away views = sum_by (λ v. v.told) views
 
@@ -38,11 +38,12 @@ IsClosed word views =
     (word ≡ 2 * (admitted views + turned_away views) + 1)
     × (closer : View) × (get_elem? views 0 ≡ some closer) × (closer.closed ≡ Some (admitted views))
 
--- It has seen no more admissions than there were. A part is the right of one entrant: to draw so many tickets at most, and to be told Closed once
+-- It has seen no more admissions than there were. Each part is one entrant's right: to draw at most `MAX_TICKETS` tickets, and to be told
+-- Closed once by an admission
 abbrev pub Fits : ℕ → View → Type 0
 Fits count v = (v.seen ≤ count) × (length v.drawn ≤ MAX_TICKETS * v.parts) × (v.told ≤ v.parts)
 
--- The tickets drawn are the numbers below the count of admissions, each once. All seats together have a part for each submitter that there may be
+-- The tickets drawn are the numbers below the count of admissions, each once. All seats together have `MAX_SUBMITTERS` parts
 abbrev pub IsGate : ℕ → List View → Type 0
 IsGate word views =
     (IsOpen word views ⊎ IsClosed word views)

@@ -1,4 +1,4 @@
--- What a seat knows, and what each step on the word tells it. The word found is twice a count while the gate is open, and odd once it is closed.
+-- What a seat knows, and what it learns by each step on the word. That is twice a count while the gate is open, and odd once it is closed.
 use Rattle.std.specs.Prelude.{◌≡◌, ◌≢◌, ℕ, ◌+◌, ◌-◌, ◌/◌, ◌%◌, ◌≤◌, max, [], ◌∷◌, ◌++◌, Some, None, IfSome, IsSome}
 use Rattle.atomic_table.specs.Table.{Me, Step}
 use Rattle.fj_rules.specs.declared.limits.TheConstants.{MAX_SUBMITTERS}
@@ -9,7 +9,7 @@ use Rattle.fj_gate.specs.declared.word.View.{View}
 abbrev pub Seated : Type 0
 Seated = Me (Unit {0}) View
 
--- so many parts, and nothing drawn, told or seen
+-- these parts, and nothing drawn, told or seen
 abbrev pub fresh : ℕ → View
 fresh parts = record { parts = parts; drawn = []; told = 0; heard = 0; seen = 0; closed = None }
 
@@ -21,7 +21,7 @@ drew n v = record v { drawn = v.drawn ++ n ∷ []; seen = n + 1 }
 abbrev pub turned : View → View
 turned v = record v { told = v.told + 1 }
 
--- a look tells it Closed
+-- a query tells it Closed
 abbrev pub heard_closed : View → View
 heard_closed v = record v { heard = v.heard + 1 }
 
@@ -39,13 +39,13 @@ Admits st m found m' =
     (found % 2 ≡ 0 → (m.0.seen ≤ found / 2) × (m' ≡ (drew (found / 2) m.0, m.1)))
     × (found % 2 ≢ 0 → m' ≡ (turned m.0, m.1))
 
--- a look by an entrant
+-- a query by an entrant
 abbrev pub Looks : Step (Unit {0}) → Seated → ℕ → Seated → Type 0
 Looks st m found m' =
     (found % 2 ≡ 0 → (m.0.seen ≤ found / 2) × (m.0.told ≡ 0) × (m.0.heard ≡ 0) × (m' ≡ (saw (found / 2) m.0, m.1)))
     × (found % 2 ≢ 0 → m' ≡ (heard_closed m.0, m.1))
 
--- a look by the closer, which knows whether it has closed the gate
+-- a query by the closer, which knows whether it has closed the gate
 abbrev pub Watches : Step (Unit {0}) → Seated → ℕ → Seated → Type 0
 Watches st m found m' =
     (found % 2 ≡ 0 → (m.0.seen ≤ found / 2) × (m.0.closed ≡ None) × (m' ≡ (saw (found / 2) m.0, m.1)))
@@ -57,14 +57,14 @@ Closes st m found m' =
     (found % 2 ≡ 0 → (m.0.seen ≤ found / 2) × (m.0.closed ≡ None) × (m' ≡ (closed_at (found / 2) m.0, m.1)))
     × (found % 2 ≢ 0 → IsSome m.0.closed × IfSome m.0.closed (λ n. m.0.seen ≤ n) × (m' ≡ m))
 
--- the last look, by the closer with everybody's part and everybody's tickets
+-- the last query, by the closer with all parts and all tickets
 abbrev pub Meets : Step (Unit {0}) → Seated → ℕ → Seated → Type 0
 Meets st m found m' =
     m.0.parts ≡ MAX_SUBMITTERS
     → (found % 2 ≡ 0 → (m.0.closed ≡ None) × IsNumbersBelow (found / 2) m.0.drawn × (m.0.seen ≤ found / 2) × (m.0.told ≡ 0) × (m.0.heard ≡ 0))
     × (found % 2 ≢ 0 → (n : ℕ) × (m.0.closed ≡ Some n) × IsNumbersBelow n m.0.drawn × (m.0.seen ≤ n))
 
--- one part is cut off for an entrant
+-- one part is split off for an entrant
 abbrev pub less_one : View → View
 less_one v = record v { parts = v.parts - 1 }
 

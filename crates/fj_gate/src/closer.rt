@@ -6,13 +6,13 @@ use crate::word::{Close, CloserLook, Token, Word};
 use std::marker::Model;
 use std::sync::Arc;
 
-/// The answer of a close: how many were admitted before it, the closing number, at most 2,097,152. Java's `shutdown` answers
+/// The answer of a close: the closing number, which is the number of admissions before it, at most 2,097,152. Java's `shutdown` returns
 /// nothing.
 #[derive(Clone, Copy, Debug, PartialEq)]
 pub enum Closing {
     /// This call has closed the gate.
     First(u64),
-    /// An earlier call had closed it, at the same number.
+    /// An earlier call had closed it, at this number.
     Already(u64),
 }
 
@@ -21,7 +21,7 @@ pub enum Closing {
 pub struct Closer {
     pub(crate) table: Arc<Word>,
     pub(crate) token: Token,
-    /// The closing number: the word alone does not tell it again.
+    /// The closing number: it cannot be read off the word again.
     pub(crate) closed: Option<u64>,
 }
 
@@ -33,7 +33,7 @@ impl Model for Closer {
 
     ghost Value = { CloserState };
 
-    // Each part that it does not have is an entrant's.
+    // The parts that it does not have are the entrants'.
     ghost view = { λ c. record { gate = c.token.table_id; closed = c.closed; seen = c.token.me.0.seen; submitters = MAX_SUBMITTERS - c.token.me.0.parts } };
 
     ghost invariant = { λ c. record {
@@ -48,15 +48,15 @@ impl Model for Closer {
 }
 
 impl Closer {
-    /// Closes the gate, by one exchange: from then on no ticket is drawn. It follows `ForkJoinPool.shutdown`.
+    /// Closes the gate, by one `fetch_or`: from then on no ticket is drawn. It follows `ForkJoinPool.shutdown`.
     ///
-    /// The first call answers `First` with the number of admissions so far, every later one `Already` with that number. It is not
-    /// below what this end has seen.
+    /// The first call returns `First` with the number of admissions so far, every later one `Already` with that number. It is at least the
+    /// count that this end has seen.
     pub fn close(&mut self) -> Closing
         ensures stays { (self.new.gate ≡ self.old.gate) × (self.new.submitters ≡ self.old.submitters) }
         ensures answer { ClosedBy self.old result self.new }
     {
-        // Before: 2n, and n is the closing number; after: odd for good. Or odd already: the word stays.
+        // Before: 2n, and n is the closing number; after: odd, permanently. Or odd already: the word stays.
         let found = self.table.shared.fetch_or::<Close>(&mut self.token, 0, 1);
         match self.closed {
             None => {
@@ -68,9 +68,9 @@ impl Closer {
         }
     }
 
-    /// Looks at the gate, by one load. Its `Closed` is what `ForkJoinPool.isShutdown` tells.
+    /// Queries the gate, by one load. Its `Closed` corresponds to `ForkJoinPool.isShutdown`.
     ///
-    /// `Open` has the number of admissions, which is not below what this end has seen. `Closed` comes exactly after a close.
+    /// `Open` has the number of admissions, which is at least the count that this end has seen. `Closed` comes exactly after a close.
     pub fn look(&mut self) -> Look
         ensures stays { (self.new.gate ≡ self.old.gate) × (self.new.submitters ≡ self.old.submitters) × (self.new.closed ≡ self.old.closed) }
         ensures answer { Watched self.old result self.new }

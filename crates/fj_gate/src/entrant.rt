@@ -12,9 +12,9 @@ use std::sync::Arc;
 pub struct Entrant {
     pub(crate) table: Arc<Word>,
     pub(crate) token: Token,
-    /// How many tickets it may draw. No code reads it: the precondition of an admission speaks of it.
+    /// How many tickets it may draw. No code reads it, only the precondition of `admit`.
     pub(crate) each: u32,
-    /// Whether it was told Closed, so that it never asks the word for a ticket again.
+    /// Whether it has seen Closed: then it never asks the word for a ticket again.
     pub(crate) told: bool,
 }
 
@@ -40,12 +40,12 @@ impl Model for Entrant {
 }
 
 impl Entrant {
-    /// Draws the next ticket, by one exchange. No other entrant draws the same one.
+    /// Draws the next ticket, by one `fetch_add`. No other entrant draws the same one.
     ///
-    /// `Closed` if the gate was closed, or if this entrant was told so before; then no exchange is made. Java's counterpart is
+    /// `Closed` if the gate was closed; if this entrant had seen that before, the word is not touched. Java's counterpart is
     /// `RejectedExecutionException` of `ForkJoinPool.submit` after a shutdown; Java has no tickets.
     ///
-    /// Precondition: fewer than `each` tickets so far. Only tickets count, not refusals.
+    /// Precondition: it has drawn fewer than `each` tickets. Refusals do not count.
     pub fn admit(&mut self) -> Result<Ticket, Closed>
         requires { length self.old.drawn < self.old.each }
         ensures stays { (self.new.gate ≡ self.old.gate) × (self.new.each ≡ self.old.each) }
@@ -65,10 +65,10 @@ impl Entrant {
         }
     }
 
-    /// Looks at the gate, by one load. Its `Closed` is what `ForkJoinPool.isShutdown` tells.
+    /// Queries the gate, by one load. Its `Closed` corresponds to `ForkJoinPool.isShutdown`.
     ///
-    /// `Open` has the number of admissions, which is not below what this entrant has seen, its own tickets included. It never
-    /// comes after a `Closed`, and after a `Closed` this entrant draws no ticket.
+    /// `Open` has the number of admissions, which is at least the count that this entrant has seen, its own tickets included. After a
+    /// `Closed` it never returns `Open`, and draws no ticket.
     pub fn look(&mut self) -> Look
         ensures stays { (self.new.gate ≡ self.old.gate) × (self.new.each ≡ self.old.each) × (self.new.drawn ≡ self.old.drawn) }
         ensures answer { Looked self.old result self.new }

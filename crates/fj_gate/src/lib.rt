@@ -1,8 +1,8 @@
 //! A gate: it admits submissions, each with a ticket of its own, until it is closed. No end of it ever waits for another.
 //!
-//! A contract sees an [`Entrant`] as the tickets that it drew and what it was told, a [`Closer`] as the number at which it closed
-//! the gate. Where all ends [`meet()`], the tickets are the numbers below the count of admissions, each drawn once. All memory is
-//! taken in [`gate()`].
+//! A contract sees an [`Entrant`] as the tickets that it drew and what it has seen, a [`Closer`] as the number at which it closed
+//! the gate. When all ends [`meet()`], the tickets are the numbers below the count of admissions, each drawn once. Only [`gate()`]
+//! allocates.
 //!
 //! The gate is this project's own. Java says of `shutdown` of a `ForkJoinPool` that what was submitted before it is executed and
 //! that nothing new is accepted; the closing number says how many submissions those are.

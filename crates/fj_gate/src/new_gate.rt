@@ -14,9 +14,9 @@ use std::sync::Arc;
 /// The most tickets that one entrant may draw.
 pub const MAX_TICKETS: u32 = 65_536;
 
-/// An open gate: an entrant for each submitter, and its closer. Nobody has drawn a ticket. Java has no counterpart.
+/// An open gate: an entrant for each submitter, and its closer. No ticket is drawn yet. Java has no counterpart.
 ///
-/// `OutOfMemory` where memory is refused, and no other error. No other call of this crate takes memory.
+/// `OutOfMemory` if an allocation fails, and no other error. No other call of this crate allocates.
 ///
 /// Precondition: 1 to `MAX_SUBMITTERS` submitters, and `each`, the number of tickets that each of them may draw, from 1 to
 /// [`MAX_TICKETS`].
@@ -45,7 +45,7 @@ pub fn gate(
     Ok((entrants, closer))
 }
 
-/// One more entrant: its part is cut off from the closer's token.
+/// One more entrant: its part is split off the closer's token.
 fn cut_off(table: &Arc<Word>, token: &mut Token, each: u32) -> Result<Entrant, AllocError>
     requires table { ((arc_value table.now).shared.table_id ≡ token.old.table_id) × (token.old.table_id.words ≡ 1) }
     requires token { (token.old.id ≡ 0) × (token.old.me.1 ≡ []) × ((parts : ℕ) × (token.old.me.0 ≡ fresh (parts + 1))) }

@@ -3,7 +3,7 @@ ghost use Rattle.std.specs.Prelude.{◌≡◌, ◌<◌, ◌≤◌, ◌+◌, [], 
 use super::*;
 use std::test::*;
 
-/// What any step answers.
+/// The answer of any step.
 #[derive(Clone, Copy, Debug, PartialEq)]
 enum Answer {
     Ticket(u64),
@@ -38,7 +38,7 @@ fn word(closer: &Closer) -> u64 {
     closer.table.shared.peek(0)
 }
 
-/// Each step's answer, and the word after it. One entrant makes all admissions, the other looks.
+/// Each step's answer, and the word after it. One entrant makes all admissions, the other queries.
 fn figures(first: &mut Entrant, second: &mut Entrant, closer: &mut Closer) -> [(Answer, u64); 8]
     requires { (first.old.drawn ≡ []) × (first.old.each ≡ 3) }
     ensures entrants { (first.new.gate ≡ first.old.gate) × (second.new.gate ≡ second.old.gate) }
@@ -52,7 +52,7 @@ fn figures(first: &mut Entrant, second: &mut Entrant, closer: &mut Closer) -> [(
     let refusal = admit(first, 2);
     let refused = (of_admission(refusal), word(closer));
     let heard = (of_look(second.look()), word(closer));
-    // Only one that was told Closed has room left for another try.
+    // Only after a Closed there is room for another try.
     let tried = match &refusal {
         Ok(ticket) => Ok(*ticket),
         Err(_) => admit(first, 2),
@@ -61,7 +61,7 @@ fn figures(first: &mut Entrant, second: &mut Entrant, closer: &mut Closer) -> [(
     [zero, one, open, closing, again, refused, heard, told]
 }
 
-/// An admission, where the entrant has drawn at most so many.
+/// An admission by an entrant that has drawn at most `most` tickets.
 fn admit(entrant: &mut Entrant, most: u32) -> Result<Ticket, Closed>
     requires { (length entrant.old.drawn ≤ most) × (most < entrant.old.each) }
     ensures stays { (entrant.new.gate ≡ entrant.old.gate) × (entrant.new.each ≡ entrant.old.each) }
@@ -103,7 +103,7 @@ fn steps_in_figures(rt: HostRuntime) -> Result<(), Fail> {
     Ok(())
 }
 
-/// A look by an entrant counts its own ticket, and a Closed that came by a look is answered again without an exchange.
+/// A query by an entrant counts its own ticket, and a Closed that it returned is returned again without touching the word.
 #[test]
 fn a_look_is_remembered(rt: HostRuntime) -> Result<(), Fail> {
     let (mut entrants, mut closer) = gate(rt.alloc(), 1, 2)?;

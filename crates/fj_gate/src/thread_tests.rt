@@ -13,10 +13,10 @@ const ENTRANTS: u32 = 8;
 
 const EACH: u32 = 1000;
 
-/// An entrant with what it was told that it drew.
+/// Each entrant with the tickets that it drew.
 type Draws = Vec<(Entrant, Vec<u64>)>;
 
-/// Draws until told Closed, or 1,000 tickets.
+/// Draws until Closed, or 1,000 tickets.
 fn draw(alloc: Global, mut entrant: Entrant) -> (Entrant, Vec<u64>)
     requires { (entrant.drawn ≡ []) × (entrant.each ≡ 1000) }
     ensures { (result.0.gate ≡ entrant.gate) × (result.1.items ≡ result.0.drawn) }
@@ -34,7 +34,7 @@ fn draw(alloc: Global, mut entrant: Entrant) -> (Entrant, Vec<u64>)
     (entrant, drawn)
 }
 
-/// Closes the gate once 1,000 were admitted, or after many looks: in the middle of the drawing, where the threads let it.
+/// Closes the gate once 1,000 were admitted, or after many queries: amid the drawing, if the scheduler allows.
 fn close_midway(mut closer: Closer) -> (Closer, Closing)
     ensures { (result.0.gate ≡ closer.gate) × (result.0.submitters ≡ closer.submitters) }
 {
@@ -78,7 +78,7 @@ fn gathered(alloc: Global, draws: Draws) -> Result<(Vec<Entrant>, Vec<u64>), All
     Ok((entrants, all))
 }
 
-/// The entrants draw in threads of their own while this one closes the gate. What they were told is what the gate counts.
+/// The entrants draw in threads of their own while this one closes the gate. Their tickets are those that the gate counts.
 fn race<R: Threads + Sync>(
     rt: &R,
     alloc: Global,

@@ -1,8 +1,8 @@
 use std::marker::Model;
 
-/// The number of an admission: 0, 1, 2, .. in the order of the exchanges, over all entrants of a gate.
+/// The number of an admission: 0, 1, 2, .. in the order of the `fetch_add`s, over all entrants of a gate.
 ///
-/// At a gate it is below the number of submitters times `each`, so below 2,097,152. Java has no counterpart.
+/// It is below the number of submitters times `each`, so below 2,097,152. Java has no counterpart.
 #[derive(Clone, Copy, Debug, PartialEq)]
 pub struct Ticket(pub u64);
 
@@ -16,6 +16,6 @@ impl Model for Ticket {
     ghost inverse = { λ n. record { 0 = n } };
 }
 
-/// The gate is closed. It stays so. To a submitter this is refusal 1, `Closed` of `fj_rules::Refusal`.
+/// The gate is closed, permanently. To a submitter this is refusal 1, `Closed` of `fj_rules::Refusal`.
 #[derive(Clone, Copy, Debug, PartialEq)]
 pub struct Closed;

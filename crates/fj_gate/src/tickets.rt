@@ -8,7 +8,7 @@ use crate::entrant::Entrant;
 use crate::word::{LastLook, Part, Token, Word};
 use std::sync::Arc;
 
-/// What all ends of a gate know together. Java has no counterpart.
+/// The tickets of a gate and its closing number. Java has no counterpart.
 #[derive(Clone, Copy, Debug, PartialEq)]
 pub struct Tickets {
     /// How many tickets were drawn, from 0 to submitters times `each`, which is at most 2,097,152.
@@ -17,12 +17,12 @@ pub struct Tickets {
     pub closed: Option<u64>,
 }
 
-/// Takes all ends of a gate back. It allocates nothing and waits for nobody. Java has no counterpart.
+/// Takes all ends of a gate back. It allocates nothing and never blocks. Java has no counterpart.
 ///
 /// The tickets that the entrants drew are the numbers below `drawn`, each once, and `drawn` is the closing number if the gate was
-/// closed. If it was not, nobody was told Closed. Nobody had seen more admissions than `drawn`.
+/// closed. If it was not, no entrant has seen Closed. No end had seen more admissions than `drawn`.
 ///
-/// Precondition: they are ends of one gate, and as many entrants as were made.
+/// Precondition: these are ends of one gate, with as many entrants as were made.
 pub fn meet(entrants: Vec<Entrant>, closer: Closer) -> Tickets
     requires same { All (λ e. e.gate ≡ closer.gate) entrants.items }
     requires all { vec_len entrants ≡ closer.submitters }
@@ -40,7 +40,7 @@ pub fn meet(entrants: Vec<Entrant>, closer: Closer) -> Tickets
     for entrant in entrants {
         take_in(&table, &mut token, entrant);
     }
-    // 2n: n were admitted. Or odd: the closing number is known, and what the word counts beyond it are refusals.
+    // 2n: n were admitted. Or odd: the closing number is known, and the word counts refusals beyond it.
     let found = table.shared.load::<LastLook>(&mut token, 0);
     let drawn = match closed {
         Some(count) => count,
@@ -49,7 +49,7 @@ pub fn meet(entrants: Vec<Entrant>, closer: Closer) -> Tickets
     Tickets { drawn, closed }
 }
 
-/// The closer's token takes in what an entrant drew, saw and was told.
+/// Joins an entrant's token, with what it drew and saw, to the closer's.
 fn take_in(table: &Arc<Word>, token: &mut Token, entrant: Entrant)
     requires table { ((arc_value table.now).shared.table_id ≡ token.old.table_id) × (token.old.table_id.words ≡ 1) × (entrant.gate ≡ token.old.table_id) }
     requires token { (token.old.id ≡ 0) × (token.old.me.1 ≡ []) }

@@ -1,33 +1,35 @@
-//! The gate's word, the exchanges on it, and what each end knows of it.
+//! The gate's atomic word, the operations on it, and what each end knows of it.
 //!
 //! The word is twice the number of admissions, plus 1 once the gate is closed. Below, N is the closing number and a is the number
-//! of entrants that were told Closed by an admission. Each line is one atomic exchange, and nothing else changes the word.
+//! of entrants whose admission was refused. Each line is one atomic operation, and nothing else changes the word.
 //!
-//! | Exchange | Word before | Word after | What the caller learns |
+//! | Operation | Word before | Word after | What the caller learns |
 //! |---|---|---|---|
 //! | admit, `fetch_add` of 2 | 2n | 2n + 2 | the gate was open, and n admissions came before: its ticket is n |
-//! | | 2(N + a) + 1 | 2(N + a + 1) + 1 | the gate is closed; how far the word is past 2N + 1 means nothing to it |
+//! | | 2(N + a) + 1 | 2(N + a + 1) + 1 | the gate is closed; the distance of the word from 2N + 1 means nothing to it |
 //! | close, `fetch_or` of 1 | 2n | 2n + 1 | it has closed the gate after n admissions: N is n |
 //! | | 2(N + a) + 1 | the same | nothing new: N is not read off the word, which a has moved; the closer remembers it |
 //! | look, one load | 2n | the same | the gate was open, and n were admitted |
 //! | | 2(N + a) + 1 | the same | the gate is closed |
 //!
-//! The addition and its answer are one exchange. Were they two, a close between them would hand out a ticket after N.
+//! The test and the addition are one operation, the linearization point. Were they two, a close between them would let a ticket be drawn
+//! after N.
 //!
-//! An entrant that was told Closed makes no exchange for an admission any more, so a is at most `MAX_SUBMITTERS` and the word never wraps.
+//! An entrant that has seen Closed does not touch the word for an admission any more, so a is at most `MAX_SUBMITTERS`, and the word never
+//! wraps.
 use atomic_table::{Join, Play, Seat, Split, Table, TableRule};
 use std::alloc::Global;
 use std::collections::LinkedList;
 
 /// What one end of the gate knows. It exists in proofs alone: no value of it is made.
 pub struct View {
-    /// The entrants' parts that stand behind it. All ends together have `MAX_SUBMITTERS`, so one that has all knows of everybody.
+    /// The parts that it has, one for each entrant. All ends together have `MAX_SUBMITTERS`, so an end that has all knows what all know.
     pub parts: u64,
     /// The tickets that it drew.
     pub drawn: LinkedList<u64>,
-    /// How often an admission told it Closed. The word counts these.
+    /// How often an admission returned Closed to it. The word counts these.
     pub told: u64,
-    /// How often a look told it Closed.
+    /// How often a query returned Closed to it.
     pub heard: u64,
     /// The greatest count of admissions that it has seen, its own tickets included.
     pub seen: u64,
@@ -35,7 +37,7 @@ pub struct View {
     pub closed: Option<u64>,
 }
 
-/// The rule that ties the word to what all ends know.
+/// The invariant that ties the word to what all ends know.
 pub struct GateRule;
 
 impl TableRule<(), View, ()> for GateRule {
@@ -63,7 +65,7 @@ impl Play<(), View> for Admit {
     ghost then = { Admits };
 }
 
-/// A look by an entrant.
+/// A query by an entrant.
 pub struct EntrantLook;
 
 impl Play<(), View> for EntrantLook {
@@ -72,7 +74,7 @@ impl Play<(), View> for EntrantLook {
     ghost then = { Looks };
 }
 
-/// A look by the closer, which knows whether it has closed the gate.
+/// A query by the closer, which knows whether it has closed the gate.
 pub struct CloserLook;
 
 impl Play<(), View> for CloserLook {
@@ -90,7 +92,7 @@ impl Play<(), View> for Close {
     ghost then = { Closes };
 }
 
-/// The last look, by the closer with every entrant's part.
+/// The last query, by the closer with every entrant's part.
 pub struct LastLook;
 
 impl Play<(), View> for LastLook {
@@ -99,7 +101,7 @@ impl Play<(), View> for LastLook {
     ghost then = { Meets };
 }
 
-/// An entrant's part is cut off from the closer's token, or taken back into it. Each costs one load.
+/// Splits an entrant's part off the closer's token, or joins it again. Each costs one load.
 pub struct Part;
 
 impl Split<View> for Part {

@@ -111,7 +111,7 @@ abbrev pub is_failed_state : ℕ → NodeState → Bool
 is_failed_state code (Over (Failed c)) = c == code
 is_failed_state code _ = false
 
--- each node has come as far as the steps tell
+-- each node has come as far as the steps say
 pub record AreStates (course : List GraphStep) (states : List NodeState) : Type 0 where
   pub begun : (n : ℕ) → has_begun course n ≡ is_begun_state (state_at states n)
   pub ended : (n : ℕ) → has_ended course n ≡ is_ended_state (state_at states n)

@@ -22,11 +22,11 @@ pub record AreNodes (graph : List (List ℕ)) : Type 0 where
   pub few : length graph < 2 ^ 32
   pub inputs : (n k : ℕ) → k < length (inputs_at graph n) → slice_index (inputs_at graph n) k < length graph
 
--- n needs i beside what it needs already
+-- n needs i, besides what it needs already
 abbrev pub with_input : List (List ℕ) → ℕ → ℕ → List (List ℕ)
 with_input graph n i = slice_set graph n (inputs_at graph n ++ i ∷ [])
 
--- why n does not come to need i: what is missing is not a node
+-- why n cannot be made to need i: what is missing is not a node
 abbrev pub FaultIn : List (List ℕ) → GraphFault → Type 0
 FaultIn graph (Missing node) = length graph ≤ node.0
 FaultIn graph OutOfMemory = ⊤

@@ -4,7 +4,7 @@ use Rattle.fj_run.specs.Runs.{RefusesRun}
 use Rattle.fj_graph.specs.declared.refused.GraphRefused.{GraphRefused}
 use Rattle.fj_graph.specs.declared.refused.GraphRefused.TheVariants.{Cycle, Refused}
 
--- what is told of a cycle is a node, and the pool refuses as a run does
+-- a reported cycle names a node, and the pool refuses as a run does
 abbrev pub RefusesGraph : List (List ℕ) → GraphRefused → Type 0
 RefusesGraph graph (Cycle node) = node.0 < length graph
 RefusesGraph graph (Refused refusal) = RefusesRun refusal

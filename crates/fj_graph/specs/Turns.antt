@@ -5,7 +5,7 @@ use Rattle.fj_bodies.specs.declared.body.Ask.TheVariants.{Fail}
 use Rattle.fj_bodies.specs.declared.body.Heard.{Heard}
 use Rattle.fj_bodies.specs.declared.body.Heard.TheVariants.{Start}
 
--- whatever is heard but the start, it fails, and calls nothing
+-- on anything but the start it fails, and calls nothing
 abbrev pub FailsLater : {B K O : Type 0} → Heard B K O → Ask B K O → Type 0
 FailsLater (Start me) ask = ⊤
 FailsLater _ ask = ask ≡ Fail 0

@@ -7,7 +7,7 @@ use crate::stop_flag::StopFlag;
 #[derive(Drop)]
 pub(crate) struct Calls<'a, W> {
     pub(crate) work: &'a W,
-    /// The flag of the caller.
+    /// The flag of the caller of the run.
     pub(crate) stop: &'a StopFlag,
     /// The flag of this run, which a failure sets.
     pub(crate) own: &'a StopFlag,

@@ -7,7 +7,7 @@ pub enum GraphFault {
     /// There is no such node.
     #[error("no node {0}")]
     Missing(NodeId),
-    /// Memory was refused, or there is no number left for one more node.
+    /// An allocation failed, or there is no number left for one more node.
     #[error("out of memory")]
     OutOfMemory,
 }

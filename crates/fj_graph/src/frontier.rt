@@ -3,8 +3,8 @@ use crate::node::NodeId;
 use std::alloc::{AllocError, Global};
 use std::collections::VecDeque;
 
-/// Which nodes to look at next: those whose inputs are all done, by their counts. Nothing is proved of it: the inputs of a node that is taken
-/// are looked at again.
+/// Which nodes to look at next: those whose inputs are all done, by their counts. Nothing is proved of it, so the inputs of a node that is
+/// taken are checked again.
 #[derive(Drop)]
 pub(crate) struct Frontier {
     /// How many inputs each node still waits for.
@@ -13,7 +13,7 @@ pub(crate) struct Frontier {
 }
 
 impl Frontier {
-    /// The nodes that need nothing. It has room for all nodes.
+    /// The nodes without inputs. There is room for all nodes. `AllocError` where out of memory.
     pub(crate) fn new(alloc: Global, graph: &Graph) -> Result<Frontier, AllocError> {
         let mut waits = Vec::with_capacity(alloc, graph.len())?;
         let mut ready = VecDeque::with_capacity(alloc, graph.len())?;
@@ -27,12 +27,12 @@ impl Frontier {
         Ok(Frontier { waits, ready })
     }
 
-    /// Takes the next one.
+    /// Takes the next node, if there is one.
     pub(crate) fn take(&mut self) -> Option<NodeId> {
         self.ready.pop_front()
     }
 
-    /// This one comes next.
+    /// Makes this node the next one. `AllocError` where out of memory.
     pub(crate) fn put_back(&mut self, node: NodeId) -> Result<(), AllocError> {
         match self.ready.push_front(node) {
             Ok(()) => Ok(()),
@@ -40,12 +40,13 @@ impl Frontier {
         }
     }
 
-    /// Whether there is one.
+    /// Whether there is a next node.
     pub(crate) fn has_next(&self) -> bool {
         !self.ready.is_empty()
     }
 
-    /// A node is done: what needs it waits for one input fewer, and comes where that was the last one.
+    /// A node is done: each node that needs it waits for one input fewer, and is ready after the last one. `AllocError` where out of
+    /// memory.
     pub(crate) fn done(&mut self, graph: &Graph, node: NodeId) -> Result<(), AllocError> {
         for user in graph.users(node) {
             if self.arrive(*user) && self.ready.push_back(*user).is_err() {
@@ -55,7 +56,7 @@ impl Frontier {
         Ok(())
     }
 
-    /// A node waits for one input fewer. Whether it waits for none now.
+    /// A node waits for one input fewer. True where that was the last one.
     fn arrive(&mut self, node: NodeId) -> bool {
         match self.waits.get_mut(node.0 as usize) {
             Some(waits) => {

@@ -50,8 +50,8 @@ impl Graph {
         self.nodes.len() as u32
     }
 
-    /// One more node, which needs nothing yet. `OutOfMemory` where memory is refused, or there are 4,294,967,295 already: then the graph stays as it
-    /// was.
+    /// Adds a node, which needs nothing yet. `OutOfMemory` where an allocation fails, or there are 4,294,967,295 already: then the graph is
+    /// unchanged.
     pub fn node(&mut self) -> Result<NodeId, GraphFault>
         ensures number { IfOk result (λ node. node.0 ≡ length self.old) }
         ensures more { IfOk result (λ _. self.new ≡ self.old ++ [] ∷ []) }
@@ -72,9 +72,9 @@ impl Graph {
         }
     }
 
-    /// This node needs that one: its work begins once the work of the input is done. Whatever is refused, the graph stays as it was.
+    /// Adds an input: the work of this node begins once the work of the input is done. On an error the graph is unchanged.
     ///
-    /// `Missing` where one of them is not a node, the first such; `OutOfMemory` where memory is refused.
+    /// `Missing` where one of them is not a node, the first such; `OutOfMemory` where an allocation fails.
     pub fn needs(&mut self, node: NodeId, input: NodeId) -> Result<(), GraphFault>
         ensures nodes { IfOk result (λ _. (node.0 < length self.old) × (input.0 < length self.old)) }
         ensures input { IfOk result (λ _. self.new ≡ with_input self.old node.0 input.0) }
@@ -108,7 +108,7 @@ impl Graph {
         }
     }
 
-    /// What needs a node; nothing where there is no such node.
+    /// Which nodes need a node; none where there is no such node.
     pub(crate) fn users(&self, node: NodeId) -> &[NodeId] {
         match self.nodes.get(node.0 as usize) {
             Some(node) => node.users.as_slice(),

@@ -6,6 +6,6 @@ use crate::node::NodeId;
 pub enum GraphStep {
     /// The body that calls the work of this node was handed to the pool.
     Begun(NodeId),
-    /// It was told what became of this node.
+    /// The fate of this node was reported.
     Ended(NodeId, Fate),
 }

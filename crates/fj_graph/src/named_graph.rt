@@ -1,6 +1,6 @@
 use std::marker::Brand;
 
-/// The graph that is run: a name by which a type knows its inputs, so that what is known of the steps of a run stands with its state.
+/// The graph that is run: a type that names its inputs, so that the state of a run can be tied to its steps so far.
 pub trait NamedGraph {
     ghost use Rattle.std.specs.Prelude.{List, ℕ};
 

@@ -1,7 +1,7 @@
 use std::fmt;
 use std::fmt::{Display, Formatter};
 
-/// A node, by its number: from 0 on, in the order in which they came.
+/// A node, by its number: from 0 on, in the order in which they were added.
 #[derive(Clone, Copy, Debug, PartialEq, Eq)]
 pub struct NodeId(pub u32);
 
@@ -16,6 +16,6 @@ impl Display for NodeId {
 pub(crate) struct Node {
     /// What it needs.
     pub(crate) inputs: Vec<NodeId>,
-    /// What needs it: a hint where to look when it is done.
+    /// What needs it: a hint for the frontier.
     pub(crate) users: Vec<NodeId>,
 }

@@ -9,17 +9,17 @@ use crate::policy::Policy;
 use crate::work::Work;
 use fj_run::{Ask, Body, Heard};
 
-/// The body of a node: it looks at the flags, and calls the work.
+/// The body of a node: it checks the flags, and calls the work.
 #[derive(Drop)]
 pub struct NodeCall<'a, W> {
     pub(crate) node: NodeId,
     pub(crate) calls: Calls<'a, W>,
-    /// Always none. The turn of a body that owns nothing gets no generated proof, by a fault of the kit.
+    /// Always None. The toolchain generates no proof for the turn of a body that owns nothing.
     pub(crate) owned: Option<Box<u8>>,
 }
 
 impl<W: Work> NodeCall<'_, W> {
-    /// What became of the node.
+    /// Calls the work, unless a flag is set: the fate of the node.
     fn run(&self) -> Fate {
         if self.calls.is_stopped() {
             return Fate::Skipped;

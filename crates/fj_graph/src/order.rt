@@ -1,4 +1,4 @@
-//! Whether a graph has a cycle: its nodes get ranks, and then each is compared with its inputs, so nobody has to believe the ranks.
+//! Whether a graph has a cycle: its nodes get ranks, and then each is compared with its inputs, so the ranks need not be trusted.
 ghost use Rattle.std.specs.Prelude.{◌≡◌, ◌<◌, IfNone, IfOk, IfSome, length, ltb, slice_index, true};
 ghost use Rattle.std.specs.List.{list_all};
 ghost use Rattle.fj_graph.specs.Graphs.{IsAbove, IsAcyclic};
@@ -9,8 +9,8 @@ use crate::node::NodeId;
 use std::alloc::{AllocError, Global};
 
 impl Graph {
-    /// Whether there is a cycle: a node that is on one, or that needs a node on one, however far away. None where there is none, and then the
-    /// graph can be run. An error where memory is refused.
+    /// Looks for a cycle: a node that is on one, or that needs a node on one, however far away. None where there is none, and then the
+    /// graph can be run. `AllocError` where out of memory.
     pub fn cycle(&self, alloc: Global) -> Result<Option<NodeId>, AllocError>
         ensures none { IfOk result (λ found. IfNone found (IsAcyclic self.now)) }
         ensures some { IfOk result (λ found. IfSome found (λ node. node.0 < length self.now)) }
@@ -25,7 +25,7 @@ impl Graph {
         Ok(None)
     }
 
-    /// The rank of each node: one more than that of its inputs at least, if no cycle is among them.
+    /// The rank of each node: above those of its inputs, unless it is on a cycle or needs a node on one.
     fn ranks(&self, alloc: Global) -> Result<Vec<u32>, AllocError> {
         let mut ranks: Vec<u32> = vec![in alloc; 0; self.len()]?;
         let mut frontier = Frontier::new(alloc, self)?;

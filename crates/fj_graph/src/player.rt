@@ -15,7 +15,7 @@ use fj_run::{Naming, Outcome, Play, Refusal, Running, SubId, Ticket, result_in};
 use std::alloc::{AllocError, Global};
 use std::sync::Wait;
 
-/// What runs a graph: it alone knows how far each node has come. The workers call work, and nothing else.
+/// Runs a graph: it alone keeps how far each node has come. The workers only call the work.
 #[derive(Drop)]
 pub(crate) struct Player<'a, W, G: NamedGraph> {
     graph: &'a Graph,
@@ -23,19 +23,19 @@ pub(crate) struct Player<'a, W, G: NamedGraph> {
     pub(crate) progress: Progress<G>,
     pub(crate) frontier: Frontier,
     under_way: UnderWay,
-    /// How many bodies may be under way.
+    /// The most bodies under way.
     window: usize,
-    /// The submitter whose lane is filled now.
+    /// The submitter whose lane is filled at present.
     lane: SubId,
-    /// Whether something was not called since a flag is set.
+    /// Whether something was not called since a flag was set.
     pub(crate) stopped: bool,
-    /// Why it cannot go on, if it cannot.
+    /// Why the run cannot go on, if it cannot.
     pub(crate) refusal: Option<Refusal>,
     ghost same: { graph.now ≡ G.graph },
 }
 
 impl<'a, W, G: NamedGraph> Player<'a, W, G> {
-    /// Nothing was begun. Precondition: the graph is that which the type names.
+    /// A run before its first step. `AllocError` where out of memory. Precondition: the graph is the one that the type names.
     pub(crate) fn new(
         alloc: Global,
         graph: &'a Graph,
@@ -57,7 +57,7 @@ impl<'a, W, G: NamedGraph> Player<'a, W, G> {
         })
     }
 
-    /// It goes on, or cannot.
+    /// Keeps an error, which ends the run.
     fn note(&mut self, done: Result<(), AllocError>) {
         if done.is_err() {
             self.refusal = Some(Refusal::OutOfMemory);
@@ -84,7 +84,7 @@ impl<'a, W, G: NamedGraph> Player<'a, W, G> {
         }
     }
 
-    /// Tells what became of each node, if nothing is left to run: whether the run was stopped.
+    /// Concludes the run, if nothing is left to run: sets each fate, and returns whether the run was stopped.
     pub(crate) fn conclude(&mut self) -> Option<bool>
         ensures { IfSome result (λ stopped. AreFates G.graph stopped self.new.progress.course.items self.new.progress.fates.items) }
     {
@@ -101,7 +101,7 @@ impl<'a, W, G: NamedGraph> Player<'a, W, G> {
         }
     }
 
-    /// The next of so many lanes is filled from now on, if there is one. Whether there is.
+    /// Goes on with the next of so many lanes. False where there is none.
     fn change_lane(&mut self, lanes: usize) -> bool {
         match self.lane.0.checked_add(1) {
             Some(next) if (next as usize) < lanes => {
@@ -114,7 +114,7 @@ impl<'a, W, G: NamedGraph> Player<'a, W, G> {
 }
 
 impl<'a, W: Work, G: NamedGraph> Player<'a, W, G> {
-    /// Looks at the next node, and submits its body if it may begin. Whether there may be more to submit.
+    /// Checks the next node, and submits its body if it may begin. False where there is nothing more to submit.
     fn feed<N: Naming, R: Wait>(
         &mut self,
         pool: &mut Running<'_, '_, NodeCall<'a, W>, N, R>,
@@ -146,7 +146,7 @@ impl<'a, W: Work, G: NamedGraph> Player<'a, W, G> {
         }
     }
 
-    /// Fills the window, unless it cannot go on.
+    /// Fills the window, unless the run cannot go on.
     fn fill<N: Naming, R: Wait>(&mut self, pool: &mut Running<'_, '_, NodeCall<'a, W>, N, R>) {
         for _body in 0..u64::MAX {
             let has_room = self.under_way.len() < self.window;
@@ -156,7 +156,7 @@ impl<'a, W: Work, G: NamedGraph> Player<'a, W, G> {
         }
     }
 
-    /// Waits for an outcome, and notes it. Whether there was one.
+    /// Waits for an outcome, and keeps it. False where nothing is under way.
     fn hear<N: Naming, R: Wait>(
         &mut self,
         pool: &mut Running<'_, '_, NodeCall<'a, W>, N, R>,
@@ -172,7 +172,7 @@ impl<'a, W: Work, G: NamedGraph> Player<'a, W, G> {
     }
 }
 
-/// What became of a node, by the outcome of its body.
+/// The fate of a node, from the outcome of its body.
 fn fate_in<'a, W: Work>(
     outcome: Result<Outcome<NodeCall<'a, W>>, Refusal>,
 ) -> Result<Fate, Refusal> {

@@ -17,7 +17,7 @@ use std::marker::PhantomData;
 pub(crate) struct Progress<G: NamedGraph> {
     pub(crate) course: Vec<GraphStep>,
     states: Vec<NodeState>,
-    /// What became of each node, once the run is over.
+    /// The fate of each node, once the run is over.
     pub(crate) fates: Vec<Fate>,
     of: PhantomData<G>,
     ghost all: { (vec_len states ≡ length G.graph) × (vec_len fates ≡ length G.graph) },
@@ -26,7 +26,7 @@ pub(crate) struct Progress<G: NamedGraph> {
 }
 
 impl<G: NamedGraph> Progress<G> {
-    /// Nothing was begun. It has room for all steps. Precondition: the graph is that which the type names.
+    /// No steps yet, with room for all. `AllocError` where out of memory. Precondition: the graph is the one that the type names.
     pub(crate) fn new(alloc: Global, graph: &Graph) -> Result<Progress<G>, AllocError>
         requires same { graph.now ≡ G.graph }
     {
@@ -42,7 +42,7 @@ impl<G: NamedGraph> Progress<G> {
         })
     }
 
-    /// The steps, and what became of each node.
+    /// The steps, and the fate of each node.
     pub(crate) fn into_lists(self) -> (Vec<GraphStep>, Vec<Fate>)
         ensures course { result.0 ≡ self.course }
         ensures fates { result.1 ≡ self.fates }
@@ -80,7 +80,7 @@ impl<G: NamedGraph> Progress<G> {
         nodes.iter().all(|node| self.is_done(*node))
     }
 
-    /// Whether a node may begin: it waits, and all its inputs are done.
+    /// Whether a node may begin: it waits, and all its inputs are done. Precondition: the graph is the one that the type names.
     pub(crate) fn may_begin(&self, graph: &Graph, node: NodeId) -> bool
         requires same { graph.now ≡ G.graph }
         ensures { result ≡ true → MayBegin G.graph self.now.course.items node.0 }
@@ -94,7 +94,7 @@ impl<G: NamedGraph> Progress<G> {
         self.are_done(graph.inputs(node))
     }
 
-    /// A node begins. Precondition: it may. An error where memory is refused, and then it does not.
+    /// A node begins. `AllocError` where out of memory, and then it does not. Precondition: it may.
     pub(crate) fn begin(&mut self, node: NodeId) -> Result<(), AllocError>
         requires { MayBegin G.graph self.old.course.items node.0 }
     {
@@ -105,7 +105,7 @@ impl<G: NamedGraph> Progress<G> {
         Ok(())
     }
 
-    /// This became of a node. An error where it was not under way, or memory is refused.
+    /// A node ends with this fate. `AllocError` where it was not under way, or where out of memory.
     pub(crate) fn end(&mut self, node: NodeId, fate: Fate) -> Result<(), AllocError> {
         let NodeState::UnderWay = self.state(node) else {
             return Err(AllocError);
@@ -117,8 +117,8 @@ impl<G: NamedGraph> Progress<G> {
         Ok(())
     }
 
-    /// Tells what became of each node, where nothing is under way and the run was stopped or not: whether it was stopped. An error is a node
-    /// that could begin now.
+    /// Sets the fate of each node, where nothing is under way: whether the run was stopped. `Err` is a node that could begin now.
+    /// Precondition: the graph is the one that the type names.
     pub(crate) fn tell(&mut self, graph: &Graph, was_stopped: bool) -> Result<bool, NodeId>
         requires same { graph.now ≡ G.graph }
         ensures { IfOk result (λ stopped. AreFates G.graph stopped self.new.course.items self.new.fates.items) }
@@ -135,14 +135,15 @@ impl<G: NamedGraph> Progress<G> {
         Ok(stopped)
     }
 
-    /// Whether the run was stopped, which a node tells that ended without a call.
+    /// Whether the run was stopped, as a node shows that ended without a call.
     fn sees_stop(&self, stopped: bool, node: NodeId) -> bool
         ensures { stopped ≡ true → result ≡ true }
     {
         stopped || self.state(node) == NodeState::Ended(Fate::Skipped)
     }
 
-    /// What became of a node, where nothing is under way and the run was stopped or not. None where it could begin now.
+    /// The fate of a node, where nothing is under way. None where it could begin now. Precondition: the graph is the one that the type
+    /// names.
     fn fate(&self, graph: &Graph, stopped: bool, node: NodeId) -> Option<Fate>
         requires same { graph.now ≡ G.graph }
         ensures { IfSome result (IsFate G.graph stopped self.now.course.items node.0) }

@@ -20,27 +20,27 @@ use std::marker::Brand;
 use std::sync::Wait;
 use std::thread::Threads;
 
-/// The most bodies that are under way at a time: 32 workers, the most that a pool has, each run one while another waits. More would be begun
-/// no sooner, and each outcome is looked for among all of them.
+/// The most bodies under way at a time: 32 workers, the most that a pool has, each run one while another waits. More would not begin
+/// sooner, and each outcome is looked for among all of them.
 const WINDOW: u32 = 64;
 
 /// A graph that was run to its end.
 #[derive(Drop)]
 pub struct Ran {
-    /// What became of each node, by its number.
+    /// The fate of each node, by its number.
     pub fates: Vec<Fate>,
-    /// What began and what ended, in the order in which it was told.
+    /// The beginnings and ends, in the order in which they were noted.
     pub course: Vec<GraphStep>,
     /// Whether something was not called since a flag was set.
     pub stopped: bool,
 }
 
-/// Calls the work of each node at most once, and after that of all its inputs is done, by the workers of a pool with these settings. It ends
-/// where each node has its fate. What has a flag set is looked at before each call; what runs then is run to its end.
+/// Calls the work of each node at most once, after that of all its inputs is done, by the workers of a pool with these settings. It returns
+/// once each node has its fate. The flags are checked before each call; work already running is run to its end.
 ///
-/// It needs no more than 64 places of the pool, however large the graph is. Where all lanes of a pool are spent the next one is opened.
+/// It takes at most 64 places of the pool, however large the graph is. Once all lanes of a pool are spent, it goes on in a new pool.
 ///
-/// `Cycle` where the graph has a cycle: nothing is called. `Refused` with `OutOfMemory` where memory is refused or a thread cannot be
+/// `Cycle` where the graph has a cycle: nothing is called. `Refused` with `OutOfMemory` where an allocation fails or a thread cannot be
 /// started, with `LogFull` where the pool got stuck.
 pub fn run_graph<'a, W: Work + Sync, R: Threads + Wait + Sync>(
     rt: &R,
@@ -74,7 +74,7 @@ pub fn run_graph<'a, W: Work + Sync, R: Threads + Wait + Sync>(
     }
 }
 
-/// The same for the graph that the type names, without a cycle. Precondition: it is that one.
+/// The same for a graph without a cycle. Precondition: it is the one that the type names.
 fn run_in<'a, G: NamedGraph, W: Work + Sync, R: Threads + Wait + Sync>(
     rt: &R,
     alloc: Global,
@@ -112,7 +112,7 @@ fn run_in<'a, G: NamedGraph, W: Work + Sync, R: Threads + Wait + Sync>(
     unreachable!()
 }
 
-/// Why a run ends without fates: `LogFull` stays, any other refusal becomes `OutOfMemory`.
+/// The refusal of a run: `LogFull` stays, any other becomes `OutOfMemory`.
 fn told(refusal: Refusal) -> Refusal
     ensures { RefusesRun result }
 {

@@ -1,20 +1,20 @@
 use std::sync::atomic::{AtomicBool, Ordering};
 
-/// A flag that stops a run from outside, set once and for all.
+/// A flag that stops a run from outside. Once set, it stays set.
 #[derive(Drop)]
 pub struct StopFlag {
     flag: AtomicBool,
 }
 
 impl StopFlag {
-    /// It is not set.
+    /// A flag that is not set.
     pub fn new() -> StopFlag {
         StopFlag {
             flag: AtomicBool::new(false),
         }
     }
 
-    /// Sets it: each call that looks from now on sees it.
+    /// Sets it: each later check sees it.
     pub fn stop(&self) {
         self.flag.store(true, Ordering::SeqCst);
     }

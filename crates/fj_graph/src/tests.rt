@@ -6,7 +6,7 @@ use std::sync::Wait;
 use std::test::Fail;
 use std::thread::Threads;
 
-/// So many nodes of this shape, of which one fails, by so many workers with so many places.
+/// So many nodes of this shape, one of which fails, by so many workers with so many places.
 #[derive(Drop)]
 struct Case {
     shape: Shape,
@@ -61,8 +61,8 @@ fn run<R: Threads + Wait + Sync + Abort>(
     Ok(count(ran.fates.as_slice()))
 }
 
-/// No node is called twice, or before its inputs, and none is left out: 25 nodes in layers of two, a chain, 20,000 with inputs at random by 64
-/// places, 70,000 that need nothing, which is more than a lane takes.
+/// No node is called twice, or before its inputs, and none is left out: 25 nodes in layers of two, a chain, 20,000 with inputs at random by
+/// 64 places, 70,000 without inputs, which is more than a lane takes.
 #[test]
 fn each_node_is_called_once_and_after_its_inputs(rt: HostRuntime) -> Result<(), Fail> {
     for (shape, nodes, workers, places) in [

@@ -14,7 +14,7 @@ pub(crate) struct UnderWay {
 }
 
 impl UnderWay {
-    /// Nothing is under way, and there is room for so many.
+    /// Nothing is under way, with room for so many. `AllocError` where out of memory.
     pub(crate) fn new(alloc: Global, window: usize) -> Result<UnderWay, AllocError> {
         Ok(UnderWay {
             tickets: Vec::with_capacity(alloc, window)?,
@@ -27,7 +27,7 @@ impl UnderWay {
         self.tickets.len()
     }
 
-    /// One more, where there is memory.
+    /// Adds a body. `AllocError` where out of memory, and then nothing changes.
     pub(crate) fn push(&mut self, ticket: Ticket, node: NodeId) -> Result<(), AllocError> {
         self.tickets.reserve(1)?;
         self.nodes.reserve(1)?;
@@ -36,7 +36,7 @@ impl UnderWay {
         Ok(())
     }
 
-    /// Waits for the first outcome that comes. None where nothing is under way.
+    /// Waits for the first outcome. None where nothing is under way.
     pub(crate) fn wait<B: Body, N: Naming, R: Wait>(
         &mut self,
         pool: &mut Running<'_, '_, B, N, R>,

@@ -1,4 +1,4 @@
-//! Work that sees whether it is called as it must be, for tests.
+//! Work that checks when it is called, for tests.
 use super::*;
 use std::alloc::{AllocError, Global};
 use std::sync::atomic::{AtomicU64, Ordering};
@@ -35,7 +35,7 @@ impl Shape {
     }
 }
 
-/// Counts the calls of each node, and those that came before an input's.
+/// Counts the calls of each node, and how often an input was not yet called.
 #[derive(Drop)]
 pub(crate) struct Watch {
     shape: Shape,
@@ -46,7 +46,7 @@ pub(crate) struct Watch {
 }
 
 impl Watch {
-    /// Of so many nodes of this shape, of which this one fails.
+    /// For so many nodes of this shape, of which this one fails. `AllocError` where out of memory.
     pub(crate) fn new(
         alloc: Global,
         shape: Shape,
@@ -95,7 +95,7 @@ impl Watch {
         }
     }
 
-    /// How many inputs were not called when they were needed.
+    /// How often an input was not called when it was needed.
     pub(crate) fn early(&self) -> u64 {
         self.early.load(Ordering::SeqCst)
     }

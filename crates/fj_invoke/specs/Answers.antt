@@ -6,7 +6,7 @@ use Rattle.fj_bodies.specs.declared.outcomes.Outcome.{Outcome}
 use Rattle.fj_run.specs.declared.results.NoResult.{NoResult}
 use Rattle.fj_run.specs.Results.{refusal_of, result_in}
 
--- a result is refused only where it stands under another key
+-- a result is refused only where it is under another key
 abbrev pub RefusesResult : {K O : Type 0} → (K → K → Bool) → K → Result (K × O) NoResult → Refusal → Type 0
 RefusesResult eq key (Ok kept) r = (eq kept.0 key ≡ false) × (r ≡ OutOfMemory)
 RefusesResult eq key (Err none) r = r ≡ refusal_of none

@@ -1,4 +1,4 @@
--- What the body of a job joins, and what it lets go.
+-- What the body of a job joins and releases.
 use Rattle.std.specs.Prelude.{ℕ, ◌≡◌, ⊤, List, [], ◌∷◌, ◌++◌, Option, Some, None, filter_map}
 use Rattle.fj_bodies.specs.declared.body.Heard.{Heard}
 use Rattle.fj_bodies.specs.declared.body.Heard.TheVariants as hears
@@ -14,7 +14,7 @@ abbrev pub task_of : {J K O : Type 0} → Left J K O → Option ℕ
 task_of (Forked t k) = Some t
 task_of (Done o) = None
 
--- the tasks that were forked, and are neither joined nor let go yet, from left to right
+-- the tasks that were forked, and are neither joined nor released yet, from left to right
 abbrev pub forked_in : {J K O : Type 0} → List (Left J K O) → List ℕ
 forked_in lefts = filter_map task_of lefts
 
@@ -25,7 +25,7 @@ forked_by lefts (Waiting t k v) (hears.Got heard out) = forked_in lefts
 forked_by lefts (Waiting t k v) _ = forked_in lefts ++ t ∷ []
 forked_by lefts _ _ = forked_in lefts
 
--- of these tasks it joins the last one or lets it go, and no other task; it ends only where there is none
+-- of these tasks it joins or releases the last one, and no other; it ends only where there is none
 abbrev pub JoinsLast : {B K O : Type 0} → List ℕ → Ask B K O → Type 0
 JoinsLast tasks (Join t) = (others : List ℕ) × (tasks ≡ others ++ t ∷ [])
 JoinsLast tasks (Release t) = (others : List ℕ) × (tasks ≡ others ++ t ∷ [])

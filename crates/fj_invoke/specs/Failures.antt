@@ -10,7 +10,7 @@ use Rattle.fj_lazy.specs.Failures.{code_heard, is_want_of_room}
 use Rattle.fj_invoke.specs.declared.recursive_stage.RecursiveStage.{RecursiveStage}
 use Rattle.fj_invoke.specs.declared.recursive_stage.RecursiveStage.TheVariants.{Going, Forking, Waiting, Leaving}
 
--- it ends by this code, or lets a task go first
+-- it fails with this code, or releases a task first
 abbrev pub Leaves : {B J K O : Type 0} → ℕ → RecursiveStage J K O → Ask B K O → Type 0
 Leaves code stage (asks.Release t) = stage ≡ Leaving code
 Leaves code stage (asks.Fail n) = n ≡ code

@@ -1,6 +1,6 @@
--- What a body of a job has in hand.
+-- What a body of a job still has to do.
 pub mod Recursions
--- What it joins, and what it lets go.
+-- What it joins and releases.
 pub mod Asks
 -- How it ends where it cannot go on.
 pub mod Failures

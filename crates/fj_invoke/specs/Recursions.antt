@@ -1,4 +1,4 @@
--- What a body of a job has in hand.
+-- What a body of a job still has to do.
 use Rattle.std.specs.Prelude.{ℕ, Bool, false, ◌≡◌, ◌+◌, ◌*◌, ⊤, List, [], ◌∷◌, Option, None, Some, map, MatchOption}
 use Rattle.fj_invoke.specs.declared.recursive_stage.Left.{Left}
 use Rattle.fj_invoke.specs.declared.recursive_stage.Left.TheVariants.{Forked, Done}

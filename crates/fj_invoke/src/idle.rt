@@ -2,12 +2,12 @@ use fj_lazy::Signals;
 use fj_rules::{Serial, WorkerId};
 use fj_run::Turnstile;
 
-/// Tells the bodies of a job which workers have nothing to do.
+/// A turnstile that signals to the bodies of a job which workers are idle, and passes each call on.
 #[derive(Drop)]
 pub struct IdleWorkers<'s, 't, T> {
     /// What the bodies of the job share.
     pub signals: &'s Signals,
-    /// Who else observes the workers.
+    /// The other observer of the workers.
     pub turnstile: &'t T,
 }
 

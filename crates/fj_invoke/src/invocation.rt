@@ -11,13 +11,13 @@ use std::alloc::Global;
 use std::sync::Wait;
 use std::thread::Threads;
 
-/// The value of a job, by workers in threads, in a pool of its own: `ForkJoinPool.invoke`.
+/// Computes a job by worker threads in a pool of its own: `ForkJoinPool.invoke`.
 ///
-/// `start` is the scan word of worker 0; that of each further one is one more. The turnstile is asked before the first turn of each body:
-/// `Open` holds nobody.
+/// `start` is the scan word of worker 0; that of each further one is one more. The turnstile is called before the first turn of each body:
+/// `Open` delays nobody.
 ///
-/// `LogFull` where the history is full. `OutOfMemory` where memory is refused, a thread cannot be started, or the job has no result for any
-/// other reason.
+/// `LogFull` where the history is full. `OutOfMemory` where an allocation fails, a thread cannot be started, or the job has no result for
+/// any other reason.
 pub fn invoke<J: Divide + Send, T: Turnstile + Sync, R: Threads + Wait + Sync>(
     rt: &R,
     alloc: Global,
@@ -46,7 +46,7 @@ where
     }
 }
 
-/// The value that an outcome gives, if it stands under this key. A result under another key is told as none.
+/// The value in an outcome, if it is under this key. A result under another key counts as none.
 fn answer_of<J: Divide>(outcome: Outcome<Recursive<J>>, key: J::Key) -> Result<J::Out, Refusal>
     ensures value { IfOk result (λ out. out ≡ J.value key) }
     ensures refused { IfErr result (λ refusal. RefusesOutcome J.Key.eq key outcome refusal) }

@@ -12,23 +12,23 @@ use std::alloc::Global;
 use std::sync::Wait;
 use std::thread::Threads;
 
-/// How many events a task has at most.
+/// The most events of one task.
 const EVENTS_OF_A_TASK: u64 = 5;
 
-/// How many events are left for what is no task.
+/// How many events are reserved for what is no task.
 const OTHER_EVENTS: u32 = 2;
 
-/// How many halves may be forked in a history of so many events, beside the task that is submitted.
+/// How many halves may be forked in a history of so many events, besides the submitted task.
 fn forks_in(events: u32) -> u64 {
     (u64::from(events.saturating_sub(OTHER_EVENTS)) / EVENTS_OF_A_TASK).saturating_sub(1)
 }
 
-/// The value of a job, by workers in threads, in a pool of its own: that of `invoke`, at any grain. A half is forked only where a worker has nothing
-/// to do, so a job of short leaves is about as fast as `compute` by one worker, and faster by more. The halves right of a final value are not
+/// Computes a job by worker threads in a pool of its own, as `invoke`, at any grain. A half is forked only where a worker is idle,
+/// so a job of short leaves is about as fast as `compute` by one worker, and faster by more. The halves right of a final value are not
 /// begun, and those that run there end after their present leaf.
 ///
-/// `LogFull` where the history is full. `OutOfMemory` where memory is refused, a thread cannot be started, or the job has no result for any
-/// other reason.
+/// `LogFull` where the history is full. `OutOfMemory` where an allocation fails, a thread cannot be started, or the job has no result for
+/// any other reason.
 pub fn invoke_lazily<J: Divide + Send, R: Threads + Wait + Sync>(
     rt: &R,
     alloc: Global,
@@ -73,7 +73,7 @@ where
     }
 }
 
-/// The value that an outcome gives, if it stands under this key. A result under another key is told as none.
+/// The value in an outcome, if it is under this key. A result under another key counts as none.
 fn answer_of<J: Divide>(outcome: Outcome<Lazy<'_, J>>, key: J::Key) -> Result<J::Out, Refusal>
     ensures value { IfOk result (λ out. out ≡ J.value key) }
     ensures refused { IfErr result (λ refusal. RefusesOutcome J.Key.eq key outcome.entry refusal) }

@@ -6,8 +6,8 @@ use crate::recursive_stage::Left;
 use fj_jobs::Divide;
 use fj_rules::Serial;
 
-/// Combines the values of the last left halves with everything right of them, up to the last one that was forked: that is given, as its
-/// task with its key, and with the value of everything right of it. Without one the whole value is given.
+/// Combines the values of the last left halves with everything right of them, down to the last one that was forked: `Err` is its task, its
+/// key, and the value of everything right of it. `Ok` is the value of the whole.
 pub fn fold_done<J: Divide>(
     lefts: &mut Vec<Left<J>>,
     tail: J::Out,

@@ -1,4 +1,4 @@
-//! The value of a job that divides, by workers in threads: its halves are forked, and joined, in a pool of its own.
+//! Divide-and-conquer jobs by worker threads: the halves of a job are forked and joined in a pool of its own.
 //!
 //! ```
 //! let limits = Limits::new(4, 1, 4_096, 1_048_576)?; // workers, submitters, tasks, events

@@ -16,13 +16,13 @@ use std::alloc::{AllocError, Global};
 use std::mem;
 
 /// A job as a body: it forks the left half, goes on with the right one in the same way, and then joins what it forked, the last one first.
-/// It is submitted as a plain task, with the key of its job: `RecursiveTask`. It stands in a box, since a pool moves a body several times.
+/// It is submitted as a plain task, with the key of its job: `RecursiveTask`. It is boxed, since a pool moves a body several times.
 #[derive(Drop)]
 pub struct Recursive<J: Divide> {
     inside: Box<RecursiveState<J>>,
 }
 
-/// What a recursive body has.
+/// The state of a recursive body.
 #[derive(Drop)]
 pub struct RecursiveState<J: Divide> {
     key: J::Key,
@@ -32,14 +32,14 @@ pub struct RecursiveState<J: Divide> {
     ghost total: { ∥ Gives J.key_of J.value J.combined lefts.items stage (J.value key) ∥₁ },
 }
 
-/// Whether there was no room for a task: then its job may be computed in place.
+/// Whether a fork was refused for lack of room: then its job may be computed in place.
 fn is_want_of_room(refusal: Refusal) -> bool
     ensures { result ≡ is_want_of_room refusal }
 {
     matches!(refusal, Refusal::TooManyTasks | Refusal::LogFull)
 }
 
-/// The code by which a body ends that hears this and cannot go on.
+/// The code with which a body fails that hears this and cannot go on.
 fn failure_code<J: Divide>(heard: &Heard<Recursive<J>>) -> u32
     ensures { result ≡ code_heard heard.now }
 {
@@ -50,7 +50,7 @@ fn failure_code<J: Divide>(heard: &Heard<Recursive<J>>) -> u32
     }
 }
 
-/// The value of a body that was not forked, if its key is this one, and it was refused for want of room.
+/// The value of a body that was not forked, if it has this key and was refused for lack of room.
 fn in_place<J: Divide>(body: Recursive<J>, refusal: Refusal, key: J::Key) -> Option<J::Out>
     ensures value { IfSome result (λ v. v ≡ J.value key) }
     ensures room { IfSome result (λ v. is_want_of_room refusal ≡ true) }
@@ -64,7 +64,7 @@ fn in_place<J: Divide>(body: Recursive<J>, refusal: Refusal, key: J::Key) -> Opt
 }
 
 impl<J: Divide> Recursive<J> {
-    /// The job, before its first turn. An error where memory is refused.
+    /// A body for this job, before its first turn. `AllocError` where out of memory.
     pub fn new(alloc: Global, job: J) -> Result<Recursive<J>, AllocError>
         ensures { IfOk result (λ body. body.inside.value.key ≡ J.key_of job) }
     {
@@ -101,7 +101,7 @@ impl<J: Divide> Recursive<J> {
 }
 
 impl<J: Divide> RecursiveState<J> {
-    /// Lets go what it forked, the last one first, and then ends with this code.
+    /// Releases what it forked, the last one first, and then fails with this code.
     fn leave(&mut self, code: u32) -> Ask<Recursive<J>>
         ensures key { self.new.key ≡ self.old.key }
         ensures right { AskRight (λ k o. o ≡ J.value k) self.new.key result }
@@ -117,7 +117,7 @@ impl<J: Divide> RecursiveState<J> {
         }
     }
 
-    /// Leaves with the code of a run that is out of memory.
+    /// Leaves with the code of `OutOfMemory`.
     fn give_up(&mut self) -> Ask<Recursive<J>>
         ensures key { self.new.key ≡ self.old.key }
         ensures right { AskRight (λ k o. o ≡ J.value k) self.new.key result }
@@ -148,7 +148,7 @@ impl<J: Divide> RecursiveState<J> {
 }
 
 impl<J: Divide> RecursiveState<J> {
-    /// Everything right of the left halves has this value. Precondition: with theirs it gives the value of the whole.
+    /// Goes on once everything right of the left halves has this value. Precondition: with theirs it gives the value of the whole.
     #[inline(always)]
     fn finish(&mut self, tail: J::Out) -> Ask<Recursive<J>>
         requires { tail_value J.combined (map (left_value J.value) self.old.lefts.items) tail ≡ J.value self.old.key }
@@ -168,7 +168,7 @@ impl<J: Divide> RecursiveState<J> {
         }
     }
 
-    /// Splits a job, or takes it as a leaf. Precondition: with the left halves it gives the value of the whole.
+    /// Splits a job, or computes it as a leaf. Precondition: with the left halves it gives the value of the whole.
     #[inline(always)]
     fn go_on(&mut self, job: J) -> Ask<Recursive<J>>
         requires { tail_value J.combined (map (left_value J.value) self.old.lefts.items) (J.value (J.key_of job)) ≡ J.value self.old.key }
@@ -218,7 +218,7 @@ impl<J: Divide> RecursiveState<J> {
 }
 
 impl<J: Divide> RecursiveState<J> {
-    /// The first turn. Precondition: the job has the value of the whole, with the left halves.
+    /// The first turn. Precondition: with the left halves, the job has the value of the whole.
     #[inline(always)]
     fn begin(&mut self, job: J, heard: Heard<Recursive<J>>) -> Ask<Recursive<J>>
         requires { tail_value J.combined (map (left_value J.value) self.old.lefts.items) (J.value (J.key_of job)) ≡ J.value self.old.key }
@@ -289,7 +289,7 @@ impl<J: Divide> RecursiveState<J> {
         }
     }
 
-    /// Takes a turn.
+    /// Takes a turn. Precondition: a result that it hears is right for its key.
     #[inline(always)]
     fn turn(&mut self, heard: Heard<Recursive<J>>) -> Ask<Recursive<J>>
         requires { HeardRight (λ k o. o ≡ J.value k) heard }

@@ -8,7 +8,7 @@ pub enum Left<J: Divide> {
     Done(J::Out),
 }
 
-/// What a recursive body does, beside the left halves that it has put aside.
+/// What a recursive body does next, apart from the left halves that it has put aside.
 #[derive(Drop)]
 pub enum RecursiveStage<J: Divide> {
     /// It goes on with this job.
@@ -17,7 +17,7 @@ pub enum RecursiveStage<J: Divide> {
     Forking(J, J::Key),
     /// It joins this task, a left half with this key; everything right of it has this value.
     Waiting(Serial, J::Key, J::Out),
-    /// It lets go what it forked, and then ends with this code.
+    /// It releases what it forked, and then fails with this code.
     Leaving(u32),
     /// It has ended.
     Over,

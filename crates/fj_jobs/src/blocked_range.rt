@@ -4,7 +4,7 @@ ghost use Rattle.fj_jobs.specs.Parts.{AreParts};
 
 use crate::interval::Interval;
 
-/// Numbers in a row that are done in blocks of `grain` numbers; the last block may be shorter.
+/// Consecutive numbers in blocks of `grain` numbers; the last block may be shorter.
 #[derive(Drop)]
 pub struct BlockedRange {
     /// The numbers.
@@ -28,7 +28,7 @@ impl BlockedRange {
         }
     }
 
-    /// How many blocks there are: the count of numbers through `grain`, rounded up.
+    /// How many blocks there are: the count of numbers divided by `grain`, rounded up.
     pub fn blocks(&self) -> u64
         ensures { result ≡ div_ceil self.now.numbers.count self.now.grain }
     {

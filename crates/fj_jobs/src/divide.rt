@@ -1,7 +1,7 @@
 ghost use Rattle.std.specs.Prelude.{◌≡◌, ℕ, ◌<◌, IfOk, IfErr, true};
 ghost use Rattle.fj_jobs.specs.Finals.{IsFinal};
 
-/// A job that is a leaf, or is done by two smaller jobs: what `RecursiveTask` is mostly used for.
+/// A job that is a leaf, or is done by two smaller jobs: the usual `RecursiveTask`.
 ///
 /// Its laws: splitting lowers `size`; the value of a job that splits is the combination of its halves' values, the left one first; the
 /// value of a leaf is its `leaf`; jobs with equal keys have equal values. So each job has one value, however it is computed.
@@ -45,8 +45,8 @@ pub trait Divide: Drop {
     fn combine(left: Self::Out, right: Self::Out) -> Self::Out
         ensures { result ≡ combined left right };
 
-    /// Whether this value is final: combined with whatever follows it stays itself, and so does each value that ends in it. What stands right
-    /// of it is not begun then. It has to be so of each value that ends in a final one.
+    /// Whether this value is final: combining it with any value on its right gives it again, and the same holds for each value that ends in
+    /// it. Then nothing right of it is begun. `false` unless overridden.
     fn is_final(_value: &Self::Out) -> bool
         ensures { result ≡ true → IsFinal combined _value.now }
     {
@@ -57,8 +57,8 @@ pub trait Divide: Drop {
     ghost same_value: { (a b : Self.Key) → Self.Key.eq a b ≡ true → value a ≡ value b };
 }
 
-/// The value of a job, on the calling thread. It takes no memory but the stack, as deep as the job splits, and does not begin what stands
-/// right of a final value.
+/// Computes the value of a job on the calling thread. It takes no memory but the stack, as deep as the job splits, and begins nothing right
+/// of a final value.
 pub fn compute<J: Divide>(job: J) -> J::Out
     ensures { result ≡ J.value (J.key_of job) }
 {

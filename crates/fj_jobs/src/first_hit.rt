@@ -7,10 +7,10 @@ use crate::divide::Divide;
 use crate::interval::Interval;
 use crate::linear_mod::LinearMod;
 
-/// The smallest number of a range at which a function has the wanted value; None where it has it at no number.
+/// The smallest number of a range at which a function has the wanted value; None where there is none.
 #[derive(Drop)]
 pub struct FirstHit {
-    /// The numbers, and the blocks in which they are done.
+    /// The numbers, and their blocks.
     pub range: BlockedRange,
     /// The function.
     pub function: LinearMod,

@@ -1,7 +1,7 @@
 ghost use Rattle.std.specs.Prelude.{◌≡◌, ℕ, ◌+◌, ◌-◌, ◌^◌, ◌<◌, ◌≤◌};
 ghost use Rattle.fj_jobs.specs.Ranges.{range_sum};
 
-/// Numbers in a row, all below 2^32.
+/// Consecutive numbers, all below 2^32.
 #[derive(Clone, Copy, PartialEq, Eq, Debug)]
 pub struct Interval {
     /// The first number.

@@ -1,4 +1,4 @@
-//! Jobs that divide: a job splits in two until it is a leaf, and its value is combined from the values of its halves.
+//! Divide-and-conquer jobs: a job splits in two until it is a leaf, and its value is combined from the values of its halves.
 //!
 //! A job is a type with [`Divide`]. [`RangeSum`], [`RangeMin`] and [`FirstHit`] go over a [`BlockedRange`], and [`compute`] gives the
 //! value of any job on one thread:

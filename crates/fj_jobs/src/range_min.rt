@@ -9,7 +9,7 @@ use crate::linear_mod::{LinearMod, lower};
 /// The least value of a function over a range, and the smallest number that has it: `(value, number)`. None where the range is empty.
 #[derive(Drop)]
 pub struct RangeMin {
-    /// The numbers, and the blocks in which they are done.
+    /// The numbers, and their blocks.
     pub range: BlockedRange,
     /// The function.
     pub function: LinearMod,

@@ -8,7 +8,7 @@ use crate::interval::Interval;
 /// The sum of the numbers of a range; 0 where there are none. It is below 2^64.
 #[derive(Drop)]
 pub struct RangeSum {
-    /// The numbers, and the blocks in which they are done.
+    /// The numbers, and their blocks.
     pub range: BlockedRange,
 }
 

@@ -3,7 +3,7 @@ use rand_core::utils::NextWord;
 use rand_pcg::Pcg32;
 use std::test::Fail;
 
-/// The sums of whole numbers in blocks, among them those of no number, of one, and of the largest ones.
+/// Sums of ranges, among them an empty one, one of a single number, and the largest numbers.
 #[test]
 fn sums(rt: HostRuntime) -> Result<(), Fail> {
     for (from, to, grain, sum) in [
@@ -26,7 +26,7 @@ fn sums(rt: HostRuntime) -> Result<(), Fail> {
     Ok(())
 }
 
-/// Where several numbers have the least value, the smallest of them.
+/// The least value; where several numbers have it, the smallest of them.
 #[test]
 fn least_values(rt: HostRuntime) -> Result<(), Fail> {
     for (from, to, grain, (mul, add, modulus), least) in [
@@ -109,7 +109,7 @@ fn halves(rt: HostRuntime) -> Result<(), Fail> {
     Ok(())
 }
 
-/// Jobs with equal keys have equal values, however they are cut.
+/// Jobs with equal keys have equal values, however they are split.
 #[test]
 fn keys(rt: HostRuntime) -> Result<(), Fail> {
     let (Some(fine), Some(coarse)) = (blocks_of(3, 30, 1), blocks_of(3, 30, 10)) else {
@@ -136,7 +136,7 @@ fn function_of(mul: u32, add: u32, modulus: u32) -> Option<LinearMod> {
     Some(LinearMod::new(mul, add, modulus))
 }
 
-/// The numbers of the jobs below, and the same computed by a loop over them.
+/// The parameters of a random job; its methods compute the value by a loop.
 #[derive(Clone, Copy)]
 struct Drawn {
     from: u32,

@@ -29,7 +29,7 @@ module _ {B : Type 0} where
   abbrev pub new_drain : LaneId → ℕ → DrainState B
   new_drain lane capacity = record { lane = lane; drained = []; missed = 0; capacity = capacity }
 
-  -- the feed pushes a parcel behind the others, for which there was room
+  -- the feed pushes a parcel behind the others; there was room for it
   abbrev pub Pushes : FeedState B → Parcel B → FeedState B → Type 0
   Pushes f parcel f' = (length f.fed < f.capacity) × (f' ≡ record f { fed = f.fed ++ parcel ∷ [] })
 

@@ -1,4 +1,4 @@
--- The lane's rule: what its deque holds, beside what each end has pushed and taken. It holds between any two steps.
+-- The lane's invariant: what its deque holds, beside what each end has pushed and taken. It holds between any two steps.
 use Rattle.std.specs.Prelude.{◌≡◌, ℕ, Bool, true, List, ◌++◌, drop, length}
 use mathlib.Core.Option.{some}
 use lib.ListN.{get_elem?}
@@ -17,11 +17,11 @@ module _ {B : Type 0} where
   abbrev pub drained_more : List (Parcel B) → View B → View B
   drained_more xs v = view_of v.feeds v.drains v.fed (v.drained ++ xs)
 
-  -- what was pushed and not taken, for one that has both ends
+  -- what was pushed and not taken, for the holder of both ends
   abbrev pub undrained : View B → List (Parcel B)
   undrained v = drop (length v.drained) v.fed
 
-  -- who may push is the feeder and knows what was pushed; who may take is the drainer and knows what was taken
+  -- an end that may push is the feeder and knows what was pushed; one that may take is the drainer and knows what was taken
   abbrev pub Fits : ℕ → ℕ → List (Parcel B) → List (Parcel B) → ℕ → View B → Type 0
   Fits feeder drainer fed drained port v = (v.feeds ≡ true → (port ≡ feeder) × (v.fed ≡ fed)) × (v.drains ≡ true → (port ≡ drainer) × (v.drained ≡ drained))
 

@@ -42,18 +42,17 @@ impl<B> Model for Drain<B> {
 }
 
 impl<B> Drain<B> {
-    /// Takes the oldest parcel out of the lane, by one steal, or by none once all that may be pushed was taken. It waits for nobody, and never
-    /// runs out of memory.
+    /// Takes the oldest parcel out of the lane, by one steal of the deque; by none once all that may be pushed was taken. It never blocks, and
+    /// never runs out of memory.
     ///
-    /// Of the parcels pushed it is the one that follows those taken so far; where the ends meet that is seen. `None` only where the
-    /// lane was empty at one moment of the call, or the steal answered `Retry`: the deque promises that, and it is tested, but no
-    /// clause here says it. Then the count of misses has grown by one, and nothing else has changed. It never gives more parcels than
-    /// the capacity of the lane.
+    /// Of the parcels pushed it is the next after those taken so far, as is known once the ends meet. `None` only if the lane was empty at
+    /// some moment of the call, or the steal answered `Retry`: the deque promises that, and it is tested, but no clause here says it. Then
+    /// the count of misses has grown by one, and nothing else has changed. In all it returns at most as many parcels as the lane's capacity.
     pub fn take(&mut self) -> Option<Parcel<B>>
         ensures within { length self.new.drained ≤ self.new.capacity }
         ensures taken { Takes self.old result self.new }
     {
-        // All that may be pushed was taken: the lane is empty for good.
+        // All that may be pushed was taken: the lane stays empty.
         if self.taken == self.capacity {
             self.misses = self.misses.next();
             return None;

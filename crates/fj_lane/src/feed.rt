@@ -48,17 +48,17 @@ impl<B> Feed<B> {
         self.pushed < self.capacity
     }
 
-    /// How many more parcels it takes.
+    /// How many more parcels it accepts.
     pub fn left(&self) -> u32
         ensures { length self.now.fed + result ≡ self.now.capacity }
     {
         self.capacity - self.pushed
     }
 
-    /// Pushes a parcel behind those that were pushed before. It waits for nobody, and never runs out of memory.
+    /// Pushes a parcel behind those that were pushed before. It never blocks, and never runs out of memory.
     ///
-    /// The first `capacity` pushes succeed. Every later one is refused by `LaneSpent`, which hands its parcel back; nothing has
-    /// changed then. The capacity counts pushes over the lane's life, so a take makes no room.
+    /// The first `capacity` pushes succeed. Every later one returns `LaneSpent` with its parcel, and changes nothing. The capacity counts
+    /// pushes over the lane's life, so a take makes no room.
     pub fn push(&mut self, parcel: Parcel<B>) -> Result<(), (LaneSpent, Parcel<B>)>
         ensures pushed { IfOk result (λ _. Pushes self.old parcel self.new) }
         ensures spent { IfErr result (λ e. (length self.old.fed ≡ self.old.capacity) × (e.1 ≡ parcel) × (self.new ≡ self.old)) }
@@ -71,7 +71,7 @@ impl<B> Feed<B> {
                 self.pushed += 1;
                 Ok(())
             }
-            // The deque was made with that many slots, and pushes of a lane never use one twice.
+            // The deque has `capacity` slots, and pushes of a lane never reuse one.
             Err(_) => unreachable!(),
         }
     }

@@ -1,16 +1,16 @@
-//! A lane: one end pushes parcels, the other takes them in the order pushed. Neither end ever waits for the other.
+//! A lane: a bounded single-producer single-consumer FIFO queue of parcels, by atomics only. Neither end ever waits for the other.
 //!
 //! A contract sees a [`Feed`] as the parcels that it pushed and its capacity, a [`Drain`] as the parcels that it took and how many
-//! takes gave none. Where both [`meet()`], what was taken, followed by what is left, is what was pushed, as values. Only [`lane()`]
+//! takes gave none. When both [`meet()`], what was taken, followed by what is left, is what was pushed, as values. Only [`lane()`]
 //! can run out of memory.
 //!
-//! The lane is this project's own. It stands where `ForkJoinPool` of Java has its submission queues: what one submitter hands in
-//! is taken in first in, first out.
+//! The lane is this project's own, instead of the submission queues of Java's `ForkJoinPool`: what one submitter submits is taken in
+//! first in, first out.
 //!
 //! ```
 //! match feed.push(Parcel { ticket, body }) {
 //!     Ok(()) => None,
-//!     // As many were pushed as the capacity. The body is the caller's again.
+//!     // As many were pushed as the capacity. The caller gets the body back.
 //!     Err((LaneSpent, parcel)) => Some(parcel.body),
 //! }
 //! ```

@@ -5,7 +5,7 @@ use std::marker::{Model, PhantomData};
 
 /// How many takes gave none.
 ///
-/// Proofs alone see this count. It has no bytes, and its calls do nothing at run time: a counter could overflow.
+/// It exists in proofs alone: it has no bytes, and its calls do nothing at run time. A real counter could overflow.
 #[derive(Drop)]
 pub struct Misses {
     of: PhantomData<()>,

@@ -15,7 +15,7 @@ pub const MAX_CAPACITY: u32 = 65_536;
 
 /// An empty lane, as its two ends: nothing was pushed and nothing taken. Java has no counterpart.
 ///
-/// `OutOfMemory` where memory is refused, and no other error. No other call of this crate is refused for that.
+/// `OutOfMemory` if an allocation fails, and no other error. No other call of this crate runs out of memory.
 ///
 /// Precondition: `capacity`, the number of parcels that may be pushed in all, is from 1 to [`MAX_CAPACITY`].
 pub fn lane<B: Drop>(alloc: Global, capacity: u32) -> Result<(Feed<B>, Drain<B>), OutOfMemory>

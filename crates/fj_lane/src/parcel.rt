@@ -9,8 +9,8 @@ pub struct Parcel<B> {
     pub body: B,
 }
 
-/// The lane has taken as many parcels as its capacity. It stays so: a take makes no room.
+/// As many parcels were pushed as the capacity of the lane. It stays so: a take makes no room.
 ///
-/// To a submitter this is refusal 11, `LaneSpent` of `fj_rules::Refusal`. Java knows no such limit.
+/// To a submitter this is refusal 11, `LaneSpent` of `fj_rules::Refusal`. Java has no such limit.
 #[derive(Clone, Copy, Debug, PartialEq)]
 pub struct LaneSpent;

@@ -31,7 +31,7 @@ impl<B> Model for Rest<B> {
     } };
 }
 
-/// Takes both ends of a lane back. It waits for nobody, and is never refused. Java has no counterpart.
+/// Takes both ends of a lane back. It never blocks or fails. Java has no counterpart.
 ///
 /// What the drain took, followed by what is left, is what the feed pushed, which is at most its capacity.
 ///
@@ -54,13 +54,13 @@ pub fn meet<B: Drop>(feed: Feed<B>, drain: Drain<B>) -> Rest<B>
         taken: _,
     } = drain;
     worker.absorb::<Ends>(pass);
-    // Of this load only what it proves is used: that the deque holds just what was pushed and not taken.
+    // For the proof: the deque holds exactly what was pushed and not taken.
     worker.len_as::<Tally>();
     Rest { worker }
 }
 
 impl<B> Rest<B> {
-    /// Takes the oldest parcel that is left. `None` exactly where none is left, and then nothing has changed.
+    /// Takes the oldest parcel that is left. `None` exactly if none is left; then nothing has changed.
     pub fn next(&mut self) -> Option<Parcel<B>>
         ensures { MatchOption result ((self.old ≡ []) × (self.new ≡ [])) (λ p. self.old ≡ p ∷ self.new) }
     {

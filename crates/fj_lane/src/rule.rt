@@ -1,9 +1,9 @@
-//! What each end of a lane knows, the steps at the deque between them, and the rule that both steps keep.
+//! What each end of a lane knows, the steps at the deque between them, and the invariant that both steps keep.
 //!
 //! | Step | What the deque holds before | and after | What the end learns |
 //! |---|---|---|---|
-//! | push | the parcels fed and not drained | the same, and the new one behind them | it has fed one more |
-//! | take | a parcel, and others behind it | the others | it has drained that one, which is the next of those fed |
+//! | push | the parcels fed and not drained | the same, followed by the new one | it has fed one more |
+//! | take | a parcel, and others behind it | the others | it has drained that one, the next of those fed |
 //! | | nothing, or the steal answered Retry | the same | nothing: it counts a miss |
 use crate::parcel::Parcel;
 use crossbeam_deque::protocol::{Join, Lesson, Outcome, Protocol, Split};
@@ -21,7 +21,7 @@ pub struct View<B> {
     pub drained: LinkedList<Parcel<B>>,
 }
 
-/// The rule of a lane: the deque holds what was fed without its beginning, which was drained.
+/// The invariant of a lane: the deque holds what was fed, except its beginning, which was drained.
 pub struct LaneRule;
 
 impl<B> Protocol<Parcel<B>, View<B>> for LaneRule {
@@ -35,7 +35,7 @@ impl<B> Protocol<Parcel<B>, View<B>> for LaneRule {
     ghost guest = { view_of false false [] [] };
 }
 
-/// The right to take is cut off for the drain, or taken back.
+/// The right to take is split off for the drain, or joined again.
 pub struct Ends;
 
 impl<B> Split<View<B>> for Ends {
@@ -76,8 +76,7 @@ impl<B> Outcome<Parcel<B>, View<B>> for Take {
     ghost then = { λ v xs w. w ≡ drained_more xs v };
 }
 
-/// A take by the one that has both ends: it takes the next of those fed and not drained, and finds none only where all were
-/// drained.
+/// A take by the holder of both ends: it takes the next of those fed and not drained, and finds none only if all were drained.
 pub struct TakeLeft;
 
 impl<B> Outcome<Parcel<B>, View<B>> for TakeLeft {
@@ -89,7 +88,7 @@ impl<B> Outcome<Parcel<B>, View<B>> for TakeLeft {
     ghost empty = { λ v. undrained v ≡ [] };
 }
 
-/// What the one that has both ends concludes: nothing was lost, and nothing was added.
+/// What the holder of both ends concludes: nothing was lost, and nothing was added.
 pub struct Tally;
 
 impl<B> Lesson<Parcel<B>, View<B>> for Tally {

@@ -65,7 +65,7 @@ fn what_is_left_comes_oldest_first(rt: HostRuntime) -> Result<(), Fail> {
     Ok(())
 }
 
-/// Where there is room, the next push succeeds.
+/// If there is room, the next push succeeds.
 fn push_with_room<B: Drop>(feed: &mut Feed<B>, parcel: Parcel<B>) -> bool
     ensures { IsTrue result ↔ (length feed.old.fed < feed.old.capacity) }
 {
@@ -129,7 +129,7 @@ fn a_body_comes_out_as_it_went_in(rt: HostRuntime) -> Result<(), Fail> {
     Ok(())
 }
 
-/// `tests/refused_memory/makings.sh` runs this with memory refused once the lane is made.
+/// `tests/refused_memory/makings.sh` runs this with failing allocations once the lane is made.
 #[test]
 fn a_hundred_parcels_in_order(rt: HostRuntime) -> Result<(), Fail> {
     let (mut feed, mut drain) = lane::<u64>(rt.alloc(), 100)?;

@@ -10,7 +10,7 @@ use std::thread::Threads;
 
 const PARCELS: u64 = 10_000;
 
-/// So many the drainer takes; the others are left.
+/// How many the drainer takes; the others are left.
 const TAKEN: usize = 9_000;
 
 /// How often the drainer tries at most.
@@ -29,7 +29,7 @@ fn push_all<B: Drop>(mut feed: Feed<B>, parcels: Vec<Parcel<B>>) -> Feed<B>
     feed
 }
 
-/// Takes until it has so many, or has tried often enough.
+/// Takes until it has `most`, or has tried often enough.
 fn take_some<B: Drop>(
     alloc: Global,
     mut drain: Drain<B>,

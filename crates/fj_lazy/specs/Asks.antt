@@ -11,7 +11,7 @@ use Rattle.fj_lazy.specs.declared.part.LazyStage.{LazyStage}
 use Rattle.fj_lazy.specs.declared.part.LazyStage.TheVariants.{Forking, Waiting}
 use Rattle.fj_lazy.specs.PartsAside.{forked_in}
 
--- only this: to fork a plain task, to join a task or let it go, to end with a result or by a code
+-- only this: to fork a plain task, to join a task or release it, to end with a result or a code
 abbrev pub AsksAsJob : {B K O : Type 0} → Ask B K O → Type 0
 AsksAsJob (Fork body kind) = kind ≡ Plain
 AsksAsJob (Join t) = ⊤
@@ -20,14 +20,14 @@ AsksAsJob (AskOk out) = ⊤
 AsksAsJob (Fail code) = ⊤
 AsksAsJob _ = ⊥
 
--- the tasks that were forked, and are neither joined nor let go, once this is heard
+-- the tasks that were forked, and are neither joined nor released, once this is heard
 abbrev pub forked_by : {B J K O : Type 0} → List (Outer J K O) → LazyStage J K O → Heard B K O → List ℕ
 forked_by parts (Forking k j) (hears.Task t) = forked_in parts ++ t ∷ []
 forked_by parts (Waiting t k v) (hears.Got heard out) = forked_in parts
 forked_by parts (Waiting t k v) _ = forked_in parts ++ t ∷ []
 forked_by parts _ _ = forked_in parts
 
--- of these tasks it joins the last one or lets it go, and keeps the others; it ends only where there is none
+-- of these tasks it joins or releases the last one, and keeps the others; it ends only where there is none
 abbrev pub JoinsOwn : {B K O : Type 0} → List ℕ → List ℕ → Ask B K O → Type 0
 JoinsOwn olds news (Join t) = olds ≡ news ++ t ∷ []
 JoinsOwn olds news (Release t) = olds ≡ news ++ t ∷ []

@@ -11,7 +11,7 @@ use Rattle.fj_lazy.specs.declared.part.Climb.TheVariants as climb
 
 -- ---- the value of the whole
 
--- a part with the value that stands beside it
+-- a part combined with the value beside it
 abbrev pub beside : {J K O : Type 0} → (J → K) → (K → O) → (O → O → O) → Inner J K O → O → O
 beside key_of value combined (inner.Pending j) v = combined v (value (key_of j))
 beside key_of value combined (inner.Done o) v = combined o v
@@ -37,7 +37,7 @@ inside with_value (p ∷ ps) v = inside with_value ps (with_value p v)
 
 -- ---- how much may still be begun
 
--- how many jobs there can be in one of this size, with itself
+-- how many jobs a job of this size can split into, itself included
 abbrev pub branches : ℕ → ℕ
 branches zero = 1
 branches (suc n) = 1 + branches n + branches n
@@ -58,7 +58,7 @@ abbrev pub task_of : {J K O : Type 0} → Outer J K O → Option ℕ
 task_of (outer.Forked t k) = Some t
 task_of (outer.Done o) = None
 
--- the tasks that were forked, and are neither joined nor let go yet, in the order of their forks
+-- the tasks that were forked, and are neither joined nor released yet, in the order of their forks
 abbrev pub forked_in : {J K O : Type 0} → List (Outer J K O) → List ℕ
 forked_in parts = filter_map task_of parts
 
@@ -70,7 +70,7 @@ StopsAt key_of value leaf_of combined parts w None = ⊥
 StopsAt key_of value leaf_of combined parts w (Some (stop.Leaf j)) = (inside (beside key_of value combined) parts (value (key_of j)) ≡ w) × (value (key_of j) ≡ leaf_of j)
 StopsAt key_of value leaf_of combined parts w (Some (stop.Deep j)) = inside (beside key_of value combined) parts (value (key_of j)) ≡ w
 
--- how many jobs may be begun in a job that stands too deep
+-- how many jobs may be begun in a job that is too deep
 abbrev pub deep_weight : {J K O : Type 0} → (J → ℕ) → Option (DescentEnd J K O) → ℕ
 deep_weight size (Some (stop.Deep j)) = branches (size j)
 deep_weight size _ = 0
@@ -89,7 +89,7 @@ abbrev pub ClimbsLighter : {J K O : Type 0} → (J → ℕ) → List (Inner J K 
 ClimbsLighter size olds news (climb.Next j) = weigh (weight size) news + branches (size j) ≤ weigh (weight size) olds
 ClimbsLighter size olds news _ = ⊤
 
--- it joins the task that was forked last, or lets it go; at the end there is none
+-- it joins or releases the task that was forked last; at the end there is none
 abbrev pub ClimbJoins : {J K O : Type 0} → List ℕ → List ℕ → Climb J K O → Type 0
 ClimbJoins olds news (climb.Next j) = olds ≡ news
 ClimbJoins olds news (climb.Join t k v) = olds ≡ news ++ t ∷ []

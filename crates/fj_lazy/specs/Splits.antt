@@ -1,4 +1,4 @@
--- What a lazy body has in hand.
+-- What a lazy body still has to do.
 use Rattle.std.specs.Prelude.{ℕ, ◌≡◌, ◌+◌, ◌*◌, ⊤, List, length}
 use Rattle.fj_lazy.specs.declared.part.Inner.{Inner}
 use Rattle.fj_lazy.specs.declared.part.Outer.{Outer}
@@ -22,7 +22,7 @@ abbrev pub HasRoom : {J K O : Type 0} → LazyStage J K O → Type 0 → Type 0
 HasRoom (Forking k v) room = room
 HasRoom _ room = ⊤
 
--- how many turns are left, at most, where these are to be let go, and so many forks may still be asked
+-- the most turns left where these are to be released, and so many forks may still be asked for
 abbrev pub turns_to_leave : {J K O : Type 0} → ℕ → List (Outer J K O) → ℕ
 turns_to_leave forks outers = 3 * forks + length (forked_in outers)
 

@@ -12,11 +12,11 @@ use std::mem;
 /// How many levels of splits are computed on the thread's stack. A job of 2^32 blocks has 32.
 pub const LEVELS: u32 = 64;
 
-/// How a job is computed on the thread's stack: as `compute` does, with a look before each leaf at what its bodies share.
+/// Computes a job on the thread's stack, as `compute` does, but checks before each leaf what the bodies of the job share.
 #[derive(Drop)]
 pub struct Descent<'s, J: Divide> {
     signals: &'s Signals,
-    /// Where its body stands among those of the job.
+    /// The place of its body among those of the job.
     place: u64,
     /// The parts around the place where it stopped, the innermost first.
     around: Vec<Inner<J>>,
@@ -26,7 +26,7 @@ pub struct Descent<'s, J: Divide> {
 }
 
 impl<'s, J: Divide> Descent<'s, J> {
-    /// Nothing was computed yet, by a body at this place.
+    /// A descent by a body at this place, before it begins. `AllocError` where out of memory.
     pub fn new(
         alloc: Global,
         place: u64,
@@ -46,7 +46,7 @@ impl<'s, J: Divide> Descent<'s, J> {
         self.signals
     }
 
-    /// The value of a job; or where it stops, with what is put aside around that.
+    /// Computes a job. `Err` says where it stopped; the parts around that place are put aside.
     pub fn run(&mut self, job: J) -> Result<J::Out, DescentEnd<J>>
         ensures value { IfOk result (λ v. v ≡ J.value (J.key_of job)) }
         ensures stop { IfErr result (λ s. StopsAt J.key_of J.value J.leaf_of J.combined self.new.around.items (J.value (J.key_of job)) (Some s)) }
@@ -63,7 +63,7 @@ impl<'s, J: Divide> Descent<'s, J> {
         }
     }
 
-    /// The same by so many levels at most. None where it stops.
+    /// The same by `levels` splits at most. None where it stops. Preconditions: nothing is put aside; `levels` is at most `LEVELS`.
     fn descend(&mut self, job: J, levels: u32) -> Option<J::Out>
         requires nothing { self.old.around.items ≡ [] }
         requires levels { levels ≤ LEVELS }
@@ -110,7 +110,7 @@ impl<'s, J: Divide> Descent<'s, J> {
         self.around.len()
     }
 
-    /// Takes out the outermost part that is put aside.
+    /// Takes out the outermost part that is put aside. None where there is none.
     pub fn pop(&mut self) -> Option<Inner<J>>
         ensures items { self.old.around.items ≡ self.new.around.items ++ option_to_list result }
         ensures none { IfNone result (self.old.around.items ≡ []) }

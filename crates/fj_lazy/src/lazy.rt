@@ -19,8 +19,8 @@ use std::alloc::{AllocError, Global};
 
 mod turns;
 
-/// A job as a body that splits lazily: it computes leaf after leaf in its turn, and forks its largest right half that nobody has begun where a
-/// worker asks for work before a leaf. It is submitted as a plain task, with the key of its job.
+/// A job as a body that splits lazily: in a turn it computes leaf after leaf, and where a worker asks for work before a leaf, it forks its
+/// largest right half that nobody has begun. It is submitted as a plain task, with the key of its job.
 #[derive(Drop)]
 pub struct Lazy<'s, J: Divide> {
     key: J::Key,
@@ -28,14 +28,15 @@ pub struct Lazy<'s, J: Divide> {
     stage: LazyStage<J>,
     descent: Descent<'s, J>,
     span: Span,
-    /// How many forks it may ask for yet: more than any history has room for, so that its turns are bounded whatever is refused.
+    /// How many forks it may still ask for: at first more than any history has room for. It bounds the turns whatever is refused.
     forks: u32,
     ghost total: { ∥ Gives J.key_of J.value J.leaf_of J.combined parts.outer.items parts.inner.items stage (J.value key) ∥₁ },
     ghost room: { ∥ HasRoom stage ((vec_len parts.outer < vec_capacity parts.outer) × (deque_len parts.inner < deque_capacity parts.inner)) ∥₁ },
 }
 
 impl<'s, J: Divide> Lazy<'s, J> {
-    /// The job, before its first turn. It takes all memory that it needs for a job of no more than 64 levels.
+    /// A body for this job, before its first turn. It allocates all that a job of at most 64 levels needs. `AllocError` where out of
+    /// memory.
     pub fn new(alloc: Global, job: J, signals: &'s Signals) -> Result<Lazy<'s, J>, AllocError>
         ensures { IfOk result (λ body. body.key ≡ J.key_of job) }
     {
@@ -44,7 +45,7 @@ impl<'s, J: Divide> Lazy<'s, J> {
         Ok(Lazy::at(job, Span::ALL, parts, descent))
     }
 
-    /// The same at these places, with this memory.
+    /// The same at these places, in memory already allocated. Precondition: `parts` is empty.
     fn at(job: J, span: Span, parts: PartsAside<J>, descent: Descent<'s, J>) -> Lazy<'s, J>
         requires outer { parts.outer.items ≡ [] }
         requires inner { parts.inner.items ≡ [] }
@@ -60,7 +61,7 @@ impl<'s, J: Divide> Lazy<'s, J> {
         }
     }
 
-    /// A body for a half, at the right half of the places. None where memory is refused.
+    /// A body for a half, at the right half of the places. The half as `Err` where out of memory.
     fn body_of(&mut self, half: J) -> Result<Lazy<'s, J>, J>
         ensures ok { IfOk result (λ body. body.key ≡ J.key_of half) }
         ensures err { IfErr result (λ j. j ≡ half) }
@@ -81,7 +82,7 @@ impl<'s, J: Divide> Lazy<'s, J> {
         Ok(Lazy::at(half, right, parts, descent))
     }
 
-    /// Lets go what it forked, the last one first, and then ends with this code.
+    /// Releases what it forked, the last one first, and then fails with this code.
     fn leave(&mut self, code: u32) -> Ask<Lazy<'s, J>>
         ensures key { self.new.key ≡ self.old.key }
         ensures right { AskRight (λ k o. o ≡ J.value k) self.new.key result }
@@ -98,7 +99,7 @@ impl<'s, J: Divide> Lazy<'s, J> {
         }
     }
 
-    /// Leaves with the code of a run that is out of memory.
+    /// Leaves with the code of `OutOfMemory`.
     fn give_up(&mut self) -> Ask<Lazy<'s, J>>
         ensures key { self.new.key ≡ self.old.key }
         ensures right { AskRight (λ k o. o ≡ J.value k) self.new.key result }
@@ -113,7 +114,7 @@ impl<'s, J: Divide> Lazy<'s, J> {
 }
 
 impl<'s, J: Divide> Lazy<'s, J> {
-    /// Combines a value with those beside it: what is to be done next is a job, or else is asked. Precondition: with the parts it gives the value
+    /// Combines a value with those beside it. The next job to compute, or what to ask. Precondition: with the parts, the value gives that
     /// of the whole.
     fn step_up(&mut self, value: J::Out) -> Result<J, Ask<Lazy<'s, J>>>
         requires { whole J.key_of J.value J.combined self.old.parts.outer.items self.old.parts.inner.items value ≡ J.value self.old.key }
@@ -149,8 +150,8 @@ impl<'s, J: Divide> Lazy<'s, J> {
         }
     }
 
-    /// Puts a half back that was not forked, to be computed when its turn comes or offered before that, and goes on with a leaf. Preconditions: there
-    /// is room, and the half stands between the outer and the inner parts, and with them and the leaf gives the value of the whole.
+    /// Puts back a half that was not forked, to be computed in its turn or offered again, and goes on with a leaf. Preconditions: there is
+    /// room; the half is between the outer and the inner parts, and with them and the leaf gives the value of the whole.
     fn keep(&mut self, half: J, leaf: J) -> Result<J, Ask<Lazy<'s, J>>>
         requires total { around (outside J.value J.combined) self.old.parts.outer.items (J.combined (around (beside J.key_of J.value J.combined) self.old.parts.inner.items (J.value (J.key_of leaf))) (J.value (J.key_of half))) ≡ J.value self.old.key }
         requires leaf { J.value (J.key_of leaf) ≡ J.leaf_of leaf }
@@ -172,7 +173,7 @@ impl<'s, J: Divide> Lazy<'s, J> {
         self.step_up(leaf.leaf())
     }
 
-    /// Forks a half. Preconditions: those of `keep`, and it may.
+    /// Forks a half, or keeps it where out of memory. Preconditions: those of `keep`, room for an outer part, and a fork left.
     fn fork(&mut self, half: J, leaf: J) -> Result<J, Ask<Lazy<'s, J>>>
         requires total { around (outside J.value J.combined) self.old.parts.outer.items (J.combined (around (beside J.key_of J.value J.combined) self.old.parts.inner.items (J.value (J.key_of leaf))) (J.value (J.key_of half))) ≡ J.value self.old.key }
         requires leaf { J.value (J.key_of leaf) ≡ J.leaf_of leaf }
@@ -201,7 +202,7 @@ impl<'s, J: Divide> Lazy<'s, J> {
         }
     }
 
-    /// The worker that asks for work, if a half may be forked for it.
+    /// Takes a worker's request for work. None where no worker asks, or no half may be forked.
     fn asked(&self) -> Option<WorkerId>
         ensures { IfSome result (λ w. 0 < self.now.forks) }
     {
@@ -213,8 +214,8 @@ impl<'s, J: Divide> Lazy<'s, J> {
         if signals.take_fork() { Some(w) } else { None }
     }
 
-    /// Goes on with a leaf before which somebody called: ends where it is not needed any more, and forks where a worker asks for work.
-    /// Precondition: with the parts it gives the value of the whole.
+    /// Goes on with a leaf before which the descent stopped: leaves where the body is no longer needed, and forks where a worker asks for
+    /// work. Precondition: with the parts, the leaf gives the value of the whole.
     fn share(&mut self, leaf: J) -> Result<J, Ask<Lazy<'s, J>>>
         requires total { whole J.key_of J.value J.combined self.old.parts.outer.items self.old.parts.inner.items (J.value (J.key_of leaf)) ≡ J.value self.old.key }
         requires leaf { J.value (J.key_of leaf) ≡ J.leaf_of leaf }
@@ -247,8 +248,8 @@ impl<'s, J: Divide> Lazy<'s, J> {
         }
     }
 
-    /// Computes a job, until it stops: what is to be done next is a job, or else is asked. Precondition: with the parts it gives the value of
-    /// the whole.
+    /// Computes a job until the descent stops. The next job to compute, or what to ask. Precondition: with the parts, the job gives the
+    /// value of the whole.
     fn compute_on(&mut self, job: J) -> Result<J, Ask<Lazy<'s, J>>>
         requires { whole J.key_of J.value J.combined self.old.parts.outer.items self.old.parts.inner.items (J.value (J.key_of job)) ≡ J.value self.old.key }
         ensures key { self.new.key ≡ self.old.key }

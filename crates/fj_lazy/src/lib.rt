@@ -1,5 +1,5 @@
-//! A job that divides as a body that splits lazily: it computes leaf after leaf in its turn, and forks its largest half that nobody has begun only
-//! where a worker asks for work.
+//! A divide-and-conquer job as a body that splits lazily: it computes leaf after leaf in its turn, and forks its largest half that nobody
+//! has begun only where a worker asks for work.
 //!
 //! ```
 //! let signals = Signals::new(1_000);

@@ -22,9 +22,9 @@ pub enum Outer<J: Divide> {
 /// Where a descent stops.
 #[derive(Drop)]
 pub enum DescentEnd<J: Divide> {
-    /// Before this leaf, since somebody called.
+    /// Before this leaf: a worker asks for work, or the body is not needed.
     Leaf(J),
-    /// Before this job, which stands too deep for the thread's stack.
+    /// Before this job, which is too deep for the thread's stack.
     Deep(J),
 }
 
@@ -35,24 +35,24 @@ pub enum Climb<J: Divide> {
     Next(J),
     /// This task, a right half with this key, is joined; everything left of it has this value.
     Join(Serial, J::Key, J::Out),
-    /// This task, a right half, is let go, since everything left of it has this value, which is final.
+    /// This task, a right half, is released, since everything left of it has this value, which is final.
     Skip(Serial, J::Out),
     /// It is the value of the whole.
     Whole(J::Out),
 }
 
-/// What a lazy body does, beside the parts that it has put aside.
+/// What a lazy body does next, apart from the parts that it has put aside.
 #[derive(Drop)]
 pub enum LazyStage<J: Divide> {
     /// It goes on with this job.
     Going(J),
-    /// It forks a right half with this key, which stands between the outer and the inner parts, and goes on with this leaf within these.
+    /// It forks a right half with this key, which is between the outer and the inner parts, and goes on with this leaf within these.
     Forking(J::Key, J),
     /// It joins this task, a right half with this key; everything left of it has this value.
     Waiting(Serial, J::Key, J::Out),
-    /// It lets a right half go; everything left of it has this value, which is final.
+    /// It releases a right half; everything left of it has this value, which is final.
     Skipping(J::Out),
-    /// It lets go what it forked, and then ends with this code.
+    /// It releases what it forked, and then fails with this code.
     Leaving(u32),
     /// It has ended.
     Over,

@@ -19,7 +19,7 @@ pub struct PartsAside<J: Divide> {
 }
 
 impl<J: Divide> PartsAside<J> {
-    /// Nothing stands around it. What a descent may put aside has room.
+    /// No parts, with room for what a descent may put aside. `AllocError` where out of memory.
     pub fn new(alloc: Global) -> Result<PartsAside<J>, AllocError>
         ensures outer { IfOk result (λ parts. parts.outer.items ≡ []) }
         ensures inner { IfOk result (λ parts. parts.inner.items ≡ []) }
@@ -32,7 +32,7 @@ impl<J: Divide> PartsAside<J> {
         })
     }
 
-    /// Takes in what a descent has put aside, within the parts that are there.
+    /// Moves in what a descent has put aside, inside the parts already here. `AllocError` where out of memory.
     pub fn put_in(&mut self, descent: &mut Descent<J>) -> Result<(), AllocError>
         ensures value { IfOk result (λ _. (v : J.Out) → around (beside J.key_of J.value J.combined) self.new.inner.items v ≡ around (beside J.key_of J.value J.combined) self.old.inner.items (inside (beside J.key_of J.value J.combined) descent.old.around.items v)) }
         ensures weight { IfOk result (λ _. weigh (weight J.size) self.new.inner.items ≡ weigh (weight J.size) self.old.inner.items + weigh (weight J.size) descent.old.around.items) }
@@ -47,8 +47,8 @@ impl<J: Divide> PartsAside<J> {
 }
 
 impl<J: Divide> PartsAside<J> {
-    /// Takes out the largest half that nobody has begun, which is the outermost one, and makes room for one more outer part. None where there
-    /// is none, or memory is refused.
+    /// Takes out the largest half that nobody has begun, which is the outermost one, and makes room for one more outer part. None where
+    /// there is none, or where out of memory.
     pub fn take_largest(&mut self) -> Option<J>
         ensures some { IfSome result (λ half. (v : J.Out) → around (outside J.value J.combined) self.new.outer.items (J.combined (around (beside J.key_of J.value J.combined) self.new.inner.items v) (J.value (J.key_of half))) ≡ whole J.key_of J.value J.combined self.old.outer.items self.old.inner.items v) }
         ensures none { IfNone result ((v : J.Out) → whole J.key_of J.value J.combined self.new.outer.items self.new.inner.items v ≡ whole J.key_of J.value J.combined self.old.outer.items self.old.inner.items v) }
@@ -70,7 +70,7 @@ impl<J: Divide> PartsAside<J> {
         None
     }
 
-    /// Puts a half back that was taken out. Precondition: there is room.
+    /// Puts back a half that was taken out. Precondition: there is room.
     pub fn put_back(&mut self, half: J)
         requires { deque_len self.old.inner < deque_capacity self.old.inner }
         ensures value { (v : J.Out) → around (beside J.key_of J.value J.combined) self.new.inner.items v ≡ J.combined (around (beside J.key_of J.value J.combined) self.old.inner.items v) (J.value (J.key_of half)) }
@@ -82,8 +82,8 @@ impl<J: Divide> PartsAside<J> {
 }
 
 impl<J: Divide> PartsAside<J> {
-    /// Combines a value with those beside it, up to a half that is to be computed, joined or let go first. What nobody has begun right of a final
-    /// value is dropped.
+    /// Combines a value with those beside it, up to a half that is to be computed, joined or released first. Right of a final value, what
+    /// nobody has begun is dropped.
     pub fn climb(&mut self, value: J::Out) -> Climb<J>
         ensures value { Climbs J.key_of J.value J.combined self.new.outer.items self.new.inner.items (whole J.key_of J.value J.combined self.old.outer.items self.old.inner.items value) result }
         ensures lighter { ClimbsLighter J.size self.old.inner.items self.new.inner.items result }
@@ -105,7 +105,7 @@ impl<J: Divide> PartsAside<J> {
         self.climb_outer(value)
     }
 
-    /// The same where no inner part is left.
+    /// The same. Precondition: no inner part is left.
     fn climb_outer(&mut self, value: J::Out) -> Climb<J>
         requires { self.old.inner.items ≡ [] }
         ensures value { Climbs J.key_of J.value J.combined self.new.outer.items self.new.inner.items (around (outside J.value J.combined) self.old.outer.items value) result }

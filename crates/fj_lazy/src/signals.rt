@@ -1,8 +1,8 @@
 use fj_rules::WorkerId;
 use std::sync::atomic::{AtomicU64, Ordering};
 
-/// What the bodies of one job share: the workers that ask for work, and where a final value stands. Whatever it says, the value of the job is the
-/// same.
+/// What the bodies of one job share: which workers ask for work, where a final value is, and how many forks are left. The job's value does
+/// not depend on it.
 #[derive(Drop)]
 pub struct Signals {
     /// Workers that ask for work, each by the bit of its number.
@@ -14,7 +14,7 @@ pub struct Signals {
 }
 
 impl Signals {
-    /// No worker asks for work, each body is needed, and so many halves may be forked, by all bodies together.
+    /// New signals: no worker asks for work, each body is needed, and all bodies together may fork `forks` halves.
     pub fn new(forks: u64) -> Signals {
         Signals {
             asking: AtomicU64::new(0),
@@ -46,7 +46,7 @@ impl Signals {
         self.asking.load(Ordering::SeqCst) != 0 || self.is_over(place)
     }
 
-    /// Answers a worker that asks for work, the one with the lowest number. It has not asked any more then. None only where nobody asks.
+    /// Takes the request of the lowest worker that asks for work. None only where nobody asks.
     pub(crate) fn take(&self) -> Option<WorkerId> {
         let asked = self.asking.fetch_update(
             Ordering::SeqCst,
@@ -59,7 +59,7 @@ impl Signals {
         }
     }
 
-    /// Takes one of the forks that are left. Whether there was one.
+    /// Takes one of the forks that are left. False where there is none.
     pub(crate) fn take_fork(&self) -> bool {
         self.forks
             .fetch_update(
@@ -75,7 +75,7 @@ impl Signals {
         self.forks.fetch_add(1, Ordering::SeqCst);
     }
 
-    /// Beyond this place no body is needed: a final value stands there.
+    /// No body beyond this place is needed: a final value is there.
     pub(crate) fn finish(&self, last: u64) {
         self.last.fetch_min(last, Ordering::SeqCst);
     }

@@ -1,6 +1,6 @@
 ghost use Rattle.std.specs.Prelude.{◌≤◌};
 
-/// Where a body stands among those of its job, from left to right: a row of places. What it forks stands at places on their right.
+/// The places of a body among those of its job, from left to right. Of these a forked half gets the right half.
 #[derive(Clone, Copy)]
 pub struct Span {
     /// The first place.

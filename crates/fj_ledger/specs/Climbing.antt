@@ -1,4 +1,4 @@
--- Where a climb without hooks ends, as the history says it.
+-- Where a climb without hooks ends, by the history.
 use Rattle.std.specs.Prelude.{ℕ, ◌≡◌, List, [], ◌∷◌, Option, Some, length, drop}
 use Rattle.fj_rules.specs.declared.event.Event.{Event}
 use Rattle.fj_rules.specs.Climbs.{Arrival, arrival, path, passed}
@@ -8,7 +8,7 @@ use Rattle.fj_tree.specs.declared.pass.PassHow.{PassHow}
 use Rattle.fj_tree.specs.declared.pass.PassHow.TheVariants as how
 use Rattle.fj_tree.specs.Passes.{PassEnd}
 
--- the completer at which the climb ends is arrived at so
+-- the arrival that ends the climb
 abbrev pub IsEnd : PassHow → Arrival → Type 0
 IsEnd how.Counted arrival = arrival ≡ climb.Counted
 IsEnd how.Spent arrival = arrival ≡ climb.Spent

@@ -1,4 +1,4 @@
--- How many tasks there are, of one kind or another.
+-- Counts of tasks.
 use Rattle.std.specs.Prelude.{ℕ, List, length}
 use Rattle.std.specs.List.{range_with_len, sum_by}
 use Rattle.fj_rules.specs.declared.event.Event.{Event}

@@ -1,4 +1,4 @@
--- What a machine keeps beside its history is what the history says.
+-- The state that a ledger keeps beside its history agrees with the history.
 use Rattle.std.specs.Prelude.{ℕ, ◌≡◌, ◌≤◌, ◌<◌, ◌+◌, Bool, true, false, List, [], ◌++◌, length, map, Option, Some, None, IsSome, option_map, get_or}
 use Rattle.std.specs.List.{list_any}
 use Rattle.fj_rules.specs.declared.event.Event.{Event}
@@ -35,7 +35,7 @@ pub record KeepsStacks (l : Bounds) (h : List Event) (stacks : Lists) : Type 0 w
   pub room : stacks.room ≡ l.tasks
   pub each : (w : ℕ) → w < l.workers → stack_at stacks w ≡ stack h w
 
--- what a record says of its task is what the history says
+-- the record agrees with the history
 pub record Tells (h : List Event) (r : Record) : Type 0 where
   pub kept : is_kept h r.serial ≡ true
   pub kind : kind h r.serial ≡ Some r.kind
@@ -66,7 +66,7 @@ abbrev pub TellsReleased : List Event → ℕ → Option Status → Type 0
 TellsReleased h c None = is_kept h c ≡ true
 TellsReleased h c (Some s) = (is_kept h c ≡ false) × (status h c ≡ s)
 
--- what is kept with a hook is what the history says of its completer
+-- what is kept with a hook agrees with the history of its completer
 pub record TellsHook (h : List Event) (hook : InHand) : Type 0 where
   pub known : is_in hook.completer (tasks h) ≡ true
   pub parent : parent h hook.completer ≡ hook.parent
@@ -89,7 +89,7 @@ pub record KeepsHands (l : Bounds) (h : List Event) (hands : List (Option InHand
   pub once : (c : ℕ) → times_in c (hook_completers h) ≤ 1
   pub fired : (c : ℕ) → is_in c (hook_completers h) ≡ true → list_any (fires_or_passes c) h ≡ true
 
--- what holds of the history of each ledger, whatever is kept beside it; it has at most so many events
+-- the invariant of a ledger's history alone; it has at most so many events
 pub record IsLawful (pool : Pool) (most : ℕ) (h : List Event) : Type 0 where
   pub within : IsWithin pool.limits.workers pool.limits.submitters pool.limits.tasks pool.limits.events
   pub allowed : AllowedFrom pool [] h
@@ -98,7 +98,7 @@ pub record IsLawful (pool : Pool) (most : ℕ) (h : List Event) : Type 0 where
   pub one_each : (w : ℕ) → times_in w (hook_workers h) ≤ 1
   pub once : (c : ℕ) → times_in c (hook_completers h) ≤ 1
 
--- what was sealed is a beginning of the history, and left room for what may come
+-- what was sealed is a prefix of the history, and left room for what may come
 pub record IsSealed (pool : Pool) (sealed h : List Event) : Type 0 where
   pub begins : (present : List Event) × (h ≡ sealed ++ present)
   -- task numbers have 64 bits

@@ -7,5 +7,5 @@ pub mod Logs
 pub mod Sources
 pub mod Stacks
 pub mod Windows
--- How many tasks there are, of one kind or another.
+-- Counts of tasks.
 pub mod Counts

@@ -32,7 +32,7 @@ tasks_there past source = queue past.events (owner_at past.pool.limits (queue_of
 abbrev pub task_at : Past → QueueEnd → Option ℕ
 task_at past source = end_of source (tasks_there past source)
 
--- the worker's choice stands there
+-- the worker's choice is there
 pub record IsChosenFrom (past : Past) (w r : ℕ) (source : QueueEnd) : Type 0 where
   pub within : queue_of source < queues_in past.pool.limits
   pub chosen : choice past.pool past.events w r ≡ task_at past source

@@ -35,7 +35,7 @@ use fj_tree::{Handle, Record, Tree};
 use std::alloc::Global;
 use std::marker::Model;
 
-/// The history, with all that is kept beside it. A contract sees what it was made with, and the history.
+/// The history, with the state kept beside it. Contracts see its mode and limits, and the history.
 ///
 /// Its queries are here, and its updates in the modules below: each appends one event.
 #[derive(Drop)]
@@ -74,7 +74,7 @@ impl Model for Ledger {
 }
 
 impl Ledger {
-    /// A ledger to which nothing has happened. All the memory that its updates need is taken here; `OutOfMemory` where it is refused.
+    /// A ledger without events. All memory that its updates need is allocated here; `OutOfMemory` where that fails.
     pub fn new(alloc: Global, mode: Mode, limits: Limits) -> Result<Ledger, OutOfMemory>
         ensures { IfOk result (λ l. l ≡ fresh mode limits) }
     {
@@ -91,12 +91,12 @@ impl Ledger {
             hands: Vec::from_elem(alloc, None, workers)?,
             tree: Tree::new(alloc, tasks)?,
             open_tasks: OpenTasks::new(alloc, tasks)?,
-            // A stop may send tasks that were opened before the last seal.
+            // By a stop, tasks that were opened before the last seal may become gone.
             gone: Vec::with_capacity(alloc, events + tasks)?,
         })
     }
 
-    /// What has happened since the last seal, the oldest first. Each event was allowed where it stands.
+    /// The events since the last seal, the oldest first. Each was allowed after those before it.
     pub fn history(&self) -> &[Event]
         ensures events { result.now ≡ present self.now }
         ensures lawful { AllowedFrom self.now.pool [] self.now.events }
@@ -104,7 +104,7 @@ impl Ledger {
         self.log.events()
     }
 
-    /// The tasks in an owner's queue, the oldest first. There are none for an owner that is not there.
+    /// The tasks in an owner's queue, the oldest first. Empty for an unknown owner.
     pub fn queue(&self, owner: Owner) -> Numbers<'_>
         ensures { result ≡ queue self.now.events owner }
     {
@@ -114,7 +114,7 @@ impl Ledger {
         }
     }
 
-    /// The tasks that a worker holds, the oldest first. There are none for a worker that is not there.
+    /// The tasks that a worker holds, the oldest first. Empty for an unknown worker.
     #[inline(always)]
     pub fn stack(&self, w: WorkerId) -> &[Serial]
         ensures { result.now ≡ stack self.now.events w }
@@ -125,14 +125,14 @@ impl Ledger {
         self.stacks.stack(w.0 as usize)
     }
 
-    /// The open tasks, in the order in which they came to be open.
+    /// The open tasks, in the order in which they became open.
     pub fn open(&self) -> &[Serial]
         ensures { result.now ≡ open_tasks self.now.events }
     {
         self.open_tasks.as_slice()
     }
 
-    /// The tasks that came to be gone since the last seal, in that order.
+    /// The tasks that became gone since the last seal, in that order.
     pub fn gone(&self) -> &[Serial]
         ensures { result.now ≡ gone_since self.now }
     {
@@ -148,7 +148,7 @@ impl Ledger {
         self.tree.get(h)
     }
 
-    /// A handle of a task, kept or not. If the task is kept, its record is found at once by it.
+    /// A handle of a task, kept or not. If the task is kept, the handle is good.
     #[inline(always)]
     pub fn named(&self, t: Serial) -> Handle
         ensures { result.serial ≡ t }
@@ -174,7 +174,7 @@ impl Ledger {
         ensures record { MatchOption (option_copied result) (is_kept self.now.events t.serial ≡ false) (TellsOf self.now.events t.serial) }
         ensures lawful { IsLawful self.now.pool (limit self.now) self.now.events }
     {
-        // That the ledger's invariant holds has to be seen here.
+        // For the proof: the invariant of the ledger holds.
         let _ = &self.mode;
         self.tree.look(t)
     }
@@ -188,7 +188,7 @@ impl Ledger {
         self.look(t).unwrap()
     }
 
-    /// The running task of a worker: the newest that it holds. None for a worker that is not there.
+    /// The running task of a worker: the newest that it holds. None for an unknown worker.
     #[inline(always)]
     pub fn running(&self, w: WorkerId) -> Option<Serial>
         ensures { result ≡ running self.now.events w }
@@ -207,7 +207,7 @@ impl Ledger {
         self.hands[w.0 as usize]
     }
 
-    /// How large the pool may grow.
+    /// The limits of the pool.
     #[inline(always)]
     pub fn limits(&self) -> Limits
         ensures { result ≡ self.now.pool.limits }
@@ -264,7 +264,7 @@ impl Ledger {
         self.tree.len()
     }
 
-    /// Whether one task more can be kept.
+    /// Whether one more task can be kept.
     #[inline(always)]
     pub fn has_task_room(&self) -> bool
         ensures { IsTrue result ↔ (live self.now.events < self.now.pool.limits.tasks) }
@@ -283,7 +283,7 @@ impl Ledger {
         self.stacks.are_empty() && are_free(&self.hands)
     }
 
-    /// The parent that a kept task names, if it names one. None for a task that is not kept.
+    /// The parent of a kept task, if it has one. None for a task that is not kept.
     pub fn parent(&self, t: Handle) -> Option<Handle>
         ensures parent { is_kept self.now.events t.serial ≡ true → option_map (λ p. p.serial) result ≡ parent self.now.events t.serial }
         ensures lawful { IsLawful self.now.pool (limit self.now) self.now.events }
@@ -292,7 +292,7 @@ impl Ledger {
         Some(self.named(p))
     }
 
-    /// The last on the path from a task over its parents. Precondition: the task is kept.
+    /// The root of a task: the last on the path over its parents. Precondition: the task is kept.
     pub fn root(&self, t: Handle) -> Handle
         requires kept { is_kept self.now.events t.serial ≡ true }
         ensures root { root_of (path self.now.events t.serial) ≡ Some result.serial }
@@ -301,7 +301,7 @@ impl Ledger {
         self.tree.root(self.tree.renew(t).unwrap())
     }
 
-    /// Whether there is room for so many events more before the next seal.
+    /// Whether there is room for so many more events before the next seal.
     #[inline(always)]
     pub fn has_room(&self, events: u64) -> bool
         ensures room { IsTrue result ↔ (length self.now.events + events ≤ limit self.now) }

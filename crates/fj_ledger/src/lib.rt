@@ -1,8 +1,8 @@
-//! The history of a fork-join pool, with what stands where after it.
+//! The history of a fork-join pool, with the state after it.
 //!
-//! A [`Ledger`] is known by what its pool was made with and its history. An update appends one event: it asks that the event may follow
-//! the history and fits into it, as the definitions of `fj_rules` say. A query tells what the history says: what stands in a queue, on a
-//! stack or in a hand, and the record of each kept task. What comes of a step is said above, in `fj_machine`.
+//! Contracts see a [`Ledger`] as the mode and limits of its pool and its history. An update appends one event. Its precondition is that
+//! the event may follow the history and fits into it, as `fj_rules` defines. A query answers by the history: what is in a queue, on a
+//! stack or in a hand, and the record of each kept task. The steps are above, in `fj_machine`.
 #![tactic(auto)]
 
 mod ledger;

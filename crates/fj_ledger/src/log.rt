@@ -7,12 +7,12 @@ use std::marker::Model;
 use std::mem;
 use std::snapshot::Snapshot;
 
-/// A history, of which the part since the last seal is kept, with room for so many events since then.
+/// A history with room for so many events since the last seal. Only these are in memory.
 ///
-/// What was sealed was handed out. Only proofs read it, so nothing of it is kept when the program runs.
+/// Sealed events were handed out. Only proofs read them here.
 #[derive(Drop)]
 pub struct Log {
-    // the log as it was when it was sealed last: a value without bytes
+    // the log before the last seal, of size zero
     before: Option<Snapshot<Log>>,
     events: Vec<Event>,
     room: usize,
@@ -88,7 +88,7 @@ impl Log {
         self.seals
     }
 
-    /// Whether the events and the seals are too many for one seal more.
+    /// Whether the events and the seals are too many for one more seal.
     pub fn is_worn(&self) -> bool
         ensures { result ≡ nat_lt MAX_EVENTS_AND_SEALS (length self.now.events + self.now.seals) }
     {
@@ -96,7 +96,7 @@ impl Log {
         MAX_EVENTS_AND_SEALS < before || MAX_EVENTS_AND_SEALS - before < self.events.len() as u64
     }
 
-    /// All events are sealed: those since the last seal are handed out, and the log goes on without any. An error changes nothing.
+    /// Seals all events: hands out those since the last seal. An error (out of memory) changes nothing. Precondition: not `is_worn`.
     pub fn seal(&mut self, alloc: Global) -> Result<Vec<Event>, AllocError>
         requires few { length self.old.events + self.old.seals ≤ MAX_EVENTS_AND_SEALS }
         ensures part { IfOk result (λ part. self.old.events ≡ self.old.sealed ++ part.items) }
@@ -125,13 +125,13 @@ impl Log {
         self.stopped
     }
 
-    /// One event more. Precondition: there is room for it.
+    /// Appends an event. Precondition: there is room for it.
     #[inline(always)]
     pub fn push(&mut self, event: Event)
         requires { length self.old.events < length self.old.sealed + self.old.room }
         ensures { self.new ≡ record self.old { events = self.old.events ++ event ∷ [] } }
     {
-        // The check wants each type inside an event to be named where one is moved.
+        // For the proof: moving an event needs each type inside it named.
         let _inside: Option<(Owner, Kind, Status, How, Serial, SubId, WorkerId)> = None;
         self.closed |= is_close(&event);
         self.stopped |= is_stop(&event);
@@ -139,10 +139,10 @@ impl Log {
     }
 }
 
-/// All events of a list, which goes on empty with the same room. An error changes nothing.
+/// Takes all events out of a list, which keeps the same room. An error changes nothing.
 ///
-/// More than half of a room goes with its events, and so takes no time; fewer events are copied. So nothing that is handed out holds room
-/// for more than twice of what is in it, and no more than half of a room is ever copied.
+/// A buffer more than half full is handed out itself; fewer events are copied. So no part has room for more than twice its events,
+/// and at most half of a room is copied.
 fn take_all(alloc: Global, events: &mut Vec<Event>, room: usize) -> Result<Vec<Event>, AllocError>
     requires { room ≤ vec_capacity events.old }
     ensures taken { IfOk result (λ part. part.items ≡ events.old.items) }

@@ -8,16 +8,15 @@ use fj_rules::Serial;
 use std::alloc::{AllocError, Global};
 use std::marker::Model;
 
-/// The numbers of the open tasks, in the order in which they came to be open. All memory is taken when the list is made.
+/// The numbers of the open tasks, in the order in which they became open. All memory is allocated in `new`.
 ///
-/// One that goes is found without a walk: mostly it is the first or the last one. Each is put under a stamp, and the stamps rise along the
-/// list; so the place of any other one is found by halves, by the stamp that its key was given last. The key of a task's record is its own
-/// as long as the task is open, so the number at that place is the wanted one. No proof needs that: if another one stood there, a walk
-/// would find it.
+/// A number is found without a walk. Mostly it is the first or the last one. Each also has a stamp, and the stamps rise along the list, so
+/// a binary search for the last stamp of its key finds any other one. A record keeps its key while its task is open, so the number at
+/// that place is the right one. No proof needs that: if another number were there, a walk would find the right one.
 #[derive(Drop)]
 pub struct OpenTasks {
     tasks: Window<Serial>,
-    // those under which they were put, in the same order
+    // their stamps, in the same order
     stamps: Window<u64>,
     given: Stamps,
 }
@@ -34,7 +33,7 @@ impl Model for OpenTasks {
 }
 
 impl OpenTasks {
-    /// No task is open. There is room for so many, under keys below that number.
+    /// An empty list with room for so many, under keys below that number.
     pub fn new(alloc: Global, room: usize) -> Result<OpenTasks, AllocError>
         ensures { IfOk result (λ o. o ≡ record { list = []; room = room }) }
     {
@@ -52,7 +51,7 @@ impl OpenTasks {
         self.tasks.as_slice()
     }
 
-    /// Puts the number of a task at the end, by the key of its record.
+    /// Appends the number of a task, with the key of its record. Precondition: there is room.
     pub fn push(&mut self, t: Serial, key: usize)
         requires { length self.old.list < self.old.room }
         ensures { self.new ≡ record { list = self.old.list ++ t ∷ []; room = self.old.room } }
@@ -61,7 +60,7 @@ impl OpenTasks {
         self.stamps.push(self.given.give(key));
     }
 
-    /// Takes out the number of a task, by the key of its record.
+    /// Removes the number of a task, if it is there, by the key of its record. Precondition: it is there once at most.
     pub fn remove(&mut self, t: Serial, key: usize)
         requires { times_in t self.old.list ≤ 1 }
         ensures { self.new ≡ record { list = without self.old.list (t ∷ []); room = self.old.room } }
@@ -72,7 +71,7 @@ impl OpenTasks {
         }
     }
 
-    /// Takes all numbers out.
+    /// Removes all numbers.
     pub fn clear(&mut self)
         ensures { self.new ≡ record { list = []; room = self.old.room } }
     {
@@ -80,7 +79,7 @@ impl OpenTasks {
         self.stamps.clear();
     }
 
-    /// Where a number stands, if it does.
+    /// The place of a number, if it is there.
     fn place(&self, t: Serial, key: usize) -> Option<usize>
         ensures { MatchOption result (is_in t self.now.list ≡ false) (λ i. slice_get self.now.list i ≡ Some t) }
     {
@@ -100,7 +99,7 @@ impl OpenTasks {
     }
 }
 
-/// The first place at which a number stands.
+/// The first place of a number.
 fn walk(ts: &[Serial], t: Serial) -> Option<usize>
     ensures { result ≡ position (λ u. u == t) ts.now }
 {

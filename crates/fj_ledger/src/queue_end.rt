@@ -14,7 +14,7 @@ pub enum QueueEnd {
     Newest(usize),
 }
 
-/// Takes the task that stands there.
+/// Takes the task there. Precondition: there is such a queue, and it is not empty.
 pub fn take_from(queues: &mut Queues, source: QueueEnd) -> Serial
     requires within { queue_of source < length queues.old.lists }
     requires filled { 0 < length (queue_at queues.old (queue_of source)) }

@@ -7,7 +7,7 @@ use fj_rules::Serial;
 use std::alloc::{AllocError, Global};
 use std::marker::Model;
 
-/// The stacks of the workers: task numbers, the oldest first. Each has the same room, which is taken when they are made.
+/// The stacks of the workers: task numbers, the oldest first. Each has the same room, allocated in `new`.
 #[derive(Drop)]
 pub struct Stacks {
     stacks: Vec<Vec<Serial>>,
@@ -74,7 +74,7 @@ impl Stacks {
         self.stack(w).is_empty()
     }
 
-    /// Puts a number on top of a worker's stack.
+    /// Pushes a number on a worker's stack. Precondition: there is room.
     #[inline(always)]
     pub fn push(&mut self, w: usize, t: Serial)
         requires within { w < length self.old.lists }
@@ -84,7 +84,7 @@ impl Stacks {
         self.stacks[w].push_reserved(t);
     }
 
-    /// Takes the top number off a worker's stack. Precondition: it has one. Which one it is, the caller knows.
+    /// Pops the top number of a worker's stack, which the caller knows. Precondition: it has one.
     #[inline(always)]
     pub fn take_last(&mut self, w: usize)
         requires within { w < length self.old.lists }

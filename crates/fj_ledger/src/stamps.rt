@@ -1,8 +1,8 @@
 use std::alloc::{AllocError, Global};
 
-/// Stamps that rise, and the last one that each key was given.
+/// Stamps that rise, and the last stamp of each key.
 ///
-/// They are for guesses, which what is found confirms or not. So nothing has to hold of them.
+/// They only make guesses, which are checked. So they need no invariant.
 #[derive(Drop)]
 pub struct Stamps {
     of_keys: Vec<u64>,
@@ -18,7 +18,7 @@ impl Stamps {
         })
     }
 
-    /// The next stamp, which is given to this key.
+    /// Gives this key the next stamp.
     pub fn give(&mut self, key: usize) -> u64 {
         self.newest = self.newest.wrapping_add(1);
         if let Some(stamp) = self.of_keys.get_mut(key) {
@@ -27,7 +27,7 @@ impl Stamps {
         self.newest
     }
 
-    /// The last stamp that this key was given.
+    /// The last stamp of this key; 0 if it has none.
     pub fn last(&self, key: usize) -> u64 {
         match self.of_keys.get(key) {
             Some(stamp) => *stamp,

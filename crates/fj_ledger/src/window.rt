@@ -4,12 +4,12 @@ ghost use Rattle.std.specs.List.{remove};
 use std::alloc::{AllocError, Global};
 use std::marker::Model;
 
-/// A list with room for so many. All memory is taken when it is made.
+/// A list with fixed room, allocated in `new`.
 ///
-/// Its first one goes, as its last one does, without any other being moved; where one in the middle goes, the shorter side is moved.
+/// Removing the first or the last moves no other; removing one in the middle moves the shorter side.
 #[derive(Drop)]
 pub struct Window<T> {
-    // the list stands behind the first so many of these
+    // the list is all but the first `first` of these
     cells: Vec<T>,
     first: usize,
     room: usize,
@@ -32,7 +32,7 @@ impl<T: Copy> Window<T> {
         ensures { IfOk result (λ w. w ≡ record { list = []; room = room }) }
     {
         Ok(Window {
-            // Twice the room: so the list is moved at most once in as many pushes as there is room for.
+            // Twice the room: so the list is moved at most once in `room` pushes.
             cells: Vec::with_capacity(alloc, room.saturating_mul(2))?,
             first: 0,
             room,
@@ -46,7 +46,7 @@ impl<T: Copy> Window<T> {
         &self.cells.as_slice()[self.first..]
     }
 
-    /// Puts one at the end.
+    /// Appends one. Precondition: there is room.
     pub fn push(&mut self, x: T)
         requires { length self.old.list < self.old.room }
         ensures { self.new ≡ record { list = self.old.list ++ x ∷ []; room = self.old.room } }
@@ -58,7 +58,7 @@ impl<T: Copy> Window<T> {
         self.cells.push_reserved(x);
     }
 
-    /// Takes out the one at a place.
+    /// Removes what is at place `i`. Precondition: `i` is below the length.
     pub fn remove(&mut self, i: usize)
         requires { i < length self.old.list }
         ensures { self.new ≡ record { list = remove self.old.list i; room = self.old.room } }
@@ -72,7 +72,7 @@ impl<T: Copy> Window<T> {
         }
     }
 
-    /// Takes all out.
+    /// Removes all.
     pub fn clear(&mut self)
         ensures { self.new ≡ record { list = []; room = self.old.room } }
     {
@@ -81,7 +81,7 @@ impl<T: Copy> Window<T> {
     }
 }
 
-/// Moves those behind the first so many to the front.
+/// Drops the first `first`, and moves the others to the front.
 fn drop_first<T: Copy>(cells: &mut Vec<T>, first: usize)
     requires { first ≤ length cells.old.items }
     ensures items { cells.new.items ≡ drop first cells.old.items }

@@ -24,7 +24,7 @@ use Rattle.fj_lines.specs.Readings.Tasks.{numbers_read, names_read}
 use Rattle.fj_lines.specs.Words.{joined, words, ◌>>=◌, word_first}
 use Rattle.fj_lines.specs.Readings.{line_in, head_said}
 
--- ---- what stands behind the first words
+-- ---- the words after the first ones
 
 abbrev pub relay_word : Bool → List ℕ
 relay_word true = codes "relay"
@@ -35,17 +35,17 @@ abbrev pub word_or_dash : {T : Type 0} → (T → List ℕ) → Option T → Lis
 word_or_dash word None = codes "-"
 word_or_dash word (Some t) = word t
 
--- behind the submitter
+-- after the submitter
 abbrev pub submitted_words : SubmittedKind → List (List ℕ)
 submitted_words submitted.Plain = []
 submitted_words (submitted.Completer relay count) = decimal count ∷ relay_word relay ∷ []
 
--- behind the worker that forks
+-- after the worker that forks
 abbrev pub forked_words : {T : Type 0} → (T → List ℕ) → ForkedKind T → List (List ℕ)
 forked_words word forked.Plain = []
 forked_words word (forked.Completer relay count parent) = word_or_dash word parent ∷ decimal count ∷ relay_word relay ∷ []
 
--- behind the worker whose task ends
+-- after the worker whose task ends
 abbrev pub ending_words : Ending → List (List ℕ)
 ending_words ending.Ok = codes "ok" ∷ []
 ending_words ending.Quiet = codes "quiet" ∷ []
@@ -54,7 +54,7 @@ ending_words ending.Pass = codes "pass" ∷ []
 ending_words ending.Complete = codes "complete" ∷ []
 ending_words (ending.Fail code) = codes "fail" ∷ decimal code ∷ []
 
--- ---- lines, whatever stands in them where a task stands
+-- ---- lines, however they name a task
 
 -- the words of a line
 abbrev pub line_words : {T N : Type 0} → TaskWords T N → Line T N → List (List ℕ)
@@ -135,7 +135,7 @@ HasWords tasks Epoch = Unit {0}
 abbrev pub parent_word : Option ℕ → List ℕ
 parent_word parent = word_or_dash decimal parent
 
--- what is forked, as a line has it
+-- the kind of a forked task, as in a line
 abbrev pub forked_of : Kind → ForkedKind ℕ
 forked_of kind.Plain = forked.Plain
 forked_of (kind.Completer relay count parent) = forked.Completer relay count parent
@@ -180,12 +180,12 @@ step_line asked = joined (step_words asked)
 abbrev pub HasLine : Step → Type 0
 HasLine asked = HasWords numbers (line_of asked)
 
--- what is forked, from a line
+-- the kind of a forked task, from a line
 abbrev pub kind_of : ForkedKind ℕ → Kind
 kind_of forked.Plain = kind.Plain
 kind_of (forked.Completer relay count parent) = kind.Completer relay count parent
 
--- the step that a line asks for: there is none for the lines of epochs, which version 1 has not
+-- the step that a line asks for: none for the lines of epochs, which version 1 does not have
 abbrev pub step_of : Line ℕ Unit → Option Step
 -- accept
 step_of (Submit label s kind) = Some (step.Submit s kind)
@@ -216,7 +216,7 @@ step_of (Release t) = Some (step.Release t)
 step_of Seal = None
 step_of Epoch = None
 
--- the step of a line, if it has one: what the reader makes of it
+-- the step of a line, if it has one: the result of the reader
 unfoldable pub step_in : List ℕ → Option Step
 step_in line = do
   asked ← line_in numbers_read line
@@ -230,7 +230,7 @@ NamedKind = ForkedKind (List ℕ)
 abbrev pub Line2 : Type 0
 Line2 = Line (List ℕ) (List ℕ)
 
--- what stands behind the worker that forks
+-- the words after the worker that forks
 abbrev pub named_kind_words : NamedKind → List (List ℕ)
 named_kind_words kind = forked_words names.word kind
 
@@ -246,7 +246,7 @@ line2_text asked = joined (line2_words asked)
 abbrev pub HasLine2 : Line2 → Type 0
 HasLine2 asked = HasWords names asked
 
--- what a line asks for, if it is one: what the reader makes of it
+-- what a line asks for, if it is one: the result of the reader
 unfoldable pub line2_in : List ℕ → Option Line2
 line2_in line = line_in names_read line
 
@@ -264,12 +264,12 @@ head_words head = mode_word head.0 ∷ map decimal head.1
 abbrev pub head_line : Mode × List ℕ → List ℕ
 head_line head = joined (head_words head)
 
--- the heading has a line: its numbers are four and have 32 bits at most
+-- the heading has a line: it has four numbers, of 32 bits at most
 pub record HasHeadLine (head : Mode × List ℕ) : Type 0 where
   pub four : length head.1 ≡ 4
   pub small : AllByRecursion IsSmall head.1
 
--- the mode and the four numbers of a heading, if the line is one: what the reader makes of it
+-- the mode and the four numbers of a heading, if the line is one: the result of the reader
 unfoldable pub head_in : List ℕ → Option (Mode × List ℕ)
 head_in line = do
   verb ← word_first (words line)

@@ -11,7 +11,7 @@ is_letter byte = nat_le 97 byte && nat_le byte 122
 abbrev pub is_name_byte : ℕ → Bool
 is_name_byte byte = is_letter byte || ((nat_le 48 byte && nat_le byte 57) || byte == 95)
 
--- whether a word is a name: a letter, and such bytes behind it, 16 together at most
+-- whether a word is a name: a letter, then such bytes, 16 in all at most
 abbrev pub is_name : List ℕ → Bool
 is_name [] = false
 is_name (first ∷ others) = is_letter first && (nat_le (length (first ∷ others)) MAX_NAME && list_all is_name_byte others)

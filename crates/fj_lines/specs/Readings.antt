@@ -1,5 +1,5 @@
--- What the words of a line say, word after word, as the reader goes. These mirror the reader, for its proof: which lines there are is
--- said by `Lines`, and that these say the same by `written`, `read` and `again` of `read_step`, `read_line2` and `read_head`.
+-- What the words of a line mean, word by word. These mirror the reader, for its proof. `Lines` defines which lines there are; `written`,
+-- `read` and `again` of `read_step`, `read_line2` and `read_head` say that these agree with it.
 use Rattle.std.specs.Prelude.{ℕ, if◌then◌else◌, List, [], ◌∷◌, Option, Some, None, codes}
 use Rattle.std.specs.Str.{bytes_eq}
 use Rattle.fj_rules.specs.declared.mode.Mode.{Mode}
@@ -24,10 +24,10 @@ pub mod Settle
 pub mod Query
 pub mod Release
 
--- ---- lines, by the first word and those behind it
+-- ---- lines, by the first word and the words after it
 
 module _ {T N : Type 0} where
-  -- those of a word alone
+  -- the lines of one word
   unfoldable pub word_said : List ℕ → List (List ℕ) → Option (Line T N)
   word_said verb ws =
       if bytes_eq verb (codes "shutdown") then if_last ws Shutdown
@@ -37,7 +37,7 @@ module _ {T N : Type 0} where
       else if bytes_eq verb (codes "epoch") then if_last ws Epoch
       else None
 
-  -- those that name a task, and where it is none of them, those above
+  -- the other lines that name a task, and those above
   unfoldable pub task_said : TaskReader T N → List ℕ → List (List ℕ) → Option (Line T N)
   task_said reader verb ws =
       if bytes_eq verb (codes "root") then root_in reader ws
@@ -46,7 +46,7 @@ module _ {T N : Type 0} where
       else if bytes_eq verb (codes "state") then state_in reader ws
       else word_said verb ws
 
-  -- the others of a worker, and where it is none of them, those above
+  -- the other lines of a worker, and those above
   unfoldable pub worker_said : TaskReader T N → List ℕ → List (List ℕ) → Option (Line T N)
   worker_said reader verb ws =
       if bytes_eq verb (codes "fork") then fork_in reader ws
@@ -57,7 +57,7 @@ module _ {T N : Type 0} where
       else if bytes_eq verb (codes "add") then add_in reader ws
       else task_said reader verb ws
 
-  -- what a first word and those behind it ask for, if they ask for something. What most lines say comes first: one each of accept, take, end and release
+  -- what a first word and those after it ask for, if it is a line. The most frequent come first: one each of accept, take, end and release
   unfoldable pub line_said : TaskReader T N → List ℕ → List (List ℕ) → Option (Line T N)
   line_said reader verb ws =
       if bytes_eq verb (codes "submit") then submit_in reader ws
@@ -66,7 +66,7 @@ module _ {T N : Type 0} where
       else if bytes_eq verb (codes "release") then release_in reader ws
       else worker_said reader verb ws
 
-  -- what a line asks for, if it is one: what the reader makes of it
+  -- what a line asks for, if it is one: the result of the reader
   unfoldable pub line_in : TaskReader T N → List ℕ → Option (Line T N)
   line_in reader line = do
     verb ← word_first (words line)
@@ -77,7 +77,7 @@ module _ {T N : Type 0} where
 abbrev pub mode_in : List ℕ → Option Mode
 mode_in word = if bytes_eq word (codes "async") then Some Async else if bytes_eq word (codes "joining") then Some Joining else None
 
--- the heading that a first word and those behind it say, if they say one
+-- the heading of a first word and those after it, if it is one
 unfoldable pub head_said : List ℕ → List (List ℕ) → Option (Mode × List ℕ)
 head_said verb ws = do
   mode ← mode_in verb

@@ -34,7 +34,7 @@ reply_words limits said.Cancelled = codes "cancelled" ∷ []
 reply_words limits (said.Refused r) = codes "refused" ∷ decimal (refusal_number r) ∷ []
 reply_words limits (said.State p s) = codes "state" ∷ (place_words limits p ++ status_words s)
 
--- the words behind `state`
+-- the words after `state`
 abbrev pub words_of_state : Bounds → Said → List (List ℕ)
 words_of_state limits (said.State p s) = place_words limits p ++ status_words s
 words_of_state limits _ = []

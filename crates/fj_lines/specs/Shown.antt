@@ -6,6 +6,6 @@ use Rattle.fj_rules.specs.Bounds.{Bounds}
 abbrev pub shown_said : Reply → Said
 shown_said reply = reply.said
 
--- the limits that tell a queue's number
+-- the limits that determine a queue's number
 abbrev pub shown_limits : Reply → Bounds
 shown_limits reply = reply.limits.now

@@ -1,5 +1,5 @@
--- What stands in a line where a task stands: its number in version 1, its name in version 2. A line by which a task comes into the pool gives
--- it a label in front of its other words: nothing in version 1, where tasks are counted, and its name in version 2.
+-- How a line names a task: by its number in version 1, by its name in version 2. A line by which a task enters the pool gives it a label
+-- in front of its other words: nothing in version 1, where tasks are counted, and its name in version 2.
 use Rattle.std.specs.Prelude.{ℕ, ◌^◌, ◌<◌, List, [], ◌∷◌, decimal}
 use Rattle.fj_lines.specs.Names.{IsName}
 

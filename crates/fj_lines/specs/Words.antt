@@ -1,4 +1,4 @@
--- The words of a line: one space stands between each two of them, and none before the first or behind the last.
+-- The words of a line: one space between each two of them, none before the first or after the last.
 use Rattle.std.specs.Prelude.{ℕ, Bool, true, false, ◌≡◌, ◌^◌, ◌==◌, ◌&&◌, nat_lt, if◌then◌else◌, List, [], ◌∷◌, Option, Some, None, Result, MatchResult, decimal}
 use Rattle.std.specs.List.{slice_split, join_with_byte}
 use Rattle.std.specs.Str.{bytes_eq}
@@ -13,7 +13,7 @@ joined ws = join_with_byte SPACE ws
 unfoldable pub words : List ℕ → List (List ℕ)
 words line = slice_split (λ b. b == SPACE) line
 
--- the words of what stands behind a word: nothing, or a space and the words after it
+-- the words after a word: nothing, or a space and words
 abbrev pub words_behind : List ℕ → List (List ℕ)
 words_behind [] = []
 words_behind (space ∷ line) = words line
@@ -26,11 +26,11 @@ is_number word = nat_lt (digits_value 10 word) (2 ^ 32) && bytes_eq word (decima
 unfoldable pub number_in : List ℕ → Option ℕ
 number_in word = if is_number word then Some (digits_value 10 word) else None
 
--- what a reader answers: what is said, and a fault exactly where nothing is said
+-- the result of a reader: the value, and a fault exactly where there is none
 abbrev pub Reads : {A E : Type 0} → Option A → Result A E → Type 0
 Reads said result = MatchResult result (λ x. said ≡ Some x) (λ _. said ≡ None)
 
--- the same of a reader whose answer means what is said
+-- the same of a reader whose result means the value
 abbrev pub ReadsAs : {A B E : Type 0} → (B → A) → Option A → Result B E → Type 0
 ReadsAs meaning said result = MatchResult result (λ x. said ≡ Some (meaning x)) (λ _. said ≡ None)
 
@@ -38,23 +38,23 @@ ReadsAs meaning said result = MatchResult result (λ x. said ≡ Some (meaning x
 abbrev pub IsOkIf : {A E : Type 0} → Bool → Result A E → Type 0
 IsOkIf test result = MatchResult result (λ _. test ≡ true) (λ _. test ≡ false)
 
--- what the digits of a word write; a fault only where it is no number
+-- the value of a word's digits; a fault only where it is no number
 abbrev pub ReadsDigits : {E : Type 0} → List ℕ → Result ℕ E → Type 0
 ReadsDigits word result = MatchResult result (λ value. AllDigits 10 word × (value ≡ digits_value 10 word)) (λ _. number_in word ≡ None)
 
--- ---- reading words, one after the other: these mirror the reader
+-- ---- reading words in order: these mirror the reader
 
 infixl 10 ◌>>=◌
 abbrev pub ◌>>=◌ : {A B : Type 0} → Option A → (A → Option B) → Option B
 Some x >>= f = f x
 None >>= f = None
 
--- the first word, and those behind it
+-- the first word, and those after it
 abbrev pub word_first : List (List ℕ) → Option (List ℕ × List (List ℕ))
 word_first [] = None
 word_first (word ∷ ws) = Some (word, ws)
 
--- the number that the first word is, and the words behind it
+-- the number in the first word, and the words after it
 abbrev pub number_first : List (List ℕ) → Option (ℕ × List (List ℕ))
 number_first [] = None
 number_first (word ∷ ws) = do
@@ -70,7 +70,7 @@ is_last (word ∷ ws) = false
 abbrev pub if_last : {A : Type 0} → List (List ℕ) → A → Option A
 if_last ws x = if is_last ws then Some x else None
 
--- ---- numbers that are all that is left
+-- ---- numbers, where no word is left after them
 
 unfoldable pub one_number : List (List ℕ) → Option ℕ
 one_number ws = do

@@ -1,4 +1,4 @@
-//! The lines of scripts of a fork-join pool, and of its replies: what they are, and their reader and printer.
+//! The lines of scripts of a fork-join pool, and of its replies: their grammar, reader and printer.
 #![tactic(auto)]
 
 mod line;

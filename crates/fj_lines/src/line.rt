@@ -1,4 +1,4 @@
-//! What a line of a script says.
+//! The parsed line of a script.
 use crate::name::Name;
 use fj_rules::{Ending, SubId, SubmittedKind, WorkerId};
 
@@ -9,23 +9,23 @@ pub enum ForkedKind<T> {
     Plain,
     /// A task with a completion action.
     Completer {
-        /// Whether a code with which it fails is passed on to its parent.
+        /// Whether its fault code is passed on to its parent.
         relay: bool,
-        /// The pending count that it is made with.
+        /// The initial pending count.
         count: u32,
-        /// The completer that is arrived at when the completion action of this one has ended.
+        /// The completer at which it arrives once its completion action has ended.
         parent: Option<T>,
     },
 }
 
-/// What a line of a script asks for: a step, as [`Step`](fj_rules::Step), with a `T` where that has the number of a task, and an `N` for the
-/// task that comes into the pool; or a seal, or how far the present epoch has come.
+/// What a line of a script asks for: a step, as [`Step`](fj_rules::Step), with a `T` where that has the number of a task, and an `N` for a
+/// new task; or a seal; or the state of the present epoch.
 ///
-/// The lines stand in the groups of the steps, and one more. In version 1 a `T` is a number and an `N` nothing, in version 2 both are names.
+/// The lines are in the groups of the steps, and one more. In version 1 a `T` is a number and an `N` empty; in version 2 both are names.
 #[derive(Drop)]
 pub enum Line<T, N> {
-    // accept: a task comes into the pool, under this name
-    /// A submitter hands in a task of this kind.
+    // accept: a task enters the pool, under this name
+    /// A submitter submits a task of this kind.
     Submit {
         name: N,
         s: SubId,
@@ -105,18 +105,18 @@ pub enum Line<T, N> {
         t: T,
     },
     // release: a task is forgotten
-    /// Forgets a task that is gone. Its name stays its own.
+    /// Forgets a task that is gone. Its name is not reused.
     Release {
         t: T,
     },
     // epoch: the history in parts
-    /// Ends the epoch: what has happened in it is handed out, and the history begins anew.
+    /// Ends the epoch: its events are handed out, and the history begins anew.
     Seal,
     /// Which epoch it is, and how many events it has so far.
     Epoch,
 }
 
-/// What a line of a script of version 2 asks for: a task has a name there.
+/// What a line of a script of version 2 asks for: there tasks have names.
 pub type Line2 = Line<Name, Name>;
 
 /// What a forked task is, with a name for its parent.

@@ -17,7 +17,7 @@ pub const MAX_NAME: usize = 16;
 
 /// The name of a task in a script: 1 to [`MAX_NAME`] bytes of `a` to `z`, `0` to `9` and `_`, the first a letter. Java's tasks have none.
 ///
-/// A contract sees it as its bytes.
+/// Contracts see its bytes.
 #[derive(Drop)]
 pub struct Name {
     len: usize,
@@ -69,7 +69,7 @@ impl fmt::Display for Name {
 }
 
 impl Name {
-    /// The name that a word is. None where it is no name.
+    /// The word as a name. None where it is not one.
     pub fn from_word(word: &[u8]) -> Option<Name>
         ensures { MatchOption result (is_name word.now ≡ false) (λ name. IsName word.now × (name ≡ word.now)) }
     {

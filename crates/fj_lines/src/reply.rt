@@ -8,7 +8,7 @@ ghost use Rattle.fj_lines.specs.Shown.{shown_limits, shown_said};
 use fj_rules::{Limits, Place, Said};
 use std::fmt;
 
-/// A reply as text: displayed as the words of its line, with no line feed. A queue is printed by its number.
+/// A reply as text: displayed as its line, without the line feed. A queue is printed by its number.
 #[derive(Clone, Copy)]
 pub struct Reply<'a> {
     pub(crate) said: Said,
@@ -16,7 +16,7 @@ pub struct Reply<'a> {
 }
 
 impl<'a> Reply<'a> {
-    /// The text of this reply. The limits tell the number of a queue.
+    /// The text of this reply. The limits determine the number of a queue.
     pub fn new(said: Said, limits: &'a Limits) -> Reply<'a>
         ensures said { shown_said result ≡ said }
         ensures limits { shown_limits result ≡ limits.now }
@@ -43,7 +43,7 @@ impl fmt::Display for Reply<'_> {
     }
 }
 
-/// The first word of a reply, and the number behind that, if there is one.
+/// The first word of a reply, and the number after it, if there is one.
 pub(crate) fn parts(said: &Said) -> (&'static str, Option<u64>)
     ensures some { IfSome result.1 (λ n. (limits : Bounds) → reply_words limits said.now ≡ result.0.now ∷ decimal n ∷ []) }
     ensures none { IfNone result.1 ((limits : Bounds) → reply_words limits said.now ≡ result.0.now ∷ words_of_state limits said.now) }

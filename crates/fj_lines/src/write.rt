@@ -11,9 +11,9 @@ use itoa::Buffer;
 use std::alloc::AllocError;
 
 impl Reply<'_> {
-    /// Appends its line, with its line feed.
+    /// Appends its line, with the line feed.
     ///
-    /// An error comes where the text can't grow. It then may end in a part of the line.
+    /// An error comes where the text can't grow. Then a part of the line may have been appended.
     #[tactic(auto, unfolding(crate::specs::Lines::reply_line))]
     pub fn push_line(&self, text: &mut String) -> Result<(), AllocError>
         ensures { OnOk result (string_bytes text.new ≡ string_bytes text.old ++ reply_line (shown_limits self.now) (shown_said self.now)) }
@@ -28,7 +28,7 @@ impl Reply<'_> {
     }
 }
 
-/// Appends a line of one word. Not by a formatter, which takes as long as the step itself.
+/// Appends a line of one word. Without a formatter, which would take as long as the step itself.
 fn push_word(text: &mut String, word: &str) -> Result<(), AllocError>
     ensures { OnOk result (string_bytes text.new ≡ string_bytes text.old ++ (word.now ++ LINE_FEED ∷ [])) }
 {
@@ -36,7 +36,7 @@ fn push_word(text: &mut String, word: &str) -> Result<(), AllocError>
     text.push('\n')
 }
 
-/// The same of a word and a number.
+/// Appends a line of a word and a number.
 fn push_number(text: &mut String, word: &str, number: u64) -> Result<(), AllocError>
     ensures { OnOk result (string_bytes text.new ≡ string_bytes text.old ++ (word.now ++ SPACE ∷ (decimal number ++ LINE_FEED ∷ []))) }
 {

@@ -1,4 +1,4 @@
--- What comes where a climb without hooks ends.
+-- The end of a climb without hooks.
 use Rattle.std.specs.Prelude.{ℕ, List, [], ◌∷◌}
 use Rattle.fj_rules.specs.declared.event.Event.{Event}
 use Rattle.fj_rules.specs.declared.event.Event.TheVariants as event
@@ -8,7 +8,7 @@ use Rattle.fj_rules.specs.declared.said.Said.TheVariants as says
 use Rattle.fj_tree.specs.declared.pass.PassHow.{PassHow}
 use Rattle.fj_tree.specs.declared.pass.PassHow.TheVariants as how
 
--- what ends the climb appends, and replies
+-- the events of the end of a climb, and the reply
 abbrev pub climb_end : PassHow → ℕ → List Event
 climb_end how.Counted c = event.Dec c ∷ []
 climb_end how.Spent c = []

@@ -1,4 +1,4 @@
--- Which events and which gone tasks stand in which part of a run with seals.
+-- Which events and which gone tasks are in which part of a run with seals.
 use Rattle.std.specs.Prelude.{ℕ, List, [], ◌∷◌}
 use Rattle.fj_rules.specs.declared.event.Event.{Event}
 use Rattle.fj_rules.specs.declared.epoch.Sealed.{Sealed as Part}
@@ -13,7 +13,7 @@ use Rattle.fj_rules.specs.Pasts.{Past, grown, present, gone_since, sealed_now}
 abbrev pub shown : Part → List Event × List ℕ
 shown part = (part.events.items, part.gone.items)
 
--- what these moves hand out from this past on, where these are their answers: at each seal that is made, what has happened since the one before
+-- what these moves with these answers hand out from this past on: at each seal that is made, what has happened since the seal before
 unfoldable pub handed : Past → List Move → List Answer → List (List Event × List ℕ)
 handed past (Step asked ∷ moves) (Said reply ∷ answers) = handed (grown past (answer past asked).1) moves answers
 handed past (Seal ∷ moves) (Sealed ∷ answers) = (present past, gone_since past) ∷ handed (sealed_now past) moves answers

@@ -1,4 +1,4 @@
--- What a check and a step come to: something found or said, or a refusal.
+-- The results of checks and steps: something found or said, or a refusal.
 use Rattle.std.specs.Prelude.{ℕ, ◌≡◌, ◌≤◌, ◌<◌, ◌+◌, Bool, true, not, List, [], ◌∷◌, Option, Some, None, Result, Ok, Err, length, map}
 use Rattle.fj_rules.specs.declared.event.Event.{Event}
 use Rattle.fj_rules.specs.declared.event.Event.TheVariants as event
@@ -26,7 +26,7 @@ abbrev pub refusal_in : {A : Type 0} → Result A Refusal → Option Refusal
 refusal_in (Ok found) = None
 refusal_in (Err r) = Some r
 
--- what a check answers: the first of the refusals that stands, and what it found exactly where none stands
+-- the result of a check: the first refusal whose test holds, and what it found exactly where none holds
 abbrev pub ChecksFirst : {A : Type 0} → List (Bool × Refusal) → Result A Refusal → Type 0
 ChecksFirst refusals result = refusal_in result ≡ first_that_stands refusals
 
@@ -34,7 +34,7 @@ ChecksFirst refusals result = refusal_in result ≡ first_that_stands refusals
 abbrev pub Checks : {A : Type 0} → Past → Step → Result A Refusal → Type 0
 Checks now asked result = ChecksFirst (refusals_of now.pool now.events asked) result
 
--- what a worker is refused that has a hook in hand, that in addition runs no task, and that instead is not idle
+-- the refusals of a worker that must have no hook in hand; that must also run a task; that must instead be idle
 abbrev pub hand_refusals : Past → ℕ → List (Bool × Refusal)
 hand_refusals now w = no_such_worker now.pool w ∷ hook_in_hand now.events w ∷ []
 
@@ -53,11 +53,11 @@ abbrev pub said_by : Result Said Refusal → Said
 said_by (Ok said) = said
 said_by (Err r) = says.Refused r
 
--- at the old past the step comes to this, and it leads to the new past
+-- at the old past the step has this result, and it leads to the new past
 abbrev pub Makes : Past → Step → Result Said Refusal → Past → Type 0
 Makes old asked result new = Steps old asked (said_by result) new
 
--- so many events more fit, or the history is too full for them
+-- so many more events fit, or the history is too full for them
 abbrev pub FindsRoom : {A : Type 0} → Past → ℕ → Result A Refusal → Type 0
 FindsRoom now n (Ok found) = length now.events + n ≤ limit now
 FindsRoom now n (Err r) = (r ≡ LogFull) × (limit now < length now.events + n)
@@ -77,12 +77,12 @@ pub record MayEnd (now : Past) (w : ℕ) (ending : Ending) (t : ℕ) : Type 0 wh
   pub stands : first_that_stands (refusals_of now.pool now.events (End w ending)) ≡ None
   pub running : running now.events w ≡ Some t
 
--- what is found at the end of a body: the running task, which may end so; or the first refusal that stands
+-- what is found at the end of a body: the running task, which may end so; or the first refusal whose test holds
 abbrev pub FindsEnding : Past → ℕ → Ending → Result Handle Refusal → Type 0
 FindsEnding now w ending (Ok t) = MayEnd now w ending t.serial
 FindsEnding now w ending (Err r) = first_that_stands (refusals_of now.pool now.events (End w ending)) ≡ Some r
 
--- the task becomes exceptional with the code, and each to whom that is relayed
+-- the task becomes exceptional with the code, and so does each task to which that is relayed
 abbrev pub relaying : List Event → ℕ → ℕ → List Event
 relaying h t code = map (λ u. event.Settle u (Exceptional code)) (relayed h t)
 

@@ -14,10 +14,10 @@ use fj_rules::{
 };
 use std::alloc::Global;
 
-/// Runs steps and seals from the start: the machine that they leave, the parts that were handed out, and the answer to each move.
+/// Runs steps and seals from the start: the machine after them, the parts that were handed out, and the answer to each move.
 ///
-/// What is promised of every list of steps and seals is the headline of the pool, of the parts that were handed out joined with the
-/// present one. The only error is that an allocation failed; one of a seal is the answer to it.
+/// For every list of steps and seals the headline of the pool holds, of all parts together with the present one. The only error is
+/// `OutOfMemory`; that of a seal is the answer to it.
 pub fn run_epochs(
     alloc: Global,
     mode: Mode,
@@ -25,7 +25,7 @@ pub fn run_epochs(
     moves: &[Move],
 ) -> Result<(Machine, Vec<Sealed>, Vec<Answer>), OutOfMemory>
     ensures pool { IfOk result (λ r. r.0.pool ≡ record { mode = mode; limits = limits }) }
-    // Each step and each seal, refused or not, has the one answer.
+    // Each step and each seal, refused or not, has its defined answer.
     ensures runs { IfOk result (λ r. MovesFrom (fresh mode limits) moves.now r.2.items r.0) }
     // The events of the parts, followed by the present ones, are the history.
     ensures events { IfOk result (λ r. r.0.events ≡ events_in r.1.items ++ present r.0) }
@@ -33,7 +33,7 @@ pub fn run_epochs(
     ensures gone { IfOk result (λ r. gone r.0.events ≡ gone_in r.1.items ++ gone_since r.0) }
     // There is one part for each seal.
     ensures parts { IfOk result (λ r. length r.1.items ≡ r.0.seals) }
-    // Each part has what happened between its seal and the seal before it, and the tasks that came to be gone there.
+    // Each part has the events between its seal and the seal before it, and the tasks that became gone there.
     ensures handed { IfOk result (λ r. map shown r.1.items ≡ handed (fresh mode limits) moves.now r.2.items) }
     // Each accepted task is in exactly one place: one queue, one stack, among the open or among the gone tasks.
     ensures place { IfOk result (λ r. IsInOnePlace r.0.pool.limits r.0.events) }
@@ -80,7 +80,7 @@ fn move_all(
     ensures parts { OnOk result (Fits parts.new.items machine.new) }
     ensures handed { OnOk result (map shown parts.new.items ≡ handed machine.old moves.now answers.new.items) }
 {
-    // The check wants each type inside a reply to be named where one is moved.
+    // For the proof: moving a reply needs each type inside it named.
     let _inside: Option<(Said, Place, Owner, Status, Refusal, Serial, SubId, WorkerId)> = None;
     for asked in moves {
         answers.push(make_move(alloc, machine, parts, asked)?)?;
@@ -88,7 +88,7 @@ fn move_all(
     Ok(())
 }
 
-/// Makes one move. A part that is handed out is put behind those before it.
+/// Makes one move. A part that is handed out is appended to `parts`.
 fn make_move(
     alloc: Global,
     machine: &mut Machine,

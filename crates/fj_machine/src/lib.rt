@@ -1,9 +1,9 @@
-//! The scheduler of a fork-join pool as single steps, with the history of what happened.
+//! The scheduler of a fork-join pool as a state machine, with its history.
 //!
-//! A [`Machine`] is known by what it was made with and its history: what stands in its queues and on its stacks, how far each task
-//! has come and what is answered to a step are definitions over the history, which stand in `fj_rules`. [`Machine::seal`] hands out
-//! what has happened, and the machine goes on. Inside is a `Ledger` of `fj_ledger`, each change to which is one event. The steps look
-//! first at why a step is refused, then whether its events fit, and then make these changes. Nothing here waits or starts a thread.
+//! Contracts see a [`Machine`] as its mode and limits and its history: its queues and stacks, the status of each task and the reply to
+//! a step are definitions over the history, in `fj_rules`. [`Machine::seal`] hands out the events so far, and the machine goes on.
+//! Inside is a `Ledger` of `fj_ledger`, each update of which is one event. A step first checks its refusals, then that its events fit,
+//! and then makes its updates. Nothing here blocks or starts a thread.
 #![tactic(auto)]
 
 mod epochs;

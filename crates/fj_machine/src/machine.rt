@@ -41,7 +41,7 @@ use std::marker::Model;
 
 /// The scheduler of a pool, one step at a time.
 ///
-/// A contract sees it as what it was made with and its history; all else follows from these.
+/// Contracts see its mode and limits and its history; all else follows from these.
 #[derive(Drop)]
 pub struct Machine {
     ledger: Ledger,
@@ -59,9 +59,9 @@ impl Model for Machine {
 }
 
 impl Machine {
-    /// A machine to which nothing has happened. All the memory that its steps need is taken here.
+    /// A machine without events. All memory that its steps need is allocated here.
     ///
-    /// The only refusal is `OutOfMemory`, where an allocation failed.
+    /// The only refusal is `OutOfMemory`.
     pub fn new(alloc: Global, mode: Mode, limits: Limits) -> Result<Machine, Refusal>
         ensures ok { IfOk result (λ m. m ≡ fresh mode limits) }
         ensures err { OnErr result (result ≡ Err Refusal.OutOfMemory) }
@@ -71,7 +71,7 @@ impl Machine {
         })
     }
 
-    /// What has happened since the last seal, the oldest first. With what was sealed before it, it is the history of a run, for which the
+    /// The events since the last seal, the oldest first. After those that were sealed, they make up the history of a run, for which the
     /// headline holds.
     pub fn history(&self) -> &[Event]
         ensures events { result.now ≡ present self.now }
@@ -81,29 +81,28 @@ impl Machine {
         self.ledger.history()
     }
 
-    /// The tasks in an owner's queue, the oldest first. There are none for an owner that is not there.
+    /// The tasks in an owner's queue, the oldest first. Empty for an unknown owner.
     pub fn queue(&self, owner: Owner) -> Numbers<'_>
         ensures { result ≡ queue self.now.events owner }
     {
         self.ledger.queue(owner)
     }
 
-    /// The tasks that a worker holds, the oldest first; the last is the running one. There are none for a worker that is not there.
+    /// The tasks that a worker holds, the oldest first; the last is the running one. Empty for an unknown worker.
     pub fn stack(&self, w: WorkerId) -> &[Serial]
         ensures { result.now ≡ stack self.now.events w }
     {
         self.ledger.stack(w)
     }
 
-    /// The open tasks, in the order in which they came to be open: triggers, and completers whose body has ended, that are neither spent
-    /// nor done.
+    /// The open tasks, in the order in which they became open: triggers, and completers whose body has ended, that are not spent.
     pub fn open(&self) -> &[Serial]
         ensures { result.now ≡ open_tasks self.now.events }
     {
         self.ledger.open()
     }
 
-    /// The tasks that came to be gone since the last seal, in that order.
+    /// The tasks that became gone since the last seal, in that order.
     pub fn gone(&self) -> &[Serial]
         ensures { result.now ≡ gone_since self.now }
     {
@@ -133,15 +132,14 @@ impl Machine {
         self.ledger.hook(w).map(|hook| hook.completer)
     }
 
-    /// The parent that a kept task names, if it names one: `CountedCompleter.getCompleter`. None for a task that is not kept.
+    /// The parent of a kept task, if it has one: `CountedCompleter.getCompleter`. None for a task that is not kept.
     pub fn parent(&self, t: Serial) -> Option<Serial>
         ensures { is_kept self.now.events t ≡ true → result ≡ parent self.now.events t }
     {
         self.ledger.find(t)?.kind.parent()
     }
 
-    /// Whether a kept task is plain, so that it has no completion action and no parent: one that is no `CountedCompleter`. False for a task
-    /// that is not kept.
+    /// Whether a kept task is plain, with no completion action and no parent: not a `CountedCompleter`. False for a task that is not kept.
     #[inline(always)]
     pub fn is_plain(&self, t: Serial) -> bool
         ensures { result ≡ (is_kept self.now.events t && not (is_completer self.now.events t)) }
@@ -180,18 +178,18 @@ impl Machine {
         self.ledger.is_quiet()
     }
 
-    /// How large the pool may grow.
+    /// The limits of the pool.
     pub fn limits(&self) -> Limits
         ensures limits { result ≡ self.now.pool.limits }
         ensures within { IsWithin result.workers result.submitters result.tasks result.events }
     {
         let limits = self.ledger.limits();
-        // Tells that each limit lies in its range.
+        // For the proof: each limit is in range.
         let _workers = limits.workers();
         limits
     }
 
-    /// The refusal that the step Submit would answer now for a task of this kind. None if it would be accepted.
+    /// The refusal of the step Submit now for a task of this kind. None if it would be accepted.
     pub fn submit_refusal(&self, s: SubId, kind: &SubmittedKind) -> Option<Refusal>
         ensures { result ≡ refusal_of self.now (Submit s kind.now) }
     {
@@ -205,17 +203,17 @@ impl Machine {
         self.ledger.seals()
     }
 
-    /// Hands out what has happened since the last seal, and goes on with an empty history. The kept tasks stay, open ones too, and task
+    /// A checkpoint: hands out the events since the last seal, and goes on without events. The kept tasks stay, open ones too, and task
     /// numbers go on.
     ///
-    /// It is refused by `NotIdle` where the machine is not quiescent, else by `Closed` after a shutdown or a stop, else by `LogFull` where
-    /// the events, the sealed ones too, and the seals are more than 2^62, else by `OutOfMemory`, and then changes nothing.
+    /// Refused, with nothing changed, as `NotIdle` where the machine is not quiescent, else `Closed` after a shutdown or a stop, else
+    /// `LogFull` where the events, sealed or not, and the seals together are more than 2^62, else `OutOfMemory` where an allocation fails.
     pub fn seal(&mut self, alloc: Global) -> Result<Sealed, Refusal>
         ensures events { IfOk result (λ part. part.events.items ≡ present self.old) }
         ensures gone { IfOk result (λ part. part.gone.items ≡ gone_since self.old) }
         ensures may { OnOk result (seal_refusal self.old ≡ None) }
         ensures sealed { OnOk result (self.new ≡ sealed_now self.old) }
-        // The parts that were handed out before, and this one behind them, are those of the new history.
+        // The parts that were handed out before, followed by this one, are those of the new history.
         ensures fits { IfOk result (λ part. (parts : List Part) → Fits parts self.old → Fits (parts ++ part ∷ []) self.new) }
         ensures err { IfErr result (λ refusal. RefusesSeal self.old refusal) }
         ensures stays { OnErr result (self.new ≡ self.old) }
@@ -223,9 +221,9 @@ impl Machine {
         self.ledger.seal(alloc)
     }
 
-    /// Makes one step: the reply, after which the events of the step stand at the end of the history. It takes no memory.
+    /// Makes one step: appends its events to the history, and answers the reply. It allocates nothing.
     ///
-    /// A refused step changes nothing. It is refused for the first of these that holds:
+    /// A refused step changes nothing, and reports the first of these refusals that applies:
     ///
     /// | Step | Refusals, in this order |
     /// |---|---|
@@ -249,11 +247,11 @@ impl Machine {
         ensures step { Steps self.old asked.now result self.new }
         // Each event may follow those before it.
         ensures allowed { AllowedFrom self.old.pool self.old.events (answer self.old asked.now).1 }
-        // The reply `task`, `run` or `hook` is given exactly where a task is accepted, a task or a hook is handed out.
+        // The reply is `task`, `run` or `hook` exactly where a task is accepted, a task or a hook is handed out.
         ensures tells { RepliesTell (answer self.old asked.now).1 (result ∷ []) }
-        // The reply `none` is given only where every queue is empty.
+        // The reply is `none` only where every queue is empty.
         ensures none { result ≡ Said.None → (o : OwnerCase) → queue self.old.events o ≡ [] }
-        // Nothing was handed out.
+        // The parts that were handed out before are those of the new history too.
         ensures fits { (parts : List Part) → Fits parts self.old → Fits parts self.new }
         ensures refused { (r : RefusalCase) → result ≡ Said.Refused r → self.new ≡ self.old }
     {
@@ -272,7 +270,7 @@ fn said(outcome: Result<Said, Refusal>) -> Said
     }
 }
 
-/// Makes one step, or tells why it is refused.
+/// Makes one step, or answers why it is refused.
 #[inline(always)]
 fn make(ledger: &mut Ledger, asked: &Step) -> Result<Said, Refusal>
     ensures { Makes ledger.old asked.now result ledger.new }

@@ -18,7 +18,7 @@ abbrev pub one_if : Bool → ℕ
 one_if true = 1
 one_if false = 0
 
--- how many of the first workers, so many, have something to do
+-- how many of the first workers have something to do
 abbrev pub busy_below : List Event → ℕ → ℕ
 busy_below h zero = 0
 busy_below h (suc w) = busy_below h w + one_if (is_busy h w)

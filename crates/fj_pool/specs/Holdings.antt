@@ -1,4 +1,4 @@
--- What a worker holds, as its hand and as the history say it.
+-- What a worker holds, by its hand and by the history.
 use Rattle.std.specs.Prelude.{ℕ, ◌≡◌, ◌≢◌, All, List, [], None, Some, length, map, slice_get}
 use Rattle.atomic_table.specs.Seated.{TableId}
 use Rattle.fj_agreement.specs.Ends.{EndState}
@@ -46,7 +46,7 @@ module _ {B : Type 0} where
   abbrev pub IsTied : List TableId → TiedState B → Type 0
   IsTied pairs t = slice_get pairs t.hand.worker ≡ Some t.pair
 
-  -- each hand has an end of a pair, and the other one stands at its place, and knows that it holds nothing
+  -- each hand has an end of a pair, and the other end has the same index, and knows that the hand holds nothing
   pub record AreTied (hands : List (HandState B)) (tied : List (TiedState B)) (ends : List (EndState Holding)) : Type 0 where
     pub hands_are : hands_of tied ≡ hands
     pub pairs_are : map (λ e. e.pair) ends ≡ pairs_of tied
@@ -64,7 +64,7 @@ pub record KeepsHands (old new : Past) : Type 0 where
   pub pool : new.pool ≡ old.pool
   pub hands : (w : ℕ) → KeepsHand w old new
 
--- the same but of this worker
+-- the same, except of this worker
 pub record KeepsOthers (own : ℕ) (old new : Past) : Type 0 where
   pub pool : new.pool ≡ old.pool
   pub hands : (w : ℕ) → w ≢ own → KeepsHand w old new

@@ -10,9 +10,9 @@ pub mod Parts
 pub mod Turning
 -- what is left of a pool
 pub mod Winding
--- what the lanes show is taken in
+-- submissions are taken in
 pub mod Looking
--- what is asked from outside, of one ticket or of several
+-- calls from outside, by one ticket or by several
 pub mod Asked
 -- what a worker does in one holding of the lock
 pub mod Working

@@ -1,4 +1,4 @@
--- What the lanes show is taken in.
+-- Submissions are taken in.
 use Rattle.std.specs.Prelude.{ℕ, ◌≡◌, ◌+◌, ⊤, zero, suc, Bool, true, false, if◌then◌else◌, nat_lt, Option, Result}
 use Rattle.fj_rules.specs.declared.refusal.Refusal.{Refusal}
 use Rattle.fj_rules.specs.Answers.{is_quiet}
@@ -16,22 +16,22 @@ one_more Nothing = One
 one_more One = Several
 one_more Several = Several
 
--- with what an intake answered
+-- with the answer of an intake
 abbrev pub with_answer : TakenIn → Intake → TakenIn
 with_answer taken (Took serial) = one_more taken
 with_answer taken _ = taken
 
--- of so many submitters the one behind this one: behind the last one stands the first
+-- the next submitter: after the last one comes the first
 abbrev pub behind : ℕ → ℕ → ℕ
 behind submitters s = if nat_lt (s + 1) submitters then s + 1 else 0
 
--- the one that stands so many places behind this one
+-- the one that comes n places after this one
 abbrev pub so_far_behind : ℕ → ℕ → ℕ → ℕ
 so_far_behind submitters first zero = first
 so_far_behind submitters first (suc n) = behind submitters (so_far_behind submitters first n)
 
 module _ {B K O : Type 0} where
-  -- one intake for each of so many submitters, from this one on by rising number
+  -- one intake for each of n submitters, from `first` on by rising number
   abbrev pub TakesFrom : (B → Option ℕ) → ℕ → ℕ → ℕ → CoreState B K O → TakenIn → CoreState B K O → Type 0
   TakesFrom rooted_as submitters first zero old taken new = (taken ≡ Nothing) × (new ≡ old)
   TakesFrom rooted_as submitters first (suc n) old taken new =
@@ -42,23 +42,23 @@ module _ {B K O : Type 0} where
   abbrev pub TakesEach : (B → Option ℕ) → CoreState B K O → TakenIn → CoreState B K O → Type 0
   TakesEach rooted_as old taken new = (first : ℕ) × TakesFrom rooted_as old.store.past.pool.limits.submitters first old.store.past.pool.limits.submitters old taken new
 
-  -- a seal is tried where it is time for it
+  -- a seal is tried if it is due
   abbrev pub SealsWhere : Bool → CoreState B K O → CoreState B K O → Type 0
   SealsWhere true old new = (answer : Result ⊤ Refusal) × SealsCore old answer new
   SealsWhere false old new = new ≡ old
 
-  -- one for each submitter, or none where nothing is taken in before the next seal
+  -- one for each submitter, or none if nothing is taken in before the next seal
   abbrev pub TakesUnless : Bool → (B → Option ℕ) → CoreState B K O → TakenIn → CoreState B K O → Type 0
   TakesUnless true rooted_as old taken new = (taken ≡ Nothing) × (new ≡ old)
   TakesUnless false rooted_as old taken new = TakesEach rooted_as old taken new
 
-  -- a seal, where it is time for it, and then one intake for each submitter, unless the core holds back
+  -- a seal, if it is due, and then one intake for each submitter, unless the core holds back
   pub record LooksAtLanes (rooted_as : B → Option ℕ) (old : CoreState B K O) (taken : TakenIn) (new : CoreState B K O) : Type 0 where
     pub mid : CoreState B K O
     pub seals : SealsWhere (may_be_sealed old.store.past) old mid
     pub takes : TakesUnless (holds_back mid) rooted_as mid taken new
 
-  -- a seal, where it is time for it, one intake for each submitter, and then this is whether all is quiet
+  -- a seal, if it is due, one intake for each submitter, and then whether all is quiet
   pub record IsQuietBehind (rooted_as : B → Option ℕ) (old : CoreState B K O) (quiet : Bool) (new : CoreState B K O) : Type 0 where
     pub mid : CoreState B K O
     pub taken : TakenIn

@@ -1,4 +1,4 @@
--- The gate and the pool that stand for none.
+-- A dummy gate and a dummy pool.
 use Rattle.std.specs.Prelude.{[]}
 use Rattle.atomic_table.specs.Seated.{TableId}
 use Rattle.fj_rules.specs.declared.mode.Mode.TheVariants.{Async}

@@ -42,7 +42,7 @@ pub record AreSeated {B : Type 0} (capacity : ℕ) (entrants : List EntrantState
   pub seats_are : seats ≡ seats_for capacity 0 entrants lanes
   pub drains_are : drains ≡ map (λ lane. new_drain lane capacity) lanes
 
--- why a pool is refused: the capacity of a lane is none, or it is one and memory is refused
+-- why a pool is refused: the capacity of a lane is out of range, or it is in range and an allocation failed
 abbrev pub RefusesPool : ℕ → Refusal → Type 0
 RefusesPool capacity BadLimits = (capacity ≡ 0) ⊎ (MAX_CAPACITY < capacity)
 RefusesPool capacity OutOfMemory = (1 ≤ capacity) × (capacity ≤ MAX_CAPACITY)

@@ -47,7 +47,7 @@ module _ {B : Type 0} where
     pub pushes : Pushes old.feed (record { ticket = ticket; body = body }) new.feed
     pub number : new.number ≡ old.number
 
-  -- a refused submission: no exchange was made where the lane is spent; where it has room and the gate is closed, it was told so
+  -- a refused submission: if the lane is spent the gate was not asked; if there is room the gate said that it is closed
   abbrev pub RefusesSubmission : SeatState B → Refusal → SeatState B → Type 0
   RefusesSubmission old LaneSpent new = (length old.feed.fed ≡ old.feed.capacity) × (new ≡ old)
   RefusesSubmission old Closed new = (length old.feed.fed < old.feed.capacity) × (new ≡ record old { entrant = record old.entrant { told = true } })

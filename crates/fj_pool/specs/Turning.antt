@@ -20,7 +20,7 @@ module _ {B K : Type 0} where
     pub has : new ≡ with_hook old task after
     pub key : key_of after ≡ key_of before
 
-  -- the running body took it, in a hand without a hook; it has joined nothing then
+  -- the running body took it, in a hand without a hook; then it has no note of a join
   pub record TurnsBody (key_of : B → K) (old new : HandState B) : Type 0 where
     pub rest : HandState B
     pub task : ℕ
@@ -46,13 +46,13 @@ module _ {B K O : Type 0} where
   TakesTurn key_of old (Some ask) new = TurnsHook key_of old new ⊎ TurnsBody key_of old new
   TakesTurn key_of old None new = (old.stack ≡ []) × (old.hook ≡ None) × (new ≡ old)
 
-  -- why a worker leaves: all has terminated, or the core is stuck
+  -- why a worker leaves: the pool has terminated, or the core is stuck
   abbrev pub MayLeave : CoreState B K O → Result ⊤ Refusal → Type 0
   MayLeave core (Ok done) = is_finished core ≡ true
   MayLeave core (Err LogFull) = core.store.stuck ≡ true
   MayLeave core (Err r) = ⊥
 
-  -- where it leaves, it may
+  -- it leaves only if it may
   abbrev pub LeavesWell : CoreState B K O → Next B K O → Type 0
   LeavesWell core (Leave answer) = MayLeave core answer
   LeavesWell core _ = ⊤

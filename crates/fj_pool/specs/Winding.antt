@@ -20,7 +20,7 @@ use Rattle.fj_core.specs.Closes.{is_number}
 use Rattle.fj_pool.specs.Seats.{SeatState, tickets}
 
 module _ {B : Type 0} where
-  -- these are so many submitters, by their numbers
+  -- these are `count` submitters, in order of their numbers
   abbrev pub AreAll : ℕ → List (SeatState B) → Type 0
   AreAll count seats = (length seats ≡ count) × ((n : ℕ) (seat : SeatState B) → slice_get seats n ≡ Some seat → seat.number ≡ n)
 

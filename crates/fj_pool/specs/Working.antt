@@ -21,7 +21,7 @@ use Rattle.fj_pool.specs.Looking.{LooksAtLanes}
 module _ {B K O : Type 0} where
   -- ---- a worker waits
 
-  -- what comes next behind a look at the lanes, if there was one
+  -- what comes next after a look at the lanes, if there was one
   abbrev pub next_behind : Option TakenIn → Next B K O
   next_behind None = Wait
   next_behind (Some Nothing) = Wait
@@ -33,7 +33,7 @@ module _ {B K O : Type 0} where
   MayLook rooted_as old (Some taken) new = LooksAtLanes rooted_as old taken new
   MayLook rooted_as old None new = new ≡ old
 
-  -- it waits, perhaps behind a look at the lanes, and looks again where that took something in
+  -- it waits, perhaps after a look at the lanes, and looks again if that took something in
   pub record Waits (rooted_as : B → Option ℕ) (old : CoreState B K O) (next : Next B K O) (new : CoreState B K O) : Type 0 where
     pub looked : Option TakenIn
     pub looks : MayLook rooted_as old looked new
@@ -41,12 +41,12 @@ module _ {B K O : Type 0} where
 
   -- ---- an idle worker
 
-  -- what comes next where no task is queued
+  -- what comes next if no task is queued
   abbrev pub next_idle : Bool → Next B K O
   next_idle true = Leave (Ok tt)
   next_idle false = Rest
 
-  -- what comes next is what a poll told
+  -- what comes next, by the answer to a poll
   abbrev pub NextOfPoll : CoreState B K O → Told B K O → Next B K O → Type 0
   NextOfPoll core (told.Run t) next = next ≡ Begin t
   NextOfPoll core (told.Skip t body) next = next ≡ Again
@@ -68,7 +68,7 @@ module _ {B K O : Type 0} where
     pub polls : Polls old.store hand (told.Skip task body) new.store hand'
     pub others : ChangesStore old new
 
-  -- so many of them
+  -- n of them
   abbrev pub Skips : ℕ → CoreState B K O → HandState B → CoreState B K O → HandState B → Type 0
   Skips zero old hand new hand' = (new ≡ old) × (hand' ≡ hand)
   Skips (suc n) old hand new hand' = (mid : CoreState B K O) × (between : HandState B) × Skips n old hand mid between × SkipsOnce mid between new hand'
@@ -81,7 +81,7 @@ module _ {B K O : Type 0} where
     pub skips : Skips skipped old hand mid between
     pub polls : PollsOnce mid between next new hand'
 
-  -- this a poll can tell; that it is stuck only where the store is
+  -- the answers that a poll can give; `Stuck` only if the store is stuck
   abbrev pub IsPolled : StoreState B K O → Told B K O → Type 0
   IsPolled store (told.Run t) = ⊤
   IsPolled store (told.Skip t body) = ⊤
@@ -102,7 +102,7 @@ module _ {B K O : Type 0} where
   abbrev pub Then : Next B K O → CoreState B K O → Next B K O → CoreState B K O → Type 0
   Then expected old next new = (next ≡ expected) × (new ≡ old)
 
-  -- what comes next is what a join told
+  -- what comes next, by the answer to a join
   abbrev pub NextOfJoin : (B → Option ℕ) → Told B K O → CoreState B K O → Next B K O → CoreState B K O → Type 0
   NextOfJoin rooted_as (told.Hear heard) old next new = Then (Turn heard) old next new
   NextOfJoin rooted_as (told.Run t) old next new = Then (Begin t) old next new
@@ -111,7 +111,7 @@ module _ {B K O : Type 0} where
   NextOfJoin rooted_as (told.Stuck body) old next new = Then (Leave (Err LogFull)) old next new
   NextOfJoin rooted_as _ old next new = ⊥
 
-  -- the body that joined the task joins it once more
+  -- the body that joined the task retries
   pub record JoinsOnce (key_of : B → K) (rooted_as : B → Option ℕ) (old : CoreState B K O) (hand : HandState B) (t : ℕ) (next : Next B K O) (new : CoreState B K O) (hand' : HandState B) : Type 0 where
     pub told : Told B K O
     pub mid : CoreState B K O
@@ -119,7 +119,7 @@ module _ {B K O : Type 0} where
     pub others : ChangesStore old mid
     pub goes_on : NextOfJoin rooted_as told mid next new
 
-  -- it had joined this task, and joins it once more; or it helped, and hears so
+  -- it had joined this task, and retries; or it helped, and hears so
   abbrev pub GoesOn : (B → K) → (B → Option ℕ) → Option ℕ → CoreState B K O → HandState B → Next B K O → CoreState B K O → HandState B → Type 0
   GoesOn key_of rooted_as (Some t) old hand next new hand' = JoinsOnce key_of rooted_as old hand t next new hand'
   GoesOn key_of rooted_as None old hand next new hand' = Then (Turn (hears.Helped true)) old next new × (hand' ≡ hand)
@@ -145,12 +145,12 @@ module _ {B K O : Type 0} where
   abbrev pub noted : HandState B → Ask B K O → HandState B
   noted hand ask = noted_where (is_some hand.hook) hand ask
 
-  -- what comes next where no task was queued: a body that helped hears so, and one that joined waits
+  -- what comes next if no task was queued: a body that helped hears so, and one that joined waits
   abbrev pub NextOfNone : (B → Option ℕ) → Ask B K O → CoreState B K O → Next B K O → CoreState B K O → Type 0
   NextOfNone rooted_as asks.Help old next new = Then (Turn (hears.Helped false)) old next new
   NextOfNone rooted_as ask old next new = Waits rooted_as old next new
 
-  -- what comes next is what was told; where the body has ended, the worker goes on with another one or looks for one
+  -- what comes next, by the answer; if the body has ended, the worker goes on with another one or looks for work
   abbrev pub NextOf : (B → K) → (B → Option ℕ) → Ask B K O → Told B K O → CoreState B K O → HandState B → Next B K O → CoreState B K O → HandState B → Type 0
   NextOf key_of rooted_as ask (told.Hear heard) old hand next new hand' = Then (Turn heard) old next new × (hand' ≡ hand)
   NextOf key_of rooted_as ask (told.Run t) old hand next new hand' = Then (Begin t) old next new × (hand' ≡ hand)
@@ -160,7 +160,7 @@ module _ {B K O : Type 0} where
   NextOf key_of rooted_as ask (told.Over body) old hand next new hand' = Resumes key_of rooted_as old hand next new hand'
   NextOf key_of rooted_as ask (told.Stuck body) old hand next new hand' = Then (Leave (Err LogFull)) old next new × (hand' ≡ hand)
 
-  -- what was asked is noted and done, by one action, and the worker goes on with what that told
+  -- what was asked is noted and served, by one action, and the worker goes on with the answer
   pub record Serves (key_of : B → K) (rooted_as : B → Option ℕ) (old : CoreState B K O) (hand : HandState B) (ask : Ask B K O) (next : Next B K O) (new : CoreState B K O) (hand' : HandState B) : Type 0 where
     pub told : Told B K O
     pub mid : CoreState B K O

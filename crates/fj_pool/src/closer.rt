@@ -24,17 +24,17 @@ impl<N: Naming> Model for Closer<N> {
 }
 
 impl<N: Naming> Closer<N> {
-    /// Closes the gate, by one exchange, and nothing else: what was admitted is run all the same, and the pool goes on until it is shut
-    /// down. It takes no lock and waits for nobody.
+    /// Closes the gate only, by one atomic operation: what was admitted is still run, and the pool goes on until it is shut down. Takes no
+    /// lock and never blocks.
     ///
-    /// The first call answers `First` with the number of admissions so far, every later one `Already` with that number.
+    /// The first call returns `First` with the number of admissions, every later one `Already` with the same number.
     pub fn close(&mut self) -> Closing
         ensures { ClosedBy self.old result self.new }
     {
         self.end.close()
     }
 
-    /// Looks at the gate, by one load. `Open` has the number of admissions so far.
+    /// Queries the gate, by one load. `Open` has the number of admissions so far.
     pub fn look(&mut self) -> Look
         ensures { Watched self.old result self.new }
     {

@@ -5,19 +5,19 @@ use fj_sleep::{MAX_PLACES, Places};
 use std::alloc::{AllocError, Global};
 use std::sync::Condvar;
 
-/// Where those sleep who wait for something in a pool.
+/// The condition variables on which the threads of a pool sleep.
 #[derive(Drop)]
 pub struct Condvars {
-    /// Each worker, at its number.
+    /// Of the workers, by number.
     pub workers: Vec<Condvar>,
-    /// Those who await outcomes, each at its seat.
+    /// Of callers that await an outcome, by seat.
     pub seats: Vec<Condvar>,
-    /// Those who await outcomes and found no seat.
+    /// Of those without a seat.
     pub crowd: Condvar,
 }
 
 impl Condvars {
-    /// Those of a pool with so many workers.
+    /// Those of a pool with `workers` workers. An error only if out of memory.
     pub fn new(alloc: Global, workers: usize) -> Result<Condvars, AllocError>
         ensures { IfOk result (λ c. vec_len c.workers ≡ workers) }
     {
@@ -29,7 +29,7 @@ impl Condvars {
         })
     }
 
-    /// Where the thread sleeps that has this seat, or none.
+    /// That of a thread with this seat, or without one.
     pub fn seat(&self, seat: Option<usize>) -> &Condvar {
         match seat.and_then(|place| self.seats.get(place)) {
             Some(condvar) => condvar,
@@ -37,7 +37,7 @@ impl Condvars {
         }
     }
 
-    /// Wakes those.
+    /// Notifies these threads.
     pub fn wake(&self, due: &ToWake) {
         if let Some(places) = &due.workers {
             notify(&self.workers, places);
@@ -51,7 +51,7 @@ impl Condvars {
     }
 }
 
-/// So many condition variables.
+/// `count` condition variables.
 fn several(alloc: Global, count: usize) -> Result<Vec<Condvar>, AllocError>
     ensures { IfOk result (λ v. vec_len v ≡ count) }
 {
@@ -62,7 +62,7 @@ fn several(alloc: Global, count: usize) -> Result<Vec<Condvar>, AllocError>
     Ok(condvars)
 }
 
-/// Wakes those who sleep at these places.
+/// Notifies the threads at these places.
 fn notify(condvars: &[Condvar], places: &Places) {
     for (place, condvar) in condvars.iter().enumerate() {
         if places.has(place) {

@@ -2,21 +2,21 @@ use fj_bodies::{Ask, Body, Heard, Told};
 use fj_rules::Serial;
 use fj_slots::Hand;
 
-/// What it may change for those who wait that something is asked.
+/// What a request may change for threads that wait.
 pub enum Effect {
     Nothing,
     /// A task is queued.
     Queues,
     /// This task may be done, and no other.
     Ends(Serial),
-    /// The result of this task is taken or given up, where that was told: its outcome cannot be told any more. It may be released by that, and
-    /// completers above it with it, which are kept only for a task below: they cannot be joined any more.
+    /// The result of this task is taken or given up, if the answer says so: its outcome cannot be delivered any more. It may be released by
+    /// that, and with it completers above it that are kept only for a task below: they cannot be joined any more.
     Takes(Serial),
     /// Several tasks may be done.
     EndsSeveral,
 }
 
-/// What it may change that the hook, or the running body, of a hand asks this.
+/// The effect of a request by the hook, or the running body, of a hand.
 pub fn effect_of<B: Body>(hand: &Hand<B>, ask: &Ask<B>) -> Effect {
     match ask {
         Ask::Fork(_, _) => Effect::Queues,
@@ -32,12 +32,12 @@ pub fn effect_of<B: Body>(hand: &Hand<B>, ask: &Ask<B>) -> Effect {
     }
 }
 
-/// Whether a result was taken, or given up, by what was told so.
+/// Whether this answer says that a result was taken or given up.
 pub fn is_taken<B: Body>(told: &Told<B>) -> bool {
     matches!(told, Told::Hear(Heard::Got(_, _) | Heard::Went))
 }
 
-/// This task is done, where there is one.
+/// This task is done, if there is one.
 fn ends(task: Option<Serial>) -> Effect {
     match task {
         Some(t) => Effect::Ends(t),

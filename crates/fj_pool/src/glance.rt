@@ -4,8 +4,8 @@ ghost use Rattle.fj_pool.specs.Glances.{IsGlance, busy_below, is_busy};
 use fj_machine::Machine;
 use fj_rules::WorkerId;
 
-/// What a pool does at one moment. Java tells the same one by one (`ForkJoinPool.getQueuedTaskCount`, `getActiveThreadCount` and others), each of
-/// another moment.
+/// A consistent snapshot of what a pool does. Java has single queries (`ForkJoinPool.getQueuedTaskCount`, `getActiveThreadCount` and
+/// others), each of another moment.
 #[derive(Clone, Copy, Debug, PartialEq, Eq)]
 pub struct Glance {
     /// How many tasks are queued. Those in the lanes do not count.
@@ -40,7 +40,7 @@ impl Glance {
     }
 }
 
-/// How many of the first workers, so many, have something to do. Precondition: there are so many workers.
+/// How many of the first `workers` workers have something to do. Precondition: the pool has at least as many.
 fn running_of(machine: &Machine, workers: u32) -> usize
     requires { workers ≤ machine.now.pool.limits.workers }
     ensures running { result ≡ busy_below machine.now.events workers }
@@ -55,7 +55,7 @@ fn running_of(machine: &Machine, workers: u32) -> usize
     running
 }
 
-/// Whether a worker has a task, or a completion action. Precondition: there is such a worker.
+/// Whether a worker has a task, or a completion action. Precondition: the worker exists.
 fn is_busy(machine: &Machine, w: WorkerId) -> bool
     requires { w < machine.now.pool.limits.workers }
     ensures { result ≡ is_busy machine.now.events w }

@@ -16,15 +16,14 @@ use fj_rules::SubId;
 use std::alloc::{AllocError, Global};
 use std::marker::{Model, PhantomData};
 
-/// What a pool keeps under its lock: its core, what those sleep for who wait, and room for what is left of the lanes when it is wound
-/// up.
+/// What the lock of a pool guards: its core, what sleeping threads wait for, and room for the rests of the lanes when the pool is wound up.
 #[derive(Drop)]
 pub struct Guarded<B: Body, N: Naming> {
     pub(crate) core: Core<B>,
     pub(crate) waits: Waits,
     pub(crate) entrants: Vec<Entrant>,
     pub(crate) rests: Vec<Rest<B>>,
-    /// The submitter with which the next look at the lanes begins: the first for which the last one found no room.
+    /// The submitter at which the next look at the lanes begins: the first for which the last look found no room.
     pub(crate) first: SubId,
     pub(crate) of: PhantomData<N>,
 }
@@ -49,7 +48,7 @@ impl<B: Body, N: Naming> Model for Guarded<B, N> {
 }
 
 impl<B: Body, N: Naming> Guarded<B, N> {
-    /// A core guarded by the lock. Preconditions: the name is that of the core, and there is room for its lanes.
+    /// A new pool's state. Preconditions: the name is that of the core, and there is room for its lanes.
     pub fn new(core: Core<B>, room: Room<B>) -> Guarded<B, N>
         requires lanes { lanes_of core.lanes ≡ N.lanes }
         requires pool { core.store.past.pool ≡ N.pool }
@@ -68,7 +67,7 @@ impl<B: Body, N: Naming> Guarded<B, N> {
     }
 }
 
-/// The state of a new pool that the lock guards, but for its core.
+/// What the lock of a new pool guards, except its core.
 #[derive(Drop)]
 pub struct Room<B> {
     pub(crate) waits: Waits,
@@ -77,7 +76,7 @@ pub struct Room<B> {
 }
 
 impl<B> Room<B> {
-    /// Room for so many workers and lanes. An error where memory is refused, and no other.
+    /// For this many workers, at most `MAX_PLACES`, and lanes. An error only if out of memory.
     pub fn new(alloc: Global, workers: usize, lanes: usize) -> Result<Room<B>, AllocError>
         requires { workers ≤ MAX_PLACES }
         ensures entrants { IfOk result (λ r. (r.entrants.items ≡ []) × (lanes ≤ vec_capacity r.entrants)) }

@@ -4,11 +4,11 @@ use crate::next::Unneeded;
 use fj_agreement::End;
 use std::marker::{Model, PhantomData};
 
-/// What a worker has in hand: the bodies that it has begun, and its scan word. A pool makes one for each worker. In Java it is the stack of a
-/// `ForkJoinWorkerThread`.
+/// What a worker has in hand: the bodies that it has begun, a hook, and its scan word. A pool makes one for each worker. In Java it is the
+/// stack of a `ForkJoinWorkerThread`.
 ///
-/// It is of its pool by its type, and what it holds is what that pool has for its worker, by an end of a pair of which the other one lies
-/// under the lock. So nothing is compared when its worker gets the lock.
+/// Its type ties it to its pool. It has one end of a pair whose other end is guarded by the lock; by these, what it holds is known to be
+/// what the pool has for its worker. So nothing is compared when the worker gets the lock.
 #[derive(Drop)]
 pub struct Hand<B, N: Naming> {
     pub(crate) held: fj_slots::Hand<B>,

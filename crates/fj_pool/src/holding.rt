@@ -1,4 +1,4 @@
-//! What is agreed on of a worker's hand.
+//! What is agreed on about a worker's hand.
 use fj_agreement::{Known, Tells};
 use fj_rules::Serial;
 use fj_slots::Hand;
@@ -6,9 +6,9 @@ use std::collections::LinkedList;
 
 /// What a worker holds: the numbers of its bodies, the oldest first, and that of its hook. It exists in proofs alone.
 pub struct Holding {
-    /// Of the bodies.
+    /// The numbers of the bodies.
     pub stack: LinkedList<Serial>,
-    /// Of the hook.
+    /// The number of the hook.
     pub hook: Option<Serial>,
 }
 

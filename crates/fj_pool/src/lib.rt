@@ -1,11 +1,11 @@
-//! A pool of workers that run bodies in threads: submitters hand bodies in without a lock, workers run them, and each submission has one
+//! A pool of worker threads that run bodies: submitters submit them without a lock, workers run them, and each submission has one
 //! outcome.
 //!
 //! ```
 //! match submitter.submit(body) {
-//!     // The outcome is asked for with this ticket.
+//!     // The ticket is for the outcome.
 //!     Ok(ticket) => pool.await_done(&rt, ticket),
-//!     // The lane is spent, or the pool is shut down. The body is the caller's again.
+//!     // The lane is spent, or the pool is shut down. The caller gets the body back.
 //!     Err((refusal, body)) => ..,
 //! }
 //! ```

@@ -1,4 +1,4 @@
-//! What lies under the lock of a pool.
+//! What the lock of a pool guards.
 ghost use Rattle.std.specs.Prelude.{◌≡◌, ◌++◌, [], IfNone, IfSome};
 ghost use Rattle.fj_core.specs.Closes.{ShutsAt, closed_at, is_finished, stopped_at};
 ghost use Rattle.fj_core.specs.Cores.{CollectsTicket};
@@ -24,8 +24,8 @@ use fj_rules::{Refusal, Sealed, WorkerId};
 use std::alloc::Global;
 use std::marker::Model;
 
-/// The core of a pool with what is noted of those who wait, and for each worker an end that knows what it holds. Its calls are those of
-/// `Guarded`: a worker comes with its hand, whose end meets that of the worker.
+/// The core of a pool with the account of waiting threads, and for each worker an end that knows what it holds. Its calls are those of
+/// `Guarded`: a worker brings its hand, whose end meets the worker's end here.
 #[derive(Drop)]
 pub struct Locked<B: Body, N: Naming> {
     pub(crate) guarded: Guarded<B, N>,
@@ -44,7 +44,7 @@ impl<B: Body, N: Naming> Model for Locked<B, N> {
 }
 
 impl<B: Body, N: Naming> Locked<B, N> {
-    /// Precondition: each worker has an end, which knows what it holds.
+    /// A new pool's state. Precondition: each worker has an end, which knows what it holds.
     pub fn new(guarded: Guarded<B, N>, ends: Vec<End<Holding>>) -> Locked<B, N>
         requires { AreKept N.hands guarded.store.past ends.items }
         ensures { result ≡ guarded }
@@ -52,8 +52,8 @@ impl<B: Body, N: Naming> Locked<B, N> {
         Locked { guarded, ends }
     }
 
-    /// What the hook or the running body asks is done; without an ask the worker goes on with what it left. Precondition: what is asked may be
-    /// asked by this hand.
+    /// Serves what the hook or the running body asks; without an ask the worker resumes. Precondition: the hand has a body or a hook that may
+    /// ask this.
     pub fn serve(&mut self, alloc: Global, hand: &mut Hand<B, N>, ask: Option<Ask<B>>) -> Next<B>
         requires { IfSome ask (λ a. MayAsk B.right B.key_of hand.old a) }
         ensures fits { Fits self.old.store.past hand.old }
@@ -85,7 +85,7 @@ impl<B: Body, N: Naming> Locked<B, N> {
         self.guarded.begin(worker);
     }
 
-    /// Puts into `due` whose wait may have ended since this was asked last, if that is anybody.
+    /// Puts into `due` the threads that were marked since the last call, if there are any.
     #[inline(always)]
     pub fn take_due(&mut self, due: &mut ToWake)
         ensures { self.new ≡ self.old }
@@ -93,40 +93,40 @@ impl<B: Body, N: Naming> Locked<B, N> {
         self.guarded.take_due(due);
     }
 
-    /// Whether this worker, which has nothing to do, looks for work now and then.
+    /// Whether this worker is the lookout.
     pub fn is_lookout(&self, worker: WorkerId) -> bool {
         self.guarded.waits.workers.is_lookout(place_of(worker))
     }
 
-    /// Somebody awaits this outcome from now on: at which seat, or among those without one.
+    /// A caller awaits this outcome from now on. Returns its seat; none if it joins the crowd.
     pub fn sit(&mut self, ticket: Ticket) -> Option<usize>
         ensures { self.new ≡ self.old }
     {
         self.guarded.sit(ticket)
     }
 
-    /// Somebody awaits the first of several outcomes from now on, without a seat.
+    /// A caller awaits the first of several outcomes from now on, in the crowd.
     pub fn sit_for_any(&mut self)
         ensures { self.new ≡ self.old }
     {
         self.guarded.sit_for_any();
     }
 
-    /// Who sat there is back.
+    /// The caller that sat there is back.
     pub fn stand_up(&mut self, seat: Option<usize>)
         ensures { self.new ≡ self.old }
     {
         self.guarded.stand_up(seat);
     }
 
-    /// The outcome under a ticket, if it is told.
+    /// The outcome under a ticket, if there is one to return.
     pub fn collect(&mut self, ticket: Ticket) -> Option<Result<Outcome<B>, Refusal>>
         ensures { CollectsTicket self.old ticket result self.new }
     {
         self.guarded.collect(ticket)
     }
 
-    /// The first of these outcomes that is told, and at which place of them it stands.
+    /// The outcome under the first of these tickets that has one, with the index of that ticket.
     pub fn collect_any(
         &mut self,
         tickets: &[Ticket],
@@ -136,14 +136,14 @@ impl<B: Body, N: Naming> Locked<B, N> {
         self.guarded.collect_any(tickets)
     }
 
-    /// Cancels the submission under a ticket, once what the lanes show was taken in.
+    /// Cancels the submission under a ticket, after a look at the lanes.
     pub fn cancel(&mut self, alloc: Global, ticket: Ticket) -> Result<bool, Refusal>
         ensures { CancelsBehind B.rooted_as self.old ticket result self.new }
     {
         self.guarded.cancel(alloc, ticket)
     }
 
-    /// The sealed parts that are kept, which count as handed out from then on.
+    /// Hands out the sealed parts that are kept.
     pub fn take_parts(&mut self, alloc: Global) -> Vec<Sealed>
         ensures parts { result.items ≡ self.old.parts }
         ensures handed { self.new ≡ record self.old { handed = self.old.handed ++ self.old.parts; parts = [] } }
@@ -151,21 +151,21 @@ impl<B: Body, N: Naming> Locked<B, N> {
         self.guarded.take_parts(alloc)
     }
 
-    /// The closing number, at which the Shutdown is made.
+    /// Sets the closing number, at which the Shutdown is made.
     pub fn close_at(&mut self, number: u64)
         ensures { ShutsAt self.old (closed_at self.old.closing number) self.new }
     {
         self.guarded.close_at(number);
     }
 
-    /// The closing number, at which the Stop is made.
+    /// Sets the closing number, at which the Stop is made.
     pub fn stop_at(&mut self, number: u64)
         ensures { ShutsAt self.old (stopped_at self.old.closing number) self.new }
     {
         self.guarded.stop_at(number);
     }
 
-    /// Whether all queues, stacks and hands are empty, once the history was sealed, where that is due, and what the lanes show was taken in.
+    /// Whether all queues, stacks and hands are empty, after the history is sealed, if that is due, and submissions are taken in.
     pub fn is_quiescent(&mut self, alloc: Global) -> bool
         ensures { IsQuietBehind B.rooted_as self.old result self.new }
     {
@@ -187,7 +187,7 @@ impl<B: Body, N: Naming> Locked<B, N> {
     }
 }
 
-/// Where the end of the worker of a hand stands.
+/// The index of the end of this hand's worker.
 fn end_of<B: Drop>(hand: &fj_slots::Hand<B>) -> usize
     ensures { result ≡ hand.now.worker }
 {

@@ -2,7 +2,7 @@ use fj_bodies::{Body, Heard};
 use fj_rules::{Refusal, Serial};
 use std::alloc::{AllocError, Global};
 
-/// What a worker does once it has let the lock go.
+/// What a worker does after releasing the lock.
 #[derive(Drop)]
 pub enum Next<B: Body> {
     /// The hook, or else the running body, takes a turn, in which it hears this.
@@ -13,16 +13,16 @@ pub enum Next<B: Body> {
     Again,
     /// It waits until something has changed: what it joined is undone, and no task is queued.
     Wait,
-    /// It looks again after a while: there is nothing to do.
+    /// It rests: there is nothing to do. It looks again after a while.
     Rest,
     /// It is done.
     Leave(Result<(), Refusal>),
 }
 
-/// So many tasks at most are skipped in one holding of the lock.
+/// The most tasks that are skipped in one holding of the lock.
 pub const MOST_SKIPPED: usize = 16;
 
-/// What is needed no more. It is dropped once the lock is free.
+/// Bodies that are not needed any more. They are dropped once the lock is free.
 #[derive(Drop)]
 pub struct Unneeded<B> {
     /// A body that has ended.
@@ -32,7 +32,7 @@ pub struct Unneeded<B> {
 }
 
 impl<B: Drop> Unneeded<B> {
-    /// There is nothing.
+    /// No bodies. An error only if out of memory.
     pub fn new(alloc: Global) -> Result<Unneeded<B>, AllocError> {
         Ok(Unneeded {
             ended: None,
@@ -40,7 +40,7 @@ impl<B: Drop> Unneeded<B> {
         })
     }
 
-    /// A body has ended, where there is one. Where there is none, one that ended before in the same holding of the lock stays.
+    /// A body has ended, if there is one. If not, one that ended before in the same holding of the lock stays.
     #[inline(always)]
     pub fn add_ended(&mut self, body: Option<B>) {
         if body.is_some() {
@@ -50,13 +50,13 @@ impl<B: Drop> Unneeded<B> {
 
     /// A body was skipped.
     pub fn add_skipped(&mut self, body: B) {
-        // There is room, since no more are skipped before this is cleared.
+        // There is room: no more are skipped before this is cleared.
         if self.skipped.len() < self.skipped.capacity() {
             self.skipped.push_reserved(body);
         }
     }
 
-    /// Drops it. Mostly there is nothing, and then nothing is written.
+    /// Drops the bodies. Mostly there are none, and then nothing is written.
     #[inline(always)]
     pub fn clear(&mut self) {
         if self.ended.is_some() {

@@ -16,7 +16,7 @@ use fj_rules::{Limits, Mode, OutOfMemory, Refusal, SubId};
 use std::alloc::Global;
 use std::marker::Model;
 
-/// All that a pool is made of. `Pool::open` puts it together, under a name that the caller picks. In Java that is one call, the constructor of
+/// All parts of a pool. `Pool::open` puts them together, under a name that the caller picks. In Java that is one call, the constructor of
 /// `ForkJoinPool`.
 #[derive(Drop)]
 pub struct Parts<B: Body> {
@@ -43,11 +43,11 @@ impl<B: Body> Model for Parts<B> {
 }
 
 impl<B: Body> Parts<B> {
-    /// The parts of a new pool. All memory is taken here, but that of its lock, of the lists of its hands and submitters and of what
-    /// the winding up needs, which `Pool::open` takes, and that of seals.
+    /// The parts of a new pool. Allocates all memory, except that for seals and that which `Pool::open` allocates: for the lock, for the lists
+    /// of hands and submitters, and for winding up.
     ///
-    /// `BadLimits` where the capacity of a lane, the number of bodies that each submitter may hand in over its life, is not from 1 to
-    /// 65,536. `OutOfMemory` where memory is refused. `start` is the scan word of worker 0; that of each further one is one more.
+    /// `lane_capacity` is the number of bodies that each submitter may submit over its life: `BadLimits` if it is not from 1 to 65,536.
+    /// `OutOfMemory` if an allocation fails. `start` is the scan word of worker 0; that of each further worker is one more, modulo 2^32.
     pub fn new(
         alloc: Global,
         mode: Mode,
@@ -92,7 +92,7 @@ fn make<B: Body>(
     })
 }
 
-/// A lane for each entrant, and both with a number. Precondition: the entrants are new, and not too many.
+/// A numbered lane for each entrant. Preconditions: the capacity is in range, the entrants are new, and at most `MAX_SUBMITTERS`.
 fn seat_all<B: Drop>(
     alloc: Global,
     entrants: Vec<Entrant>,

@@ -27,7 +27,8 @@ use std::alloc::{AllocError, Global};
 use std::marker::PhantomData;
 use std::sync::Mutex;
 
-/// A pool: its core under one lock, and those who wait. Threads share it; each worker brings its own hand. It follows `ForkJoinPool`.
+/// A pool: its core under one lock, and the condition variables. Threads share it; each worker brings its own hand. It follows
+/// `ForkJoinPool`.
 #[derive(Drop)]
 pub struct Pool<B: Body, N: Naming> {
     pub(crate) alloc: Global,
@@ -38,13 +39,13 @@ pub struct Pool<B: Body, N: Naming> {
     ghost as_many: { vec_len condvars.workers ≡ length N.hands },
 }
 
-/// A pool that was opened, with what its users need: a hand for each worker, what each submitter hands in with, and what shuts it down.
+/// An opened pool with its handles: a hand for each worker, a submitter for each submitter, and the closer.
 pub type Opened<B, N> = (Pool<B, N>, Vec<Hand<B, N>>, Vec<Submitter<B, N>>, Closer<N>);
 
 impl<B: Body, N: Naming> Pool<B, N> {
-    /// Opens a pool under a name: a hand for each worker, a submitter for each submitter, in order, and the end that shuts it down.
+    /// Opens a pool under a name, with a hand for each worker and a submitter for each submitter, in order, and the closer.
     ///
-    /// `OutOfMemory` where memory is refused. Precondition: the name is that of these parts.
+    /// `OutOfMemory` if an allocation fails. Precondition: the name is that of these parts.
     pub fn open(alloc: Global, parts: Parts<B>) -> Result<Opened<B, N>, OutOfMemory>
         requires gate { N.gate ≡ parts.closer.gate }
         requires lanes { N.lanes ≡ lanes_of parts.core.lanes }
@@ -83,7 +84,7 @@ impl<B: Body, N: Naming> Pool<B, N> {
         Ok((pool, hands, submitters, closer))
     }
 
-    /// Wakes those, if there are any. From then on it is nobody.
+    /// Notifies these threads, if there are any, and clears `due`.
     #[inline(always)]
     fn wake_due(&self, due: &mut ToWake) {
         if !due.is_nobody() {
@@ -93,7 +94,7 @@ impl<B: Body, N: Naming> Pool<B, N> {
     }
 }
 
-/// A new pool but for its core: all for which memory may be refused.
+/// A new pool without its core: all that needs memory.
 #[derive(Drop)]
 struct Beside<B, N: Naming> {
     condvars: Condvars,
@@ -103,7 +104,7 @@ struct Beside<B, N: Naming> {
 }
 
 impl<B: Drop, N: Naming> Beside<B, N> {
-    /// An error where memory is refused, and no other. Preconditions: the name is that of these hands and seats, and no worker lacks a place.
+    /// An error only if out of memory. Preconditions: the name is that of these hands and seats, and there are at most `MAX_PLACES` workers.
     fn new(
         alloc: Global,
         workers: usize,
@@ -128,7 +129,7 @@ impl<B: Drop, N: Naming> Beside<B, N> {
     }
 }
 
-/// The hands, by name. Precondition: the name is that of their ends.
+/// The hands, under the name. Precondition: the name is that of their ends.
 fn name_hands<B: Drop, N: Naming>(
     alloc: Global,
     tied: Vec<Tied<B>>,
@@ -149,7 +150,7 @@ fn name_hands<B: Drop, N: Naming>(
     Ok(hands)
 }
 
-/// The submitters, by name. Precondition: the name is that of these ends.
+/// The submitters, under the name. Precondition: the name is that of these ends.
 fn name_all<B: Drop, N: Naming>(
     alloc: Global,
     seats: Vec<Seat<B>>,

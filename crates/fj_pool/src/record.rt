@@ -24,11 +24,11 @@ use fj_slots::SerialMap;
 /// What is left of a pool. Java has no counterpart.
 #[derive(Drop)]
 pub struct Record<B: Body> {
-    /// The machine, with what happened since the last seal.
+    /// The machine, with the history since the last seal.
     pub machine: Machine,
     /// The results that were not taken, each under its task's number.
     pub results: SerialMap<KeptResult<B>>,
-    /// What was taken in, in that order.
+    /// What was taken in, in order.
     pub bookings: Bookings,
     /// The sealed parts of the history that were not handed out, the oldest first.
     pub archive: Archive,
@@ -43,8 +43,8 @@ pub struct Record<B: Body> {
 }
 
 impl<B: Body> Record<B> {
-    /// The outcome of what was submitted under a ticket, if its task has ended and was not released: what `await_done` has told, or would have, also
-    /// where the pool got stuck. A result goes to the first call.
+    /// The outcome of the submission under a ticket, if its task has ended and was not released: the one that `await_done` returned, or would
+    /// have, also if the pool got stuck. Only the first call gets a result.
     pub fn take_outcome(&mut self, ticket: Ticket) -> Option<Outcome<B>>
         ensures { IfSome result (λ outcome. IsLeft self.old.machine.events self.old.bookings.bookings (entries self.old.results) ticket outcome) }
     {
@@ -60,10 +60,10 @@ impl<B: Body> Record<B> {
 }
 
 impl<B: Body, N: Naming> Pool<B, N> {
-    /// Takes the pool apart, when its workers have left. It waits for nobody and takes no memory; bodies that the core still holds are
-    /// dropped. Java has no counterpart.
+    /// Takes the pool apart, after its workers have left. It never blocks and allocates nothing; bodies that the core still holds are dropped.
+    /// Java has no counterpart.
     ///
-    /// Precondition: all submitters come, by their numbers.
+    /// Precondition: these are all submitters, in order of their numbers.
     pub fn wind_up(self, submitters: Vec<Submitter<B, N>>, closer: Closer<N>) -> Record<B>
         requires { AreAll (length N.lanes) submitters.items }
         ensures run { IsPast result.machine }
@@ -129,7 +129,7 @@ impl<B: Body, N: Naming> Pool<B, N> {
         guarded
     }
 
-    /// Whether these are all submitters of the pool, by their numbers.
+    /// Whether these are all submitters of the pool, in order of their numbers.
     pub fn are_all(&self, submitters: &[Submitter<B, N>]) -> bool
         ensures { IsTrue result ↔ AreAll (length N.lanes) submitters.now }
     {
@@ -145,7 +145,7 @@ impl<B: Body, N: Naming> Pool<B, N> {
     }
 }
 
-/// Each lane's ends meet, and the ends of the gate are laid together, the last first.
+/// Joins the ends of each lane to its rest, and collects the entrants, the last first.
 fn settle<B: Drop, N: Naming>(
     mut submitters: Vec<Submitter<B, N>>,
     mut drains: Vec<Drain<B>>,

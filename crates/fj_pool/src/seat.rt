@@ -8,7 +8,7 @@ use fj_lane::{Feed, Parcel};
 use fj_rules::{Refusal, SubId};
 use std::marker::Model;
 
-/// The ends of gate and lane that belong together, by the number of their submitter.
+/// A submitter's ends of the gate and of its lane, with its number.
 #[derive(Drop)]
 pub struct Seat<B> {
     pub(crate) number: SubId,
@@ -27,7 +27,7 @@ impl<B> Model for Seat<B> {
 }
 
 impl<B> Seat<B> {
-    /// Ends that have done nothing. Preconditions: they are new, and take as many.
+    /// Unused ends. Preconditions: they are new, and have this capacity.
     pub fn new(number: SubId, entrant: Entrant, feed: Feed<B>, capacity: u32) -> Seat<B>
         requires entrant { entrant ≡ new_entrant entrant.gate capacity }
         requires feed { feed ≡ new_feed feed.lane capacity }
@@ -40,7 +40,7 @@ impl<B> Seat<B> {
         }
     }
 
-    /// Draws a ticket, and pushes the body under it: first the lane is asked for room, then the gate.
+    /// Draws a ticket, and pushes the body with it. Checks first for room in the lane (`LaneSpent`), then the gate (`Closed`).
     pub fn submit(&mut self, body: B) -> Result<Ticket, (Refusal, B)>
         ensures ok { IfOk result (λ ticket. Submits self.old ticket body self.new) }
         ensures refused { IfErr result (λ e. RefusesSubmission self.old e.0 self.new) }

@@ -7,7 +7,7 @@ use fj_gate::Ticket;
 use fj_rules::{Refusal, SubId};
 use std::marker::{Model, PhantomData};
 
-/// Hands bodies in. There is one for each submitter of a pool. Java has no counterpart: there any thread may submit.
+/// Submits bodies. There is one for each submitter of a pool. Java has no counterpart: there any thread may submit.
 #[derive(Drop)]
 pub struct Submitter<B, N: Naming> {
     pub(crate) seat: Seat<B>,
@@ -25,11 +25,11 @@ impl<B, N: Naming> Model for Submitter<B, N> {
 }
 
 impl<B, N: Naming> Submitter<B, N> {
-    /// Hands a body in, by one exchange on the gate and one push into the lane of this submitter: `ForkJoinPool.submit`. It takes no lock,
-    /// waits for nobody, and is never refused for being out of memory. The outcome is told under the ticket.
+    /// Submits a body, by one atomic operation on the gate and one push into the lane of this submitter: `ForkJoinPool.submit`. It takes no
+    /// lock, never blocks, and never runs out of memory. The ticket is for the outcome.
     ///
-    /// `LaneSpent` once as many were handed in as the lane takes in its life, also where the pool was shut down or stopped; then no exchange
-    /// is made. `Closed` once it was shut down or stopped. The body comes back in both cases.
+    /// `LaneSpent` once the lane has taken as many bodies as it takes in its life, also if the pool was shut down or stopped; then the gate is
+    /// not asked. `Closed` once the gate is closed. The body comes back in both cases.
     pub fn submit(&mut self, body: B) -> Result<Ticket, (Refusal, B)>
         ensures ok { IfOk result (λ ticket. Submits self.old ticket body self.new) }
         ensures refused { IfErr result (λ e. RefusesSubmission self.old e.0 self.new) }

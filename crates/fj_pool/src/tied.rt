@@ -1,4 +1,4 @@
-//! What a worker's hand is before it has the name of its pool.
+//! A worker's hand before it has the name of its pool.
 ghost use Rattle.std.specs.Prelude.{◌≡◌, All, IfOk};
 ghost use Rattle.fj_pool.specs.Holdings.{AreTied, holding_of, nothing};
 
@@ -27,8 +27,8 @@ impl<B> Model for Tied<B> {
     ghost invariant = { λ t. t.end.value ≡ holding_of t.held };
 }
 
-/// A pair of ends for each hand: it gets one of them, and the others come beside the hands, in the same order. Precondition: the hands hold
-/// nothing.
+/// Makes a pair of ends for each hand, which gets one of them. Returns the hands, and the other ends in the same order. Precondition: the
+/// hands hold nothing.
 pub fn tie_all<B: Drop>(
     alloc: Global,
     hands: Vec<Hand<B>>,

@@ -7,7 +7,7 @@ use crate::naming::Naming;
 use crate::turnstile::Turnstile;
 use fj_bodies::{Ask, Body, Heard};
 
-/// The hook of a hand, or else its running body, takes a turn. None of an empty hand.
+/// The hook of a hand, or else its running body, takes a turn. None if the hand is empty.
 #[inline(always)]
 pub fn take_turn<B: Body>(hand: &mut fj_slots::Hand<B>, heard: Heard<B>) -> Option<Ask<B>>
     requires { HeardRight B.right heard }
@@ -29,7 +29,7 @@ pub fn take_turn<B: Body>(hand: &mut fj_slots::Hand<B>, heard: Heard<B>) -> Opti
     Some(ask)
 }
 
-/// The same in the hand of a pool, observed: where the body asks for its ending, the turnstile is asked after the turn.
+/// The same in the hand of a pool: if the running body asks for its ending, the turnstile is called after the turn.
 pub fn observed_turn<B: Body, N: Naming, T: Turnstile>(
     hand: &mut Hand<B, N>,
     heard: Heard<B>,

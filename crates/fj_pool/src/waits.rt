@@ -6,14 +6,14 @@ use fj_rules::{Serial, WorkerId};
 use fj_sleep::{MAX_PLACES, Places, Sleepers, Wanted};
 use std::alloc::{AllocError, Global};
 
-/// Who is to be woken once the lock is free.
+/// The threads to notify once the lock is free.
 #[derive(Drop)]
 pub struct ToWake {
     /// Workers, by their numbers.
     pub workers: Option<Places>,
-    /// Those who await outcomes, by their seats.
+    /// Callers that await outcomes, by their seats.
     pub seats: Option<Places>,
-    /// All who await an outcome and found no seat.
+    /// The crowd: all that await an outcome without a seat.
     pub crowd: bool,
 }
 
@@ -27,31 +27,31 @@ impl ToWake {
         }
     }
 
-    /// Whether that is nobody.
+    /// Whether it is nobody.
     #[inline(always)]
     pub fn is_nobody(&self) -> bool {
         self.workers.is_none() && self.seats.is_none() && !self.crowd
     }
 }
 
-/// Who sleeps, and for what. It stands under the lock of a pool, so that nobody is woken whose wait cannot have ended.
+/// Which threads sleep, and for what. It is guarded by the pool's lock, so only threads whose wait may have ended are woken.
 #[derive(Drop)]
 pub struct Waits {
-    /// The workers: those that have nothing to do, and those that joined a task which is not done.
+    /// The workers that have nothing to do, and those that joined an undone task.
     pub workers: Sleepers<Serial>,
-    /// Those who await an outcome, each at a seat.
+    /// Callers that await an outcome, each at a seat.
     pub seats: Sleepers<Ticket>,
-    /// What those wait for who found no seat.
+    /// What the crowd waits for: callers without a seat.
     pub crowd: Wanted<Ticket>,
-    /// Whether it was told at which submission the pool is shut down or stopped.
+    /// Whether the closing number of the pool was set.
     pub closing: bool,
-    /// At this seat and beyond it nobody has sat yet.
+    /// Nobody has sat at this seat yet, nor beyond it.
     pub seats_used: usize,
     crowd_due: bool,
 }
 
 impl Waits {
-    /// Nobody sleeps.
+    /// Nobody sleeps. An error only if out of memory. Precondition: at most `MAX_PLACES` workers.
     pub fn new(alloc: Global, workers: usize) -> Result<Waits, AllocError>
         requires { workers ≤ MAX_PLACES }
     {
@@ -65,7 +65,7 @@ impl Waits {
         })
     }
 
-    /// Puts into `due` who is to be woken, where anybody is. From then on nobody is.
+    /// Puts into `due` the threads that are marked, if there are any. After that none is marked.
     #[inline(always)]
     pub fn take_due(&mut self, due: &mut ToWake) {
         if self.workers.may_be_due() || self.seats.may_be_due() || self.crowd_due {
@@ -73,7 +73,7 @@ impl Waits {
         }
     }
 
-    /// The same, where somebody may be due.
+    /// The same, if somebody may be due.
     #[inline(never)]
     fn take_all_due(&mut self, due: &mut ToWake) {
         due.workers = self.workers.take_due();
@@ -82,7 +82,7 @@ impl Waits {
         self.crowd_due = false;
     }
 
-    /// Somebody awaits an outcome from now on: at which seat, or among those without one.
+    /// A caller awaits an outcome from now on. Returns its seat; none if it joins the crowd.
     pub fn sit(&mut self, ticket: Ticket) -> Option<usize> {
         let seat = self.seats.free_place();
         match seat {
@@ -95,25 +95,25 @@ impl Waits {
         seat
     }
 
-    /// Somebody awaits the first of several outcomes from now on, among those without a seat.
+    /// A caller awaits the first of several outcomes from now on, in the crowd.
     pub fn sit_for_any(&mut self) {
         self.crowd = Wanted::Several;
     }
 
-    /// Who sat there is back.
+    /// The caller that sat there is back.
     pub fn stand_up(&mut self, seat: Option<usize>) {
         if let Some(place) = seat {
             self.seats.come_back(place);
         }
     }
 
-    /// Those without a seat are to be woken.
+    /// Marks the crowd.
     pub fn wake_crowd(&mut self) {
         self.crowd = Wanted::Nothing;
         self.crowd_due = true;
     }
 
-    /// Whatever somebody waits for, it may have come: the core is stuck, or is shut down.
+    /// Marks all threads, as any wait may have ended: the core is stuck, or the pool is shut down or has terminated.
     pub fn all_ended(&mut self) {
         self.workers.wake_all();
         self.seats.wake_all();

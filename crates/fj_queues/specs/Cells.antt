@@ -1,8 +1,8 @@
--- Cells in a table, named by their places there.
+-- Cells in a table, named by their indices.
 use Rattle.std.specs.Prelude.{◌≡◌, ◌≢◌, ◌+◌, ℕ, List, length, Option, Some, None, get_or}
 use Rattle.fj_queues.specs.declared.cells.Cell.{Cell}
 
--- what a place past the end of the table holds
+-- the cell past the end of the table
 abbrev pub blank : Cell
 blank = record { serial = 0; older = None; newer = None }
 
@@ -18,7 +18,7 @@ older_at cells c = (cell_at cells c).older
 abbrev pub newer_at : List Cell → ℕ → Option ℕ
 newer_at cells c = (cell_at cells c).newer
 
--- the cell, with the chain of free ones behind it
+-- the cell, linked to the chain of free ones
 abbrev pub freed : List Cell → ℕ → Option ℕ → Cell
 freed cells c free = record (cell_at cells c) { newer = free }
 
@@ -27,7 +27,7 @@ pub record IsWritten (old new : List Cell) (c : ℕ) (cell : Cell) : Type 0 wher
   pub here : cell_at new c ≡ cell
   pub others : (d : ℕ) → d ≢ c → cell_at new d ≡ cell_at old d
 
--- these two are neighbours, with none past an end, and all else is what it was
+-- these two are neighbours, with none past an end, and all else stays
 pub record AreJoined (old new : List Cell) (older newer : Option ℕ) : Type 0 where
   pub leads : (c : ℕ) → older ≡ Some c → newer_at new c ≡ newer
   pub follows : (c : ℕ) → newer ≡ Some c → older_at new c ≡ older
@@ -35,7 +35,7 @@ pub record AreJoined (old new : List Cell) (older newer : Option ℕ) : Type 0 w
   pub older_stays : (c : ℕ) → newer ≢ Some c → older_at new c ≡ older_at old c
   pub serials_stay : (c : ℕ) → serial_at new c ≡ serial_at old c
 
--- the cell that was filled was the first free one and its chain goes on after it, or it is a new one behind the others
+-- the filled cell is the first free one, whose successor in the chain takes its role, or a new one after the others
 abbrev pub NextFree : List Cell → List Cell → Option ℕ → Option ℕ → ℕ → Type 0
 NextFree old new None free c = (c ≡ length old) × (free ≡ None) × (length new ≡ length old + 1)
 NextFree old new (Some first) free c = (c ≡ first) × (free ≡ newer_at old first) × (length new ≡ length old)

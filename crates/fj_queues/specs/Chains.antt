@@ -5,12 +5,12 @@ use Rattle.fj_queues.specs.declared.cells.Cell.{Cell}
 use Rattle.fj_queues.specs.declared.ends.Ends.{Ends}
 use Rattle.fj_queues.specs.Cells.{serial_at, older_at, newer_at}
 
--- the first of these cells, and where there is none this one
+-- the first of these cells, or this one if there is none
 abbrev pub head_or : Option ℕ → List ℕ → Option ℕ
 head_or after [] = after
 head_or after (c ∷ cs) = Some c
 
--- the last of these cells, and where there is none this one
+-- the last of these cells, or this one if there is none
 abbrev pub last_or : Option ℕ → List ℕ → Option ℕ
 last_or before [] = before
 last_or before (c ∷ cs) = last_or (Some c) cs
@@ -33,7 +33,7 @@ pub record IsChain (cells : List Cell) (ends : Ends) (cs : List ℕ) : Type 0 wh
   pub leads : Leads (newer_at cells) cs None
   pub follows : Follows (older_at cells) None cs
 
--- each of these cells is in the table, and none of them is named twice
+-- these cells are in the table and distinct
 pub record AreApart (cells : List Cell) (cs : List ℕ) : Type 0 where
   pub once : (c : ℕ) → times_in c cs ≤ 1
   pub within : (c : ℕ) → 0 < times_in c cs → c < length cells
@@ -44,7 +44,7 @@ pub record IsQueue (cells : List Cell) (ends : Ends) : Type 0 where
   pub linked : IsChain cells ends chain
   pub apart : AreApart cells chain
 
--- no cell but these has other neighbours than it had, and each holds its number
+-- all cells but these keep their neighbours, and every cell its number
 pub record OnlyThese (old new : List Cell) (cs : List ℕ) : Type 0 where
   pub newer_stays : (c : ℕ) → times_in c cs ≡ 0 → newer_at new c ≡ newer_at old c
   pub older_stays : (c : ℕ) → times_in c cs ≡ 0 → older_at new c ≡ older_at old c
@@ -65,7 +65,7 @@ abbrev pub LosesLast : List Cell → List Cell → Ends → Ends → ℕ → Typ
 LosesLast old new before after c =
     (cs : List ℕ) → IsChain old before (cs ++ c ∷ []) → AreApart old (cs ++ c ∷ []) → IsChain new after cs × OnlyThese old new (cs ++ c ∷ [])
 
--- so many cells at most, from this one on by its newer neighbours
+-- at most so many cells, from this one on along the newer neighbours
 abbrev pub walk : (ℕ → Option ℕ) → ℕ → Option ℕ → List ℕ
 walk newer zero start = []
 walk newer (suc n) None = []

@@ -12,7 +12,7 @@ use Rattle.fj_queues.specs.Queues.{all_in}
 abbrev pub no_ends : Ends
 no_ends = record { oldest = None; newest = None; len = 0 }
 
--- so many numbers at most, from this cell on by the newer neighbours
+-- at most so many numbers, from this cell on along the newer neighbours
 abbrev pub numbers_from : List Cell → ℕ → Option ℕ → List ℕ
 numbers_from cells n start = map (serial_at cells) (walk (newer_at cells) n start)
 
@@ -20,11 +20,11 @@ numbers_from cells n start = map (serial_at cells) (walk (newer_at cells) n star
 abbrev pub lists_of : List Cell → List Ends → List (List ℕ)
 lists_of cells ends = map (λ e. numbers_from cells e.len e.oldest) ends
 
--- how often a cell is named by the chains of the owners, by that of the free cells, and by those that are in neither
+-- how often a cell is in the chains of the owners, in the chain of the free cells, and among the loose cells, which are in neither
 abbrev pub times_named : ℕ → List (List ℕ) → List ℕ → List ℕ → ℕ
 times_named c chains spare loose = sum_by (times_in c) chains + (times_in c spare + times_in c loose)
 
--- each owner has a chain, the free cells have theirs, and no cell is named twice; these cells are in no chain
+-- each owner has a chain, the free cells have theirs, and no cell occurs twice; the loose cells are in no chain
 pub record IsTable (cells : List Cell) (free : Option ℕ) (ends : List Ends) (loose : List ℕ) : Type 0 where
   pub chains : List (List ℕ)
   pub owners : length chains ≡ length ends
@@ -36,7 +36,7 @@ pub record IsTable (cells : List Cell) (free : Option ℕ) (ends : List Ends) (l
   pub within : (c : ℕ) → 0 < times_named c chains spare loose → c < length cells
   pub all : all_in chains + (length spare + length loose) ≡ length cells
 
--- from this cell on so many are linked
+-- from this cell on so many cells are linked
 pub record IsWalk (cells : List Cell) (start : Option ℕ) (n : ℕ) : Type 0 where
   pub chain : List ℕ
   pub first : start ≡ head_or None chain

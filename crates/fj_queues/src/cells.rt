@@ -3,9 +3,9 @@ ghost use Rattle.std.specs.Prelude.{◌≡◌, ◌<◌, ◌≤◌, [], Some, Non
 use fj_rules::Serial;
 use std::alloc::{AllocError, Global};
 
-/// A number in a queue, and the cells of its neighbours there.
+/// A node of a doubly linked list: a number in a queue, and the cells of its neighbours there.
 ///
-/// A free cell still holds the number that was taken out of it, and has the next free one as its newer neighbour.
+/// A free cell still has the number that was taken out of it, and the next free cell as its newer neighbour.
 #[derive(Clone, Copy)]
 pub struct Cell {
     pub serial: Serial,
@@ -13,18 +13,18 @@ pub struct Cell {
     pub newer: Option<usize>,
 }
 
-/// The cells of all queues in one table, each named by its place there.
+/// The cells of all queues in one table, each named by its index.
 ///
-/// The table has room for all cells from the start. It grows into that room as cells are first used, so that making it costs no time.
+/// The table is allocated for all cells at the start. A cell is written when it is first used, so a new table takes no time to fill.
 #[derive(Drop)]
 pub struct Cells {
     pub table: Vec<Cell>,
-    /// The first in the chain of the cells that were given back, and are filled again before a new one is.
+    /// The head of the free list: cells given back, which are reused first.
     pub free: Option<usize>,
 }
 
 impl Cell {
-    /// A number in a queue of its own.
+    /// A number without neighbours.
     pub fn alone(serial: Serial) -> Cell
         ensures { result ≡ record { serial = serial; older = None; newer = None } }
     {
@@ -39,7 +39,7 @@ impl Cell {
 impl Cells {
     ghost use Rattle.fj_queues.specs.Cells.{IsWritten, AreJoined, NextFree, freed, serial_at};
 
-    /// No cells, with room for so many. Refused only if out of memory.
+    /// No cells, with room for so many. An error only if out of memory.
     pub fn with_capacity(alloc: Global, room: usize) -> Result<Cells, AllocError>
         ensures empty { IfOk result (λ cells. cells.table.items ≡ []) }
         ensures free { IfOk result (λ cells. cells.free ≡ None) }
@@ -51,7 +51,8 @@ impl Cells {
         })
     }
 
-    /// Writes the first free cell, or where none is free a new one, and names it. No memory is taken.
+    /// Writes the first free cell, or a new one if none is free, and answers its number. Allocates nothing. Precondition: a cell is free,
+    /// or there is room for a new one.
     pub fn fill(&mut self, cell: Cell) -> usize
         requires free { IfSome self.old.free (λ c. c < length self.old.table.items) }
         requires room { self.old.free ≡ None → length self.old.table.items < vec_capacity self.old.table }
@@ -69,7 +70,7 @@ impl Cells {
         number
     }
 
-    /// Makes a cell the first free one, and answers its number.
+    /// Makes a cell the first free one, and answers the number in it.
     pub fn give_back(&mut self, number: usize) -> Serial
         requires { number < length self.old.table.items }
         ensures serial { result ≡ serial_at self.old.table.items number }
@@ -83,7 +84,7 @@ impl Cells {
         self.table[number].serial
     }
 
-    /// Makes two cells neighbours. Where one of them is none, the other is at that end of its queue.
+    /// Links two cells as neighbours. Where one of them is none, the other is at that end of its queue.
     pub fn join(&mut self, older: Option<usize>, newer: Option<usize>)
         requires older { IfSome older (λ c. c < length self.old.table.items) }
         requires newer { IfSome newer (λ c. c < length self.old.table.items) }

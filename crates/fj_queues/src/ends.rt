@@ -2,7 +2,7 @@ ghost use Rattle.std.specs.Prelude.{◌≡◌, ◌<◌, Some, None, length, IfSo
 
 use crate::cells::Cells;
 
-/// The cells at the ends of a queue, none where it is empty, and how many numbers it has.
+/// The cells at the ends of a queue, none where it is empty, and its length.
 #[derive(Clone, Copy)]
 pub struct Ends {
     pub oldest: Option<usize>,
@@ -40,7 +40,7 @@ impl Ends {
         self.len += 1;
     }
 
-    /// Unlinks the oldest cell, and names it. None, with nothing changed, if the queue is empty.
+    /// Unlinks the oldest cell, and answers it. None, with nothing changed, if the queue is empty.
     pub fn detach_oldest(&mut self, cells: &mut Cells) -> Option<usize>
         requires queue { IsQueue cells.old.table.items self.old }
         ensures taken { result ≡ self.old.oldest }
@@ -61,7 +61,7 @@ impl Ends {
         Some(number)
     }
 
-    /// Unlinks the newest cell, and names it. None, with nothing changed, if the queue is empty.
+    /// Unlinks the newest cell, and answers it. None, with nothing changed, if the queue is empty.
     pub fn detach_newest(&mut self, cells: &mut Cells) -> Option<usize>
         requires queue { IsQueue cells.old.table.items self.old }
         ensures taken { result ≡ self.old.newest }

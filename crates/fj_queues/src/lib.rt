@@ -1,6 +1,6 @@
 //! Double-ended queues of task numbers, one for each owner.
 //!
-//! A contract sees [`Queues`] as a list of lists, oldest numbers first, and the room that was asked for. All memory is taken in
+//! Contracts see [`Queues`] as a list of lists, oldest numbers first, and the room that was asked for. All memory is allocated in
 //! [`Queues::new`]. A thief takes the oldest number of the first queue that has one:
 //!
 //! ```

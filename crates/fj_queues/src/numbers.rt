@@ -5,15 +5,15 @@ use crate::cells::Cell;
 use fj_rules::Serial;
 use std::marker::Model;
 
-/// The numbers of one queue that are still to come, oldest first.
+/// An iterator over the numbers of one queue, oldest first.
 ///
-/// A contract sees the list of them. In memory each stands in a cell of its own, linked to the next.
+/// Contracts see the list of those that are left. In memory each has a cell of its own, linked to the next.
 #[derive(Drop)]
 pub struct Numbers<'a> {
     pub(crate) table: &'a [Cell],
-    /// The cell of the first of them.
+    /// The cell of the first number left.
     pub(crate) next: Option<usize>,
-    /// How many they are.
+    /// How many numbers are left.
     pub(crate) left: usize,
 }
 
@@ -29,7 +29,7 @@ impl<'a> Model for Numbers<'a> {
 }
 
 impl<'a> Numbers<'a> {
-    /// No numbers, as of an owner that is not there.
+    /// No numbers, as for an unknown owner.
     pub fn none() -> Numbers<'a>
         ensures { result ≡ [] }
     {

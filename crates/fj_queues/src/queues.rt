@@ -9,7 +9,7 @@ use fj_rules::{OutOfMemory, Serial};
 use std::alloc::Global;
 use std::marker::Model;
 
-/// A queue of task numbers for each owner, with room that is taken when they are made.
+/// A queue of task numbers for each owner, all allocated in [`Queues::new`].
 ///
 /// Precondition of each call that takes an owner: it is below the number of owners.
 #[derive(Drop)]
@@ -17,7 +17,7 @@ pub struct Queues {
     cells: Cells,
     ends: Vec<Ends>,
     room: usize,
-    /// How many numbers stand in all queues, so that nobody has to add their lengths up.
+    /// How many numbers are in all queues: kept, so that lengths need not be summed.
     total: usize,
 }
 
@@ -38,12 +38,12 @@ impl Model for Queues {
     } };
 }
 
-/// A place in a row of so many, on round past its last one. Precondition: it is below twice as many.
+/// `place` modulo `places`. Precondition: it is below twice `places`.
 fn round(place: usize, places: usize) -> usize
     requires { place < places + places }
     ensures { result ≡ place % places }
 {
-    // A division takes longer than all else that is done for a place.
+    // A division would take longer than all else that is done for a place.
     if place < places {
         place
     } else {
@@ -52,7 +52,7 @@ fn round(place: usize, places: usize) -> usize
 }
 
 impl Queues {
-    /// So many empty queues, each with room for as many numbers as all may have together. Refused only where out of memory.
+    /// So many empty queues, with room for `room` numbers in all, however they are spread. An error only if out of memory.
     pub fn new(alloc: Global, owners: usize, room: usize) -> Result<Queues, OutOfMemory>
         ensures { IfOk result (λ q. q ≡ record { lists = replicate owners []; room = room }) }
     {
@@ -76,14 +76,14 @@ impl Queues {
         self.ends.len()
     }
 
-    /// How many numbers may stand in all queues together.
+    /// How many numbers may be in all queues together.
     pub fn room(&self) -> usize
         ensures { result ≡ self.now.room }
     {
         self.room
     }
 
-    /// How many numbers stand in an owner's queue.
+    /// How many numbers are in an owner's queue.
     pub fn len(&self, o: usize) -> usize
         requires { o < length self.now.lists }
         ensures { result ≡ length (queue_at self.now o) }
@@ -91,7 +91,7 @@ impl Queues {
         self.ends[o].len
     }
 
-    /// How many numbers stand in all queues.
+    /// How many numbers are in all queues.
     pub fn total(&self) -> usize
         ensures { result ≡ total self.now }
     {
@@ -111,7 +111,7 @@ impl Queues {
         }
     }
 
-    /// Puts a number at the new end of an owner's queue. Precondition: there is room. No memory is taken.
+    /// Puts a number at the new end of an owner's queue. Precondition: there is room. Allocates nothing.
     pub fn push(&mut self, o: usize, serial: Serial)
         requires owner { o < length self.old.lists }
         requires room { total self.old < self.old.room }
@@ -155,7 +155,7 @@ impl Queues {
         Some(self.cells.give_back(number))
     }
 
-    /// The first owner whose queue is not empty, from place `r` on round past the last owner. None if all queues are empty.
+    /// The first owner whose queue is not empty, from owner `r` on, modulo the number of owners. None if all queues are empty.
     pub fn first_from(&self, r: usize) -> Option<usize>
         ensures scan { result ≡ first_filled self.now.lists (places_from (length self.now.lists) r) }
         ensures owner { IfSome result (λ o. o < length self.now.lists) }
@@ -166,7 +166,7 @@ impl Queues {
         if owners == 0 {
             return None;
         }
-        // `r` may be the largest number that there is, so it is brought below the number of owners before anything is added to it.
+        // `r` may be the largest `usize`, so it is reduced before anything is added to it.
         let start = r % owners;
         for i in 0..owners {
             let o = round(start + i, owners);

@@ -2,12 +2,12 @@
 use Rattle.std.specs.Prelude.{ℕ, ◌==◌, if◌then◌else◌, List, [], ◌∷◌, ◌++◌}
 use Rattle.fj_lines.specs.declared.read.TheConstants.{LINE_FEED}
 
--- the lines that end with a line feed, where rest stands before the bytes on the first
+-- the lines that end with a line feed, where the first begins with rest
 abbrev pub cut : List ℕ → List ℕ → List (List ℕ)
 cut rest [] = []
 cut rest (x ∷ xs) = if x == LINE_FEED then (rest ∷ cut [] xs) else cut (rest ++ x ∷ []) xs
 
--- what stands behind the last line feed, where rest stands before the bytes
+-- what follows the last line feed, where the first line begins with rest
 abbrev pub left : List ℕ → List ℕ → List ℕ
 left rest [] = rest
 left rest (x ∷ xs) = if x == LINE_FEED then left [] xs else left (rest ++ x ∷ []) xs
@@ -16,6 +16,6 @@ left rest (x ∷ xs) = if x == LINE_FEED then left [] xs else left (rest ++ x �
 abbrev pub lines : List ℕ → List (List ℕ)
 lines b = cut [] b
 
--- what stands behind the last line feed
+-- what follows the last line feed
 abbrev pub rest : List ℕ → List ℕ
 rest b = left [] b

@@ -1,4 +1,4 @@
--- What the end of a replay or an upgrade says of the bytes that were read. `first` is where the script stood before its first line.
+-- What the result of a replay or an upgrade says of the bytes that were read. `first` is the stage before the first line.
 use Rattle.std.specs.Prelude.{ℕ, ◌≡◌, ◌≢◌, ◌+◌, ◌<◌, ◌≤◌, ◌⊎◌, List, [], ◌∷◌, ◌++◌, Option, Some, None, true, false, length}
 use Rattle.std.specs.Io.KnownBytes.{Appends, Consumes, IsAtEnd}
 use Rattle.fj_lines.specs.declared.read.line2.TheConstants.{MAX_LINE2}
@@ -14,8 +14,8 @@ use Rattle.fj_replay.specs.declared.script_stage.ScriptStage.TheVariants.{Start,
 use Rattle.fj_replay.specs.Plays.{asked_in, is_title}
 use Rattle.fj_replay.specs.Scripts.{pool_of, stage_from, text_from, is_good, text, up, IsRun}
 
--- the line is not canonical where it stands: a heading must stand first, or behind `fj 2`, and then steps of that version. What is written
--- as version 2 is of version 1
+-- the line is not canonical at this stage: a heading must come first, or after `fj 2`, and then steps of that version. A script to
+-- upgrade is of version 1
 abbrev pub IsFaulty : ScriptStage → List ℕ → Type 0
 IsFaulty Start line = (is_title line ≡ false) × (head_in line ≡ None)
 IsFaulty Titled line = head_in line ≡ None
@@ -35,7 +35,7 @@ IsHeadless (Rewrites past) = ⊥
 abbrev pub LacksHeading : ScriptStage → List ℕ → Type 0
 LacksHeading first b = (stage : ScriptStage) × (stage_from first (lines b) ≡ Some stage) × IsHeadless stage
 
--- the line with this number stands whole and is faulty, and all before it are good
+-- the line with this number is whole and faulty, and all before it are good
 pub record Stands (first : ScriptStage) (n : ℕ) (b : List ℕ) (before : List (List ℕ)) (line : List ℕ) (after : List (List ℕ)) : Type 0 where
   pub stage : ScriptStage
   pub cut : lines b ≡ before ++ line ∷ after
@@ -48,7 +48,7 @@ pub record IsUnended (first : ScriptStage) (n : ℕ) (b : List ℕ) : Type 0 whe
   pub number : n ≡ length (lines b) + 1
   pub good : is_good first (lines b) ≡ true
 
--- this line is the first that is faulty or that does not end: it stands whole, or it is longer than any canonical line, or the
+-- this line is the first that is faulty or that does not end: it is whole, or it is longer than any canonical line, or the
 -- input ends within it or before the heading
 abbrev pub IsFirstFault : ScriptStage → ℕ → List ℕ → Option (List ℕ) → Type 0
 IsFirstFault first n b ahead =
@@ -59,13 +59,13 @@ IsFirstFault first n b ahead =
 abbrev pub IsOutOfLimits : List ℕ → Type 0
 IsOutOfLimits line = (head : Mode × List ℕ) × (head_in line ≡ Some head) × (pool_of head ≡ None)
 
--- the line where the heading must stand is one with a limit out of its range
+-- the heading has a limit out of its range
 abbrev pub OpensOutOfLimits : ScriptStage → List (List ℕ) → Type 0
 OpensOutOfLimits first ls =
     (before : List (List ℕ)) × (line : List ℕ) × (after : List (List ℕ)) × (stage : ScriptStage)
     × (ls ≡ before ++ line ∷ after) × (stage_from first before ≡ Some stage) × IsHeadless stage × IsOutOfLimits line
 
--- so far all is good: the whole lines are canonical, the heading is within the limits, and the line that goes on is not too long
+-- so far all is good: the whole lines are canonical, the heading is within the limits, and the present line is not too long
 pub record IsGoodSoFar (first : ScriptStage) (b : List ℕ) : Type 0 where
   pub good : is_good first (lines b) ≡ true
   pub short : length (rest b) ≤ MAX_LINE2
@@ -78,12 +78,12 @@ FaultOf first Memory b ahead start now = AppendsSome start now (text_from first 
 FaultOf first Read b ahead start now = IsGoodSoFar first b × Appends start now (text_from first (lines b))
 FaultOf first Write b ahead start now = AppendsSome start now (text_from first (lines b))
 
--- what was done with these bytes ended by this fault
+-- the work on these bytes ended by this fault
 pub record EndsFrom (first : ScriptStage) (fault : ReplayFault) (b : List ℕ) (before ahead start now : Option (List ℕ)) : Type 0 where
   pub read : Consumes before ahead b
   pub means : FaultOf first fault b ahead start now
 
--- the lines are good and lead behind a heading, and nothing stands behind the last line feed
+-- the lines are good and have a heading, and nothing follows the last line feed
 pub record IsWhole (first : ScriptStage) (b : List ℕ) : Type 0 where
   pub stage : ScriptStage
   pub good : stage_from first (lines b) ≡ Some stage
@@ -107,7 +107,7 @@ Finishes first before ahead start now = (b : List ℕ) × IsFinished first b bef
 abbrev pub Ends : ReplayFault → List ℕ → Option (List ℕ) → Option (List ℕ) → Option (List ℕ) → Option (List ℕ) → Type 0
 Ends fault b before ahead start now = EndsFrom Start fault b before ahead start now
 
--- a whole script: a heading within the limits and canonical steps, and nothing behind the last line feed
+-- a whole script: a heading within the limits and canonical steps, and nothing after the last line feed
 pub record IsScript (b : List ℕ) : Type 0 where
   pub good : is_good Start (lines b) ≡ true
   pub ended : rest b ≡ []
@@ -120,7 +120,7 @@ pub record IsReplayed (b : List ℕ) (before ahead start now : Option (List ℕ)
   pub script : IsScript b
   pub written : Appends start now (text b)
 
--- these bytes were read, and a beginning of the replies to them was written
+-- these bytes were read, and a prefix of the replies to them was written
 pub record IsBegun (b : List ℕ) (before ahead start now : Option (List ℕ)) : Type 0 where
   pub read : Consumes before ahead b
   pub written : AppendsSome start now (text b)
@@ -129,7 +129,7 @@ pub record IsBegun (b : List ℕ) (before ahead start now : Option (List ℕ)) :
 abbrev pub Replays : Option (List ℕ) → Option (List ℕ) → Option (List ℕ) → Option (List ℕ) → Type 0
 Replays before ahead start now = (b : List ℕ) × IsReplayed b before ahead start now
 
--- some bytes were read, and a beginning of the replies to them was written
+-- some bytes were read, and a prefix of the replies to them was written
 abbrev pub Begins : Option (List ℕ) → Option (List ℕ) → Option (List ℕ) → Option (List ℕ) → Type 0
 Begins before ahead start now = (b : List ℕ) × IsBegun b before ahead start now
 
@@ -139,7 +139,7 @@ Begins before ahead start now = (b : List ℕ) × IsBegun b before ahead start n
 abbrev pub EndsUpgrade : ReplayFault → List ℕ → Option (List ℕ) → Option (List ℕ) → Option (List ℕ) → Option (List ℕ) → Type 0
 EndsUpgrade fault b before ahead start now = EndsFrom Old fault b before ahead start now
 
--- a whole script of version 1: a heading within the limits and canonical steps, and nothing behind the last line feed
+-- a whole script of version 1: a heading within the limits and canonical steps, and nothing after the last line feed
 pub record IsOldScript (b : List ℕ) : Type 0 where
   pub past : Past
   pub good : stage_from Old (lines b) ≡ Some (Rewrites past)
@@ -152,7 +152,7 @@ pub record IsUpgraded (b : List ℕ) (before ahead start now : Option (List ℕ)
   pub script : IsOldScript b
   pub written : Appends start now (up b)
 
--- these bytes were read, and a beginning of them as version 2 was written
+-- these bytes were read, and a prefix of them as version 2 was written
 pub record IsUpgradeBegun (b : List ℕ) (before ahead start now : Option (List ℕ)) : Type 0 where
   pub read : Consumes before ahead b
   pub written : AppendsSome start now (up b)
@@ -161,6 +161,6 @@ pub record IsUpgradeBegun (b : List ℕ) (before ahead start now : Option (List 
 abbrev pub Upgrades : Option (List ℕ) → Option (List ℕ) → Option (List ℕ) → Option (List ℕ) → Type 0
 Upgrades before ahead start now = (b : List ℕ) × IsUpgraded b before ahead start now
 
--- some bytes were read, and a beginning of them as version 2 was written
+-- some bytes were read, and a prefix of them as version 2 was written
 abbrev pub BeginsUpgrade : Option (List ℕ) → Option (List ℕ) → Option (List ℕ) → Option (List ℕ) → Type 0
 BeginsUpgrade before ahead start now = (b : List ℕ) × IsUpgradeBegun b before ahead start now

@@ -1,4 +1,4 @@
--- By what the tasks of a script go: by their numbers, or by names.
+-- How a script names its tasks: by numbers, or by names.
 use Rattle.std.specs.Prelude.{ℕ, ◌≡◌, Bool, true, false, List, [], ◌∷◌, ◌++◌, length, Option, Some, None, unwrap_or, slice_get, codes, decimal}
 use Rattle.std.specs.List.{list_any, position_or_len}
 use Rattle.std.specs.Str.{bytes_eq}
@@ -20,9 +20,9 @@ use Rattle.fj_replay.specs.declared.task_naming.TaskNaming.TheVariants.{Numbers,
 use Rattle.fj_replay.specs.declared.replied.Replied.{Replied}
 use Rattle.fj_replay.specs.declared.replied.Replied.TheVariants.{Said as Says, NameTaken, Sealed, Epoch}
 
--- ---- from names to numbers. Names stand in the order in which their tasks were accepted, so each stands at its task's number (`AreNamesOf`)
+-- ---- from names to numbers. Names are in the order in which their tasks were accepted, so each is at its task's number (`AreNamesOf`)
 
--- the number of the task with this name. A name that belongs to no task stands for the next number, which no task has yet
+-- the number of the task with this name. A name that belongs to no task means the next number, which no task has yet
 abbrev pub number_of : List (List ℕ) → List ℕ → ℕ
 number_of names name = position_or_len (bytes_eq name) names
 
@@ -34,7 +34,7 @@ abbrev pub numbered_parent : List (List ℕ) → Option (List ℕ) → Option �
 numbered_parent names None = None
 numbered_parent names (Some name) = Some (number_of names name)
 
--- the kind that names its parent by number
+-- the kind, with the number of its parent
 abbrev pub numbered_kind : List (List ℕ) → NamedKind → Kind
 numbered_kind names named.Plain = kind.Plain
 numbered_kind names (named.Completer relay count parent) = kind.Completer relay count (numbered_parent names parent)
@@ -51,13 +51,13 @@ with_name (Names names) name = Names (names ++ name ∷ [])
 
 -- ---- from numbers to names
 
--- how a task is called
+-- the name of a task
 abbrev pub name_of : TaskNaming → ℕ → List ℕ
 name_of Numbers t = decimal t
 name_of (Names names) t = unwrap_or (slice_get names t) []
 
--- these are the names of the tasks of this history, each at its task's number. So each task is called by a name that stands for it alone, and
--- a name that is no task's stands for a number that no task has
+-- these are the names of the tasks of this history, each at its task's number. So each task has a name that means it alone, and a name
+-- that is no task's means a number that no task has
 pub record AreNamesOf (names : List (List ℕ)) (h : List Event) : Type 0 where
   pub count : length names ≡ accepted h
   pub own : (t : ℕ) → is_in t (tasks h) ≡ true → number_of names (name_of (Names names) t) ≡ t
@@ -69,7 +69,7 @@ pub record StandsFor (names : List (List ℕ)) (name : List ℕ) (t : ℕ) : Typ
   pub taken : is_taken names name ≡ true
   pub number : number_of names name ≡ t
 
--- what a reply says of a task: its first word, and the task
+-- the task in a reply, with the first word
 abbrev pub task_told : Said → Option (List ℕ × ℕ)
 task_told (said.Task t) = Some (codes "task", t)
 task_told (said.Run t) = Some (codes "run", t)
@@ -81,12 +81,12 @@ task_told (said.Early t) = Some (codes "early", t)
 task_told (said.Root t) = Some (codes "root", t)
 task_told _ = None
 
--- the words of a reply, where this calls the tasks
+-- the words of a reply, where this names the tasks
 abbrev pub words_by : (ℕ → List ℕ) → Option (List ℕ × ℕ) → List (List ℕ) → List (List ℕ)
 words_by called None words = words
 words_by called (Some told) words = told.0 ∷ called told.1 ∷ []
 
--- the words of a reply: a task in it goes by its name, and all else is as in version 1
+-- the words of a reply: a task in it has its name, and all else is as in version 1
 abbrev pub said_words : TaskNaming → Bounds → Said → List (List ℕ)
 said_words naming limits reply = words_by (name_of naming) (task_told reply) (reply_words limits reply)
 
@@ -96,7 +96,7 @@ replied_words naming limits NameTaken = codes "refused" ∷ codes "16" ∷ []
 replied_words naming limits (Sealed epoch events) = codes "sealed" ∷ decimal epoch ∷ decimal events ∷ []
 replied_words naming limits (Epoch epoch events) = codes "epoch" ∷ decimal epoch ∷ decimal events ∷ []
 
--- a line of two words, of which the second is the name of a task
+-- a line of two words, the second the name of a task
 abbrev pub told_line : List (List ℕ) → List ℕ → ℕ → List ℕ
 told_line names verb t = joined (verb ∷ name_of (Names names) t ∷ []) ++ LINE_FEED ∷ []
 

@@ -1,4 +1,4 @@
--- How a script is played, line after line.
+-- How a script is played, line by line.
 use Rattle.std.specs.Prelude.{ℕ, Bool, true, false, if◌then◌else◌, List, [], ◌∷◌, length, map, Option, Some, None, option_map, codes}
 use Rattle.std.specs.List.{cons_option}
 use Rattle.std.specs.Option.{option_map_or}
@@ -25,7 +25,7 @@ use Rattle.fj_replay.specs.declared.asked.Asked.{Asked}
 use Rattle.fj_replay.specs.declared.asked.Asked.TheVariants as ask
 use Rattle.fj_replay.specs.Namings.{number_of, numbered_kind, is_named, with_name, replied_line}
 
--- how far a script has come: what has happened to its machine, and by what its tasks go
+-- the state of a script: the past of its machine, and the naming of its tasks
 pub record Play : Type 0 where
   pub past : Past
   pub naming : TaskNaming
@@ -63,12 +63,12 @@ asked_by names (line.Release t) = ask.Step (step.Release (number_of names t))
 asked_by names line.Seal = ask.Seal
 asked_by names line.Epoch = ask.Epoch
 
--- what a line asks for, if it is one: by numbers it is a line of version 1, by names one of version 2
+-- what a line asks for, if it is one: of version 1 by numbers, of version 2 by names
 abbrev pub asked_in : TaskNaming → List ℕ → Option Asked
 asked_in Numbers text = option_map ask.Step (step_in text)
 asked_in (Names names) text = option_map (asked_by names) (line2_in text)
 
--- ---- what is replied, and what follows
+-- ---- replies, and what follows
 
 abbrev pub is_task : Said → Bool
 is_task (said.Task t) = true
@@ -78,7 +78,7 @@ is_task _ = false
 abbrev pub named_if : TaskNaming → List ℕ → Said → TaskNaming
 named_if naming name reply = if is_task reply then with_name naming name else naming
 
--- after a step, which this name goes with
+-- after a step with this name
 abbrev pub accepting : Play → List ℕ → Said × List Event → Play
 accepting play name answer = record { past = grown play.past answer.1; naming = named_if play.naming name answer.0 }
 
@@ -87,7 +87,7 @@ abbrev pub sealing : Past → Option Refusal → Past
 sealing past None = sealed_now past
 sealing past (Some refusal) = past
 
--- how far it has come after what a line asks for
+-- the state after what a line asks for
 abbrev pub play_after : Play → Asked → Play
 play_after play (ask.Step wanted) = record play { past = grown play.past (answer play.past wanted).1 }
 play_after play (ask.Accept name wanted) = if is_named play.naming name then play else accepting play name (answer play.past wanted)
@@ -98,7 +98,7 @@ abbrev pub seal_reply : Past → Option Refusal → Replied
 seal_reply past None = Sealed past.seals (length (present past))
 seal_reply past (Some refusal) = Says (said.Refused refusal)
 
--- what is replied: a name that belongs to a task is refused before the machine is asked
+-- the reply: a name that belongs to a task is refused before the machine is asked
 abbrev pub replied : Play → Asked → Replied
 replied play (ask.Step wanted) = Says (answer play.past wanted).0
 replied play (ask.Accept name wanted) = if is_named play.naming name then NameTaken else Says (answer play.past wanted).0
@@ -111,7 +111,7 @@ reply_text play asked = replied_line (play_after play asked).naming play.past.po
 
 -- ---- the moves of the machine: steps and seals
 
--- the move that is asked for, and the answer that the reply tells. A name that belongs to a task and `epoch` ask the machine for none
+-- the move that is asked for, and the answer in the reply. A name that belongs to a task and `epoch` ask the machine for none
 abbrev pub move_told : Asked → Replied → Option (Move × Answer)
 move_told (ask.Step wanted) (Says reply) = Some (move.Step wanted, gives.Said reply)
 move_told (ask.Accept name wanted) (Says reply) = Some (move.Step wanted, gives.Said reply)
@@ -119,7 +119,7 @@ move_told ask.Seal (Sealed epoch events) = Some (move.Seal, gives.Sealed)
 move_told ask.Seal (Says (said.Refused refusal)) = Some (move.Seal, gives.Refused refusal)
 move_told _ _ = None
 
--- the moves that the lines ask for, up to the first that may not stand there, each with the answer that the reply to its line tells
+-- the moves that the lines ask for, up to the first line that is not allowed there, each with the answer in the reply to its line
 abbrev pub moves_told : Play → List (List ℕ) → List (Move × Answer)
 moves_told play [] = []
 moves_told play (text ∷ later) =

@@ -1,5 +1,5 @@
--- What a script says, and what is replied to it. Two things can be done with a script, and where it stands tells which: it is replayed,
--- from `Start` on, or, if it is of version 1, it is written as version 2, from `Old` on.
+-- The meaning of a script, and the replies to it. Two things can be done with a script: it is replayed, from the stage `Start` on, or,
+-- if it is of version 1, it is written as version 2, from the stage `Old` on.
 --
 -- A script is of version 2, in which tasks have names, where its first line is `fj 2`: its heading is the second line, and in one of
 -- version 1 the first.
@@ -31,7 +31,7 @@ use Rattle.fj_replay.specs.TaskNames.{named_line, titled_head}
 
 -- ---- headings
 
--- the limits that the four numbers of a heading say
+-- the limits by the four numbers of a heading
 abbrev pub limits_of : List ℕ → Bounds
 limits_of numbers = record {
   workers = slice_index numbers 0;
@@ -71,7 +71,7 @@ abbrev pub rewriting : Option Pool → Option ScriptStage
 rewriting None = None
 rewriting (Some p) = Some (Rewrites (start p))
 
--- where a script stands after one line more, if this line may stand there
+-- the stage after one more line, if this line is allowed there
 abbrev pub stage_after : ScriptStage → List ℕ → Option ScriptStage
 stage_after Start line = if is_title line then Some Titled else opened Numbers (pool_in line)
 stage_after Titled line = opened (Names []) (pool_in line)
@@ -79,8 +79,8 @@ stage_after (Plays play) line = option_map (λ asked. Plays (play_after play ask
 stage_after Old line = rewriting (pool_in line)
 stage_after (Rewrites past) line = option_map (λ asked. Rewrites (grown past (answer past asked).1)) (step_in line)
 
--- what is written at the line: the reply to it, or what it is in version 2, where the task that it may accept is called by the number of
--- those that were accepted before
+-- what is written at the line: the reply to it, or the line in version 2, where the task that it may accept is named by the number of
+-- tasks accepted before
 abbrev pub line_text : ScriptStage → List ℕ → List ℕ
 line_text Start line = []
 line_text Titled line = []
@@ -88,23 +88,23 @@ line_text (Plays play) line = option_map_or (λ asked. reply_text play asked) (a
 line_text Old line = titled_head line
 line_text (Rewrites past) line = option_map_or (λ asked. named_line (accepted past.events) asked) (step_in line) []
 
--- where it stands after these lines, if each of them may stand where it does
+-- the stage after these lines, if each of them is allowed where it is
 abbrev pub stage_from : ScriptStage → List (List ℕ) → Option ScriptStage
 stage_from stage [] = Some stage
 stage_from stage (line ∷ later) = option_and_then (λ next. stage_from next later) (stage_after stage line)
 
--- what is written at these lines, up to the first that may not stand where it does
+-- what is written at these lines, up to the first that is not allowed where it is
 abbrev pub text_from : ScriptStage → List (List ℕ) → List ℕ
 text_from stage [] = []
 text_from stage (line ∷ later) = option_map_or (λ next. line_text stage line ++ text_from next later) (stage_after stage line) []
 
--- whether each of the lines may stand where it does
+-- whether each of the lines is allowed where it is
 abbrev pub is_good : ScriptStage → List (List ℕ) → Bool
 is_good first ls = is_some (stage_from first ls)
 
 -- ---- from bytes to bytes
 
--- what is replied to these bytes: nothing where the heading is missing, faulty or out of the limits
+-- the replies to these bytes: none where the heading is missing, faulty or out of the limits
 abbrev pub text : List ℕ → List ℕ
 text b = text_from Start (lines b)
 
@@ -118,11 +118,11 @@ IsRun b = (play : Play) × (stage_from Start (lines b) ≡ Some (Plays play)) ×
 
 -- ---- both versions, as moves of the machine
 
--- what these lines ask for from any play on, with the answers that the replies to them tell, leads to the play behind them
+-- what these lines ask for from any play on, with the answers in the replies to them, leads to the play after them
 abbrev pub MakesMoves : List (List ℕ) → Type 0
 MakesMoves ls = (play later : Play) → stage_from (Plays play) ls ≡ Some (Plays later) → AreMoves play.past (moves_told play ls) later.past
 
--- ---- version 2: what its names stand for
+-- ---- version 2: what its names mean
 
 -- the lines lead to this past by names, which are these so far
 abbrev pub LeadsBy : List ℕ → List (List ℕ) → Past → Type 0
@@ -144,7 +144,7 @@ pub record GivesName (b : List ℕ) (name : List ℕ) (t : ℕ) : Type 0 where
 abbrev pub NamesTasks : List ℕ → Type 0
 NamesTasks b = (names : List (List ℕ)) (past : Past) → LeadsBy b names past → AreNamesOf names past.events
 
--- and each that a line of them gave stands for the task to which that line gave it
+-- and each that a line of them gave means the task to which that line gave it
 abbrev pub KeepsNames : List ℕ → Type 0
 KeepsNames b = (names : List (List ℕ)) (past : Past) (name : List ℕ) (t : ℕ) → LeadsBy b names past → GivesName b name t → StandsFor names name t
 
@@ -154,7 +154,7 @@ abbrev pub before_those : Option Step → List Step → List Step
 before_those None steps = []
 before_those (Some asked) steps = asked ∷ steps
 
--- the steps of the lines, up to the first line that is none
+-- the steps of the lines, up to the first line that is no step
 abbrev pub steps_of : List (List ℕ) → List Step
 steps_of [] = []
 steps_of (line ∷ others) = before_those (step_in line) (steps_of others)
@@ -173,17 +173,17 @@ history past (asked ∷ later) = history (grown past (answer past asked).1) late
 abbrev pub after : Past → List Step → Past
 after past asked = record past { events = history past asked }
 
--- the lines of the replies, joined
+-- the lines of the replies, concatenated
 abbrev pub joined : Bounds → List Said → List ℕ
 joined limits [] = []
 joined limits (reply ∷ later) = reply_line limits reply ++ joined limits later
 
--- what is replied to the steps by a new pool, if there is one
+-- the replies of a new pool to the steps, if there is one
 abbrev pub said : Option Pool → List Step → List ℕ
 said None asked = []
 said (Some p) asked = joined p.limits (replies (start p) asked)
 
--- what is replied to the lines of a script of version 1
+-- the replies to the lines of a script of version 1
 abbrev pub numbered_text : List (List ℕ) → List ℕ
 numbered_text [] = []
 numbered_text (head ∷ others) = said (pool_in head) (steps_of others)

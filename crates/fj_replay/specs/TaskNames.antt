@@ -1,4 +1,4 @@
--- How the numbered tasks of a script of version 1 are called in version 2, and what its lines are there.
+-- The names in version 2 of the numbered tasks of a script of version 1, and its lines there.
 use Rattle.std.specs.Prelude.{ℕ, List, [], ◌∷◌, ◌++◌, option_map, codes, decimal}
 use Rattle.fj_lines.specs.declared.read.TheConstants.{LINE_FEED}
 use Rattle.fj_rules.specs.declared.kind.Kind.{Kind}

@@ -9,7 +9,7 @@ use Rattle.fj_replay.specs.declared.script_stage.ScriptStage.{ScriptStage}
 use Rattle.fj_replay.specs.declared.script_stage.ScriptStage.TheVariants.{Start, Old}
 use Rattle.fj_replay.specs.Faults.{EndsFrom}
 
--- what a fault says of the writer: it failed at `Write` alone
+-- what a fault says of the writer: it failed only at `Write`
 abbrev pub WriterTells : ReplayFault → Option Calls → Option Calls → Type 0
 WriterTells (Line n) old new = IsFine old new
 WriterTells Limits old new = IsFine old new
@@ -17,8 +17,8 @@ WriterTells Memory old new = IsFine old new
 WriterTells Read old new = ⊥
 WriterTells Write old new = HasFailed old new
 
--- what a fault says of the reader, of which these bytes were read, and of the writer: the one failed at `Read` alone, the other at
--- `Write` alone. A reader that gives more lines than 64 bits count is left at `Read` too.
+-- what a fault says of the reader, of which these bytes were read, and of the writer: the reader failed only at `Read`, the writer only
+-- at `Write`. More lines than 64 bits count are `Read` too.
 abbrev pub FaultTells : ReplayFault → List ℕ → Option Calls → Option Calls → Option Calls → Option Calls → Type 0
 FaultTells (Line n) b read now written after = IsFine read now × IsFine written after
 FaultTells Limits b read now written after = IsFine read now × IsFine written after
@@ -33,11 +33,11 @@ pub record Seen : Type 0 where
   pub calls : Option Calls
   pub calls_after : Option Calls
 
--- the same of one whose bytes and calls are told by these functions
+-- the same by functions for bytes and calls
 abbrev pub seen : {A : Type 0} → (A → Option (List ℕ)) → (A → Option Calls) → A → A → Seen
 seen bytes calls old new = record { bytes = bytes old; bytes_after = bytes new; calls = calls old; calls_after = calls new }
 
--- some bytes were read, and what was done with them ended by this fault, which tells too which calls failed
+-- some bytes were read, and the work on them ended by this fault, which also says which calls failed
 abbrev pub StopsFrom : ScriptStage → Seen → Seen → ReplayFault → Type 0
 StopsFrom first r w fault =
     (b : List ℕ) × EndsFrom first fault b r.bytes r.bytes_after w.bytes w.bytes_after × FaultTells fault b r.calls r.calls_after w.calls w.calls_after

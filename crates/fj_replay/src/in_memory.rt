@@ -4,7 +4,7 @@ use fj_streams::{CallCount, Source};
 use std::io::{self, Read};
 use std::mem;
 
-/// A reader of bytes in memory. No read of it fails, and no more reads than bytes come before the end.
+/// A reader of bytes in memory. Its reads do not fail, and at most as many as there are bytes come before the end.
 #[derive(Drop)]
 pub struct InMemory<'a> {
     rest: &'a [u8],
@@ -13,7 +13,7 @@ pub struct InMemory<'a> {
 }
 
 impl<'a> InMemory<'a> {
-    /// At the first of these bytes.
+    /// A reader at the first of these bytes.
     pub fn new(bytes: &'a [u8]) -> InMemory<'a>
         ensures rest { result.rest.now ≡ bytes.now }
         ensures again { result.again ≡ 0 }

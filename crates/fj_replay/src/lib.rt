@@ -1,10 +1,10 @@
 //! Scripts of a fork-join pool over any reader and writer.
 //!
-//! [`replay`] reads a script from any reader, makes its steps on a `Machine` and writes the replies: what it writes is `text` of the
-//! bytes that it read, or a beginning of it where memory or the writer failed. `text` is a definition of `specs/Scripts.antt`. Where the
-//! first line is `fj 2` the tasks go by names, and else by their numbers: a `TaskNaming` alone tells the two apart. [`upgrade`] writes a
-//! script of version 1 as version 2, and the replies to it stay what they were but for the names. Over a
-//! reader and a writer that are `Watched` contracts see too that a fault of reading or writing is told exactly where one came.
+//! [`replay`] reads a script from any reader, makes its steps on a `Machine` and writes the replies: its output is `text` of the
+//! bytes that it read, or a prefix of it where memory or the writer failed. `text` is a definition of `specs/Scripts.antt`. If the
+//! first line is `fj 2`, tasks have names, otherwise numbers: only `TaskNaming` knows the difference. [`upgrade`] writes a
+//! script of version 1 as version 2, and the replies to it stay the same but for the names. Over a `Watched` reader and writer
+//! contracts also see that a failure to read or write is reported exactly where one came.
 #![tactic(auto)]
 
 mod asked;

@@ -9,7 +9,7 @@ use fj_rules::{Ending, Kind, Step, SubId, SubmittedKind, WorkerId};
 use std::alloc::AllocError;
 
 /// Appends a step's line of version 2, with its line feed. `next` is the number of the task that it may accept. An error comes where the
-/// text can't grow; it then may end in a part of the line.
+/// text can't grow; then a part of the line may have been appended.
 #[tactic(auto, unfolding(crate::specs::TaskNames::named_line))]
 pub fn push_named(asked: &Step, next: u64, text: &mut String) -> Result<(), AllocError>
     ensures { OnOk result (string_bytes text.new ≡ string_bytes text.old ++ named_line next asked.now) }

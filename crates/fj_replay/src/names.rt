@@ -9,9 +9,9 @@ use indexmap::IndexSet;
 use std::alloc::{AllocError, Global};
 use std::marker::Model;
 
-/// The names of a script's tasks, in the order in which these were accepted: each stands at its task's number.
+/// The names of a script's tasks, in order of acceptance: the index of each is its task's number.
 ///
-/// Both look-ups, of a name and of a number, take about the same time however many names there are.
+/// Look-ups by name and by number take constant time, on average.
 #[derive(Drop)]
 pub struct Names {
     set: IndexSet<Name>,
@@ -35,7 +35,7 @@ impl Names {
         }
     }
 
-    /// The number of the task with this name. That of the next task where the name belongs to none.
+    /// The number of the task with this name; the number of the next task if the name belongs to none.
     pub fn number(&self, name: &Name) -> Serial
         ensures { result ≡ number_of self.now name.now }
     {
@@ -43,7 +43,7 @@ impl Names {
         Serial(place as u64)
     }
 
-    /// Gives the next task this name, and tells whether it was free; if not, nothing changes. An error comes where the table can't grow.
+    /// Gives the next task this name if it is free; otherwise answers false and changes nothing. An error comes where the table can't grow.
     pub fn add(&mut self, name: Name) -> Result<bool, AllocError>
         ensures free { IfOk result (λ free. free ≡ not (is_taken self.old name)) }
         ensures names { OnOk result (self.new ≡ (if is_taken self.old name then self.old else self.old ++ name ∷ [])) }
@@ -52,14 +52,14 @@ impl Names {
         Ok(free)
     }
 
-    /// Takes the last name back.
+    /// Removes the last name.
     pub fn take_back(&mut self)
         ensures { (before : List (List ℕ)) (last : List ℕ) → self.old ≡ before ++ last ∷ [] → self.new ≡ before }
     {
         let _ = self.set.pop();
     }
 
-    /// What a line asks for.
+    /// What a line asks for, with these names.
     pub fn asked(&self, line: Line2) -> Asked
         ensures { result ≡ asked_by self.now line }
     {
@@ -127,7 +127,7 @@ impl Names {
         }
     }
 
-    /// Appends a line of two words, of which the second is the name of a task.
+    /// Appends a line of two words, the second the name of a task.
     pub fn push_told(&self, verb: &str, t: Serial, text: &mut String) -> Result<(), AllocError>
         ensures { OnOk result (string_bytes text.new ≡ string_bytes text.old ++ told_line self.now verb.now t) }
     {

@@ -8,8 +8,8 @@ use fj_machine::Machine;
 use fj_rules::Limits;
 use std::alloc::Global;
 
-/// A new machine, as the heading says, which stands at this line. `Line` where it is no heading, `Limits` where a limit is out of its
-/// range, `Memory` where memory is refused.
+/// A new machine by the heading, which is line `number`. `Line` where it is no heading, `Limits` where a limit is out of its range,
+/// `Memory` where out of memory.
 pub fn open(alloc: Global, heading: &[u8], number: u64) -> Result<Machine, ReplayFault>
     ensures pool { IfOk result (λ m. pool_in heading.now ≡ Some m.pool) }
     ensures fresh { IfOk result (λ m. m ≡ start m.pool) }

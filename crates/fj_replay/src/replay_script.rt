@@ -17,30 +17,30 @@ use std::alloc::Global;
 
 /// Reads a script, makes its steps and writes the replies.
 ///
-/// What was written is `text b` of the bytes `b` that were read; at `Memory` and `Write` it is a beginning of `text b`. `Read` and
-/// `Write` come only where the reader or the writer failed, and a failure of one is told as nothing else. A reply is
-/// handed to the writer before the next line is looked at, so what was replied before a fault is written. The writer is flushed before
-/// each further read, so that who sends one line at a time has each reply; a flush that fails there is `Write`. At `Ok` all was flushed;
-/// at a fault the last replies may not be. An interrupted read, write or flush is tried again.
+/// The output is `text b` of the bytes `b` that were read; at `Memory` and `Write` it is a prefix of `text b`. `Read` and `Write` come
+/// exactly where the reader or the writer failed. A reply is handed to the writer before the next line is parsed, so all replies before a
+/// fault are written. The writer is flushed before each further read, so a caller that sends one line at a time gets each reply; a
+/// failed flush is `Write`. At `Ok` all was flushed; at a fault the last replies may not be. An interrupted read, write or flush is
+/// retried.
 pub fn replay<R: Source, W: Sink>(alloc: Global, r: &mut R, w: &mut W) -> Result<(), ReplayFault>
     ensures ok { OnOk result (Replays (R.remaining r.old) (R.remaining r.new) (W.contents w.old) (W.contents w.new)) }
     ensures fine { OnOk result (IsFine (R.calls r.old) (R.calls r.new) × IsFine (W.calls w.old) (W.calls w.new)) }
     ensures err { IfErr result (Stops (seen R.remaining R.calls r.old r.new) (seen W.contents W.calls w.old w.new)) }
-    // Of a script of version 1 the text is the lines of the replies to its steps, and these are a run.
+    // For version 1 the text is the lines of the replies to the steps, and these are a run.
     ensures numbered { (b : List ℕ) → is_titled (lines b) ≡ false → text b ≡ numbered_text (lines b) }
     ensures runs { (p : Pool) (asked : List Step) → AreRun p asked }
-    // Of both versions: the moves that lines ask for have the answers that the replies tell.
+    // For both versions: the moves that lines ask for have the answers in the replies.
     ensures moves { (ls : List (List ℕ)) → MakesMoves ls }
-    // In a script of version 2 each name stands for one task, and what is no task's name for a number that no task has.
+    // For version 2: each name means one task, and a name of no task a number that no task has.
     ensures names { (b : List ℕ) → NamesTasks b }
-    // It is the task that was accepted where the name was given.
+    // It is the task that was accepted under the name.
     ensures given { (b : List ℕ) → KeepsNames b }
 {
     run(alloc, ScriptStage::Start, r, w)
 }
 
-/// The replies to a script that lies in memory. At a fault the replies before it are lost. It is `Line`, `Limits` or `Memory`: nothing
-/// is read or written that could fail.
+/// The replies to a script in memory. At a fault the replies before it are lost. It is `Line`, `Limits` or `Memory`: there is no I/O
+/// that could fail.
 pub fn replayed(alloc: Global, script: &[u8]) -> Result<Vec<u8>, ReplayFault>
     ensures script { IfOk result (λ _. IsScript script.now) }
     ensures text { IfOk result (λ replies. replies.items ≡ text script.now) }
@@ -51,7 +51,7 @@ pub fn replayed(alloc: Global, script: &[u8]) -> Result<Vec<u8>, ReplayFault>
     let mut replies = Vec::new(alloc);
     match replay(alloc, &mut rest, &mut replies) {
         Ok(()) => Ok(replies),
-        // A vector refuses a byte only where memory is refused.
+        // A write to a vector fails only if out of memory.
         Err(ReplayFault::Write) => Err(ReplayFault::Memory),
         Err(fault) => Err(fault),
     }

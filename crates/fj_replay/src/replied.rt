@@ -1,9 +1,9 @@
 use fj_rules::Said;
 
-/// What is replied to a line of a script.
+/// The reply to a line of a script.
 #[derive(Clone, Copy)]
 pub enum Replied {
-    /// What the machine replies to a step, or the refusal of a seal.
+    /// The machine's reply to a step, or the refusal of a seal.
     Said(Said),
     /// 16: the name belongs to a task.
     NameTaken,

@@ -23,7 +23,7 @@ use fj_streams::Sink;
 use std::alloc::Global;
 use std::marker::Model;
 
-/// A machine, by what its tasks go, and what its replies are written with. It is known by the machine's past and the naming.
+/// A machine, the naming of its tasks, and a buffer for replies. Contracts see the machine's past and the naming.
 #[derive(Drop)]
 pub struct Responder {
     machine: Machine,
@@ -45,8 +45,8 @@ impl Model for Responder {
 }
 
 impl Responder {
-    /// A new machine, as the heading says, which stands at this line. `Line` where it is no heading, `Limits` where a limit is out of its
-    /// range, `Memory` where memory is refused.
+    /// A new machine by the heading, which is line `number`. `Line` where it is no heading, `Limits` where a limit is out of its range,
+    /// `Memory` where out of memory.
     pub fn open(
         alloc: Global,
         heading: &[u8],
@@ -68,14 +68,14 @@ impl Responder {
         })
     }
 
-    /// Reads what a line asks for. A fault where it is no line of this version.
+    /// Reads what a line asks for. `LineFault` where it is no line of this version.
     pub fn read(&self, line: &[u8]) -> Result<Asked, LineFault>
         ensures { Reads (asked_in self.now.naming line.now) result }
     {
         self.naming.read(line)
     }
 
-    /// Does what is asked for, and writes the reply. `Memory` or `Write` where only a first part of the reply, or nothing, was written.
+    /// Does what is asked for, and writes the reply. At `Memory` or `Write` only a part of the reply, or nothing, was written.
     pub fn reply<W: Sink>(
         &mut self,
         alloc: Global,
@@ -95,8 +95,7 @@ impl Responder {
         }
     }
 
-    /// Does what is asked for, and tells the reply. Out of memory where a name can't be kept, and then no step is made, or where a seal
-    /// finds no memory.
+    /// Does what is asked for, and answers the reply. Out of memory where a name can't be stored (then no step is made), or in a seal.
     fn make(&mut self, alloc: Global, asked: Asked) -> Result<Replied, OutOfMemory>
         ensures play { OnOk result (self.new ≡ play_after self.old asked) }
         ensures reply { IfOk result (λ reply. reply ≡ replied self.old asked) }
@@ -112,7 +111,7 @@ impl Responder {
         }
     }
 
-    /// A step whose task is to have this name. The name is kept before the step is made, and given back where no task was accepted.
+    /// A step whose task is to have this name. The name is added before the step is made, and removed if no task was accepted.
     fn accept(&mut self, name: Name, step: &Step) -> Result<Replied, OutOfMemory>
         ensures play { OnOk result (self.new ≡ play_after self.old (Asked.Accept name step.now)) }
         ensures reply { IfOk result (λ reply. reply ≡ replied self.old (Asked.Accept name step.now)) }
@@ -127,7 +126,7 @@ impl Responder {
         Ok(Replied::Said(said))
     }
 
-    /// A seal.
+    /// Seals the machine's history.
     fn seal(&mut self, alloc: Global) -> Result<Replied, OutOfMemory>
         ensures play { OnOk result (self.new ≡ play_after self.old Asked.Seal) }
         ensures reply { IfOk result (λ reply. reply ≡ replied self.old Asked.Seal) }
@@ -141,7 +140,7 @@ impl Responder {
         }
     }
 
-    /// Writes a reply. `Memory` or `Write` where only a first part of it, or nothing, was written.
+    /// Writes a reply. At `Memory` or `Write` only a part of it, or nothing, was written.
     fn write<W: Sink>(&mut self, reply: Replied, w: &mut W) -> Result<(), ReplayFault>
         ensures same { self.new ≡ self.old }
         ensures written { OnOk result (Appends (W.contents w.old) (W.contents w.new) (replied_line self.old.naming self.old.past.pool.limits reply)) }

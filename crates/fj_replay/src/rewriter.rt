@@ -21,8 +21,8 @@ use fj_streams::Sink;
 use std::alloc::Global;
 use std::marker::Model;
 
-/// Writes the steps of a script of version 1 as version 2. It makes them on a machine, since only that tells how many tasks were
-/// accepted; it is known by the machine's past.
+/// Writes the steps of a script of version 1 as version 2. It makes them on a machine, to know how many tasks were accepted. Contracts
+/// see the machine's past.
 #[derive(Drop)]
 pub struct Rewriter {
     machine: Machine,
@@ -45,8 +45,8 @@ impl Model for Rewriter {
 }
 
 impl Rewriter {
-    /// A new machine, as the heading says, which stands at this line. `Line` where it is no heading, `Limits` where a limit is out of its
-    /// range, `Memory` where memory is refused.
+    /// A new machine by the heading, which is line `number`. `Line` where it is no heading, `Limits` where a limit is out of its range,
+    /// `Memory` where out of memory.
     pub fn open(alloc: Global, heading: &[u8], number: u64) -> Result<Rewriter, ReplayFault>
         ensures pool { IfOk result (λ r. pool_in heading.now ≡ Some r.pool) }
         ensures fresh { IfOk result (λ r. r ≡ start r.pool) }
@@ -60,8 +60,7 @@ impl Rewriter {
         })
     }
 
-    /// Writes a step's line of version 2, and makes the step. `Memory` or `Write` where only a first part of the line, or nothing, was
-    /// written.
+    /// Writes a step's line of version 2, and makes the step. At `Memory` or `Write` only a part of the line, or nothing, was written.
     pub fn rewrite<W: Sink>(&mut self, asked: &Step, w: &mut W) -> Result<(), ReplayFault>
         ensures past { OnOk result (self.new ≡ grown self.old (answer self.old asked.now).1) }
         ensures written { OnOk result (Appends (W.contents w.old) (W.contents w.new) (named_line (accepted self.old.events) asked.now)) }
@@ -99,7 +98,7 @@ impl Rewriter {
     fn make(&mut self, asked: &Step)
         ensures { self.new ≡ grown self.old (answer self.old asked.now).1 }
     {
-        // These tell that there are few tasks: no more than a history has events.
+        // For the proof: there are no more tasks than a history has events.
         let _limits = self.machine.limits();
         let _history = self.machine.history();
         let said = self.machine.step(asked);

@@ -1,4 +1,4 @@
-//! The loop over what a reader gives, which a replay and an upgrade share.
+//! The read loop of a replay and an upgrade.
 ghost use Rattle.std.specs.Prelude.{◌≡◌, OnOk, IfErr, length};
 ghost use Rattle.fj_replay.specs.declared.session.TheConstants.{CHUNK};
 ghost use Rattle.fj_replay.specs.Sessions.{nothing_kept};
@@ -13,7 +13,7 @@ use fj_streams::{Sink, Source, flush_whole};
 use std::alloc::Global;
 use std::io::ErrorKind;
 
-/// Reads a script that stands at this stage, and writes what its lines give. What was written before a further read is flushed first.
+/// Reads a script from this stage on, and writes what its lines give. Flushes before each further read.
 pub fn run<R: Source, W: Sink>(
     alloc: Global,
     first: ScriptStage,
@@ -54,7 +54,7 @@ fn run_in<R: Source, W: Sink>(
             Ok(0) => return session.finish(),
             Ok(n) => {
                 session.feed_all(alloc, &chunk[..n], w)?;
-                // A reader of these lines has them before the next read waits for more.
+                // The replies are delivered before the next read may block.
                 if flush_whole(w).is_err() {
                     return Err(ReplayFault::Write);
                 }

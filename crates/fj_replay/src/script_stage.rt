@@ -16,24 +16,24 @@ use fj_lines::read_step;
 use fj_streams::Sink;
 use std::alloc::Global;
 
-/// Where a script stands: one that is replayed begins at `Start`, one that is written as version 2 at `Old`.
+/// The state of reading a script: a replay begins at `Start`, an upgrade to version 2 at `Old`.
 #[derive(Drop)]
 pub enum ScriptStage {
     /// Before its first line.
     Start,
-    /// Behind a first line `fj 2`: the heading comes next.
+    /// After a first line `fj 2`: the heading comes next.
     Titled,
-    /// Behind its heading.
+    /// After its heading.
     Plays(Responder),
-    /// Before the heading of a script of version 1 that is to be written as version 2.
+    /// Before the heading of a script of version 1 to upgrade.
     Old,
-    /// Behind that heading.
+    /// After that heading.
     Rewrites(Rewriter),
 }
 
 impl ScriptStage {
-    /// Goes on by a line, which has this number. In a replay nothing is written at `fj 2` and at a heading, and at any other line its
-    /// reply; in an upgrade what the line is in version 2.
+    /// Handles the next line, with this number. A replay writes nothing at `fj 2` and at a heading, and the reply at any other line; an
+    /// upgrade writes the line in version 2.
     pub fn advance<W: Sink>(
         &mut self,
         alloc: Global,
@@ -64,9 +64,9 @@ impl ScriptStage {
         }
     }
 
-    // A frame is cleared at each call, so the new stages of the three below, which each script makes once, stay out of that of `advance`.
+    // Each call clears its frame, so the new stages of the three below, which a script makes once, are kept out of that of `advance`.
 
-    /// Goes on from `Start` by the first line.
+    /// Handles the first line, at `Start`.
     #[cold]
     #[inline(never)]
     fn begin(&mut self, alloc: Global, line: &[u8], number: u64) -> Result<(), ReplayFault>
@@ -82,7 +82,7 @@ impl ScriptStage {
         Ok(())
     }
 
-    /// Goes on from `Titled` by the heading.
+    /// Handles the heading, at `Titled`.
     #[cold]
     #[inline(never)]
     fn open(&mut self, alloc: Global, line: &[u8], number: u64) -> Result<(), ReplayFault>
@@ -95,7 +95,7 @@ impl ScriptStage {
         Ok(())
     }
 
-    /// Goes on from `Old` by the heading.
+    /// Handles the heading, at `Old`.
     #[cold]
     #[inline(never)]
     fn rewrite_head<W: Sink>(

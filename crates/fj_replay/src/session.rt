@@ -17,12 +17,12 @@ use std::marker::Model;
 /// How many bytes are read at once.
 pub const CHUNK: usize = 8192;
 
-/// What is kept of the bytes so far.
+/// The state after the bytes so far.
 #[derive(Drop)]
 pub struct Session {
     // how many whole lines there were
     count: u64,
-    // the line that goes on
+    // the present line so far
     line: Vec<u8>,
     stage: ScriptStage,
 }
@@ -52,14 +52,14 @@ impl Session {
         })
     }
 
-    /// Whether the lines of a chunk more might be more than 64 bits count.
+    /// Whether the lines of one more chunk might overflow the count.
     pub fn is_full(&self) -> bool
         ensures { result ≡ nat_le (2 ^ 64 - 1 - CHUNK) self.now.count }
     {
         self.count >= u64::MAX - CHUNK as u64
     }
 
-    /// Whether so many bytes more have room in the line. `Line` where it gets too long.
+    /// Checks that so many more bytes fit into the line. `Line` where it gets too long.
     fn fits(&self, more: usize) -> Result<(), ReplayFault>
         requires { self.now.count + more < 2 ^ 64 }
         ensures ok { OnOk result (length self.now.line + more ≤ MAX_LINE2) }
@@ -71,7 +71,7 @@ impl Session {
         Ok(())
     }
 
-    /// Keeps bytes of the line. Precondition: they have room.
+    /// Appends bytes to the line. Precondition: they fit.
     fn extend(&mut self, bytes: &[u8])
         requires { length self.old.line + length bytes.now ≤ MAX_LINE2 }
         ensures { self.new ≡ continued self.old bytes.now }
@@ -82,7 +82,7 @@ impl Session {
         }
     }
 
-    /// Takes bytes within a line, which is at fault as soon as it has more than `MAX_LINE2`.
+    /// Takes bytes within a line. `Line` as soon as it has more than `MAX_LINE2`.
     fn keep(&mut self, bytes: &[u8]) -> Result<(), ReplayFault>
         requires { self.old.count + length bytes.now < 2 ^ 64 }
         ensures ok { OnOk result ((length self.old.line + length bytes.now ≤ MAX_LINE2) × (self.new ≡ continued self.old bytes.now)) }
@@ -93,7 +93,7 @@ impl Session {
         Ok(())
     }
 
-    /// Takes the last bytes of a line, behind which it ends. A line that came whole is not copied.
+    /// Takes the last bytes of a line. A line that came whole is not copied.
     fn take_line<W: Sink>(
         &mut self,
         alloc: Global,
@@ -122,7 +122,7 @@ impl Session {
         Ok(())
     }
 
-    /// Takes bytes, up to a fault.
+    /// Takes bytes, up to the first fault.
     pub fn feed_all<W: Sink>(
         &mut self,
         alloc: Global,

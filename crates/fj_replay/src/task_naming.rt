@@ -12,7 +12,7 @@ use fj_lines::{LineFault, Name, Reply, read_line2, read_step};
 use fj_rules::{Limits, Said};
 use std::alloc::AllocError;
 
-/// By what the tasks of a script go.
+/// How a script names its tasks.
 #[derive(Drop)]
 pub enum TaskNaming {
     /// By their numbers, as in version 1.
@@ -22,7 +22,7 @@ pub enum TaskNaming {
 }
 
 impl TaskNaming {
-    /// Reads what a line asks for. A fault where it is no line of this version.
+    /// Reads what a line asks for. `LineFault` where it is no line of this version.
     pub fn read(&self, line: &[u8]) -> Result<Asked, LineFault>
         ensures { Reads (asked_in self.now line.now) result }
     {
@@ -38,7 +38,7 @@ impl TaskNaming {
         }
     }
 
-    /// Gives the next task this name, and tells whether it was free; if not, nothing changes. An error comes where no more can be kept.
+    /// Gives the next task this name if it is free; otherwise answers false and changes nothing. An error only if out of memory.
     pub fn add(&mut self, name: Name) -> Result<bool, AllocError>
         ensures free { IfOk result (λ free. free ≡ not (is_named self.old name)) }
         ensures names { OnOk result (self.new ≡ (if is_named self.old name then self.old else with_name self.old name)) }
@@ -49,7 +49,7 @@ impl TaskNaming {
         }
     }
 
-    /// Takes the last name back.
+    /// Removes the last name.
     pub fn take_back(&mut self)
         ensures { (before : TaskNaming) (name : List ℕ) → self.old ≡ with_name before name → self.new ≡ before }
     {
@@ -59,7 +59,7 @@ impl TaskNaming {
         }
     }
 
-    /// Appends the line of a reply, with its line feed. An error comes where the text can't grow; it then may end in a part of the line.
+    /// Appends the line of a reply, with its line feed. An error comes where the text can't grow; then a part of the line may be appended.
     #[tactic(auto, unfolding(crate::specs::Namings::replied_line))]
     pub fn push_line(
         &self,

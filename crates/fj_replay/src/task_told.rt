@@ -4,7 +4,7 @@ ghost use Rattle.fj_replay.specs.Plays.{is_task};
 
 use fj_rules::{Said, Serial};
 
-/// The first word of a reply that tells of a task, and the task.
+/// The first word of a reply that names a task, and the task.
 pub fn task_told(said: &Said) -> Option<(&'static str, Serial)>
     ensures { MatchOption result (task_told said.now ≡ None) (λ told. task_told said.now ≡ Some (told.0.now, told.1)) }
 {

@@ -20,8 +20,8 @@ pub fn is_title(line: &[u8]) -> bool
     line == b"fj 2".as_slice()
 }
 
-/// Writes the first two lines of a script of version 2, of which the second is this heading. `Memory` or `Write` where only a first part
-/// of them, or nothing, was written.
+/// Writes the first two lines of a script of version 2: `fj 2` and this heading. At `Memory` or `Write` only a part of them, or nothing,
+/// was written.
 pub fn write_head<W: Sink>(alloc: Global, heading: &[u8], w: &mut W) -> Result<(), ReplayFault>
     ensures written { OnOk result (Appends (W.contents w.old) (W.contents w.new) (titled_head heading.now)) }
     ensures err { IfErr result (λ fault. IsReplyFault fault) }

@@ -6,7 +6,7 @@ ghost use Rattle.fj_streams.specs.Beginnings.{AppendsSome};
 use crate::fault::ReplayFault;
 use fj_streams::{Sink, write_whole};
 
-/// Writes all bytes. `Write` where only a first part of them, or nothing, was written.
+/// Writes all bytes. At `Write` only a part of them, or nothing, was written.
 pub fn write_all<W: Sink>(w: &mut W, bytes: &[u8]) -> Result<(), ReplayFault>
     ensures written { OnOk result (Appends (W.contents w.old) (W.contents w.new) bytes.now) }
     ensures fine { OnOk result (IsFine (W.calls w.old) (W.calls w.new)) }

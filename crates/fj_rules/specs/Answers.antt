@@ -62,7 +62,7 @@ arriving c climb.Fires = event.Fire c how.Zero ∷ []
 abbrev pub settling : List Event → ℕ → Status → List Event
 settling h t s = if is_undone (status h t) then event.Settle t s ∷ [] else []
 
--- the task gets the code, and each to whom it is relayed
+-- the task gets the code, and so does each task to which it is relayed
 abbrev pub failing : List Event → ℕ → ℕ → List Event
 failing h t code =
     if is_undone (status h t) then map (λ u. event.Settle u (status_is.Exceptional code)) (relayed h t) else []
@@ -148,7 +148,7 @@ events_of pool h (State t) = []
 -- release
 events_of pool h (Release t) = event.Rel t ∷ []
 
--- ---- replies. Where a step is refused, what stands here is never given
+-- ---- replies. They are not given where the step is refused
 
 abbrev pub taking_says : List Event → Option ℕ → Said
 taking_says h None = says.None
@@ -236,7 +236,7 @@ reply_of pool h (Release t) = says.Done
 
 -- ---- refusals
 
--- the first that stands
+-- the first whose test holds
 abbrev pub first_that_stands : List (Bool × Refusal) → Option Refusal
 first_that_stands [] = None
 first_that_stands (test ∷ tests) = if test.0 then Some test.1 else first_that_stands tests
@@ -280,7 +280,7 @@ count_too_large count = (nat_lt MAX_PENDING count, CountTooLarge)
 abbrev pub too_many_tasks : Pool → List Event → Bool × Refusal
 too_many_tasks pool h = (live h == pool.limits.tasks, TooManyTasks)
 
--- each refusal that the step can meet but LogFull, with whether it stands, in the order in which they are tested
+-- each refusal of the step but LogFull, with its test, in the order of the tests
 abbrev pub refusals_of : Pool → List Event → Step → List (Bool × Refusal)
 -- accept
 refusals_of pool h (Submit s k) =
@@ -315,19 +315,19 @@ refusals_of pool h (State t) = unknown_task h t ∷ []
 -- release
 refusals_of pool h (Release t) = unknown_task h t ∷ (not (is_gone (place h t)) || has_kept_child h t, NotDone) ∷ []
 
--- whether the events since the last seal would be more than the limit by those of the step
+-- whether the events of the step would exceed the limit of events since the last seal
 abbrev pub does_not_fit : Past → Step → Bool
 does_not_fit past asked = nat_lt (limit past) (length past.events + length (events_of past.pool past.events asked))
 
--- why the step is refused, if it is: the first test that stands, and else where its events do not fit
+-- why the step is refused, if it is: the first test that holds, else LogFull if its events do not fit
 unfoldable pub refusal_of : Past → Step → Option Refusal
 refusal_of past asked = or_else (first_that_stands (refusals_of past.pool past.events asked)) (if does_not_fit past asked then Some LogFull else None)
 
--- what a refused step, and one that is not refused, replies and appends
+-- the reply and the events of a refused step, and of one that is not refused
 abbrev pub answer_of : Past → Step → Option Refusal → Said × List Event
 answer_of past asked (Some refusal) = (says.Refused refusal, [])
 answer_of past asked None = (reply_of past.pool past.events asked, events_of past.pool past.events asked)
 
--- the one reply to the step, and the events that it appends
+-- the reply to the step, and the events that it appends
 unfoldable pub answer : Past → Step → Said × List Event
 answer past asked = answer_of past asked (refusal_of past asked)

@@ -19,7 +19,7 @@ path_up (suc most) h (Some c) = c ∷ path_up most h (parent h c)
 unfoldable pub path : List Event → ℕ → List ℕ
 path h c = path_up (suc c) h (Some c)
 
--- the longest beginning of the path in which each is undone, and each but the last says relay
+-- the longest prefix of the path in which each is undone, and each but the last says relay
 unfoldable pub relayed_along : List Event → List ℕ → List ℕ
 relayed_along h [] = []
 relayed_along h (c ∷ above) =
@@ -35,7 +35,7 @@ pub data Arrival : Type 0 where
   Early : Arrival
   Fires : Arrival
 
--- the first that holds
+-- the first case that holds
 unfoldable pub arrival : List Event → ℕ → Arrival
 arrival h c =
     if is_spent h c then Spent
@@ -49,7 +49,7 @@ does_fire Spent = false
 does_fire Counted = false
 does_fire Early = false
 
--- the longest beginning of the path at whose members an arrival fires
+-- the longest prefix of the path at whose members an arrival fires
 unfoldable pub passed : List Event → ℕ → List ℕ
 passed h c = take_while (λ d. does_fire (arrival h d)) (path h c)
 

@@ -13,18 +13,18 @@ use Rattle.fj_rules.specs.Answers.{is_quiet, first_that_stands}
 use Rattle.fj_rules.specs.Pasts.{Past, fresh, sealed_now}
 use Rattle.fj_rules.specs.Runs.{Steps}
 
--- each refusal that a seal can meet but out of memory, with whether it stands, in the order in which they are tested
+-- each refusal of a seal but OutOfMemory, with its test, in the order of the tests
 abbrev pub seal_refusals : Past → List (Bool × Refusal)
 seal_refusals past =
     (not (is_quiet past.pool.limits past.events), NotIdle)
     ∷ (is_closed past.events || is_stopped past.events, Closed)
     ∷ (nat_lt MAX_EVENTS_AND_SEALS (length past.events + past.seals), LogFull) ∷ []
 
--- the first that stands
+-- the first whose test holds
 unfoldable pub seal_refusal : Past → Option Refusal
 seal_refusal past = first_that_stands (seal_refusals past)
 
--- a seal may be refused so: by the first that stands, and where none stands as out of memory
+-- how a seal may be refused: by the first whose test holds, and where none holds as out of memory
 abbrev pub RefusesSeal : Past → Refusal → Type 0
 RefusesSeal past refusal = (seal_refusal past ≡ Some refusal) ⊎ ((seal_refusal past ≡ None) × (refusal ≡ OutOfMemory))
 

@@ -27,7 +27,7 @@ use Rattle.fj_rules.specs.Completers.{pending}
 use Rattle.fj_rules.specs.Places.{open_tasks, gone}
 use Rattle.fj_rules.specs.Pasts.{Past}
 
--- the lists of all places, joined
+-- the lists of all places, concatenated
 unfoldable pub all_places : Bounds → List Event → List ℕ
 all_places l h = flat_map (queue h) (owners l) ++ flat_map (stack h) (workers l) ++ open_tasks h ++ gone h
 
@@ -54,7 +54,7 @@ keeps_order Async o = true
 keeps_order Joining (Sub s) = true
 keeps_order Joining (Work w) = false
 
--- what left each such queue is a beginning of what was pushed there
+-- what left each such queue is a prefix of what was pushed there
 abbrev pub LeftInOrder : Mode → List Event → Type 0
 LeftInOrder mode h = (o : Owner) → keeps_order mode o ≡ true → IsPrefix (left h o) (pushed h o)
 
@@ -85,7 +85,7 @@ FiresByCompleteOnlyOwn pool =
     (past : Past) (asked : Step) (c : ℕ) → past.pool ≡ pool → Contains (answer past asked).1 (Fire c Complete)
     → (w : ℕ) × (asked ≡ ask.End w ending.Complete) × (running past.events w ≡ Some c)
 
--- the task that a reply accepts, the one that it hands out for running, and the completer whose hook it hands out
+-- the task that a reply accepts, the task that it hands out to run, and the completer whose hook it hands out
 abbrev pub task_in : Said → Option ℕ
 task_in (says.Task t) = Some t
 task_in _ = None
@@ -98,7 +98,7 @@ abbrev pub hook_in : Said → Option ℕ
 hook_in (says.Hook c) = Some c
 hook_in _ = None
 
--- the replies `task` are for the tasks that were accepted, `run` for those that were handed out, `hook` for the hooks, one for one
+-- in order, one reply `task` for each task accepted, one `run` for each task handed out, one `hook` for each hook handed out
 pub record RepliesTell (h : List Event) (replies : List Said) : Type 0 where
   pub accepts : tasks h ≡ filter_map task_in replies
   pub runs : handed_out h ≡ filter_map run_in replies

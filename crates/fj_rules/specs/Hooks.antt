@@ -1,15 +1,15 @@
--- Whose completion action is in whose hand.
+-- Which completion action is in which worker's hand.
 use Rattle.std.specs.Prelude.{ℕ, not, ◌==◌, if◌then◌else◌, List, [], ◌∷◌, ◌++◌, Option, Some, None}
 use Rattle.std.specs.List.{filter, fold}
 use Rattle.fj_rules.specs.declared.event.Event.{Event}
 use Rattle.fj_rules.specs.declared.event.Event.TheVariants.{End, Fire, Hooked}
 
--- a hook that was handed out: whose it is the completion action, and in whose hand it is
+-- a hook that was handed out: its completer, and the worker in whose hand it is
 pub record Hook : Type 0 where
   pub completer : ℕ
   pub worker : ℕ
 
--- what a history says of hooks
+-- the hooks of a history
 pub record Hooks : Type 0 where
   -- those that have not ended, the oldest first
   pub in_hands : List Hook
@@ -18,7 +18,7 @@ pub record Hooks : Type 0 where
   -- the worker whose hook ended last
   pub last_worker : Option ℕ
 
--- to whom the hook of c goes: to the worker at whom the body of c ended just before, otherwise to the one whose hook ended last
+-- the worker that gets the hook of c: where the body of c ended just before, otherwise where a hook ended last
 abbrev pub receiver : ℕ → Option (ℕ × ℕ) → Option ℕ → Option ℕ
 receiver c (Some end) last = if end.0 == c then Some end.1 else last
 receiver c None last = last
@@ -49,7 +49,7 @@ hooks_after s _ = record { in_hands = s.in_hands; just_ended = None; last_worker
 abbrev pub no_hooks : Hooks
 no_hooks = record { in_hands = []; just_ended = None; last_worker = None }
 
--- what a history says of hooks, read event by event
+-- the hooks of a history, computed event by event
 unfoldable pub hooks : List Event → Hooks
 hooks h = fold hooks_after no_hooks h
 

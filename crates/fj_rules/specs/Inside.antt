@@ -1,4 +1,4 @@
--- What the steps of workers leave.
+-- What the steps of workers do not change.
 use Rattle.std.specs.Prelude.{ℕ, ◌≡◌, Bool, true, false}
 use Rattle.fj_rules.specs.declared.owner.Owner.TheVariants.{Sub}
 use Rattle.fj_rules.specs.declared.step.Step.{Step}
@@ -7,7 +7,7 @@ use Rattle.fj_rules.specs.Queues.{pushed}
 use Rattle.fj_rules.specs.Allowed.{is_closed, is_stopped}
 use Rattle.fj_rules.specs.Pasts.{Past}
 
--- whether the step is of submitters, or shuts
+-- whether the step is a submission, a shutdown or a stop
 abbrev pub is_outside_step : Step → Bool
 is_outside_step (ask.Submit s k) = true
 is_outside_step ask.Shutdown = true

@@ -1,4 +1,4 @@
--- Words on lists and cases.
+-- Functions of lists and options.
 use Rattle.std.specs.Prelude.{ℕ, Bool, true, false, not, ◌-◌, ◌==◌, List, [], ◌∷◌, length, Option, Some, None, slice_get}
 use Rattle.std.specs.List.{filter, list_any, count_by}
 use Rattle.fj_rules.specs.declared.event.Event.{Event}
@@ -16,12 +16,12 @@ is_empty (t ∷ ts) = false
 abbrev pub without : List ℕ → List ℕ → List ℕ
 without ts us = filter (λ t. not (is_in t us)) ts
 
--- the first of the two, and where it is none the second
+-- the first option, or the second if the first is none
 abbrev pub or_else : {A : Type 0} → Option A → Option A → Option A
 or_else (Some x) later = Some x
 or_else None later = later
 
--- what the first event that says anything says
+-- the first value that an event gives
 abbrev pub first_said : {A : Type 0} → (Event → Option A) → List Event → Option A
 first_said says [] = None
 first_said says (e ∷ later) = or_else (says e) (first_said says later)
@@ -37,6 +37,6 @@ first_of ts = slice_get ts 0
 abbrev pub last_of : List ℕ → Option ℕ
 last_of ts = slice_get ts (length ts - 1)
 
--- how often the number stands in the list
+-- how often the number occurs in the list
 abbrev pub times_in : ℕ → List ℕ → ℕ
 times_in t ts = count_by (λ u. u == t) ts

@@ -1,4 +1,4 @@
--- What a machine is known by, and what of it was sealed.
+-- The state of a machine as contracts see it, and what of it was sealed.
 use Rattle.std.specs.Prelude.{ℕ, ◌+◌, List, [], ◌++◌, length, drop}
 use Rattle.fj_rules.specs.declared.event.Event.{Event}
 use Rattle.fj_rules.specs.declared.mode.Mode.{Mode}
@@ -28,7 +28,7 @@ sealed_now past = record past { sealed = past.events; seals = past.seals + 1 }
 abbrev pub present : Past → List Event
 present past = drop (length past.sealed) past.events
 
--- the tasks that came to be gone since the last seal
+-- the tasks that became gone since the last seal
 abbrev pub gone_since : Past → List ℕ
 gone_since past = drop (length (gone past.sealed)) (gone past.events)
 

@@ -26,7 +26,7 @@ worker_by t _ = None
 unfoldable pub queued_in : List Event → ℕ → Option Owner
 queued_in h t = find (λ o. is_in t (queue h o)) (filter_map (owner_by t) h)
 
--- the worker in whose stack the task is
+-- the worker on whose stack the task is
 unfoldable pub held_by : List Event → ℕ → Option ℕ
 held_by h t = find (λ w. is_in t (stack h w)) (filter_map (worker_by t) h)
 

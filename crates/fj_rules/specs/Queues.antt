@@ -1,4 +1,4 @@
--- What stands in each queue.
+-- What is in each queue.
 use Rattle.std.specs.Prelude.{ℕ, Bool, false, ◌==◌, List, Option, Some, None}
 use Rattle.std.specs.List.{filter, filter_map}
 use Rattle.fj_rules.specs.declared.event.Event.{Event}
@@ -36,6 +36,6 @@ taken h = filter_map taken_by h
 unfoldable pub left : List Event → Owner → List ℕ
 left h o = filter (λ t. is_in t (pushed h o)) (taken h)
 
--- what was pushed, without what left
+-- the tasks pushed and not left, in order
 unfoldable pub queue : List Event → Owner → List ℕ
 queue h o = without (pushed h o) (left h o)

@@ -1,4 +1,4 @@
--- Which tasks can be released, while completion actions are in hands.
+-- Which tasks can be released while completion actions are running.
 use Rattle.std.specs.Prelude.{ℕ, ◌≡◌, Bool, true, ◌&&◌, not, map, List, [], ◌∷◌, ◌++◌}
 use Rattle.fj_rules.specs.declared.event.Event.{Event}
 use Rattle.fj_rules.specs.declared.event.Event.TheVariants.{Rel}

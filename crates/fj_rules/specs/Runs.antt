@@ -8,7 +8,7 @@ use Rattle.fj_rules.specs.Bounds.{Bounds}
 use Rattle.fj_rules.specs.Answers.{answer}
 pub use Rattle.fj_rules.specs.Pasts.{Past, fresh, grown}
 
--- to the step at this past there is this reply, and these events are appended
+-- at this past the step has this reply, and appends these events
 abbrev pub Answers : Past → Step → Said → List Event → Type 0
 Answers past asked reply events = answer past asked ≡ (reply, events)
 

@@ -11,13 +11,13 @@ accepts t (Acc u o k) = u == t
 accepts t (Make u k) = u == t
 accepts t _ = false
 
--- the status that this event gives the task; `before` tells whether it was accepted before the event
+-- the status that this event gives the task; `before`: whether it was accepted before the event
 abbrev pub status_by : ℕ → Bool → Event → Option Status
 status_by t before (Settle u s) = if u == t then Some s else None
 status_by t before Stop = if before then Some Cancelled else None
 status_by t before _ = None
 
--- the first status that these events give the task; `before` tells whether it was accepted before them
+-- the first status that these events give the task; `before`: whether it was accepted before them
 unfoldable pub status_from : ℕ → Bool → List Event → Option Status
 status_from t before [] = None
 status_from t before (e ∷ later) = or_else (status_by t before e) (status_from t (before || accepts t e) later)
@@ -26,7 +26,7 @@ abbrev pub or_undone : Option Status → Status
 or_undone (Some s) = s
 or_undone None = Undone
 
--- the first status that the task got, and undone where it got none
+-- the first status that the task got, undone if it got none
 unfoldable pub status : List Event → ℕ → Status
 status h t = or_undone (status_from t false h)
 
@@ -36,7 +36,7 @@ is_undone Normal = false
 is_undone (Exceptional code) = false
 is_undone Cancelled = false
 
--- the words by which a reply tells it
+-- its words in a reply
 abbrev pub status_words : Status → List (List ℕ)
 status_words Undone = codes "undone" ∷ []
 status_words Normal = codes "normal" ∷ []

@@ -5,20 +5,20 @@ use crate::refusal::Refusal;
 use crate::said::Said;
 use crate::step::Step;
 
-/// The greatest number to which the events of a history and the seals before them may add up at a seal, so that the numbers of tasks
-/// have 64 bits.
+/// The most that the events of a history plus the seals before may be at a seal, so that task numbers fit into 64 bits. A seal above
+/// it is refused.
 pub const MAX_EVENTS_AND_SEALS: u64 = 4_611_686_018_427_387_904;
 
-/// What a machine is asked for in a run with seals.
+/// A request to a machine in a run with seals.
 #[derive(Clone, Copy)]
 pub enum Move {
     /// A step.
     Step(Step),
-    /// Hand out what has happened since the last seal.
+    /// Hand out the events since the last seal.
     Seal,
 }
 
-/// What a machine answers in a run with seals.
+/// The answer of a machine in a run with seals.
 #[derive(Clone, Copy)]
 pub enum Answer {
     /// The reply to a step.
@@ -32,8 +32,8 @@ pub enum Answer {
 /// A part of a history that was handed out.
 #[derive(Drop)]
 pub struct Sealed {
-    /// What happened in this part, the oldest first.
+    /// The events of this part, the oldest first.
     pub events: Vec<Event>,
-    /// The tasks that came to be gone in it, in that order.
+    /// The tasks that became gone in it, in that order.
     pub gone: Vec<Serial>,
 }

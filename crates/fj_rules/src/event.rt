@@ -12,20 +12,20 @@ pub enum How {
     Complete,
 }
 
-/// One thing that happened. A history is a list of these, the oldest first.
+/// One entry of a history. A history is a list of these, the oldest first.
 #[derive(Clone, Copy, Debug)]
 pub enum Event {
-    /// The task was accepted into the queue of this owner.
+    /// The task was accepted into this owner's queue.
     Acc(Serial, Owner, Kind),
     /// The trigger was made.
     Make(Serial, Kind),
-    /// The task left its queue and was handed to the worker for running.
+    /// The task left its queue and was handed to the worker to run.
     Out(Serial, WorkerId),
     /// The task left its queue, taken by the worker, without being run.
     Skip(Serial, WorkerId),
     /// The body of the task ended at the worker.
     End(Serial, WorkerId),
-    /// So much was added to the pending count of the completer.
+    /// This was added to the completer's pending count.
     Add(Serial, u32),
     /// The pending count of the completer fell by one.
     Dec(Serial),
@@ -35,11 +35,11 @@ pub enum Event {
     Pass(Serial),
     /// The completion action of the completer ended.
     Hooked(Serial),
-    /// The task, undone until then, got this status.
+    /// The task, undone so far, got this status.
     Settle(Serial, Status),
     /// Shutdown: nothing more is accepted from submitters.
     Close,
-    /// Stop: every task accepted before it and still undone is cancelled by it.
+    /// Stop: cancels every task that was accepted before and is undone.
     Stop,
     /// The task was released.
     Rel(Serial),

@@ -29,7 +29,7 @@ impl Model for WorkerId {
     ghost inverse = { λ n. record { 0 = n } };
 }
 
-/// A task's number: 0, 1, 2, .. in order of acceptance, and never used again.
+/// A task's number: 0, 1, 2, .. in order of acceptance, never reused.
 #[derive(Clone, Copy, Debug, PartialEq)]
 pub struct Serial(pub u64);
 

@@ -5,13 +5,13 @@ use crate::ids::Serial;
 pub enum Kind {
     /// A task with a result, as a `RecursiveTask`.
     Plain,
-    /// A task with a completion action, as a `CountedCompleter`. Fields lie in memory as they stand here: in this order an event has 48 bytes.
+    /// A task with a completion action, as a `CountedCompleter`. Fields are laid out in this order: so an event has 48 bytes.
     Completer {
-        /// Whether a code with which it fails is passed on to its parent.
+        /// Whether its fault code is passed on to its parent.
         relay: bool,
-        /// The pending count that it is made with, 0 to [`MAX_PENDING`](crate::MAX_PENDING).
+        /// The initial pending count, 0 to [`MAX_PENDING`](crate::MAX_PENDING).
         count: u32,
-        /// The completer that is arrived at when the completion action of this one has ended, or that a climb goes on to.
+        /// The completer at which it arrives once its completion action has ended, and to which a climb goes on.
         parent: Option<Serial>,
     },
 }
@@ -20,7 +20,7 @@ impl Kind {
     ghost use Rattle.std.specs.Prelude.{◌≡◌, Some};
     ghost use Rattle.fj_rules.specs.Tasks.{parent_in, count_in, relay_in, is_completer_kind};
 
-    /// Whether tasks of this kind are completers.
+    /// Whether this is the kind of a completer.
     pub fn is_completer(&self) -> bool
         ensures { result ≡ is_completer_kind (Some self.now) }
     {
@@ -30,7 +30,7 @@ impl Kind {
         }
     }
 
-    /// The parent that this kind names, if it names one.
+    /// The parent in this kind, if there is one.
     pub fn parent(&self) -> Option<Serial>
         ensures { result ≡ parent_in (Some self.now) }
     {
@@ -40,7 +40,7 @@ impl Kind {
         }
     }
 
-    /// The pending count that a task of this kind is made with: 0 for a plain one.
+    /// The initial pending count: 0 for a plain task.
     pub fn count(&self) -> u32
         ensures { result ≡ count_in (Some self.now) }
     {
@@ -50,7 +50,7 @@ impl Kind {
         }
     }
 
-    /// Whether a task of this kind passes a code with which it fails on to its parent: a completer made so.
+    /// Whether a task of this kind passes its fault code on to its parent: false for a plain one.
     pub fn relays(&self) -> bool
         ensures { result ≡ relay_in (Some self.now) }
     {
@@ -70,7 +70,7 @@ pub enum SubmittedKind {
     Completer {
         /// The relay word, which a root never uses.
         relay: bool,
-        /// The pending count that it is made with, 0 to [`MAX_PENDING`](crate::MAX_PENDING).
+        /// The initial pending count, 0 to [`MAX_PENDING`](crate::MAX_PENDING).
         count: u32,
     },
 }

@@ -1,7 +1,7 @@
 //! The rules of a fork-join pool: its tasks, events, steps, replies, refusals and limits.
 //!
-//! A history is a list of [`Event`]s. All that can be asked about a pool, as what stands in a queue or how far a task has come,
-//! is a definition over its history, in `specs/`; the laws that hold of every history are in `proofs/`.
+//! A history is a list of [`Event`]s. All that can be asked about a pool, such as what is in a queue or the status of a task,
+//! is a definition over its history, in `specs/`; the laws that hold for every history are in `proofs/`.
 #![tactic(auto)]
 
 mod epoch;

@@ -13,13 +13,13 @@ pub const MAX_WORKERS: u32 = 32;
 /// The most submitters of a pool.
 pub const MAX_SUBMITTERS: u32 = 32;
 
-/// The most tasks that a pool may keep at a time.
+/// The most tasks that a pool may keep at once.
 pub const MAX_TASKS: u32 = 4_096;
 
 /// The most events of a history between two seals.
 pub const MAX_EVENTS: u32 = 1_048_576;
 
-/// How large a pool may grow: each limit is from 1 to the constant that bounds it.
+/// The limits of a pool, each from 1 to its constant `MAX_..`.
 #[derive(Clone, Copy, Debug, PartialEq)]
 pub struct Limits {
     workers: u32,
@@ -53,7 +53,7 @@ impl Model for Limits {
 impl Limits {
     ghost use Rattle.fj_rules.specs.Bounds.{IsWithin, IsOwner, bounds, queue_number};
 
-    /// The limits, if each lies in its range; `BadLimits` if one does not.
+    /// The limits. `BadLimits` if one is out of its range.
     pub fn new(workers: u32, submitters: u32, tasks: u32, events: u32) -> Result<Limits, Refusal>
         ensures valid { IsOk result ↔ IsWithin workers submitters tasks events }
         ensures value { IfOk result (λ l. l ≡ bounds workers submitters tasks events) }

@@ -1,6 +1,6 @@
-/// In which order a worker takes the tasks that it forked itself.
+/// The order in which a worker takes tasks from its own queue.
 ///
-/// This is the `asyncMode` of `ForkJoinPool`. Everybody else takes from a queue the oldest first in either mode.
+/// This is the `asyncMode` of `ForkJoinPool`. From every other queue a worker takes the oldest first in either mode.
 #[derive(Clone, Copy, Debug, PartialEq)]
 pub enum Mode {
     /// First in, first out: for tasks that are never joined.

@@ -10,6 +10,6 @@ pub enum Place {
     Held(WorkerId),
     /// A completer whose body has ended, or that was made as a trigger, and that is not spent.
     Open,
-    /// Everything else that was accepted: in no queue, on no stack, and waiting for no arrival.
+    /// Every other accepted task: in no queue, on no stack, and waiting for no arrival.
     Gone,
 }

@@ -1,9 +1,8 @@
 use thiserror::Error;
 
-/// Why a call was refused. A refused call changes nothing, but for two marks: a submitter keeps that it was told `Closed`, a pool that it is
-/// stuck.
+/// Why a call was refused. A refused call changes nothing but two flags: a submitter records that it got `Closed`, a pool that it is stuck.
 ///
-/// Where several hold, a step is answered the first in this order: `NoSuch`, `NotIdle`, `NotRunning`, `Unknown`, `NotCompleter`,
+/// Where several apply, a step reports the first in this order: `NoSuch`, `NotIdle`, `NotRunning`, `Unknown`, `NotCompleter`,
 /// `NotDone`, `OwnStack`, `Closed`, `CountTooLarge`, `TooManyTasks`, `LogFull`.
 #[derive(Clone, Copy, Debug, PartialEq, Error)]
 pub enum Refusal {
@@ -25,7 +24,7 @@ pub enum Refusal {
     /// 6: the worker runs no task, or has no completion action in its hand.
     #[error("the worker runs nothing")]
     NotRunning,
-    /// 7: an undone task on the worker's own stack can't be joined by it.
+    /// 7: the task to join is undone and on the worker's own stack.
     #[error("the task is on the worker's own stack")]
     OwnStack,
     /// 8: the task is of the wrong kind for this step.
@@ -40,7 +39,7 @@ pub enum Refusal {
     /// 11: the lane has taken as many tasks as its capacity.
     #[error("the lane has taken as many tasks as its capacity")]
     LaneSpent,
-    /// 12: memory was refused.
+    /// 12: out of memory.
     #[error("out of memory")]
     OutOfMemory,
     /// 13: a limit is out of its range.

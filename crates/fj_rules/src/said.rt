@@ -10,7 +10,7 @@ pub enum Said {
     Task(Serial),
     /// There is no task to take.
     None,
-    /// The task is handed out for running.
+    /// The task is handed out to run.
     Run(Serial),
     /// The task was done already: it left its queue and is not run.
     Skip(Serial),

@@ -1,8 +1,8 @@
 use std::fmt;
 
-/// How far a task has come. The first status other than `Undone` stays.
+/// How far a task has come. The first status other than `Undone` is final.
 ///
-/// It is displayed as the words that stand for it in the reply `state`.
+/// It is displayed as in the reply `state`.
 #[derive(Clone, Copy, Debug, PartialEq)]
 pub enum Status {
     /// Not completed yet.

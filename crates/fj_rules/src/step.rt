@@ -18,24 +18,25 @@ pub enum Ending {
     Fail(u32),
 }
 
-/// What the machine is asked to do.
+/// A request to the machine.
 ///
-/// The steps stand in eight groups. What reads, defines, makes or tests the steps of a group is named for it.
+/// The steps are in eight groups. Code, definitions and tests of the steps of a group are named after it.
 #[derive(Clone, Copy, Debug, PartialEq)]
 pub enum Step {
-    // accept: a task comes into the pool
-    /// A submitter hands in a task of this kind: `ForkJoinPool.submit`.
+    // accept: a task enters the pool
+    /// A submitter submits a task of this kind: `ForkJoinPool.submit`.
     Submit { s: SubId, kind: SubmittedKind },
     /// The running task of a worker forks a task: `ForkJoinTask.fork`.
     Fork { w: WorkerId, kind: Kind },
     /// The running task of a worker makes a completer with this count and no parent, which is never queued.
     Trigger { w: WorkerId, count: u32 },
     // take: a worker takes a task from a queue
-    /// An idle worker asks for its next task. `r` is where its scan of the queues begins.
+    /// An idle worker asks for its next task. `r`, modulo the number of queues, is where its scan begins.
     Poll { w: WorkerId, r: u32 },
     /// A running task helps: one turn of `ForkJoinTask.helpQuiesce`.
     Help { w: WorkerId, r: u32 },
-    /// A running task joins another one: the status if it is done, else its worker takes its choice. One turn of `ForkJoinTask.join`.
+    /// A running task joins another one: replies its status if it is done, else its worker takes a task, as by `Poll`. One turn of
+    /// `ForkJoinTask.join`.
     Join { w: WorkerId, t: Serial, r: u32 },
     // end: a body or a completion action ends
     /// The body of a worker's running task ends.
@@ -63,6 +64,6 @@ pub enum Step {
     /// Where a task is and how far it has come.
     State { t: Serial },
     // release: a task is forgotten
-    /// Forgets a task that is gone.
+    /// Forgets a task that is gone and that no kept task has as its parent.
     Release { t: Serial },
 }

@@ -15,7 +15,7 @@ result_in (Normal None) = Err Missing
 result_in (Exceptional code) = Err (Failed code)
 result_in Cancelled = Err Missing
 
--- the refusal of a run whose body gave no result: LogFull where it failed with that number, else OutOfMemory
+-- the refusal of a run whose body gave no result: LogFull if it failed with that number, else OutOfMemory
 abbrev pub refusal_of : NoResult → Refusal
 refusal_of (Failed code) = if code == refusal_number LogFull then LogFull else OutOfMemory
 refusal_of Missing = OutOfMemory

@@ -4,7 +4,7 @@ use Rattle.fj_rules.specs.declared.refusal.Refusal.{Refusal}
 use Rattle.fj_rules.specs.declared.refusal.Refusal.TheVariants.{LogFull, OutOfMemory}
 use Rattle.fj_bodies.specs.declared.outcomes.Outcome.{Outcome}
 
--- the history was full, or memory or a thread was refused
+-- the history was full, an allocation failed, or a thread could not be started
 abbrev pub RefusesRun : Refusal → Type 0
 RefusesRun LogFull = ⊤
 RefusesRun OutOfMemory = ⊤

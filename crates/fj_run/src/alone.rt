@@ -34,12 +34,12 @@ impl<B: Body> Play<B> for Alone<B> {
     }
 }
 
-/// Runs a body to its outcome, in a pool of its own: a thread for each worker, and none that outlives the call. A result in the outcome is
-/// right for the key beside it. It follows `ForkJoinPool.invoke`.
+/// Runs a body to its outcome, in a pool of its own: one thread for each worker, none of which outlives the call. A result in the outcome
+/// is right for the key beside it. It follows `ForkJoinPool.invoke`.
 ///
-/// The pool is made by these settings, for one submission. The turnstile is asked before the first turn of each body.
+/// The pool has these settings, for one submission. The turnstile is called before the first turn of each body.
 ///
-/// `LogFull` where the history is full. `OutOfMemory` where memory is refused, or a thread cannot be started; then the body is not run.
+/// `LogFull` if the history is full. `OutOfMemory` if an allocation fails or a thread cannot be started; then the body is not run.
 pub fn run_alone<B: Body + Send, T: Turnstile + Sync, R: Threads + Wait + Sync>(
     rt: &R,
     alloc: Global,

@@ -12,31 +12,31 @@ use std::thread::{Builder, Threads};
 pub struct Crew<'p, 'r, 't, B: Body, N: Naming, T, R> {
     /// The pool.
     pub pool: &'p Pool<B, N>,
-    /// What waits.
+    /// The runtime, for waits.
     pub rt: &'r R,
-    /// What is asked before the first turn of each body.
+    /// Called before the first turn of each body.
     pub turnstile: &'t T,
-    /// How many tasks may be live.
+    /// The limit of live tasks.
     pub places: u32,
 }
 
-/// What came of a pool's run, and what is needed to wind it up.
+/// The outcome of a pool's run, and what is needed to wind it up.
 #[derive(Drop)]
 pub struct Ran<B: Body, N: Naming, P, O> {
-    /// Who has played.
+    /// The player.
     pub player: P,
-    /// What came of the play. None where it was not begun, since a thread could not be started.
+    /// The result of the play. None if it did not begin, as a thread could not be started.
     pub out: Option<O>,
     /// The submitters of the pool.
     pub submitters: Submitters<B, N>,
-    /// What has shut it down.
+    /// Its closer.
     pub closer: Closer<N>,
 }
 
 impl<B: Body, N: Naming, T: Turnstile, R: Wait> Crew<'_, '_, '_, B, N, T, R> {
     /// What one worker does, until the pool has terminated.
     fn work(&self, hand: &mut Hand<B, N>) {
-        // Where the core is stuck, each thread that awaits an outcome hears so.
+        // If the core is stuck, each thread that awaits an outcome gets `LogFull`.
         let _left = self.pool.work(self.rt, hand, self.turnstile);
     }
 
@@ -58,7 +58,7 @@ impl<B: Body, N: Naming, T: Turnstile, R: Wait> Crew<'_, '_, '_, B, N, T, R> {
         }
     }
 
-    /// Stops the pool, in which nothing was submitted.
+    /// Stops the pool. Nothing was submitted.
     fn stop<P: Drop, O: Drop>(
         &self,
         submitters: Submitters<B, N>,
@@ -75,7 +75,7 @@ impl<B: Body, N: Naming, T: Turnstile, R: Wait> Crew<'_, '_, '_, B, N, T, R> {
     }
 }
 
-/// How the thread of a worker starts: by a name that tools such as `top -H` show, as `fj-worker-3`. Without memory for that, by none.
+/// The builder of a worker's thread, with a name that tools such as `top -H` show, as `fj-worker-3`; without one if out of memory.
 fn thread_of(alloc: Global, worker: usize) -> Builder {
     let name: Result<String, AllocError> = format!(in alloc; "fj-worker-{worker}");
     match name {
@@ -84,7 +84,7 @@ fn thread_of(alloc: Global, worker: usize) -> Builder {
     }
 }
 
-/// Plays while a thread works for each hand. Where one cannot be started, nothing is played.
+/// Plays while a thread works for each hand. If one cannot be started, nothing is played.
 pub fn run_all<
     B: Body + Send,
     N: Naming + Send + Sync,

@@ -1,4 +1,4 @@
-//! One body is run to its outcome, by workers in threads, in a pool of its own.
+//! Runs one body to its outcome, by worker threads, in a pool of its own; or lends a pool to a player for one call.
 //!
 //! ```
 //! let outcome = run_alone(&rt, alloc, Settings::workers(4)?, body, &Open)?;

@@ -15,24 +15,24 @@ use std::marker::Brand;
 use std::sync::Wait;
 use std::thread::Threads;
 
-/// What came of a play.
+/// The outcome of a play.
 #[derive(Drop)]
 pub struct Played<B: Body, P, O> {
-    /// Who has played.
+    /// The player.
     pub player: P,
-    /// What it gave.
+    /// What it returned.
     pub out: O,
     /// What is left of the pool.
     pub record: Record<B>,
 }
 
-/// Opens a pool, starts a thread for each worker, and plays. Then the pool is shut down, whatever came of the play; it ends when all that was
-/// submitted was run, and is wound up: what came of the play, with the player and the record of the pool. No thread outlives the call. In Java, from 19 on,
-/// `try (ForkJoinPool pool = new ForkJoinPool(n)) { .. }`.
+/// Opens a pool, starts a thread for each worker, and plays. After the play the pool is always shut down. Once all that was submitted was
+/// run it is wound up. Returns the result of the play, the player and the pool's record. No thread outlives the call. In Java, from 19
+/// on, `try (ForkJoinPool pool = new ForkJoinPool(n)) { .. }`.
 ///
-/// The turnstile is asked before the first turn of each body: `Open` holds nobody.
+/// The turnstile is called before the first turn of each body: `Open` blocks nobody.
 ///
-/// `OutOfMemory` where memory is refused, or a thread cannot be started; then nothing is played, and the player comes back.
+/// `OutOfMemory` if an allocation fails or a thread cannot be started; then nothing is played, and the player comes back.
 pub fn with_pool<B: Body + Send, P: Play<B> + Drop, T: Turnstile + Sync, R: Threads + Wait + Sync>(
     rt: &R,
     alloc: Global,
@@ -68,7 +68,7 @@ where
     }
 }
 
-/// The same with these parts, under this name. Preconditions: the name is that of the parts.
+/// The same with these parts, under this name. Precondition: the name is that of the parts.
 fn open_and_play<
     B: Body + Send,
     N: Naming + Send + Sync,

@@ -15,8 +15,8 @@ pub enum NoResult {
 }
 
 impl NoResult {
-    /// What a call that runs a body for its result alone tells: `LogFull` where the task failed with the number of that refusal, as a body
-    /// does that found no room for an event; `OutOfMemory` in every other case.
+    /// The refusal of a call that runs a body for its result alone: `LogFull` if the task failed with the number of that refusal, as a body
+    /// does that found no room for an event; else `OutOfMemory`.
     pub fn refusal(self) -> Refusal
         ensures told { result ≡ refusal_of self }
         ensures run { RefusesRun result }
@@ -30,7 +30,7 @@ impl NoResult {
 
 /// The result in an outcome, beside the key for which it is right: what `ForkJoinTask.join` returns.
 ///
-/// `Failed` where the task failed, `Missing` where it has no result otherwise.
+/// `Failed` if the task failed, `Missing` if it has no result otherwise.
 pub fn result_in<B: Body>(outcome: Outcome<B>) -> Result<(B::Key, B::Out), NoResult>
     ensures value { result ≡ result_in outcome }
     ensures right { IfOk result (λ r. ∥ B.right r.0 r.1 ∥₁) }

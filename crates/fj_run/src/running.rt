@@ -5,13 +5,13 @@ use fj_pool::{Body, Glance, Naming, Outcome, Pool, Ticket};
 use fj_rules::{Refusal, Sealed, SubId};
 use std::sync::Wait;
 
-/// A pool whose workers are at work, with all its submitters.
+/// A pool whose workers are running, with all its submitters.
 #[derive(Drop)]
 pub struct Running<'p, 'r, B: Body, N: Naming, R> {
     pool: &'p Pool<B, N>,
     rt: &'r R,
     submitters: Submitters<B, N>,
-    /// How many tasks may be live.
+    /// The limit of live tasks.
     places: u32,
     /// How many outcomes were not asked for yet.
     outstanding: u32,
@@ -34,7 +34,7 @@ impl<'p, 'r, B: Body, N: Naming, R: Wait> Running<'p, 'r, B, N, R> {
         }
     }
 
-    /// All submitters, by their numbers.
+    /// All submitters, in order of their numbers.
     pub(crate) fn into_submitters(self) -> Submitters<B, N> {
         let Running {
             pool: _,
@@ -51,7 +51,7 @@ impl<'p, 'r, B: Body, N: Naming, R: Wait> Running<'p, 'r, B, N, R> {
         self.submitters.len()
     }
 
-    /// How many more bodies a submitter takes in its life. None where there is no such submitter.
+    /// How many more bodies a submitter takes in its life. None if there is no such submitter.
     pub fn left(&self, submitter: SubId) -> Option<u32> {
         self.submitters.left(submitter)
     }
@@ -61,10 +61,10 @@ impl<'p, 'r, B: Body, N: Naming, R: Wait> Running<'p, 'r, B, N, R> {
         self.outstanding
     }
 
-    /// Submits a body: `ForkJoinPool.submit`. It takes no lock and waits for nobody. Its outcome is told under the ticket.
+    /// Submits a body: `ForkJoinPool.submit`. It takes no lock and never blocks. The ticket is for the outcome.
     ///
-    /// `TooManyTasks` where as many outcomes are outstanding as there may be live tasks: each submission is to find a place. `NoSuch` where there
-    /// is no such submitter, `LaneSpent` where that has taken as many as it takes in its life. The body comes back each time.
+    /// `TooManyTasks` if as many outcomes are outstanding as there may be live tasks, so that each submission finds room. `NoSuch` if there is
+    /// no such submitter, `LaneSpent` if that has taken as many as it takes in its life. The body comes back each time.
     pub fn submit(&mut self, submitter: SubId, body: B) -> Result<Ticket, (Refusal, B)> {
         if self.outstanding >= self.places {
             return Err((Refusal::TooManyTasks, body));
@@ -74,21 +74,21 @@ impl<'p, 'r, B: Body, N: Naming, R: Wait> Running<'p, 'r, B, N, R> {
         Ok(ticket)
     }
 
-    /// Waits for an outcome, which is told once: `Pool::await_done`.
+    /// Waits for an outcome, which is delivered once: `Pool::await_done`.
     pub fn await_done(&mut self, ticket: Ticket) -> Result<Outcome<B>, Refusal> {
         let answer = self.pool.await_done(self.rt, ticket);
         self.outstanding = self.outstanding.saturating_sub(1);
         answer
     }
 
-    /// The outcome, if it can be told now: `Pool::try_done`.
+    /// The outcome, if it is ready: `Pool::try_done`.
     pub fn try_done(&mut self, ticket: Ticket) -> Option<Result<Outcome<B>, Refusal>> {
         let answer = self.pool.try_done(self.rt, ticket)?;
         self.outstanding = self.outstanding.saturating_sub(1);
         Some(answer)
     }
 
-    /// Waits for the first of several outcomes, in their order, that can be told, and gives its place among them: `Pool::await_any`.
+    /// Waits until one of several outcomes is ready, and returns the first in their order, with its index: `Pool::await_any`.
     pub fn await_any(&mut self, tickets: &[Ticket]) -> Option<(usize, Result<Outcome<B>, Refusal>)>
         ensures place { IfSome result (λ told. told.0 < length tickets.now) }
     {
@@ -97,22 +97,22 @@ impl<'p, 'r, B: Body, N: Naming, R: Wait> Running<'p, 'r, B, N, R> {
         Some(told)
     }
 
-    /// Cancels what was submitted: `Pool::cancel`.
+    /// Cancels a submission: `Pool::cancel`.
     pub fn cancel(&self, ticket: Ticket) -> Result<bool, Refusal> {
         self.pool.cancel(self.rt, ticket)
     }
 
-    /// Whether all that was submitted has ended: `Pool::is_quiescent`.
+    /// Whether nothing is queued or running, after at most one parcel of each lane is taken in: `Pool::is_quiescent`.
     pub fn is_quiescent(&self) -> bool {
         self.pool.is_quiescent(self.rt)
     }
 
-    /// What the pool does at this moment: `Pool::glance`.
+    /// A snapshot of what the pool does: `Pool::glance`.
     pub fn glance(&self) -> Glance {
         self.pool.glance(self.rt)
     }
 
-    /// The sealed parts of the history that nobody has taken yet: `Pool::take_parts`.
+    /// The sealed parts of the history that were not taken yet: `Pool::take_parts`.
     pub fn take_parts(&self) -> Vec<Sealed> {
         self.pool.take_parts(self.rt)
     }

@@ -8,10 +8,10 @@ use fj_rules::{Limits, MAX_EVENTS, MAX_TASKS, MAX_WORKERS, Mode, Refusal};
 use std::thread;
 use std::thread::Threads;
 
-/// With what a pool is made: so many workers, and for all else what suits most.
+/// The settings of a pool: its number of workers, and defaults for all else.
 ///
-/// Of all else: workers take their newest tasks first (`Joining`), one submitter that takes 65,536 bodies in its life, 4,096 tasks and 1,048,576
-/// events, which are the most that there may be, and scan words from 0 on.
+/// The defaults: workers take their newest tasks first (`Joining`); one submitter; 65,536 bodies in its life, 4,096 tasks and 1,048,576
+/// events, which are the maxima; scan words from 0 on.
 #[derive(Clone, Copy, Debug, PartialEq)]
 pub struct Settings {
     mode: Mode,
@@ -21,7 +21,7 @@ pub struct Settings {
 }
 
 impl Settings {
-    /// So many workers, 1 to 32; `BadLimits` for any other number. `new ForkJoinPool(parallelism)`.
+    /// With `workers` workers, 1 to 32; `BadLimits` for any other number. `new ForkJoinPool(parallelism)`.
     pub fn workers(workers: u32) -> Result<Settings, Refusal>
         ensures valid { IsOk result ↔ IsWithin workers 1 MAX_TASKS MAX_EVENTS }
         ensures limits { IfOk result (λ s. s.limits ≡ bounds workers 1 MAX_TASKS MAX_EVENTS) }
@@ -31,7 +31,7 @@ impl Settings {
         Ok(Settings::with_limits(Limits::new(workers, 1, MAX_TASKS, MAX_EVENTS)?))
     }
 
-    /// As many workers as this process has processors, at most 32, and one where the system does not tell. `new ForkJoinPool()`.
+    /// With as many workers as this process has processors, at most 32; with one if the system does not say. `new ForkJoinPool()`.
     pub fn available<R: Threads>(rt: &R) -> Settings
         ensures limits { result.limits ≡ bounds result.limits.workers 1 MAX_TASKS MAX_EVENTS }
         ensures mode { (result.mode ≡ Mode.Joining) × (result.start ≡ 0) }
@@ -46,7 +46,7 @@ impl Settings {
         settings
     }
 
-    /// These limits, and for all else what suits most.
+    /// With these limits, and defaults for all else.
     pub fn with_limits(limits: Limits) -> Settings
         ensures limits { result.limits ≡ limits }
         ensures mode { (result.mode ≡ Mode.Joining) × (result.start ≡ 0) }
@@ -67,7 +67,7 @@ impl Settings {
         Settings { mode, ..self }
     }
 
-    /// The same where the scan word of worker 0 is this one, and that of each further worker one more: where it looks for work first.
+    /// The same with this scan word of worker 0, and one more for each further worker: it says where a worker looks for work first.
     pub fn starting_at(self, start: u32) -> Settings
         ensures start { result.start ≡ start }
         ensures others { (result.limits ≡ self.limits) × (result.lane_capacity ≡ self.lane_capacity) × (result.mode ≡ self.mode) }
@@ -75,7 +75,7 @@ impl Settings {
         Settings { start, ..self }
     }
 
-    /// The same where each submitter takes so many bodies in its life, 1 to 65,536; `BadLimits` for any other number.
+    /// The same, but each submitter takes `bodies` bodies in its life, 1 to 65,536; `BadLimits` for any other number.
     pub fn with_lane_capacity(self, bodies: u32) -> Result<Settings, Refusal>
         ensures valid { IsOk result ↔ ((1 ≤ bodies) × (bodies ≤ MAX_CAPACITY)) }
         ensures capacity { IfOk result (λ s. s.lane_capacity ≡ bodies) }

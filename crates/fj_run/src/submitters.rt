@@ -4,7 +4,7 @@ ghost use Rattle.fj_pool.specs.Winding.{AreAll};
 use fj_pool::{Body, Naming, Submitter, Ticket};
 use fj_rules::{Refusal, SubId};
 
-/// All submitters of a pool, by their numbers.
+/// All submitters of a pool, in order of their numbers.
 #[derive(Drop)]
 pub struct Submitters<B: Body, N: Naming> {
     pub all: Vec<Submitter<B, N>>,
@@ -12,14 +12,14 @@ pub struct Submitters<B: Body, N: Naming> {
 }
 
 impl<B: Body, N: Naming> Submitters<B, N> {
-    /// Precondition: these are all, by their numbers.
+    /// Precondition: these are all, in order of their numbers.
     pub fn new(all: Vec<Submitter<B, N>>) -> Submitters<B, N>
         requires { AreAll (length N.lanes) all.items }
     {
         Submitters { all }
     }
 
-    /// All, by their numbers.
+    /// All, in order of their numbers.
     pub fn into_all(self) -> Vec<Submitter<B, N>>
         ensures { AreAll (length N.lanes) result.items }
     {
@@ -31,12 +31,12 @@ impl<B: Body, N: Naming> Submitters<B, N> {
         self.all.len()
     }
 
-    /// How many more bodies this one takes. None where there is no such submitter.
+    /// How many more bodies this one takes. None if there is no such submitter.
     pub fn left(&self, submitter: SubId) -> Option<u32> {
         Some(self.all.get(submitter.0 as usize)?.left())
     }
 
-    /// This one hands a body in: `NoSuch` where there is no such submitter.
+    /// This one submits a body: `NoSuch` if there is no such submitter, `LaneSpent` or `Closed` as `Submitter::submit`.
     pub fn submit(&mut self, submitter: SubId, body: B) -> Result<Ticket, (Refusal, B)> {
         let place = submitter.0 as usize;
         if place >= self.all.len() {

@@ -10,24 +10,24 @@ use fj_run::{Body, Naming, Play, Refusal, Running, SubId};
 use std::alloc::Global;
 use std::sync::Wait;
 
-/// How many outcomes are told between two looks for sealed parts.
+/// How many outcomes are reported between two takes of sealed parts.
 const TOLD_PER_LOOK: u64 = 4_096;
 
-/// What feeds the pools of a service, one after another.
+/// The player that feeds the pools of a service, one after another.
 #[derive(Drop)]
 pub struct Feeding<B: Body, S, K> {
     pub source: S,
     pub sink: K,
     pub window: Window,
-    /// What is under way in the pool that serves now.
+    /// What is under way in the current pool.
     pub under_way: UnderWay,
     /// The submitter whose lane is filled now.
     pub lane: SubId,
-    /// A body that came, and was not submitted.
+    /// A body that came, but was not submitted yet.
     pub next: Option<B>,
     /// Whether the source has ended.
     pub is_over: bool,
-    /// How many bodies were submitted, and of how many the outcome was told.
+    /// How many bodies were submitted, and how many outcomes were reported.
     pub submitted: u64,
     pub told: u64,
     /// Why it cannot go on, if it cannot.
@@ -54,7 +54,7 @@ impl<B: Body, S: Drop, K: Drop> Feeding<B, S, K> {
 }
 
 impl<B: Body, S: Source<B>, K: Sink<B>> Feeding<B, S, K> {
-    /// The body that comes next.
+    /// The next body, if there is one.
     fn next_body(&mut self) -> Option<B>
         ensures { (self.new.submitted ≡ self.old.submitted) × (self.new.under_way ≡ self.old.under_way) }
     {
@@ -69,7 +69,7 @@ impl<B: Body, S: Source<B>, K: Sink<B>> Feeding<B, S, K> {
         next
     }
 
-    /// Submits the next body, where there is one. Whether one more is under way.
+    /// Submits the next body, if there is one. False if the window cannot be filled further.
     fn feed<N: Naming, R: Wait>(&mut self, pool: &mut Running<'_, '_, B, N, R>) -> bool {
         if self.submitted == u64::MAX {
             self.refusal = Some(Refusal::LaneSpent);
@@ -95,7 +95,7 @@ impl<B: Body, S: Source<B>, K: Sink<B>> Feeding<B, S, K> {
         }
     }
 
-    /// The next of so many lanes is filled from now on. Whether there is one.
+    /// Goes on to the next of `lanes` lanes. False if there is none.
     fn change_lane(&mut self, lanes: usize) -> bool
         ensures { (self.new.submitted ≡ self.old.submitted) × (self.new.under_way ≡ self.old.under_way) }
     {
@@ -118,7 +118,7 @@ impl<B: Body, S: Source<B>, K: Sink<B>> Feeding<B, S, K> {
         }
     }
 
-    /// Waits for an outcome, and tells it. Whether there was one.
+    /// Waits for an outcome, and reports it. False if nothing is under way.
     fn tell<N: Naming, R: Wait>(&mut self, pool: &mut Running<'_, '_, B, N, R>) -> bool {
         let Some((nth, outcome)) = self.under_way.wait(pool, self.told) else {
             return false;

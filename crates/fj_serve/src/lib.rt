@@ -1,7 +1,7 @@
-//! An endless service: bodies from a source, by pools that follow each other, and their outcomes to a sink.
+//! An endless service: bodies come from a source, pools run them, one after another, and their outcomes go to a sink.
 //!
 //! ```
-//! // By 4 workers, with at most 1,000 events under way; outcomes in the order in which the events came.
+//! // 4 workers, at most 1,000 bodies under way, outcomes in the order in which the bodies came.
 //! let settings = Settings::workers(4)?;
 //! let served = serve(&rt, alloc, settings, Window::in_order(1_000), source, sink, &Open)?;
 //! ```

@@ -2,7 +2,7 @@ ghost use Rattle.std.specs.Prelude.{◌≡◌, vec_len};
 
 use fj_run::Ticket;
 
-/// Tickets, and beside each as the how manyth its body came.
+/// Tickets, and beside each the number of its body, from 0, in the order in which they came.
 #[derive(Drop)]
 pub struct Numbered {
     pub tickets: Vec<Ticket>,

@@ -9,12 +9,12 @@ pub enum Reported<K, O> {
     Failed(u32),
     /// It was cancelled, or ended without a result.
     Missing,
-    /// It is not known: `Unknown` where another body has had its result, or has released its task; `LogFull` where the pool got stuck before it
-    /// was reported.
+    /// It is not known: `Unknown` if another body had its result, or released its task; `LogFull` if the pool got stuck before it was
+    /// reported.
     Refused(Refusal),
 }
 
-/// What is reported of an outcome.
+/// The report of an outcome.
 pub fn told_of<B: Body>(outcome: Result<Outcome<B>, Refusal>) -> Reported<B::Key, B::Out> {
     match outcome {
         Ok(outcome) => match result_in(outcome) {

@@ -8,15 +8,16 @@ use std::alloc::Global;
 use std::sync::Wait;
 use std::thread::Threads;
 
-/// A service that has come to its end.
+/// The end of a service whose source has ended.
 #[derive(Drop)]
 pub struct Served<S, K> {
-    /// How many bodies came, of each of which the outcome was told.
+    /// How many bodies came; the outcome of each was reported.
     pub bodies: u64,
     /// How many pools served, one after another.
     pub pools: u64,
-    /// Where the bodies came from, and where their outcomes went.
+    /// Where the bodies came from.
     pub source: S,
+    /// Where their outcomes went.
     pub sink: K,
 }
 
@@ -25,23 +26,24 @@ pub struct Served<S, K> {
 pub struct Unserved<B: Body, S, K> {
     /// Why.
     pub refusal: Refusal,
-    /// Of how many bodies it was told what became of them: of all that were submitted.
+    /// How many bodies were reported: all that were submitted.
     pub bodies: u64,
-    /// A body that came, and was not submitted.
+    /// A body that came, but was not submitted.
     pub next: Option<B>,
-    /// What is left of the last pool: what its lanes still hold, and what had ended without being told.
+    /// What is left of the last pool: what its lanes still hold, and outcomes that were not delivered.
     pub record: Option<Record<B>>,
-    /// Where the bodies came from, and where their outcomes went.
+    /// Where the bodies came from.
     pub source: S,
+    /// Where their outcomes went.
     pub sink: K,
 }
 
-/// Serves until the source ends: what comes from it is submitted in order, at most so many bodies at a time, and what becomes of each is told to
-/// the sink. Pools follow each other: where all lanes of one are spent it is drained and shut down, and the next one opened. In Java, a
-/// `ForkJoinPool` behind a bounded queue.
+/// Serves until the source ends: submits its bodies in order, at most a window of them at a time, and reports the outcome of each to the
+/// sink. When all lanes of a pool are spent it is drained and shut down, and the next pool is opened. In Java, a `ForkJoinPool` behind a
+/// bounded queue.
 ///
-/// `OutOfMemory` where memory is refused or a thread cannot be started; what was submitted is served before. `LogFull` where a pool got stuck, since a
-/// job had more events than its history has room for. `LaneSpent` after 2^64 - 1 bodies.
+/// `OutOfMemory` if an allocation fails or a thread cannot be started; what was submitted is served before. `LogFull` if a pool got stuck,
+/// since a job had more events than its history has room for. `LaneSpent` after 2^64 - 1 bodies.
 pub fn serve<
     B: Body + Send,
     S: Source<B> + Drop,
@@ -95,7 +97,7 @@ struct Serving<'r, 't, R, T> {
 }
 
 impl<R: Threads + Wait + Sync, T: Turnstile + Sync> Serving<'_, '_, R, T> {
-    /// One pool serves until its lanes are spent, or the source ends. Whether that has ended.
+    /// One pool serves until its lanes are spent, or the source ends. True if all is done.
     fn serve_by_one<B: Body + Send, S: Source<B> + Drop, K: Sink<B> + Drop>(
         &self,
         feeding: Feeding<B, S, K>,
@@ -124,7 +126,7 @@ impl<R: Threads + Wait + Sync, T: Turnstile + Sync> Serving<'_, '_, R, T> {
     }
 }
 
-/// What comes back of a service that cannot go on.
+/// What a service that cannot go on returns.
 fn stop<B: Body, S: Drop, K: Drop>(
     feeding: Feeding<B, S, K>,
     refusal: Refusal,

@@ -12,13 +12,13 @@ use std::sync::Wait;
 /// The tickets of what is under way, the oldest first.
 #[derive(Drop)]
 pub enum UnderWay {
-    /// Their outcomes are told in this order.
+    /// Their outcomes are reported in this order.
     InOrder(VecDeque<Ticket>),
-    /// They are told as they end.
+    /// They are reported as they end.
     AsTheyEnd(Numbered),
 }
 
-/// An outcome, and as the how manyth its body came.
+/// The number of a body, and its outcome.
 pub type Reported<B> = (u64, Result<Outcome<B>, Refusal>);
 
 impl UnderWay {
@@ -46,7 +46,7 @@ impl UnderWay {
         }
     }
 
-    /// Room for one more.
+    /// Reserves room for one more.
     pub fn reserve(&mut self) -> Result<(), AllocError>
         ensures same { how_many self.new ≡ how_many self.old }
         ensures room { OnOk result (HasRoom self.new) }
@@ -60,7 +60,7 @@ impl UnderWay {
         }
     }
 
-    /// One more, as the nth. Precondition: there is room.
+    /// Appends the ticket of the nth body. Precondition: there is room.
     pub fn push(&mut self, ticket: Ticket, nth: u64)
         requires { HasRoom self.old }
         ensures { how_many self.new ≡ how_many self.old + 1 }
@@ -74,7 +74,7 @@ impl UnderWay {
         }
     }
 
-    /// Waits for the outcome of the oldest one, before which so many were told, or for the first one that comes. None where nothing is under way.
+    /// Waits for the outcome of the oldest one, which is number `told`, or for the first that ends. None if nothing is under way.
     pub fn wait<B: Body, N: Naming, R: Wait>(
         &mut self,
         pool: &mut Running<'_, '_, B, N, R>,

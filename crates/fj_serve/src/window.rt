@@ -1,6 +1,6 @@
 ghost use Rattle.std.specs.Prelude.{◌≡◌};
 
-/// How many bodies may be under way at a time, and in which order their outcomes are told.
+/// How many bodies may be under way at a time, and in which order their outcomes are reported.
 #[derive(Clone, Copy, Debug, PartialEq)]
 pub struct Window {
     size: u32,
@@ -8,7 +8,7 @@ pub struct Window {
 }
 
 impl Window {
-    /// At most so many, and at least one; outcomes come in the order of the bodies: one that takes long holds up those behind it.
+    /// At most `size`, and at least one; outcomes come in the order of the bodies: one that takes long holds up those behind it.
     pub fn in_order(size: u32) -> Window {
         Window {
             size: size.max(1),
@@ -16,7 +16,7 @@ impl Window {
         }
     }
 
-    /// At most so many, and at least one; outcomes come as they end. Each look for one goes over those that came before it and are under way.
+    /// At most `size`, and at least one; outcomes come as they end. Each wait walks over those that came before and are still under way.
     pub fn as_they_end(size: u32) -> Window {
         Window {
             size: size.max(1),

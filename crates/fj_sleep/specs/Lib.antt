@@ -1,8 +1,8 @@
--- what somebody sleeps for
+-- what threads sleep for
 pub mod Sought
--- what is at a place
+-- the state of a place
 pub mod Places
--- who sleeps
+-- which threads sleep
 pub mod Sleeping
--- who is woken
+-- which threads are woken
 pub mod Waking

@@ -1,4 +1,4 @@
--- What is at a place, and what becomes of it.
+-- The state of a place, and its changes.
 use Rattle.std.specs.Prelude.{Bool, true, false, ◌||◌, if◌then◌else◌, Option, Some, None}
 use Rattle.fj_sleep.specs.declared.sleeper.Sleeper.{Sleeper}
 use Rattle.fj_sleep.specs.declared.sleeper.Sleeper.TheVariants.{Awake, Resting, Waiting, Due, Woken}
@@ -38,11 +38,11 @@ module _ {T : Type 0} where
   waits_for eq t (Waiting u) = eq u t
   waits_for eq t _ = false
 
-  -- whoever passes the test is to be woken
+  -- if the test is passed, the thread is to be woken
   abbrev pub roused_if : (Sleeper T → Bool) → Sleeper T → Sleeper T
   roused_if test s = if test s then Due else s
 
-  -- whoever was to be woken is woken
+  -- a thread that was due is woken
   abbrev pub taken : Sleeper T → Sleeper T
   taken Due = Woken
   taken s = s

@@ -1,29 +1,29 @@
--- Who sleeps, and who is the lookout.
+-- Which threads sleep, and which one is the lookout.
 use Rattle.std.specs.Prelude.{◌≡◌, ◌≤◌, ◌<◌, ℕ, Bool, true, false, Option, None, List, length, All, slice_index_or}
 use Rattle.fj_sleep.specs.declared.places.TheConstants.{MAX_PLACES}
 use Rattle.fj_sleep.specs.declared.sleeper.Sleeper.{Sleeper}
 use Rattle.fj_sleep.specs.declared.sleeper.Sleeper.TheVariants.{Awake}
 use Rattle.fj_sleep.specs.Places.{is_due, is_resting, is_waiting}
 
--- what is at each place, and the place of the lookout
+-- the state of each place, and the place of the lookout
 pub record SleepState (T : Type 0) : Type 0 where
   pub places : List (Sleeper T)
   pub lookout : Option ℕ
 
 module _ {T : Type 0} where
-  -- at no place is the test passed
+  -- no place passes the test
   abbrev pub NobodyIs : (Sleeper T → Bool) → List (Sleeper T) → Type 0
   NobodyIs test places = All (λ s. test s ≡ false) places
 
-  -- there is this place, and there the test is passed
+  -- this place exists, and passes the test
   abbrev pub IsAt : (Sleeper T → Bool) → List (Sleeper T) → ℕ → Type 0
   IsAt test places p = (p < length places) × (test (slice_index_or places p Awake) ≡ true)
 
-  -- whoever rests has a lookout
+  -- if anybody rests, there is a lookout
   abbrev pub IsWatched : List (Sleeper T) → Option ℕ → Type 0
   IsWatched places lookout = lookout ≡ None → NobodyIs is_resting places
 
-  -- the places are few, they are watched, and what is said to be nowhere is nowhere
+  -- the places are few and watched, and a state whose flag is false occurs nowhere
   pub record AreNoted (places : List (Sleeper T)) (lookout : Option ℕ) (waiting resting due : Bool) : Type 0 where
     pub few : length places ≤ MAX_PLACES
     pub watched : IsWatched places lookout

@@ -1,4 +1,4 @@
--- What somebody sleeps for.
+-- What threads sleep for.
 use Rattle.std.specs.Prelude.{Bool, true, false, ◌≡◌}
 use Rattle.fj_sleep.specs.declared.wanted.Wanted.{Wanted}
 use Rattle.fj_sleep.specs.declared.wanted.Wanted.TheVariants.{Nothing, One, Several}
@@ -15,6 +15,6 @@ module _ {T : Type 0} where
   is_unwanted Nothing = true
   is_unwanted _ = false
 
-  -- for whatever somebody may have slept, somebody still may
+  -- what somebody may have slept for, somebody still may
   abbrev pub KeepsSought : (T → T → Bool) → Wanted T → Wanted T → Type 0
   KeepsSought eq old new = (t : T) → may_want eq old t ≡ true → may_want eq new t ≡ true

@@ -1,4 +1,4 @@
--- Who goes to sleep, and who is woken.
+-- Which threads go to sleep, and which are woken.
 use Rattle.std.specs.Prelude.{◌≡◌, ◌≢◌, ℕ, Bool, false, ◌⊎◌, Option, Some, None, List, slice_index_or, slice_set}
 use Rattle.std.specs.Option.{option_or}
 use Rattle.fj_sleep.specs.declared.sleeper.Sleeper.{Sleeper}
@@ -9,25 +9,25 @@ use Rattle.fj_sleep.specs.Places.{is_asleep, is_due, is_resting, is_waiting, rou
 use Rattle.fj_sleep.specs.Sleeping.{IsAt, NobodyIs, SleepState}
 
 module _ {T : Type 0} where
-  -- whether somebody is one of these
+  -- whether a thread is one of these
   abbrev pub includes : (T → T → Bool) → Whom T → Sleeper T → Bool
   includes eq All = is_asleep
   includes eq Waiting = is_waiting
   includes eq (WaitingFor t) = waits_for eq t
 
-  -- who is at this place rests, and is the lookout where there was none
+  -- the thread at this place rests, and is the lookout if there was none
   abbrev pub with_resting : SleepState T → ℕ → SleepState T
   with_resting old p = record { places = slice_set old.places p Resting; lookout = option_or old.lookout (Some p) }
 
-  -- who is at this place is to be woken
+  -- the thread at this place is to be woken
   abbrev pub with_due : SleepState T → ℕ → SleepState T
   with_due old p = record old { places = slice_set old.places p Due }
 
-  -- who sleeps at this place is to be woken
+  -- the thread that sleeps at this place is to be woken
   abbrev pub with_roused : SleepState T → ℕ → SleepState T
   with_roused old p = record old { places = slice_set old.places p (roused_if is_asleep (slice_index_or old.places p Awake)) }
 
-  -- one who rests is the lookout now, and is to be woken; or nobody rests, and nobody is the lookout
+  -- one that rests is the lookout now, and is to be woken; or nobody rests, and nobody is the lookout
   abbrev pub PassesOn : SleepState T → SleepState T → Type 0
   PassesOn old new =
       ((p : ℕ) × IsAt is_resting old.places p × (new ≡ record (with_due old p) { lookout = Some p }))
@@ -37,7 +37,7 @@ module _ {T : Type 0} where
   abbrev pub OnlyLookoutRests : List (Sleeper T) → Option ℕ → Type 0
   OnlyLookoutRests places lookout = (p : ℕ) → IsAt is_resting places p → lookout ≡ Some p
 
-  -- somebody sleeps at this place: one who rests if anybody does, and not the lookout if another one rests
+  -- a thread sleeps at this place: one that rests if any does, and not the lookout if another one rests
   pub record MayWake (places : List (Sleeper T)) (lookout : Option ℕ) (p : ℕ) : Type 0 where
     pub asleep : IsAt is_asleep places p
     pub rests : (q : ℕ) → IsAt is_resting places q → IsAt is_resting places p

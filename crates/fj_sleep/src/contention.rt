@@ -1,34 +1,34 @@
 ghost use Rattle.std.specs.Prelude.{◌≤◌};
 ghost use Rattle.fj_sleep.specs.declared.contention.TheConstants.{MOST_PAUSES};
 
-/// Of so many looks it is counted how many found the lock held.
+/// The scale of `held`: the lock was held at each try.
 const COUNTED: u32 = 4_096;
 
-/// The shortest wait before another look, in pauses of the processor.
+/// The shortest wait before a retry, in pauses of the processor.
 const FEWEST_PAUSES: u32 = 16;
 
-/// The longest one.
+/// The longest one, in pauses.
 const MOST_PAUSES: u32 = 8_192;
 
 /// How often the wait doubles, from a lock that was always free to one that was always held.
 const DOUBLINGS: u32 = 9;
 
-/// How often it doubles on top of that, while one thread looks again and again.
+/// How often it doubles on top of that, while one thread retries.
 const MORE_DOUBLINGS: u32 = 2;
 
-/// How often a thread has found the lock held of late.
+/// How often a thread found the lock held lately: an exponential average, by which it backs off.
 ///
-/// All that a lock guards goes to another processor each time that the lock changes hands, which takes longer than a short action does. So
-/// where workers contend for it all the time they are slower together than one alone, and one that mostly finds it held looks less often.
+/// What a lock guards moves to another processor each time the lock changes hands, which takes longer than a short action. So workers that
+/// contend for it all the time are slower together than one alone, and one that mostly finds it held retries less often.
 #[derive(Drop)]
 pub struct Contention {
-    /// How many of `COUNTED` looks found it held, those of late counting most.
+    /// How many of `COUNTED` tries found it held; the latest count most.
     held: u32,
     ghost part: { held ≤ 4096 },
 }
 
 impl Contention {
-    /// There is none.
+    /// No contention yet.
     pub fn new() -> Contention {
         Contention { held: 0 }
     }
@@ -38,7 +38,8 @@ impl Contention {
         self.held -= self.held / 8;
     }
 
-    /// The lock was held, as it was so many times before in a row. For how many pauses of the processor to wait before the next look.
+    /// The lock was held, as at `before` tries in a row before. Returns how many pauses of the processor to wait before the next try, at
+    /// most 8,192.
     pub fn find_held(&mut self, before: u32) -> u32
         ensures { result ≤ MOST_PAUSES }
     {

@@ -5,7 +5,7 @@ ghost use Rattle.fj_sleep.specs.declared.idle.TheConstants.{LONGEST_SLEEP};
 use crate::sleeps::Sleeps;
 use std::time::Duration;
 
-/// How often a worker looks for work before it sleeps in between.
+/// How often a worker yields between looks for work, before it sleeps instead.
 const YIELDS: u32 = 16;
 
 /// The first sleep, in microseconds.
@@ -14,8 +14,8 @@ const FIRST_SLEEP: u64 = 16;
 /// The longest sleep, in microseconds.
 const LONGEST_SLEEP: u64 = 800;
 
-/// How a worker waits that finds nothing to do: it yields, and after some rounds it sleeps, longer and longer, since a push into a lane
-/// wakes nobody.
+/// The back-off of a worker that finds nothing to do: it yields, and after some rounds it sleeps, longer and longer. It looks again by
+/// itself, since a push into a lane wakes nobody.
 #[derive(Drop)]
 pub struct Idle {
     rounds: u32,
@@ -24,7 +24,7 @@ pub struct Idle {
 }
 
 impl Idle {
-    /// It has just done something.
+    /// The worker has just done something.
     pub fn new() -> Idle {
         Idle {
             rounds: 0,
@@ -32,7 +32,7 @@ impl Idle {
         }
     }
 
-    /// It rests. How long to sleep before the next look; none where a yield is enough.
+    /// How long to sleep before the next look, at most 0.8 milliseconds; none if a yield is enough.
     pub fn next_sleep(&mut self) -> Option<Duration>
         ensures { IfSome result (λ sleep. as_nanos sleep ≤ LONGEST_SLEEP * 1_000) }
     {

@@ -1,4 +1,4 @@
-//! Who sleeps, who is woken, and how long a thread sleeps that looks again and again.
+//! Which threads sleep, which are woken, and how long a thread that polls sleeps.
 //!
 //! ```
 //! let seen = condvar.notifications();

@@ -2,10 +2,10 @@ ghost use Rattle.std.specs.Prelude.{◌≡◌, false, slice_index_or};
 
 use std::marker::Model;
 
-/// So many places at most have those who sleep.
+/// The largest number of places.
 pub const MAX_PLACES: usize = 32;
 
-/// Some of the places.
+/// A set of places.
 #[derive(Clone, Copy)]
 pub struct Places {
     pub(crate) chosen: [bool; MAX_PLACES],
@@ -22,7 +22,7 @@ impl Model for Places {
 }
 
 impl Places {
-    /// Whether this place is one of them.
+    /// Whether this place is in the set.
     #[inline(always)]
     pub fn has(&self, place: usize) -> bool
         ensures { result ≡ slice_index_or self.now place false }

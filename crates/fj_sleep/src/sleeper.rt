@@ -1,14 +1,14 @@
 ghost use Rattle.std.specs.Prelude.{◌≡◌};
 ghost use Rattle.fj_sleep.specs.Places.{aim, is_asleep, is_awake, is_due, is_resting, is_waiting};
 
-/// What is at a place at which somebody may sleep.
+/// The state of a place, which belongs to one thread at a time.
 #[derive(Clone, Copy, Debug, PartialEq)]
 pub enum Sleeper<T> {
-    /// Nobody sleeps.
+    /// Nobody sleeps here.
     Awake,
-    /// Somebody has nothing to do.
+    /// The thread has nothing to do.
     Resting,
-    /// Somebody waits until this is over.
+    /// The thread waits for this.
     Waiting(T),
     /// The thread that sleeps here is to be woken, once the lock is free.
     Due,
@@ -52,7 +52,7 @@ impl<T: Copy> Sleeper<T> {
         matches!(self, Sleeper::Due)
     }
 
-    /// What somebody waits for.
+    /// What the thread waits for.
     #[inline(always)]
     pub(crate) fn aim(&self) -> Option<T>
         ensures { result ≡ aim self.now }

@@ -12,17 +12,17 @@ use choice::any_resting;
 use std::alloc::{AllocError, Global};
 use std::marker::Model;
 
-/// Those who may sleep, each at a place of its own. One of those who rest is the lookout: it looks for work now and then, and the others
-/// sleep until they are woken. A place that there is not is nobody's: a call with it changes nothing.
+/// The threads that may sleep, each at a place of its own. One of those that rest is the lookout: it looks for work now and then, and the
+/// others sleep until they are woken. A call with a place out of range changes nothing.
 #[derive(Drop)]
 pub struct Sleepers<T: Copy> {
     pub(crate) places: Vec<Sleeper<T>>,
     pub(crate) lookout: Option<usize>,
-    /// Where it is false, nobody waits.
+    /// If false, nobody waits.
     waiting: bool,
-    /// Where it is false, nobody rests.
+    /// If false, nobody rests.
     resting: bool,
-    /// Where it is false, nobody is to be woken.
+    /// If false, nobody is due.
     due: bool,
 }
 
@@ -37,7 +37,7 @@ impl<T: Copy> Model for Sleepers<T> {
 }
 
 impl<T: Copy> Sleepers<T> {
-    /// So many places, at which nobody sleeps. An error where memory is refused, and no other. Precondition: they are `MAX_PLACES` at most.
+    /// `places` places, all `Awake`. An error only if out of memory. Precondition: at most `MAX_PLACES`.
     pub fn new(alloc: Global, places: usize) -> Result<Sleepers<T>, AllocError>
         requires { places ≤ MAX_PLACES }
         ensures { IfOk result (λ s. s ≡ record { places = replicate places Sleeper.Awake; lookout = None }) }
@@ -55,14 +55,14 @@ impl<T: Copy> Sleepers<T> {
         })
     }
 
-    /// A place at which nobody sleeps; none only where somebody does at each.
+    /// A place that is `Awake`; none only if no place is.
     pub fn free_place(&self) -> Option<usize>
         ensures { MatchOption result (NobodyIs is_awake self.now.places) (λ p. IsAt is_awake self.now.places p) }
     {
         choice::any_awake(&self.places)
     }
 
-    /// Whether somebody may wait. It is false only where nobody does.
+    /// Whether somebody may wait. False only if nobody does.
     #[inline(always)]
     pub fn waits(&self) -> bool
         ensures { result ≡ false → NobodyIs is_waiting self.now.places }
@@ -70,7 +70,7 @@ impl<T: Copy> Sleepers<T> {
         self.waiting
     }
 
-    /// Whether somebody may have to be woken. It is false only where nobody has.
+    /// Whether somebody may be due. False only if nobody is.
     #[inline(always)]
     pub fn may_be_due(&self) -> bool
         ensures { result ≡ false → NobodyIs is_due self.now.places }
@@ -78,7 +78,7 @@ impl<T: Copy> Sleepers<T> {
         self.due
     }
 
-    /// What is waited for at this place.
+    /// What the thread at this place waits for; none if it does not wait.
     #[inline(always)]
     pub fn waited_for(&self, place: usize) -> Option<T>
         ensures { result ≡ aim (slice_index_or self.now.places place Sleeper.Awake) }
@@ -101,7 +101,7 @@ impl<T: Copy> Sleepers<T> {
         }
     }
 
-    /// The thread at this place has nothing to do. It becomes the lookout where there is none.
+    /// The thread at this place has nothing to do. It becomes the lookout if there is none.
     #[inline(always)]
     pub fn rest(&mut self, place: usize)
         ensures there { place < length self.old.places → self.new ≡ with_resting self.old place }
@@ -117,7 +117,7 @@ impl<T: Copy> Sleepers<T> {
         }
     }
 
-    /// The thread at this place waits until this is over.
+    /// The thread at this place waits for `t`.
     #[inline(always)]
     pub fn wait(&mut self, place: usize, t: T)
         ensures { self.new ≡ record self.old { places = slice_set self.old.places place (Sleeper.Waiting t) } }
@@ -128,7 +128,7 @@ impl<T: Copy> Sleepers<T> {
         }
     }
 
-    /// The thread at this place is back from its sleep. The lookout stays the lookout, since it looks now.
+    /// The thread at this place is back from its sleep. A lookout stays the lookout, since it looks now.
     #[inline(always)]
     pub fn come_back(&mut self, place: usize)
         ensures { self.new ≡ record self.old { places = slice_set self.old.places place Sleeper.Awake } }
@@ -138,8 +138,8 @@ impl<T: Copy> Sleepers<T> {
         }
     }
 
-    /// The thread at this place has something to do. If it was the lookout, one of those that rest takes its place and is to be woken, so that
-    /// it looks more often; where nobody rests, there is no lookout.
+    /// The thread at this place has something to do. If it was the lookout, another one that rests takes the role and is to be woken, so that
+    /// it looks more often. If nobody rests, there is no lookout.
     #[inline(always)]
     pub fn begin(&mut self, place: usize)
         ensures lookout { self.old.lookout ≡ Some place → PassesOn self.old self.new }
@@ -150,7 +150,7 @@ impl<T: Copy> Sleepers<T> {
         }
     }
 
-    /// Another one is the lookout from now on, or nobody.
+    /// Passes the role of the lookout to a thread that rests, if there is one.
     #[inline(never)]
     fn pass_on(&mut self)
         ensures { PassesOn self.old self.new }

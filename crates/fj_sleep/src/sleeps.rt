@@ -3,7 +3,7 @@ ghost use Rattle.std.specs.Duration.{as_nanos};
 
 use std::time::Duration;
 
-/// How long a thread sleeps that looks again and again: each time twice as long as the time before, up to a most.
+/// How long a thread that polls sleeps: each time twice as long as before, up to a maximum.
 #[derive(Clone, Copy)]
 pub struct Sleeps {
     /// The next one, in microseconds.
@@ -14,7 +14,7 @@ pub struct Sleeps {
 }
 
 impl Sleeps {
-    /// The first and the longest one, in microseconds. Precondition: the first one is no longer than that.
+    /// With the first and the longest sleep, in microseconds. Precondition: the first is at most the longest.
     pub fn new(first: u64, longest: u64) -> Sleeps
         requires { first ≤ longest }
         ensures { (result.next ≡ first) × (result.longest ≡ longest) }
@@ -25,7 +25,7 @@ impl Sleeps {
         }
     }
 
-    /// The next one. The one after it is twice as long, but no longer than the longest.
+    /// The next sleep. The one after it is twice as long, but at most the longest.
     pub fn next_sleep(&mut self) -> Duration
         ensures sleep { as_nanos result ≡ self.old.next * 1_000 }
         ensures next { self.new.next ≡ min (self.old.next * 2) self.old.longest }

@@ -15,7 +15,7 @@ fn an_idle_worker_yields_and_then_sleeps(rt: HostRuntime) {
     }
 }
 
-/// A thread looks again soon where the lock was mostly free, and seldom where it was mostly held.
+/// A thread retries soon if the lock was mostly free, and seldom if it was mostly held.
 #[test]
 fn a_thread_looks_less_often_for_a_lock_that_is_held(rt: HostRuntime) {
     let mut contention = Contention::new();
@@ -34,7 +34,7 @@ fn a_thread_looks_less_often_for_a_lock_that_is_held(rt: HostRuntime) {
     assert_eq!(rt; contention.find_held(0), 16);
 }
 
-/// What is slept for, and then for what somebody may sleep.
+/// What threads sleep for, and what they may sleep for afterwards.
 #[test]
 fn what_is_slept_for_is_remembered(rt: HostRuntime) {
     for (first, second, may_be) in [
@@ -55,7 +55,7 @@ fn what_is_slept_for_is_remembered(rt: HostRuntime) {
     assert!(rt; !nothing.may_be(1));
 }
 
-/// A call of those who sleep.
+/// A call of `Sleepers`.
 #[derive(Clone, Copy, Debug)]
 enum Call {
     Rest(usize),
@@ -70,7 +70,7 @@ enum Call {
     TakeDue,
 }
 
-/// Makes a call. The places that it tells.
+/// Makes a call. Returns the places that it does.
 fn make(sleepers: &mut Sleepers<u8>, call: Call) -> Option<Places> {
     match call {
         Call::Rest(place) => sleepers.rest(place),
@@ -87,7 +87,7 @@ fn make(sleepers: &mut Sleepers<u8>, call: Call) -> Option<Places> {
     None
 }
 
-/// A letter for what is at a place, or what is waited for there.
+/// A letter for the state of a place, or what is waited for there.
 fn letter(sleeper: &Sleeper<u8>) -> u8 {
     match sleeper {
         Sleeper::Awake => b'-',
@@ -98,7 +98,7 @@ fn letter(sleeper: &Sleeper<u8>) -> u8 {
     }
 }
 
-/// What is at each of four places, which one is the lookout's, and which are told.
+/// The state of each of four places, which one is the lookout's, and which were returned.
 fn shown(
     alloc: Global,
     sleepers: &Sleepers<u8>,
@@ -173,7 +173,7 @@ fn sleepers_are_told_apart(rt: HostRuntime) -> Result<(), Fail> {
     Ok(())
 }
 
-/// Of 32 who rest, the lookout is woken last.
+/// Of 32 threads that rest, the lookout is woken last.
 #[test]
 fn the_lookout_is_woken_last(rt: HostRuntime) -> Result<(), Fail> {
     let mut sleepers: Sleepers<u8> = Sleepers::new(rt.alloc(), MAX_PLACES)?;
@@ -193,7 +193,7 @@ fn the_lookout_is_woken_last(rt: HostRuntime) -> Result<(), Fail> {
     Ok(())
 }
 
-/// Who finds a free place waits there, and leaves it when it is back.
+/// A thread that finds a free place waits there, and leaves it when it is back.
 #[test]
 fn places_are_taken_and_left(rt: HostRuntime) -> Result<(), Fail> {
     let mut sleepers = Sleepers::new(rt.alloc(), 2)?;

@@ -1,12 +1,12 @@
 ghost use Rattle.std.specs.Prelude.{◌≡◌, true};
 ghost use Rattle.fj_sleep.specs.Sought.{KeepsSought, is_unwanted, may_want};
 
-/// What somebody sleeps for. It may be more than that, since who wakes up takes nothing back; it is never less.
+/// What threads sleep for. It may be more than that, since a thread that wakes up takes nothing back, but never less.
 #[derive(Clone, Copy)]
 pub enum Wanted<T> {
     /// Nobody sleeps.
     Nothing,
-    /// All who sleep do so for this.
+    /// All that sleep do so for this.
     One(T),
     /// They may sleep for anything.
     Several,
@@ -31,7 +31,7 @@ impl<T: Copy + PartialEq> Wanted<T> {
         }
     }
 
-    /// The same, and somebody sleeps for this, too.
+    /// The same, with one more thread that sleeps for this.
     pub fn and(self, wanted: T) -> Wanted<T>
         ensures kept { KeepsSought T.eq self result }
         ensures added { T.eq wanted wanted ≡ true → may_want T.eq result wanted ≡ true }
@@ -44,7 +44,7 @@ impl<T: Copy + PartialEq> Wanted<T> {
     }
 }
 
-/// Some sleep for this, and some for that.
+/// What threads sleep for, where one sleeps for `one` and another for `other`.
 fn both<T: Copy + PartialEq>(one: T, other: T) -> Wanted<T>
     ensures one { (t : T) → T.eq one t ≡ true → may_want T.eq result t ≡ true }
     ensures other { T.eq other other ≡ true → may_want T.eq result other ≡ true }

@@ -3,19 +3,19 @@ ghost use Rattle.fj_sleep.specs.Waking.{includes};
 
 use crate::sleeper::Sleeper;
 
-/// Some of those who sleep.
+/// A selection of the threads that sleep.
 #[derive(Clone, Copy)]
 pub enum Whom<T> {
-    /// All of them.
+    /// All that rest or wait.
     All,
-    /// Those who wait.
+    /// Those that wait.
     Waiting,
-    /// Those who wait for this.
+    /// Those that wait for this.
     WaitingFor(T),
 }
 
 impl<T: Copy + PartialEq> Whom<T> {
-    /// Whether this is one of them.
+    /// Whether a thread in this state is selected.
     #[inline(always)]
     pub fn includes(&self, sleeper: &Sleeper<T>) -> bool
         ensures { result ≡ includes T.eq self.now sleeper.now }

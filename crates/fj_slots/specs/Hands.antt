@@ -2,8 +2,8 @@
 use Rattle.std.specs.Prelude.{ℕ, ◌≡◌, ◌+◌, ◌-◌, ◌%◌, ◌^◌, List, [], ◌∷◌, ◌++◌, Option, Some, None, option_map, slice_get, slice_index_or, slice_set, length}
 use Rattle.fj_rules.specs.Lists.{or_else}
 
--- the worker, its scan word, the bodies that it holds under the numbers of their tasks, the oldest first, for each of them the task that it joined while another body runs above it,
--- and the body whose completion action it runs
+-- the worker, its scan word, the bodies that it holds with the numbers of their tasks, the oldest first, for each of them the task that it
+-- joined while another body runs above it, and the body whose completion action it runs, with its task's number
 pub record HandState (B : Type 0) : Type 0 where
   pub worker : ℕ
   pub word : ℕ
@@ -15,7 +15,7 @@ pub record HandState (B : Type 0) : Type 0 where
 abbrev pub next_word : ℕ → ℕ
 next_word r = (r + 1) % 2 ^ 32
 
--- what the newest body joined, as it was noted last
+-- what the newest body joined, as last noted
 abbrev pub newest_note : List (Option ℕ) → Option ℕ
 newest_note joined = slice_index_or joined (length joined - 1) None
 
@@ -43,7 +43,7 @@ module _ {B : Type 0} where
   abbrev pub with_body : HandState B → ℕ → B → HandState B
   with_body hand t body = with_begun hand t body None
 
-  -- with this noted of the newest body, where there is one
+  -- with this noted of the newest body, if there is one
   abbrev pub with_note : HandState B → Option ℕ → HandState B
   with_note hand note = record hand { joined = slice_set hand.joined (length hand.joined - 1) note }
 

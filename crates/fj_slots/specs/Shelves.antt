@@ -3,22 +3,22 @@ use Rattle.std.specs.Prelude.{ℕ, ◌≡◌, ◌<◌, ◌==◌, Bool, true, if�
 use Rattle.fj_rules.specs.Lists.{is_in}
 use Rattle.fj_slots.specs.Slots.{entry_of}
 
--- what stands under each number
+-- the entry under each number
 abbrev pub Entries : Type 0 → Type 0
 Entries T = ℕ → Option T
 
--- a shelf: how its entries are kept, of which contracts say nothing but what stands under each number; and for how many there is room
+-- a map: how its entries are kept, of which contracts see only the entry under each number; and for how many there is room
 pub record Shelved (T : Type 0) : Type 0 where
   pub slots : List (Option (ℕ × T))
   pub aside : List (ℕ × T)
   pub room : ℕ
 
 module _ {T : Type 0} where
-  -- what stands under each number of a shelf
+  -- the entry under each number of a map
   abbrev pub entries : Shelved T → Entries T
   entries shelf = entry_of shelf.slots shelf.aside
 
-  -- whether something stands under the number
+  -- whether there is an entry under the number
   abbrev pub is_there : Entries T → ℕ → Bool
   is_there all n = is_some (all n)
 
@@ -37,6 +37,6 @@ module _ {T : Type 0} where
   abbrev pub without_entries : Entries T → List ℕ → Entries T
   without_entries all ns = λ m. if is_in m ns then None else all m
 
-  -- there are fewer entries than so many: all stand under numbers of a shorter list
+  -- there are fewer entries than `room`: all are under numbers of a shorter list
   abbrev pub AreFewer : Entries T → ℕ → Type 0
   AreFewer all room = (ns : List ℕ) × (length ns < room) × ((m : ℕ) → is_there all m ≡ true → is_in m ns ≡ true)

@@ -1,4 +1,4 @@
--- A shelf as it is kept: a row of slots, each of which is the guess for some numbers, and the entries whose slot was filled by another.
+-- A map as it is kept: a row of slots, each of which is the guess for some numbers, and the entries whose slot another one filled.
 use Rattle.std.specs.Prelude.{ℕ, ◌≡◌, ◌==◌, ◌-◌, ◌≤◌, ◌%◌, ◌++◌, true, if◌then◌else◌, List, length, Option, Some, None, replicate, slice_get}
 use Rattle.fj_rules.specs.Lists.{is_in, or_else, times_in}
 use Rattle.fj_slots.specs.Aside.{numbers, entry_in}
@@ -18,7 +18,7 @@ module _ {T : Type 0} where
   unfoldable pub guessed : List (Option (ℕ × T)) → ℕ → Option T
   guessed slots n = in_slot (slice_get slots (n % length slots)) n
 
-  -- what stands under a number
+  -- the entry under a number
   unfoldable pub entry_of : List (Option (ℕ × T)) → List (ℕ × T) → ℕ → Option T
   entry_of slots aside n = or_else (guessed slots n) (entry_in aside n)
 

@@ -6,7 +6,7 @@ use fj_rules::Serial;
 use std::alloc::{AllocError, Global};
 use std::marker::Model;
 
-/// Few entries in a list, each under its number.
+/// An association list for few entries, by number.
 #[derive(Drop)]
 pub struct Aside<T> {
     items: Vec<(Serial, T)>,
@@ -25,7 +25,7 @@ impl<T> Model for Aside<T> {
 }
 
 impl<T: Drop> Aside<T> {
-    /// An empty list with room for so many.
+    /// An empty list with room for `room` entries. An error only if out of memory.
     pub fn new(alloc: Global, room: usize) -> Result<Aside<T>, AllocError>
         ensures { IfOk result (λ s. s ≡ record { items = []; room = room }) }
     {
@@ -64,7 +64,7 @@ impl<T: Drop> Aside<T> {
         self.find(number).is_some()
     }
 
-    /// Where the first entry under this number stands.
+    /// The index of the first entry under this number.
     fn find(&self, number: Serial) -> Option<usize>
         ensures { result ≡ position_from (λ x. x.0 == number) 0 self.now.items }
     {

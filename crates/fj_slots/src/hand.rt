@@ -11,13 +11,13 @@ const MOST_TASKS: usize = 4096;
 
 /// What a worker holds: the bodies that it has begun, each under its task's number, and the hook that it runs, with its body.
 ///
-/// The last body on the stack is the running one; the others wait for tasks that they joined. No call after `new` takes memory. In Java it is
+/// The last body on the stack is the running one; the others wait for tasks that they joined, or help. Only `new` allocates. In Java it is
 /// the stack of a `ForkJoinWorkerThread`.
 #[derive(Drop)]
 pub struct Hand<B> {
     worker: WorkerId,
     word: u32,
-    /// The numbers of the tasks by themselves: they are compared each time that a worker gets the lock.
+    /// The numbers of the tasks, apart from the bodies, so that `holds` compares them fast.
     serials: Vec<Serial>,
     bodies: Vec<B>,
     /// The task that each body joined, while another one runs above it.
@@ -44,7 +44,7 @@ impl<B> Model for Hand<B> {
 }
 
 impl<B: Drop> Hand<B> {
-    /// The empty hand of a worker, whose first scan begins at this word. An error where memory is refused, and no other.
+    /// The empty hand of a worker, with its first scan word. An error only if out of memory.
     pub fn new(alloc: Global, worker: WorkerId, word: u32) -> Result<Hand<B>, AllocError>
         ensures { IfOk result (λ h. h ≡ new_hand worker word) }
     {
@@ -58,7 +58,7 @@ impl<B: Drop> Hand<B> {
         })
     }
 
-    /// Whose hand it is.
+    /// The worker whose hand it is.
     #[inline(always)]
     pub fn worker(&self) -> WorkerId
         ensures { result ≡ self.now.worker }
@@ -66,7 +66,7 @@ impl<B: Drop> Hand<B> {
         self.worker
     }
 
-    /// The scan word for one use. The next one is one more, and wraps in 32 bits.
+    /// The scan word for one use. The next one is one more, modulo 2^32.
     #[inline(always)]
     pub fn take_word(&mut self) -> u32
         ensures word { result ≡ self.old.word }
@@ -77,8 +77,8 @@ impl<B: Drop> Hand<B> {
         word
     }
 
-    /// Puts a body on top, which runs from now on and has joined nothing. Precondition: it has fewer than 4,096 bodies, the most tasks that a
-    /// pool keeps.
+    /// Pushes a body, which runs from now on and has joined nothing. Precondition: the hand has fewer than 4,096 bodies, the most tasks that
+    /// a pool keeps.
     #[inline(always)]
     pub fn push(&mut self, t: Serial, body: B)
         requires { length self.old.stack < 4096 }
@@ -89,7 +89,7 @@ impl<B: Drop> Hand<B> {
         self.joined.push_reserved(None);
     }
 
-    /// Takes the running body off, with its number. What it joined is told no more. Precondition: there is one.
+    /// Pops the running body, with its number, and drops the note of what it joined. Precondition: there is one.
     #[inline(always)]
     pub fn pop(&mut self) -> (Serial, B)
         requires { 0 < length self.old.stack }
@@ -102,7 +102,7 @@ impl<B: Drop> Hand<B> {
         (serial, body)
     }
 
-    /// Notes the task that the running body joined, if it did, where there is a body.
+    /// Notes what the running body joined, a task or none. Without a body it does nothing.
     #[inline(always)]
     pub fn note_join(&mut self, joined: Option<Serial>)
         ensures { self.new ≡ with_note self.old joined }
@@ -112,7 +112,7 @@ impl<B: Drop> Hand<B> {
         }
     }
 
-    /// The task that the running body joined, as it was noted last. None where none was noted, and where there is no body.
+    /// The task that the running body joined, as last noted. None if none was noted, or there is no body.
     #[inline(always)]
     pub fn joined(&self) -> Option<Serial>
         ensures { result ≡ newest_note self.now.joined }
@@ -123,7 +123,7 @@ impl<B: Drop> Hand<B> {
         }
     }
 
-    /// The task of the running body, where there is one.
+    /// The task of the running body, if there is one.
     #[inline(always)]
     pub fn running(&self) -> Option<Serial>
         ensures { result ≡ hook_number (newest_body self.now.stack) }
@@ -139,7 +139,7 @@ impl<B: Drop> Hand<B> {
         self.serials.is_empty() && self.hook.is_none()
     }
 
-    /// Puts a hook in, with its body.
+    /// Sets the hook: this completer's, with its body.
     #[inline(always)]
     pub fn give_hook(&mut self, c: Serial, body: B)
         ensures { self.new ≡ with_hook self.old c body }
@@ -157,7 +157,7 @@ impl<B: Drop> Hand<B> {
         self.hook.take().unwrap()
     }
 
-    /// The completer whose hook it has.
+    /// The completer whose hook it has, if it has one.
     #[inline(always)]
     pub fn hooked(&self) -> Option<Serial>
         ensures { result ≡ hook_number self.now.hook }
@@ -168,7 +168,7 @@ impl<B: Drop> Hand<B> {
         }
     }
 
-    /// Whether the bodies stand under these numbers, the oldest first.
+    /// Whether these are the numbers of the bodies, the oldest first.
     #[inline(always)]
     pub fn holds(&self, serials: &[Serial]) -> bool
         ensures { IsTrue result ↔ (numbers self.now.stack ≡ serials.now) }
@@ -178,7 +178,7 @@ impl<B: Drop> Hand<B> {
         }
         let mut same = true;
         for i in 0..serials.len() {
-            // Without a branch, so that the compiler compares several at once.
+            // Without a branch, so that the compiler can vectorize it.
             same &= self.serials[i] == serials[i];
         }
         same

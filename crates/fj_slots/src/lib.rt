@@ -1,4 +1,4 @@
-//! Bodies and results under the numbers of their tasks, and what a worker holds. All room is taken at the making.
+//! Bodies and results by task number, and what a worker holds. All memory is allocated by `new`.
 #![tactic(auto)]
 
 mod aside;

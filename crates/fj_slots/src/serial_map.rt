@@ -7,10 +7,10 @@ use fj_rules::Serial;
 use std::alloc::{AllocError, Global};
 use std::marker::Model;
 
-/// Entries under task numbers, with room that is taken when it is made. Java has no counterpart: there an entry is a field of its task.
+/// A map from task numbers, with a fixed room that `new` allocates. Java has no counterpart: there an entry is a field of its task.
 ///
-/// An entry is looked for in the slot at its number modulo the room. What finds that slot filled by another number stands aside in a list,
-/// which is empty as long as no two numbers are as far apart as there is room.
+/// A direct-mapped table: an entry has the slot at its number modulo the room. If another number fills that slot, the entry goes to an
+/// overflow list, which stays empty as long as no two numbers are as far apart as there is room.
 #[derive(Drop)]
 pub struct SerialMap<T> {
     slots: Slots<T>,
@@ -30,7 +30,7 @@ impl<T> Model for SerialMap<T> {
 }
 
 impl<T: Drop> SerialMap<T> {
-    /// An empty shelf. An error where memory is refused, and no other. Precondition: there is room for one entry at least.
+    /// An empty map. An error only if out of memory. Precondition: `room` is at least 1.
     pub fn new(alloc: Global, room: usize) -> Result<SerialMap<T>, AllocError>
         requires { 0 < room }
         ensures entries { IfOk result (λ s. entries s ≡ no_entries) }
@@ -42,7 +42,7 @@ impl<T: Drop> SerialMap<T> {
         })
     }
 
-    /// Whether something stands under a number.
+    /// Whether there is an entry under a number.
     #[inline(always)]
     pub fn has(&self, number: Serial) -> bool
         ensures { result ≡ is_there (entries self.now) number }
@@ -54,7 +54,7 @@ impl<T: Drop> SerialMap<T> {
         self.aside.has(number)
     }
 
-    /// Puts an entry under a number. Precondition: nothing stands there, and there is room.
+    /// Puts an entry under a number. Preconditions: there is none under it, and there is room.
     #[inline(always)]
     pub fn put(&mut self, number: Serial, item: T)
         requires free { entries self.old number ≡ None }
@@ -70,7 +70,7 @@ impl<T: Drop> SerialMap<T> {
         }
     }
 
-    /// Takes out what stands under a number.
+    /// Takes out the entry under a number, if there is one.
     #[inline(always)]
     pub fn take(&mut self, number: Serial) -> Option<T>
         ensures taken { result ≡ entries self.old number }
@@ -86,7 +86,7 @@ impl<T: Drop> SerialMap<T> {
         }
     }
 
-    /// Drops what stands under these numbers.
+    /// Drops the entries under these numbers.
     pub fn sweep(&mut self, numbers: &[Serial])
         ensures entries { entries self.new ≡ without_entries (entries self.old) numbers.now }
         ensures room { self.new.room ≡ self.old.room }

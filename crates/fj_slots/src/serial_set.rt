@@ -6,8 +6,8 @@ use fj_rules::Serial;
 use std::alloc::{AllocError, Global};
 use std::marker::Model;
 
-/// Task numbers in the order in which they came, each once, with room that is taken when it is made. Whether a number is there is told
-/// without a walk over the others. Java has no counterpart.
+/// Task numbers in the order of insertion, each once, with a fixed room that `new` allocates. A query for a number does not walk over the
+/// others. Java has no counterpart.
 #[derive(Drop)]
 pub struct SerialSet {
     numbers: Vec<Serial>,
@@ -28,7 +28,7 @@ impl Model for SerialSet {
 }
 
 impl SerialSet {
-    /// None. An error where memory is refused, and no other. Precondition: there is room for one number at least.
+    /// An empty set. An error only if out of memory. Precondition: `room` is at least 1.
     pub fn new(alloc: Global, room: usize) -> Result<SerialSet, AllocError>
         requires { 0 < room }
         ensures { IfOk result (λ s. s ≡ record { items = []; room = room }) }
@@ -63,7 +63,7 @@ impl SerialSet {
         self.marks.put(t, ());
     }
 
-    /// Takes a number out, if it is there. It is looked for from the newest on. Precondition: it is there at most once.
+    /// Removes a number, if it is there. It walks from the newest on. Precondition: it is there at most once.
     pub fn take_out(&mut self, t: Serial)
         requires { times_in t self.old.items ≤ 1 }
         ensures { self.new ≡ record self.old { items = without self.old.items (t ∷ []) } }
@@ -73,7 +73,7 @@ impl SerialSet {
     }
 }
 
-/// Takes a number out of a list. Precondition: it is there at most once.
+/// Removes a number from a list, if it is there. Precondition: it is there at most once.
 fn remove_last(numbers: &mut Vec<Serial>, t: Serial)
     requires { times_in t numbers.old.items ≤ 1 }
     ensures items { numbers.new.items ≡ without numbers.old.items (t ∷ []) }

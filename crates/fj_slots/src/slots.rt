@@ -5,11 +5,11 @@ use fj_rules::Serial;
 use std::alloc::{AllocError, Global};
 use std::marker::Model;
 
-/// How many slots there are most often: as many as a pool may have tasks. Named, it is a mask, where any other takes a division.
+/// The usual number of slots: the most tasks that a pool may have. For this constant the modulo is a mask; any other needs a division.
 const MOST_SLOTS: usize = 4096;
 
-/// A row of slots, each of which is empty or has an entry. All its memory is taken when it is made, and touched as it is needed: the slots
-/// behind the last one that was ever filled have never been written.
+/// A row of slots, each of which is empty or has an entry. `new` allocates all its memory, which is touched as needed: slots behind the
+/// last one that was ever filled have never been written.
 #[derive(Drop)]
 pub struct Slots<T> {
     count: usize,
@@ -28,7 +28,7 @@ impl<T> Model for Slots<T> {
 }
 
 impl<T: Drop> Slots<T> {
-    /// So many empty slots. An error where memory is refused, and no other. Precondition: there is one at least.
+    /// `count` empty slots. An error only if out of memory. Precondition: `count` is at least 1.
     pub fn new(alloc: Global, count: usize) -> Result<Slots<T>, AllocError>
         requires { 0 < count }
         ensures { IfOk result (λ s. s ≡ replicate count None) }
@@ -39,7 +39,7 @@ impl<T: Drop> Slots<T> {
         })
     }
 
-    /// The slot in which an entry under this number is looked for first.
+    /// The slot for an entry under this number.
     #[inline(always)]
     pub fn guess(&self, number: Serial) -> usize
         ensures guess { result ≡ number % length self.now }
@@ -76,7 +76,7 @@ impl<T: Drop> Slots<T> {
         }
     }
 
-    /// Puts this into the slot. Precondition: there is this slot.
+    /// Fills the slot with this entry, instead of what it had. Precondition: there is this slot.
     #[inline(always)]
     pub fn fill(&mut self, at: usize, number: Serial, item: T)
         requires { at < length self.old }
@@ -90,7 +90,7 @@ impl<T: Drop> Slots<T> {
         }
     }
 
-    /// Takes out what the slot has. Precondition: there is this slot.
+    /// Takes out the entry of the slot, if it has one. Precondition: there is this slot.
     #[inline(always)]
     pub fn clear(&mut self, at: usize) -> Option<T>
         requires { at < length self.old }
@@ -107,7 +107,7 @@ impl<T: Drop> Slots<T> {
     }
 }
 
-/// Puts this into a slot that was written before. Precondition: it was.
+/// Fills a slot that was written before. Precondition: it was.
 #[inline(always)]
 fn overwrite<T: Drop>(written: &mut Vec<Option<(Serial, T)>>, at: usize, number: Serial, item: T)
     requires { at < length written.old.items }

@@ -3,10 +3,10 @@ ghost use Rattle.std.specs.Prelude.{◌≡◌, ◌+◌};
 use std::marker::Model;
 use std::snapshot::Snapshot;
 
-/// A number that contracts alone see. Nothing is counted when the program runs, so no count overflows.
+/// A ghost count, seen by contracts only. Nothing is counted at run time, so nothing overflows.
 #[derive(Drop)]
 pub struct CallCount {
-    // the count as it was before the last one: a value without bytes
+    // the count before the last call, of size zero
     before: Option<Snapshot<CallCount>>,
 }
 
@@ -23,14 +23,14 @@ impl Model for CallCount {
 }
 
 impl CallCount {
-    /// None so far.
+    /// No call so far.
     pub fn new() -> CallCount
         ensures { result ≡ 0 }
     {
         CallCount { before: None }
     }
 
-    /// One more.
+    /// Counts one more.
     pub fn add_one(&mut self)
         ensures { self.new ≡ self.old + 1 }
     {

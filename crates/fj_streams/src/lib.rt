@@ -1,7 +1,7 @@
-//! Readers and writers of which contracts may know which calls failed.
+//! Readers and writers whose contracts may count failed calls.
 //!
-//! Any `Read` is a [`Source`], any `Write` a [`Sink`], of whose calls nothing is known. Over those that are [`Watched`], and over those that
-//! keep a [`CallCount`] of their own, contracts see how many calls failed, and how many left the caller to call again.
+//! Any `Read` is a [`Source`], any `Write` a [`Sink`], with nothing known of its calls. Of a [`Watched`] one, and of one that
+//! keeps a [`CallCount`] of its own, contracts see how many calls failed, and after how many the caller has to call again.
 #![tactic(auto)]
 
 mod call_count;

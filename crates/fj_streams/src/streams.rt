@@ -1,4 +1,4 @@
-//! Readers and writers of which contracts may know which calls failed.
+//! Readers and writers whose contracts may count failed calls.
 ghost use Rattle.std.specs.Prelude.{ℕ, Option, None, List, length};
 ghost use Rattle.std.specs.Io.{ReadsAtMost, WritesAtMost};
 ghost use Rattle.std.specs.Io.KnownBytes.{Keeps, ReadConsumes, WriteAppends};
@@ -6,9 +6,9 @@ ghost use Rattle.fj_streams.specs.Calls.{Calls, FlushCounts, ReadCounts, WriteCo
 
 use std::io::{self, Read, Write};
 
-/// A reader of which contracts may know whether a read failed. Each `Read` is one of which nothing is known.
+/// A reader whose contracts may say whether a read failed. Each `Read` is one, with nothing known of its calls.
 pub trait Source {
-    // The bytes that reads will give from here on, where they are known.
+    // The bytes still to be read, where they are known.
     ghost remaining: { Self → Option (List ℕ) };
 
     // The reads so far, where they are known.
@@ -21,7 +21,7 @@ pub trait Source {
         ensures counts { ReadCounts (calls self.old) (calls self.new) result };
 }
 
-/// A writer of which contracts may know whether a write or a flush failed. Each `Write` is one of which nothing is known.
+/// A writer whose contracts may say whether a write or a flush failed. Each `Write` is one, with nothing known of its calls.
 pub trait Sink {
     // The bytes that the writer holds, where they are known.
     ghost contents: { Self → Option (List ℕ) };

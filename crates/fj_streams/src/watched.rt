@@ -5,7 +5,7 @@ use crate::call_count::CallCount;
 use crate::streams::{Sink, Source};
 use std::io::{self, ErrorKind, Read, Write};
 
-/// A reader or a writer, with what contracts alone see of its calls: how many failed, and how many left the caller to call again.
+/// A reader or a writer with ghost counts of its calls: how many failed, and after how many the caller has to call again.
 #[derive(Drop)]
 pub struct Watched<T> {
     inner: T,

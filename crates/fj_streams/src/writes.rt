@@ -1,4 +1,4 @@
-//! Whole writes and flushes: one that was interrupted is tried again.
+//! Whole writes and flushes, retried where interrupted.
 ghost use Rattle.std.specs.Prelude.{◌<◌, ◌≤◌, OnOk, OnErr, IfOk, length, take};
 ghost use Rattle.std.specs.Io.KnownBytes.{Appends, Keeps, WriteAppends};
 ghost use Rattle.fj_streams.specs.Calls.{HasFailed, IsFine};
@@ -7,7 +7,7 @@ ghost use Rattle.fj_streams.specs.Beginnings.{AppendsSome};
 use crate::streams::Sink;
 use std::io::{self, ErrorKind};
 
-/// Writes some of the bytes, and tries again where that was interrupted. A writer that takes nothing has failed.
+/// Writes some of the bytes, and retries where that was interrupted. A writer that takes nothing has failed. Precondition: there are bytes.
 #[tactic(auto, using(crate::proofs::Bytes::keeps_self, crate::proofs::Bytes::keeps_twice))]
 fn write_some<W: Sink>(w: &mut W, bytes: &[u8]) -> io::Result<usize>
     requires { 0 < length bytes.now }
@@ -30,7 +30,7 @@ fn write_some<W: Sink>(w: &mut W, bytes: &[u8]) -> io::Result<usize>
     Err(io::Error::from(ErrorKind::WriteZero))
 }
 
-/// Writes all bytes: `Write::write_all`. At an error a first part of them was written: the writer failed, or took nothing.
+/// Writes all bytes: `Write::write_all`. On an error a prefix of them was written: the writer failed, or took nothing.
 #[tactic(auto, using(crate::proofs::Bytes::appends_more))]
 pub fn write_whole<W: Sink>(w: &mut W, bytes: &[u8]) -> io::Result<()>
     ensures ok { OnOk result (Appends (W.contents w.old) (W.contents w.new) bytes.now) }
@@ -45,7 +45,7 @@ pub fn write_whole<W: Sink>(w: &mut W, bytes: &[u8]) -> io::Result<()>
     Ok(())
 }
 
-/// Flushes, and tries again where it was interrupted. An error where the flush failed otherwise: `Write::flush`.
+/// Flushes, and retries where that was interrupted: `Write::flush`. An error where the flush failed otherwise.
 #[tactic(auto, using(crate::proofs::Bytes::keeps_self, crate::proofs::Bytes::keeps_twice))]
 pub fn flush_whole<W: Sink>(w: &mut W) -> io::Result<()>
     ensures bytes { Keeps (W.contents w.old) (W.contents w.new) }

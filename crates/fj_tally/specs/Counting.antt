@@ -1,10 +1,10 @@
--- How each count goes on.
+-- How one event changes each count.
 use Rattle.std.specs.Prelude.{◌≡◌, ◌+◌, ◌^◌, ◌<◌, ℕ, Bool, if◌then◌else◌}
 use Rattle.fj_rules.specs.declared.event.Event.{Event}
 use Rattle.fj_tally.specs.declared.counts.Counts.{Counts}
 use Rattle.fj_tally.specs.Tallies.{is_submission, is_fork, is_trigger, is_beginning, is_skip, is_failure, is_cancellation, is_release}
 
--- one more of each still fits
+-- no count overflows by one more
 pub record HasRoom (c : Counts) : Type 0 where
   pub submitted : c.submitted + 1 < 2 ^ 64
   pub forked : c.forked + 1 < 2 ^ 64
@@ -19,7 +19,7 @@ pub record HasRoom (c : Counts) : Type 0 where
 abbrev pub one_if : (Event → Bool) → Event → ℕ
 one_if test e = if test e then 1 else 0
 
--- each count is one higher whose event this is, and the others stay
+-- each count of this event is one higher, and the others stay
 pub record CountsMore (old new : Counts) (e : Event) : Type 0 where
   pub submitted : new.submitted ≡ old.submitted + one_if is_submission e
   pub forked : new.forked ≡ old.forked + one_if is_fork e

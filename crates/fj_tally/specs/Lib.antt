@@ -1,4 +1,4 @@
 -- which events are counted as what
 pub mod Tallies
--- how each count goes on
+-- how one event changes each count
 pub mod Counting

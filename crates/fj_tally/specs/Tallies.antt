@@ -20,7 +20,7 @@ abbrev pub is_trigger : Event → Bool
 is_trigger (Make t k) = true
 is_trigger _ = false
 
--- a task was handed to a worker for running
+-- a task was handed to a worker to run
 abbrev pub is_beginning : Event → Bool
 is_beginning (Out t w) = true
 is_beginning _ = false

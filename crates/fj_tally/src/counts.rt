@@ -3,7 +3,7 @@ ghost use Rattle.fj_tally.specs.Counting.{HasRoom, CountsMore};
 
 use fj_rules::{Event, Owner, Status};
 
-/// How many events of each kind there were so far: the fields of a `Tally` that go by these names.
+/// How many events of each kind there were so far: the fields of these names in a `Tally`.
 #[derive(Clone, Copy, Drop)]
 pub struct Counts {
     pub submitted: usize,
@@ -17,7 +17,7 @@ pub struct Counts {
 }
 
 impl Counts {
-    /// Before the first event.
+    /// All zero: before the first event.
     pub fn none() -> Counts
         ensures { result ≡ record { submitted = 0; forked = 0; triggers = 0; begun = 0; skipped = 0; failed = 0; cancelled = 0; released = 0 } }
     {
@@ -33,7 +33,7 @@ impl Counts {
         }
     }
 
-    /// One more event. Precondition: each count fits with one more.
+    /// Counts one more event. Precondition: no count overflows by one more.
     pub fn count(&mut self, event: &Event)
         requires { HasRoom self.old }
         ensures { CountsMore self.old self.new event.now }

@@ -1,5 +1,5 @@
-//! What a history counts: how many tasks were submitted, forked, run, stolen and released, by worker where a worker did it, and how many
-//! there were at once.
+//! Counts over a history: how many tasks were submitted, forked, run, stolen and released, per worker where a worker did it, and how many
+//! were live at once.
 //!
 //! ```
 //! let tally = Tally::of(alloc, &part.events)?;

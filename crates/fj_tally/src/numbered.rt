@@ -1,6 +1,6 @@
 use std::alloc::AllocError;
 
-/// What has this number, of things that are numbered from 0. Where there are not so many yet, they are filled up with `first`.
+/// The entry of this number. A shorter list is first extended with copies of `first`.
 pub fn numbered<T: Copy + Drop>(
     things: &mut Vec<T>,
     number: u32,

@@ -5,7 +5,7 @@ use crate::worker_tally::WorkerTally;
 use fj_rules::{Event, Owner, Serial, WorkerId};
 use std::alloc::{AllocError, Global};
 
-/// What the events so far leave: tasks, queues and workers.
+/// The state after the events so far: tasks, queues and workers.
 #[derive(Drop)]
 pub struct Progress {
     pub tasks: Tasks,
@@ -28,7 +28,7 @@ impl Progress {
         self.workers.into_tallies()
     }
 
-    /// One more event.
+    /// Follows one more event. An error only if out of memory.
     pub fn follow(&mut self, event: &Event) -> Result<(), AllocError> {
         match event {
             Event::Acc(t, owner, _) => self.accept(*t, owner),

@@ -2,12 +2,12 @@ use crate::numbered::numbered;
 use fj_rules::Owner;
 use std::alloc::{AllocError, Global};
 
-/// How many tasks stand in each queue.
+/// How many tasks are in each queue.
 #[derive(Drop)]
 pub struct QueueCounts {
     of_submitters: Vec<usize>,
     of_workers: Vec<usize>,
-    /// The most tasks that stood in one of them at once.
+    /// The most tasks that were in one of them at once.
     pub longest: usize,
 }
 
@@ -37,7 +37,7 @@ impl QueueCounts {
         Ok(())
     }
 
-    /// How many stand in it.
+    /// How many are in it.
     fn length(&mut self, owner: Owner) -> Result<&mut usize, AllocError> {
         match owner {
             Owner::Sub(s) => numbered(&mut self.of_submitters, s.0, 0),

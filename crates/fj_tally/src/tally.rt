@@ -8,7 +8,7 @@ use crate::worker_tally::WorkerTally;
 use fj_rules::Event;
 use std::alloc::{AllocError, Global};
 
-/// What a history, or a part of one, counts.
+/// The counts of a history, or of a part of one.
 #[derive(Debug, Drop, PartialEq)]
 pub struct Tally {
     /// Tasks accepted into the queue of a submitter.
@@ -17,29 +17,28 @@ pub struct Tally {
     pub forked: usize,
     /// Triggers made.
     pub triggers: usize,
-    /// Tasks handed to a worker for running.
+    /// Tasks handed to a worker to run.
     pub begun: usize,
-    /// Tasks taken by a worker that were done already, so not run.
+    /// Tasks taken by a worker and not run, since they were done already.
     pub skipped: usize,
     /// Tasks that ended with a fault.
     pub failed: usize,
-    /// Tasks cancelled one by one. A stop, which cancels all that are undone, is one event, and none of these.
+    /// Tasks cancelled one by one. A stop, which cancels all undone tasks, does not count.
     pub cancelled: usize,
     /// Tasks and triggers released.
     pub released: usize,
-    /// What each worker did, by its number: as many as the greatest number of a worker that occurs, and one.
+    /// What each worker did, by its number, up to the greatest number of a worker that occurs.
     pub workers: Vec<WorkerTally>,
     /// The most tasks and triggers that were live at once: accepted or made among these events, and not released yet.
     pub most_live: usize,
-    /// The most tasks that stood in one queue at once, of those accepted among these events.
+    /// The most tasks that were in one queue at once, of those accepted among these events.
     pub longest_queue: usize,
 }
 
 impl Tally {
-    /// What these events count, the oldest first: those of a whole history or of a part. It reads each once. An error where memory is
-    /// refused, and no other.
+    /// Counts these events, the oldest first, of a whole history or of a part, in one pass. An error only if out of memory.
     ///
-    /// Of a task that was accepted before these events it is not known where it stood: it was never stolen, and was in no queue. A body
+    /// The queue of a task that was accepted before these events is not known: it counts as never stolen, and as in no queue. A body
     /// that began before them does not make another one nested.
     pub fn of(alloc: Global, events: &[Event]) -> Result<Tally, AllocError>
         ensures submitted { IfOk result (λ t. t.submitted ≡ count_by is_submission events.now) }

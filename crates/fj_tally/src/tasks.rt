@@ -2,16 +2,16 @@ use fj_rules::{Owner, Serial};
 use std::alloc::{AllocError, Global};
 use std::mem;
 
-/// A task, as the events so far leave it.
+/// A task after the events so far.
 #[derive(Drop)]
 struct Task {
-    /// The queue in which it stands.
+    /// The queue that it is in.
     queue: Option<Owner>,
-    /// Whether it was not released yet.
+    /// Whether it is not released yet.
     is_live: bool,
 }
 
-/// The tasks that were accepted or made so far. Their serials rise by one each, so each is found by its own.
+/// The tasks that were accepted or made so far. Their serials rise by one each, so a serial gives the index.
 #[derive(Drop)]
 pub struct Tasks {
     /// The serial of the first one.
@@ -33,7 +33,7 @@ impl Tasks {
         }
     }
 
-    /// The task was accepted into this queue; or made, and stands in none.
+    /// The task was accepted into this queue; or made, and is in none.
     pub fn accept(&mut self, t: Serial, queue: Option<Owner>) -> Result<(), AllocError> {
         if self.tasks.is_empty() {
             self.first = t.0;
@@ -47,7 +47,7 @@ impl Tasks {
         Ok(())
     }
 
-    /// The task was taken. Out of which queue, if it stood in one.
+    /// The task was taken. Answers out of which queue, if it was in one.
     pub fn take(&mut self, t: Serial) -> Option<Owner> {
         self.find(t)?.queue.take()
     }
@@ -61,7 +61,7 @@ impl Tasks {
         }
     }
 
-    /// None where it was accepted before the first event, or never.
+    /// The task. None where it was accepted before the first event, or never.
     fn find(&mut self, t: Serial) -> Option<&mut Task> {
         let place = t.0.checked_sub(self.first)?;
         self.tasks.get_mut(place as usize)

@@ -24,7 +24,7 @@ fn make(t: u64) -> Event {
     Event::Make(Serial(t), kind)
 }
 
-/// The task is handed to the worker for running.
+/// The task is handed to the worker to run.
 fn out(t: u64, w: u32) -> Event {
     Event::Out(Serial(t), WorkerId(w))
 }
@@ -91,7 +91,7 @@ fn tally(
     })
 }
 
-/// These events have this tally.
+/// Asserts that these events have this tally.
 fn told(
     rt: &impl Abort,
     alloc: Global,

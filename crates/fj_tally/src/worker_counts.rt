@@ -24,7 +24,7 @@ impl WorkerCounts {
         self.tallies
     }
 
-    /// There is this worker.
+    /// This worker occurs.
     pub fn meet(&mut self, w: WorkerId) -> Result<(), AllocError> {
         let _tally = numbered(&mut self.tallies, w.0, WorkerTally::none())?;
         Ok(())
@@ -37,7 +37,7 @@ impl WorkerCounts {
         Ok(())
     }
 
-    /// A task was handed to it for running.
+    /// A task was handed to it to run.
     pub fn begin(&mut self, w: WorkerId) -> Result<(), AllocError> {
         let tally = numbered(&mut self.tallies, w.0, WorkerTally::none())?;
         let held = numbered(&mut self.held, w.0, 0)?;

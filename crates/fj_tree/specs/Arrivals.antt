@@ -18,7 +18,7 @@ is_queued_or_held (Held w) = true
 is_queued_or_held Open = false
 is_queued_or_held Gone = false
 
--- the first that holds
+-- the first case that holds
 abbrev pub arrival_at : Record → Arrived
 arrival_at r =
     if is_spent r then Spent
@@ -26,7 +26,7 @@ arrival_at r =
     else if is_queued_or_held r.place then Early
     else Fire
 
--- the record after an arrival of this sort
+-- the record after such an arrival
 abbrev pub arrived : Arrived → Record → Record
 arrived Counted r = record r { pending = r.pending - 1 }
 arrived Fire r = made_spent r

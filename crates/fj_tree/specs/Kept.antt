@@ -21,7 +21,7 @@ number_at l i = let pair = slice_index_or l i (0, 0) in pair.0
 abbrev pub key_at : Pairs → ℕ → ℕ
 key_at l i = let pair = slice_index_or l i (0, 0) in pair.1
 
--- each number is smaller than the ones after it
+-- the numbers rise strictly
 abbrev pub IsRising : Pairs → Type 0
 IsRising l = (i j : ℕ) → i < j → j < length l → number_at l i < number_at l j
 
@@ -34,11 +34,11 @@ pub record IsAt (l : Pairs) (n i : ℕ) : Type 0 where
   pub in_range : i < length l
   pub number : number_at l i ≡ n
 
--- the number is at no place
+-- the number is not in the list
 abbrev pub IsAbsent : Pairs → ℕ → Type 0
 IsAbsent l n = (i : ℕ) → i < length l → number_at l i ≢ n
 
--- one of the pairs is this number with this key
+-- this number with this key is one of the pairs
 pub record IsListed (l : Pairs) (n key : ℕ) : Type 0 where
   pub place : ℕ
   pub in_range : place < length l
@@ -49,19 +49,19 @@ abbrev pub has_number : Option Record → ℕ → Bool
 has_number None n = false
 has_number (Some r) n = r.serial == n
 
--- whether the record of a pair is kept: the one at its key has its number
+-- whether the record of a pair is kept: the record at its key has its number
 abbrev pub is_current : List (Option Record) → ℕ × ℕ → Bool
 is_current slots pair = has_number (slice_index_or slots pair.1 None) pair.0
 
--- the list closed up: the numbers whose record is kept
+-- the compacted list: the numbers whose record is kept
 abbrev pub closed_up : List (Option Record) → Numbers → Numbers
 closed_up slots l = record { pairs = filter (is_current slots) l.pairs; room = l.room; released = 0 }
 
--- the list after one release more, which closes it up once as many records were released as there is room for
+-- the list after one more release, which compacts it once as many records were released as there is room for
 abbrev pub after_release : List (Option Record) → Numbers → Numbers
 after_release slots l = if nat_lt (l.released + 1) l.room then record l { released = l.released + 1 } else closed_up slots l
 
--- each record's number is listed with its key, and beside these stand the numbers of released records
+-- each record's number is listed with its key; the others in the list are of released records
 pub record IsIndex (slots : List (Option Record)) (l : Numbers) : Type 0 where
   pub listed : (key : ℕ) (r : Record) → slice_index_or slots key None ≡ Some r → IsListed l.pairs r.serial key
   pub current : count_by (is_current slots) l.pairs ≡ count_by is_some slots

@@ -12,11 +12,11 @@ use Rattle.fj_tree.specs.declared.record.Record.{Record}
 use Rattle.fj_tree.specs.Handles.{Handle}
 use Rattle.fj_tree.specs.Records.{Records, count, record_of, entry_of, is_named}
 
--- what a call answers: this refusal, and a value exactly where there is none
+-- the result of a call: this refusal, and a value exactly where there is none
 abbrev pub IsRefusedBy : {A : Type 0} → Option Refusal → Result A Refusal → Type 0
 IsRefusedBy refusal result = MatchResult result (λ _. refusal ≡ None) (λ e. refusal ≡ Some e)
 
--- a record must be there, and be a completer's
+-- the refusal, if any: the record must be there, and be a completer's
 abbrev pub completer_refusal : Option Record → Option Refusal
 completer_refusal None = Some Unknown
 completer_refusal (Some r) = if is_completer_kind (Some r.kind) then None else Some NotCompleter
@@ -32,7 +32,7 @@ count_refusal n = if nat_lt MAX_PENDING n then Some CountTooLarge else None
 abbrev pub room_refusal : Records → Option Refusal
 room_refusal t = if nat_le t.room (count t) then Some TooManyTasks else None
 
--- why a make is refused, if it is: the first that holds
+-- why a make is refused, if it is: the first refusal in this order
 abbrev pub make_refusal : Records → Kind → Option Refusal
 make_refusal t k = or_else (parent_refusal t (parent_in (Some k))) (or_else (count_refusal (count_in (Some k))) (room_refusal t))
 
@@ -44,7 +44,7 @@ fresh n k p = record { serial = n; kind = k; place = p; status = Undone; pending
 abbrev pub with_child : Record → Record
 with_child r = record r { children = r.children + 1 }
 
--- the same where it is the parent that is named, and otherwise the record as it is
+-- the same if it is the named parent, otherwise the record as it is
 abbrev pub with_child_of : Option ℕ → Record → Record
 with_child_of parent r = if is_named parent r.serial then with_child r else r
 
@@ -52,6 +52,6 @@ abbrev pub pending_in : Option Record → ℕ
 pending_in None = 0
 pending_in (Some r) = r.pending
 
--- why an addition to a pending count is refused, if it is: the first that holds
+-- why an addition to a pending count is refused, if it is: the first refusal in this order
 abbrev pub add_refusal : Records → Handle → ℕ → Option Refusal
 add_refusal t h n = or_else (completer_refusal (record_of t h)) (count_refusal (pending_in (record_of t h) + n))

@@ -13,7 +13,7 @@ use Rattle.fj_tree.specs.Handles.{Handle}
 use Rattle.fj_tree.specs.Paths.{path, root_of}
 use Rattle.fj_tree.specs.Records.{Records, record_of, changed, with_place, made_spent}
 
--- where a climb ends: how many are passed, the one that ends it or the passed root, and what ends it there
+-- where a climb ends: how many are passed, the completer that ends it or the passed root, and what ends it there
 pub record PassEnd : Type 0 where
   pub passed : ℕ
   pub at : Handle
@@ -30,7 +30,7 @@ does_fire (Some Spent) = false
 does_fire (Some Early) = false
 does_fire None = false
 
--- the records where the body of this task has ended, so that its place hinders nothing
+-- the records once the body of this task has ended, so that its place hinders nothing
 abbrev pub with_ended_body : Records → Handle → Records
 with_ended_body t h = changed t h.key (with_place Open)
 
@@ -38,7 +38,7 @@ with_ended_body t h = changed t h.key (with_place Open)
 abbrev pub is_passed : Records → Handle → Handle → Bool
 is_passed t h at = does_fire (arrival_of (with_ended_body t h) at)
 
--- the longest beginning of the path at whose members an arrival fires
+-- the longest prefix of the path at whose members an arrival fires
 unfoldable pub passed : Records → Handle → List Handle
 passed t h = take_while (is_passed t h) (path t h)
 
@@ -46,7 +46,7 @@ passed t h = take_while (is_passed t h) (path t h)
 unfoldable pub not_passed : Records → Handle → List Handle
 not_passed t h = drop (length (passed t h)) (path t h)
 
--- what such an arrival is as the end of a climb
+-- how such an arrival ends a climb
 abbrev pub end_by : Arrived → Option PassHow
 end_by Counted = Some how.Counted
 end_by Spent = Some how.Spent
@@ -72,8 +72,8 @@ does_count how.Spent = false
 does_count how.Early = false
 does_count how.Root = false
 
--- a record after a climb that passed these and ended so: a passed one is spent, and the one at which the climb is counted waits
--- for one arrival fewer
+-- a record after a climb that passed these and ended so: the passed ones are spent, and the record at which the climb is counted
+-- waits for one arrival fewer
 abbrev pub after_climb : List ℕ → PassEnd → Record → Record
 after_climb passed end r =
     if is_in r.serial passed then made_spent r

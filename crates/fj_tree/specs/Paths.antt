@@ -3,11 +3,11 @@ use Rattle.std.specs.Prelude.{ℕ, zero, suc, List, [], ◌∷◌, Option, Some,
 use Rattle.fj_tree.specs.Handles.{Handle}
 use Rattle.fj_tree.specs.Records.{Records, handle_of, parent_at}
 
--- the parent that a record names, if it names one that is kept
+-- the parent of a record, if it has one that is kept
 abbrev pub above : Records → Handle → Option Handle
 above t h = option_and_then (handle_of t) (parent_at t h)
 
--- where a path goes on to
+-- the rest of a path
 abbrev pub and_on : (Handle → List Handle) → Option Handle → List Handle
 and_on way None = []
 and_on way (Some h) = way h

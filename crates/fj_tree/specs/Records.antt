@@ -27,7 +27,7 @@ count t = count_by is_some t.slots
 abbrev pub if_numbered : ℕ → Record → Option Record
 if_numbered n r = if r.serial == n then Some r else None
 
--- the record that a handle names, and none where the handle is not good
+-- the record of a handle; none where the handle is not good
 abbrev pub record_of : Records → Handle → Option Record
 record_of t h = option_and_then (if_numbered h.serial) (record_at t h.key)
 
@@ -46,7 +46,7 @@ entry_of t n = find (λ e. e.1.serial == n) (entries_from 0 t.slots)
 abbrev pub handle_of : Records → ℕ → Option Handle
 handle_of t n = option_map (λ e. record { key = e.0; serial = n }) (entry_of t n)
 
--- the same records, but for the one at this key, which is changed so
+-- the same records, but the record at this key changed so
 abbrev pub changed : Records → ℕ → (Record → Record) → Records
 changed t key change = record t { slots = slice_set t.slots key (option_map change (record_at t key)) }
 
@@ -54,11 +54,11 @@ changed t key change = record t { slots = slice_set t.slots key (option_map chan
 abbrev pub ChangesEach : Records → Records → (Record → Record) → Type 0
 ChangesEach old new change = (key : ℕ) → record_at new key ≡ option_map change (record_at old key)
 
--- each record but the one at this key is changed so
+-- each record at another key is changed so
 abbrev pub ChangesOthers : Records → Records → ℕ → (Record → Record) → Type 0
 ChangesOthers old new key change = (other : ℕ) → other ≢ key → record_at new other ≡ option_map change (record_at old other)
 
--- each record but the one at this key stays as it is
+-- each record at another key stays as it is
 abbrev pub KeepsOthers : Records → Records → ℕ → Type 0
 KeepsOthers old new key = (other : ℕ) → other ≢ key → record_at new other ≡ record_at old other
 
@@ -66,7 +66,7 @@ KeepsOthers old new key = (other : ℕ) → other ≢ key → record_at new othe
 abbrev pub HasNone : Records → ℕ → Type 0
 HasNone t n = (key : ℕ) (r : Record) → record_at t key ≡ Some r → r.serial ≢ n
 
--- the number of the parent that the record of a handle names
+-- the number of the parent in the record of a handle
 abbrev pub parent_at : Records → Handle → Option ℕ
 parent_at t h = parent_in (option_map (λ r. r.kind) (record_of t h))
 
@@ -82,14 +82,14 @@ with_added n r = record r { pending = r.pending + n }
 abbrev pub made_spent : Record → Record
 made_spent r = record r { fired = true }
 
--- what is true of each record, where so many were made so far
+-- the invariant of each record, where so many were made so far
 pub record IsSoundRecord (made : ℕ) (r : Record) : Type 0 where
   pub number : r.serial < made
   pub parent : (p : ℕ) → parent_in (Some r.kind) ≡ Some p → p < r.serial
   pub pending : r.pending ≤ MAX_PENDING
   pub children : r.children ≤ made
 
--- whether the number is the one that is named, if any is
+-- whether this is the named number, if there is one
 abbrev pub is_named : Option ℕ → ℕ → Bool
 is_named None n = false
 is_named (Some p) n = n == p
@@ -111,7 +111,7 @@ pub record HasCompleter (t : Records) (n : ℕ) : Type 0 where
   pub number : there.serial ≡ n
   pub completer : IsTrue (is_completer_kind (Some there.kind))
 
--- what is true of all records together
+-- the invariant of all records together
 pub record IsSound (t : Records) : Type 0 where
   pub each : (key : ℕ) (r : Record) → record_at t key ≡ Some r → IsSoundRecord t.made r
   pub once : (key other : ℕ) (r s : Record) → record_at t key ≡ Some r → record_at t other ≡ Some s → r.serial ≡ s.serial → key ≡ other

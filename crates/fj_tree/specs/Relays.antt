@@ -21,11 +21,11 @@ is_undone_at t h = undone_in (record_of t h)
 abbrev pub relays_at : Records → Handle → Bool
 relays_at t h = relay_in (option_map (λ r. r.kind) (record_of t h))
 
--- the parent to which a task relays what it gets
+-- the parent to which a task relays its status
 abbrev pub next_relayed : Records → Handle → Option Handle
 next_relayed t h = if relays_at t h then above t h else None
 
--- the longest beginning of the path in which each is undone, and each but the last says relay
+-- the longest prefix of the path in which each is undone, and each but the last says relay
 abbrev pub relayed_along : Records → List Handle → List Handle
 relayed_along t [] = []
 relayed_along t (at ∷ above) = if is_undone_at t at then at ∷ (if relays_at t at then relayed_along t above else []) else []

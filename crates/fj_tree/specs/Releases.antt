@@ -22,6 +22,6 @@ release_refusal (Some r) = if is_gone r.place && (r.children == 0) then None els
 abbrev pub without_child : Record → Record
 without_child r = record r { children = r.children - 1 }
 
--- the same where it is the parent that is named, and otherwise the record as it is
+-- the same if it is the named parent, otherwise the record as it is
 abbrev pub without_child_of : Option ℕ → Record → Record
 without_child_of parent r = if is_named parent r.serial then without_child r else r

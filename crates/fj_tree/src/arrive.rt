@@ -3,7 +3,7 @@
 pub enum Arrived {
     /// The pending count fell by one.
     Counted,
-    /// The completer fires, and is spent from now on.
+    /// The completer fires, and is now spent.
     Fire,
     /// The completer was spent or done already.
     Spent,

@@ -1,10 +1,10 @@
 use fj_rules::Serial;
 use std::marker::Model;
 
-/// A name for a record: where it is, and the number that it has there.
+/// A generational index of a record: its key, and the number of its task.
 ///
-/// A handle is good while the record at its key has its number. A number is never used again, so a handle that has ceased to be
-/// good is never good again.
+/// A handle is good while the record at its key has its number. A number is never reused, so a handle that is no longer good is never
+/// good again.
 #[derive(Clone, Copy, PartialEq)]
 pub struct Handle {
     /// The key of the record.
@@ -13,7 +13,7 @@ pub struct Handle {
     pub serial: Serial,
 }
 
-// A copied struct with a part that has a model of its own can be passed on only once, so this one has a model too.
+// For the proof: without a model, a `Copy` struct with a field that has one can be passed on only once.
 impl Model for Handle {
     ghost use Rattle.fj_tree.specs.Handles.{Handle as Named};
 

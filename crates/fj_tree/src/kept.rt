@@ -13,8 +13,8 @@ use std::marker::Model;
 
 /// The numbers by which records are found, in rising order, each with the key of its record.
 ///
-/// Numbers are given out in rising order. So a new one goes to the end, and one is found by halves. The number of a released record
-/// stays until the list is closed up, which takes all such numbers out at once. [`Kept::probe`] alone tells of a number.
+/// Numbers are given out in rising order, so a new one goes to the end, and a binary search finds one. The number of a released record
+/// stays until the list is compacted, which removes all such numbers at once. Only [`Kept::probe`] reads a number.
 #[derive(Drop)]
 pub struct Kept {
     pairs: VecDeque<(u64, usize)>,
@@ -37,8 +37,7 @@ impl Model for Kept {
 }
 
 impl Kept {
-    /// No numbers, with room for those of so many kept records, which is all the memory that is ever taken. `OutOfMemory` where it is
-    /// refused.
+    /// No numbers, with room for those of so many kept records. This is the only allocation. `OutOfMemory` where it fails.
     pub fn new(alloc: Global, room: usize) -> Result<Kept, OutOfMemory>
         ensures { IfOk result (λ k. k ≡ record { pairs = []; room = room; released = 0 }) }
     {
@@ -76,8 +75,8 @@ impl Kept {
         self.pairs[i].1
     }
 
-    /// One number more, at the end, with the key of its record. Precondition: it is larger than all that there are, and fewer records
-    /// are kept than there is room for.
+    /// Appends a number with the key of its record. Precondition: it is larger than all in the list, and fewer records are kept than there
+    /// is room for.
     pub fn push(&mut self, serial: Serial, key: usize)
         requires above { IsAbove self.old.pairs serial }
         requires room { length self.old.pairs < self.old.room + self.old.released }
@@ -86,8 +85,8 @@ impl Kept {
         self.pairs.push_back_reserved((serial.0, key));
     }
 
-    /// A record was released, and these are left. Once as many were released as there is room for, the list is closed up: each release
-    /// pays for a part of it.
+    /// A record was released, and these are left. Once as many were released as there is room for, the list is compacted: amortized
+    /// constant time.
     pub(crate) fn release(&mut self, records: &Slab<Record>)
         ensures left { self.new ≡ after_release records.now.slots self.old }
         ensures room { self.new.room ≡ self.old.room }

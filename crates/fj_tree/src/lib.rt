@@ -1,7 +1,7 @@
 //! The records of the tasks that are kept, and what arrivals, climbs, relays and releases do to them.
 //!
-//! A contract sees a [`Tree`] as its records by key, the number of makes so far, and the room. A [`Handle`] names a record; it is
-//! good while the record at its key has its number. All memory is taken in [`Tree::new`].
+//! Contracts see a [`Tree`] as its records by key, the number of makes so far, and the room. A [`Handle`] names a record; it is
+//! good while the record at its key has its number. All memory is allocated in [`Tree::new`].
 //!
 //! ```
 //! let trigger = tree.make(kind, Place::Open)?;

@@ -1,4 +1,4 @@
-//! The search of a number in the list. It stands apart from [`Kept`], so it learns of a number by a probe alone.
+//! The search of a number in the list. It is outside of [`Kept`], so it reads numbers only by probes.
 ghost use Rattle.std.specs.Prelude.{◌≡◌, ◌≤◌, ◌<◌, ◌+◌, ◌^◌, ℕ, length, IfNone, IfSome};
 ghost use Rattle.fj_tree.specs.Kept.{IsAbsent, IsAt, IsListed, IsRising};
 
@@ -7,10 +7,10 @@ use crate::probes::Probes;
 use fj_rules::Serial;
 use std::cmp::Ordering;
 
-/// The key that stands beside a number, and no other key does. None if the number is not in the list.
+/// The only key that is listed with a number. None if the number is not in the list.
 ///
-/// It searches by halves: among fewer than 2^k numbers it makes at most k probes. So it makes at most 13 among 4,096, and also among
-/// the 8,191 that stand in the list at most where 4,096 records may be kept.
+/// A binary search: among fewer than 2^k numbers it makes at most k probes. So it makes at most 13 among 4,096, and also among
+/// the at most 8,191 in the list where 4,096 records may be kept.
 pub fn search(kept: &Kept, serial: Serial, probes: &mut Probes) -> Option<usize>
     ensures found { IfSome result (IsListed kept.now.pairs serial) }
     ensures only { IfSome result (λ key. (other : ℕ) → IsListed kept.now.pairs serial other → other ≡ key) }
@@ -22,7 +22,7 @@ pub fn search(kept: &Kept, serial: Serial, probes: &mut Probes) -> Option<usize>
     Some(kept.key(i))
 }
 
-/// The place at which a number stands. None if the number is not in the list.
+/// The place of a number. None if the number is not in the list.
 fn place(kept: &Kept, serial: Serial, probes: &mut Probes) -> Option<usize>
     ensures found { IfSome result (IsAt kept.now.pairs serial) }
     ensures rising { IsRising kept.now.pairs }

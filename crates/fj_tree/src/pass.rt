@@ -30,7 +30,7 @@ pub struct PassEnd {
     pub how: PassHow,
 }
 
-// A copied struct with a part that has a model of its own can be passed on only once, so this one has a model too.
+// For the proof: without a model, a `Copy` struct with a field that has one can be passed on only once.
 impl Model for PassEnd {
     ghost use Rattle.fj_tree.specs.Passes.{PassEnd as Ended};
 
@@ -41,7 +41,7 @@ impl Model for PassEnd {
     ghost inverse = { λ e. record { passed = e.passed; at = e.at; how = e.how } };
 }
 
-/// What an arrival is as the end of a climb. None if the climb goes on.
+/// How an arrival ends a climb. None if the climb goes on.
 pub fn end_by(arrived: Arrived) -> Option<PassHow>
     ensures { result ≡ end_by arrived }
 {

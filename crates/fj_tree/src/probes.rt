@@ -3,12 +3,12 @@ ghost use Rattle.std.specs.Prelude.{◌≡◌, ◌+◌};
 use std::marker::Model;
 use std::snapshot::Snapshot;
 
-/// How many probes were made: a number that contracts alone see.
+/// How many probes were made: a ghost count, seen by contracts only.
 ///
-/// Nothing is counted when the program runs, so nothing can be read there, and no count overflows.
+/// Nothing is counted at run time, so nothing overflows.
 #[derive(Drop)]
 pub struct Probes {
-    // the count as it was before the last probe: a value without bytes
+    // the count before the last probe, of size zero
     before: Option<Snapshot<Probes>>,
 }
 
@@ -32,7 +32,7 @@ impl Probes {
         Probes { before: None }
     }
 
-    /// One probe more.
+    /// Counts one more probe.
     pub(crate) fn add_one(&mut self)
         ensures { self.new ≡ self.old + 1 }
     {

@@ -6,12 +6,12 @@ ghost use Rattle.fj_rules.specs.declared.place.Place.TheVariants.{Open};
 use crate::arrive::Arrived;
 use fj_rules::{Kind, Place, Serial, Status};
 
-/// What is known of a task that is kept.
+/// The record of a kept task.
 #[derive(Clone, Copy, Debug)]
 pub struct Record {
     /// The task's number.
     pub serial: Serial,
-    /// What the task is. It stays as the task was made.
+    /// What the task is. It never changes.
     pub kind: Kind,
     /// Where the task is.
     pub place: Place,
@@ -26,7 +26,7 @@ pub struct Record {
 }
 
 impl Record {
-    /// Whether nothing can fire the completer any more: it was fired, was passed, or is done.
+    /// Whether the completer is spent, so that nothing can fire it: it was fired, was passed, or is done.
     pub fn is_spent(&self) -> bool
         ensures { result ≡ is_spent self.now }
     {
@@ -48,7 +48,7 @@ impl Record {
         }
     }
 
-    /// What an arrival at this record would do once its body has ended: its place is not looked at.
+    /// What an arrival at this record would do once its body has ended: its place is ignored.
     pub(crate) fn own_arrival(&self) -> Arrived
         ensures { result ≡ arrival_at (with_place Open self.now) }
     {

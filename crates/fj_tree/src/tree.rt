@@ -25,15 +25,15 @@ use slab::Slab;
 use std::alloc::Global;
 use std::marker::Model;
 
-/// The records of the tasks that are kept, with room that is taken when the tree is made.
+/// The records of the kept tasks, all allocated in [`Tree::new`].
 #[derive(Drop)]
 pub struct Tree {
     records: Slab<Record>,
     /// The numbers of the records, by which they are found.
     kept: Kept,
-    /// For each number below 16,384, the key under which the last number was put that leaves this rest: where to look first.
+    /// Guesses of keys, by number.
     hints: Hints,
-    /// How many records were made so far, which is the number of the next one.
+    /// How many records were made so far: the number of the next one.
     made: u64,
     room: usize,
 }
@@ -57,7 +57,7 @@ impl Model for Tree {
 }
 
 impl Tree {
-    /// A tree without records, with room for so many. Refused only where out of memory.
+    /// A tree without records, with room for so many. An error only if out of memory.
     pub fn new(alloc: Global, room: usize) -> Result<Tree, OutOfMemory>
         ensures { IfOk result (λ t. t ≡ record { slots = []; made = 0; room = room }) }
     {
@@ -94,7 +94,7 @@ impl Tree {
         }
     }
 
-    /// Writes how far a task has come. Precondition: a good handle.
+    /// Sets the status of a task. Precondition: a good handle.
     #[inline(always)]
     pub fn set_status(&mut self, h: Handle, status: Status)
         requires { IsGood self.old h }
@@ -103,7 +103,7 @@ impl Tree {
         self.records[h.key].status = status;
     }
 
-    /// Writes where a task is. Precondition: a good handle.
+    /// Sets the place of a task. Precondition: a good handle.
     #[inline(always)]
     pub fn set_place(&mut self, h: Handle, place: Place)
         requires { IsGood self.old h }
@@ -120,7 +120,7 @@ impl Tree {
         ensures absent { IfNone result (HasNone self.now serial) }
         ensures sound { IsSound self.now }
     {
-        // The records are sound by the invariant, which has to be seen here.
+        // For the proof: the invariant says that the records are sound.
         let _ = &self.records;
         let guess = Handle {
             key: self.hints.key(serial),
@@ -175,8 +175,7 @@ impl Tree {
         self.records[h.key].fired = true;
     }
 
-    /// What an arrival at a completer would do, which is what [`Tree::arrive`] answers. Precondition: a good handle of a
-    /// completer.
+    /// What an arrival at a completer would do: the answer of [`Tree::arrive`]. Precondition: a good handle of a completer.
     pub fn arrival(&self, h: Handle) -> Arrived
         requires { IsCompleter self.now h }
         ensures { Some result ≡ option_map arrival_at (record_of self.now h) }
@@ -187,7 +186,7 @@ impl Tree {
     /// Arrives at a completer. Precondition: a good handle of one.
     ///
     /// A spent or done one stays as it is, a pending count above 0 falls by one, a queued or held one stays as it is, and otherwise
-    /// the completer becomes spent: it fires. The first of these that holds is answered. Place and status stay.
+    /// the completer becomes spent: it fires. The first of these cases that applies is answered. Place and status stay.
     ///
     /// It is what `CountedCompleter.tryComplete` does at one completer. In Java no arrival is early.
     pub fn arrive(&mut self, h: Handle) -> Arrived
@@ -199,8 +198,8 @@ impl Tree {
         self.records[h.key].arrive()
     }
 
-    /// Raises a completer's pending count, and gives the new one. Refused, with nothing changed, by `Unknown` if the handle is not
-    /// good, `NotCompleter` if it names a plain task, and `CountTooLarge` if the count would pass [`MAX_PENDING`], in this order. It is
+    /// Raises a completer's pending count, and answers the new one. Refused, with nothing changed, as `Unknown` if the handle is not
+    /// good, `NotCompleter` if it names a plain task, and `CountTooLarge` if the count would exceed [`MAX_PENDING`], in this order. It is
     /// `CountedCompleter.addToPendingCount`, with a bound.
     pub fn add(&mut self, h: Handle, n: u32) -> Result<u32, Refusal>
         ensures refused { IsRefusedBy (add_refusal self.old h n) result }
@@ -214,7 +213,7 @@ impl Tree {
         Ok(count)
     }
 
-    /// The pending count that a completer would have after an addition.
+    /// The pending count after an addition. Refused as in [`Tree::add`].
     fn raised(&self, h: Handle, n: u32) -> Result<u32, Refusal>
         ensures refused { IsRefusedBy (add_refusal self.now h n) result }
         ensures good { OnOk result (IsGood self.now h) }
@@ -234,8 +233,8 @@ impl Tree {
         Ok(count as u32)
     }
 
-    /// Makes a task, with the next number. Refused, with nothing changed, by `Unknown` if the parent that the kind names is not
-    /// kept, `NotCompleter` if it is a plain task, `CountTooLarge` if the pending count is above [`MAX_PENDING`], and `TooManyTasks` if there
+    /// Makes a task, with the next number. Refused, with nothing changed, as `Unknown` if the parent in the kind is not kept,
+    /// `NotCompleter` if it is a plain task, `CountTooLarge` if the pending count is above [`MAX_PENDING`], and `TooManyTasks` if there
     /// is no room, in this order. Precondition: fewer than 2^63 makes so far.
     pub fn make(&mut self, kind: Kind, place: Place) -> Result<Handle, Refusal>
         requires { self.old.made < 2 ^ 63 }
@@ -259,7 +258,7 @@ impl Tree {
         Ok(self.insert(kind, place, parent))
     }
 
-    /// The parent that a kind names, if it names one.
+    /// The parent in a kind, if there is one. `Unknown` if it is not kept, `NotCompleter` if it is a plain task.
     fn parent(&self, kind: &Kind) -> Result<Option<Handle>, Refusal>
         ensures refused { IsRefusedBy (parent_refusal self.now (parent_in (Some kind.now))) result }
         ensures completer { IfOk result (λ parent. IfSome parent (IsCompleter self.now)) }
@@ -278,7 +277,7 @@ impl Tree {
         }
     }
 
-    /// Makes a task under a parent that was found before, with the next number. What [`Tree::make`] refuses, the caller has excluded.
+    /// Makes a task under a parent that was found before, with the next number. Precondition: [`Tree::make`] would not refuse it.
     #[inline(always)]
     pub fn insert(&mut self, kind: Kind, place: Place, parent: Option<Handle>) -> Handle
         requires made { self.old.made < 2 ^ 63 }

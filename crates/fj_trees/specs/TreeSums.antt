@@ -3,7 +3,7 @@ use Rattle.std.specs.Prelude.{ℕ, ◌≡◌, ◌+◌, ◌%◌, ◌<◌, ◌≤�
 use Rattle.fj_trees.specs.declared.node.Node.{Node}
 use Rattle.fj_trees.specs.TreeValues.{children_from, node_value, weighted}
 
--- one of the sums with so much more
+-- one of the sums, raised by so much
 abbrev pub with_more : List ℕ → ℕ → ℕ → List ℕ
 with_more sums i n = slice_set sums i ((slice_index sums i + n) % 1000000007)
 

@@ -12,7 +12,7 @@ abbrev pub HasParentAt : ℕ → Option ℕ → Type 0
 HasParentAt i None = i ≡ 0
 HasParentAt i (Some p) = p < i
 
--- the parent that a word writes at this place; None where it writes none that may stand there
+-- the parent that a word denotes at this place; None where it denotes none that may be there
 abbrev pub ReadsParent : List ℕ → ℕ → Option (Option ℕ) → Type 0
 ReadsParent word i None = (p : Option ℕ) → HasParentAt i p → word ≢ parent_word p
 ReadsParent word i (Some p) = HasParentAt i p × (word ≡ parent_word p)
@@ -52,7 +52,7 @@ abbrev pub BeginsWithNoNode : ℕ → List ℕ → Type 0
 BeginsWithNoNode i bytes = (node : Node) → IsNodeAt i node → (after : List ℕ) → bytes ≢ node_line node ++ 10 ∷ after
 
 -- the lines before line n, counted from 1, are those of the first nodes of a tree, and line n is none, or does not end; where the input
--- ends behind line n - 1, n is 1
+-- ends after line n - 1, n is 1
 pub record IsFirstFault (n : ℕ) (bytes : List ℕ) : Type 0 where
   pub nodes : List Node
   pub behind : List ℕ

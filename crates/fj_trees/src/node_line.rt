@@ -5,7 +5,8 @@ ghost use Rattle.fj_trees.specs.Trees.{IsNodeAt, IsNoNode, ReadsParent, node_lin
 use crate::node::Node;
 use fj_lines::read_number;
 
-/// The node that a line writes at this place of a tree, from 0 on; None where no node at this place is written so.
+/// The node that a line denotes at this place of a tree, counted from 0; None where it denotes none. Precondition: the place is below
+/// 4,000.
 #[tactic(auto, using(crate::proofs::NodeLines::is_line))]
 pub(crate) fn read_node(line: &[u8], place: usize) -> Option<Node>
     requires { place < 4000 }
@@ -23,7 +24,7 @@ pub(crate) fn read_node(line: &[u8], place: usize) -> Option<Node>
     Some(Node { parent, value })
 }
 
-/// What stands before the first space, and behind it; None where there is no space.
+/// What is before and after the first space; None where there is no space.
 #[tactic(auto, using(crate::proofs::Splits::cut_at))]
 fn split_at_space(line: &[u8]) -> Option<(&[u8], &[u8])>
     ensures { MatchOption result (Without 32 line.now) (λ p. Without 32 p.0.now × (line.now ≡ p.0.now ++ 32 ∷ p.1.now)) }
@@ -36,7 +37,8 @@ fn split_at_space(line: &[u8]) -> Option<(&[u8], &[u8])>
     None
 }
 
-/// The parent that a word writes: `-` for none, at place 0 alone, or the number of an earlier place.
+/// The parent that a word denotes: `-` for none, at place 0 alone, or the number of an earlier place. Precondition: the place is below
+/// 4,000.
 #[tactic(auto, using(crate::proofs::NodeLines::no_dash, crate::proofs::NodeLines::no_earlier))]
 fn read_parent(word: &[u8], place: usize) -> Option<Option<u32>>
     requires { place < 4000 }
@@ -55,7 +57,7 @@ fn read_parent(word: &[u8], place: usize) -> Option<Option<u32>>
     }
 }
 
-/// The number that a word is the decimal text of, if it is at most `most`.
+/// The number of which a word is the decimal text, if it is at most `most`.
 #[tactic(auto, using(crate::proofs::NodeLines::no_number, crate::proofs::NodeLines::number_is_text))]
 fn number_up_to(word: &[u8], most: u32) -> Option<u32>
     ensures { MatchOption result ((n : ℕ) → n ≤ most → word.now ≢ decimal n) (λ n. (n ≤ most) × (word.now ≡ decimal n)) }

@@ -6,11 +6,11 @@ use crate::nodes::Nodes;
 use fj_rules::OutOfMemory;
 use std::alloc::Global;
 
-/// What values are computed modulo.
+/// The modulus of all values.
 const MODULUS: u64 = 1_000_000_007;
 
 /// The values of the nodes of a tree, by their numbers: a node's own value and k times that of its k-th child, children by rising number
-/// and k from 1, modulo 1,000,000,007. `OutOfMemory` where memory was refused.
+/// and k from 1, modulo 1,000,000,007. `OutOfMemory` where an allocation fails.
 pub fn tree_values(alloc: Global, nodes: &Nodes) -> Result<Vec<u64>, OutOfMemory>
     ensures { IfOk result (λ values. AreValues nodes.now values.items) }
 {
@@ -30,7 +30,7 @@ pub fn tree_values(alloc: Global, nodes: &Nodes) -> Result<Vec<u64>, OutOfMemory
     Ok(values)
 }
 
-/// Adds a child before the children so far: each of these has a weight one larger from here on.
+/// Adds a child before the children so far; the weight of each of these rises by one. Precondition: the parent is a node.
 fn add_child(plain: &mut [u64], weighted: &mut [u64], parent: u32, value: u64)
     requires plain { parent < length plain.old }
     requires weighted { parent < length weighted.old }

@@ -3,8 +3,8 @@ ghost use Rattle.std.specs.Prelude.{◌≡◌, ◌<◌, length};
 use crate::node::Node;
 use std::marker::Model;
 
-/// The nodes of a tree by their numbers, from 0 on: 1 to 4,000 of them. Node 0 alone has no parent, that of each other node is an earlier
-/// node, and values are at most 1,000,000,006.
+/// The nodes of a tree by their numbers, from 0 on: 1 to 4,000 of them. Only node 0 has no parent; that of each other node is an earlier
+/// node. Values are at most 1,000,000,006.
 #[derive(Drop)]
 pub struct Nodes {
     nodes: Vec<Node>,
@@ -26,7 +26,7 @@ impl Nodes {
     ghost use Rattle.fj_trees.specs.Trees.{IsNodeAt, IsTree};
     ghost use Rattle.fj_trees.specs.TreeValues.{node_at};
 
-    /// The tree of these nodes.
+    /// The tree of these nodes. Precondition: they are a tree.
     pub(crate) fn new(nodes: Vec<Node>) -> Nodes
         requires { IsTree nodes.items }
         ensures { result ≡ nodes.items }

@@ -14,9 +14,9 @@ use std::io::ErrorKind;
 /// Reads a tree to the end of the input: a line for each node, node 0 first. A line is the number of the node's parent, or `-` for node 0,
 /// a space, the node's value and a line feed; numbers are decimal, without a sign and without leading zeros.
 ///
-/// `Line` for the first line that is none where it stands or lacks its line feed, and is found as soon as no tree can go on so: at most 64
-/// bytes of a line are kept, and 4,000 lines. `Memory` where memory was refused. `Read` where a read failed, or there was no end in 2^64 - 1
-/// reads; an interrupted read is tried again.
+/// `Line` for the first line that may not be there or lacks its line feed; it is reported as soon as no tree can go on so: at most 64 bytes
+/// of a line are kept, and 4,000 lines. `Memory` where an allocation fails. `Read` where a read fails, or 2^64 - 1 reads find no end; an
+/// interrupted read is retried.
 pub fn read_tree<R: Source>(alloc: Global, r: &mut R) -> Result<Nodes, TreeFault>
     // The whole input is the text of the tree.
     ensures text { IfOk result (λ nodes. (input : List ℕ) → R.remaining r.old ≡ Some input → input ≡ tree_text nodes) }

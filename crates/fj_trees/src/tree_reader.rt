@@ -9,7 +9,7 @@ use crate::tree_fault::TreeFault;
 use std::alloc::{AllocError, Global};
 use std::marker::Model;
 
-/// What is kept of the bytes of a tree so far: the nodes of the whole lines, and at most 64 bytes of the line that goes on.
+/// What is kept of the bytes of a tree so far: the nodes of the whole lines, and at most 64 bytes of the unfinished line.
 #[derive(Drop)]
 pub(crate) struct TreeReader {
     nodes: Vec<Node>,
@@ -29,7 +29,7 @@ impl Model for TreeReader {
 }
 
 impl TreeReader {
-    /// A reader that has read nothing.
+    /// A reader that has read nothing. `AllocError` where out of memory.
     pub(crate) fn new(alloc: Global) -> Result<TreeReader, AllocError>
         ensures { IfOk result (λ r. r ≡ nothing_kept) }
     {
@@ -40,14 +40,14 @@ impl TreeReader {
         })
     }
 
-    /// The fault of the line that goes on.
+    /// The fault of the unfinished line.
     fn fault(&self) -> TreeFault
         ensures { result ≡ TreeFault.Line (length self.now.nodes + 1) }
     {
         TreeFault::Line(self.nodes.len() as u64 + 1)
     }
 
-    /// Ends the line: keeps its node.
+    /// Ends the line and keeps its node. Precondition: fewer than 4,000 nodes are kept.
     #[tactic(auto, using(crate::proofs::TreeBytes::nodes_more))]
     fn end_line(&mut self) -> Result<(), TreeFault>
         requires { length self.old.nodes < 4000 }
@@ -66,7 +66,7 @@ impl TreeReader {
         }
     }
 
-    /// Takes one byte.
+    /// Takes one byte. `Line` where no tree can go on so, `Memory` where out of memory.
     fn feed(&mut self, byte: u8) -> Result<(), TreeFault>
         ensures goes { OnOk result (Goes self.old byte self.new) }
         ensures err { IfErr result (λ fault. FaultAt fault self.old byte) }
@@ -84,7 +84,7 @@ impl TreeReader {
         Ok(())
     }
 
-    /// Takes bytes, up to a fault.
+    /// Takes bytes, up to the first fault.
     pub(crate) fn feed_all(&mut self, bytes: &[u8]) -> Result<(), TreeFault>
         ensures ok { OnOk result ((b : List ℕ) → IsAt b self.old → IsAt (b ++ bytes.now) self.new) }
         ensures err { IfErr result (λ fault. (b after : List ℕ) → IsAt b self.old → FaultOf fault (b ++ bytes.now ++ after)) }

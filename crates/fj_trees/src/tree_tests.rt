@@ -8,7 +8,7 @@ fn read(alloc: Global, text: &[u8]) -> Result<Nodes, TreeFault> {
     read_tree(alloc, &mut rest)
 }
 
-/// Trees, with what each of their nodes is.
+/// Trees, with their nodes.
 #[test]
 fn trees_are_read(rt: HostRuntime) -> Result<(), Fail> {
     let trees: [(&[u8], &[(Option<u32>, u32)]); 4] = [
@@ -42,7 +42,7 @@ fn trees_are_read(rt: HostRuntime) -> Result<(), Fail> {
     Ok(())
 }
 
-/// Each text is faulty at one line; the first such line is told.
+/// Each text has a fault in one line; the first such line is reported.
 #[test]
 fn faults_are_told_by_line(rt: HostRuntime) -> Result<(), Fail> {
     let texts: [(&[u8], u64); 28] = [
@@ -107,7 +107,7 @@ impl Read for Lines {
     }
 }
 
-/// 4,000 lines are a tree; whatever the 4,001st holds, it is the faulty one.
+/// 4,000 lines are a tree; whatever the 4,001st holds, it is the fault.
 #[test]
 fn four_thousand_lines(rt: HostRuntime) -> Result<(), Fail> {
     let mut whole = Lines {
@@ -159,7 +159,7 @@ fn a_tree_that_comes_byte_by_byte(rt: HostRuntime) -> Result<(), Fail> {
     Ok(())
 }
 
-/// A line of ten million bytes is at fault as soon as it is too long for any node's.
+/// A line of ten million bytes is a fault as soon as it is too long for any node.
 #[test]
 fn a_long_line(rt: HostRuntime) -> Result<(), Fail> {
     let mut digits = io::repeat(b'1').take(10_000_000);
@@ -171,7 +171,7 @@ fn a_long_line(rt: HostRuntime) -> Result<(), Fail> {
     Ok(())
 }
 
-/// Gives so many bytes of a tree one by one, each behind an interruption, and then fails.
+/// Gives so many bytes of a tree one by one, each after an interruption, and then fails.
 #[derive(Drop)]
 struct Failing {
     given: usize,

@@ -4,7 +4,7 @@ use Rattle.fj_rules.specs.declared.refusal.Refusal.{Refusal}
 use Rattle.fj_try.specs.declared.fault.Fault.{Fault}
 use Rattle.fj_try.specs.declared.fault.Fault.TheVariants.{Failed, Refused}
 
--- this holds of a refusal that is told
+-- this holds of a refusal that is reported
 abbrev pub IfRefused : {O E : Type 0} → (Refusal → Type 0) → Result O (Fault E) → Type 0
 IfRefused refuses (Ok out) = ⊤
 IfRefused refuses (Err (Failed error)) = ⊤

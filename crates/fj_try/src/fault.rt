@@ -6,9 +6,9 @@ use std::fmt::{Debug, Display, Formatter};
 /// Why a job that may fail has no value.
 #[derive(Drop, Debug, PartialEq)]
 pub enum Fault<E> {
-    /// It failed with this.
+    /// It failed with this error.
     Failed(E),
-    /// The pool was refused, or its run, as `invoke_lazily` says.
+    /// The pool or its run was refused, for the reasons of `invoke_lazily`.
     Refused(Refusal),
 }
 

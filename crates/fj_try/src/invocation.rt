@@ -11,11 +11,11 @@ use std::alloc::Global;
 use std::sync::Wait;
 use std::thread::Threads;
 
-/// The value of a job that may fail, by workers in threads, in a pool of its own, as `invoke_lazily` does a job that cannot.
+/// Computes a job that may fail, by worker threads in a pool of its own, as `invoke_lazily` does one that cannot.
 ///
-/// `Failed` with the first failure from the left: that of the leaf or the combination at which one thread would have stopped. What is right of it is
-/// not begun, or ends after its present leaf. `Refused` with `LogFull` where the history is full, and with `OutOfMemory` where memory is
-/// refused to the pool or a thread cannot be started.
+/// `Failed` with the first failure from the left: that of the leaf or the combination at which one thread would have stopped. What is right
+/// of it is not begun, or ends after its present leaf. `Refused` with `LogFull` where the history is full, and with `OutOfMemory` where an
+/// allocation of the pool fails or a thread cannot be started.
 pub fn try_invoke<J: TryDivide + Send, R: Threads + Wait + Sync>(
     rt: &R,
     alloc: Global,
@@ -36,7 +36,7 @@ where
     }
 }
 
-/// The same on the calling thread: it takes the stack, as deep as the job splits. `Failed` with the first failure.
+/// The same on the calling thread, with a stack as deep as the job splits. `Failed` with the first failure.
 pub fn try_compute<J: TryDivide>(alloc: Global, job: J) -> Result<J::Out, Fault<J::Error>>
     ensures ok { IfOk result (λ out. ∥ J.gives (J.key_of job) out ∥₁) }
     ensures err { IfRefused RefusesRun result }
@@ -45,7 +45,7 @@ pub fn try_compute<J: TryDivide>(alloc: Global, job: J) -> Result<J::Out, Fault<
     answer_of(compute(Trying { job, alloc }), &key)
 }
 
-/// The value that came of a job, if it stands under this key. A value under another key is told as none.
+/// The value of a job, if it is under this key. A value under another key counts as none.
 fn answer_of<J: TryDivide>(tried: Tried<J>, key: &J::Key) -> Result<J::Out, Fault<J::Error>>
     ensures ok { IfOk result (λ out. ∥ J.gives key.now out ∥₁) }
     ensures err { IfRefused RefusesRun result }

@@ -1,4 +1,4 @@
-//! Jobs that divide and may fail: a leaf and a combination are given an allocator, and answer a `Result`.
+//! Divide-and-conquer jobs that may fail: a leaf and a combination get an allocator, and return a `Result`.
 //!
 //! ```
 //! let sorted = try_invoke(&rt, alloc, Settings::available(&rt), Sort { numbers })?;

@@ -5,7 +5,7 @@ use super::*;
 use std::alloc::Global;
 use std::test::Fail;
 
-/// The sum of numbers in a row, which must stay below a limit; it fails at some numbers, and where it grows too large.
+/// The sum of consecutive numbers, which must stay below a limit; it fails at some numbers, and where it grows too large.
 #[derive(Drop)]
 struct Sum {
     from: u64,
@@ -14,7 +14,7 @@ struct Sum {
     ghost ordered: { from ≤ to },
 }
 
-/// From where a sum is too large.
+/// From here on a sum is too large.
 const TOO_LARGE: u64 = 10_000;
 
 /// Why there is no sum.
@@ -94,7 +94,7 @@ impl TryDivide for Sum {
     ghost same_key = { λ a b o e g. g };
 }
 
-/// The first failure from the left is told, at a leaf or where sums are combined, by one thread and by workers.
+/// The first failure from the left is reported, at a leaf or where sums are combined, by one thread and by workers.
 #[test]
 fn the_first_failure_is_told(rt: HostRuntime) -> Result<(), Fail> {
     const ROWS: [(u64, u64, &[u64], Result<u64, NoSum>); 6] = [

@@ -2,9 +2,10 @@ use crate::try_divide::TryDivide;
 use std::alloc::Global;
 use std::marker::Model;
 
-/// What came of a part of a job: a value that is right for the key beside it, or a failure.
+/// The result of a part of a job: a value that is right for the key beside it, or a failure.
 ///
-/// To the pool all of these are one value, since it may depend on memory which it is. So a failure is final, and what is right of it is not begun.
+/// For the pool all of these count as one value, since which one it is may depend on memory. So a failure is final, and what is right of it
+/// is not begun.
 #[derive(Drop)]
 pub struct Tried<J: TryDivide> {
     end: Result<(J::Key, J::Out), J::Error>,
@@ -24,7 +25,7 @@ impl<J: TryDivide> Model for Tried<J> {
 impl<J: TryDivide> Tried<J> {
     ghost use Rattle.std.specs.Prelude.{IfOk};
 
-    /// What came of a leaf.
+    /// The result of a leaf.
     pub fn at(job: &J, alloc: Global) -> Tried<J> {
         let end = match job.leaf(alloc) {
             Ok(out) => Ok((job.key(), out)),
@@ -33,7 +34,7 @@ impl<J: TryDivide> Tried<J> {
         Tried { end, alloc }
     }
 
-    /// What came of two halves: the failure of the left one, or else of the right one, or else what comes of their values.
+    /// The result of two halves: the failure of the left one, or else of the right one, or else their values combined.
     pub fn then(self, right: Tried<J>) -> Tried<J> {
         let Tried { end: left, alloc } = self;
         let left = match left {

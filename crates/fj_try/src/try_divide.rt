@@ -6,7 +6,7 @@ use std::alloc::Global;
 ///
 /// What is promised of a value is a relation to its key, `gives`. Where nothing is to be promised it is `λ k o. ⊤`, with `()` for the key.
 pub trait TryDivide: Drop {
-    /// What a value is of.
+    /// What a value belongs to.
     type Key: Eq + Drop;
 
     /// A value.
@@ -24,7 +24,7 @@ pub trait TryDivide: Drop {
     /// How large a job is: each half is smaller.
     ghost size: { Self → ℕ };
 
-    /// What the value of the job is of.
+    /// The key of the job.
     fn key(&self) -> Self::Key
         ensures { result ≡ key_of self.now };
 
@@ -37,7 +37,8 @@ pub trait TryDivide: Drop {
     fn leaf(&self, alloc: Global) -> Result<Self::Out, Self::Error>
         ensures { IfOk result (λ o. ∥ gives (key_of self.now) o ∥₁) };
 
-    /// The value of a job from the values of its halves, the left one first, each with its key; or why there is none.
+    /// The value of a job from those of its halves, the left one first, each with its key; or why there is none. Precondition: each is right
+    /// for its key.
     fn combine(
         alloc: Global,
         left: (Self::Key, Self::Out),

@@ -6,12 +6,12 @@ use crate::try_divide::TryDivide;
 use fj_invoke::Divide;
 use std::alloc::Global;
 
-/// A job that may fail, as one that a pool does: it has a value in each case, which is what came of it.
+/// A job that may fail, as one that has a value in each case: its result.
 #[derive(Drop)]
 pub struct Trying<J: TryDivide> {
     /// The job.
     pub job: J,
-    /// What its parts take memory from.
+    /// The allocator for its parts.
     pub alloc: Global,
 }
 

@@ -1,11 +1,11 @@
-//! The commands that do a job.
+//! Tests of the commands that run a job.
 use crate::test_rows::first_other_command;
 use std::alloc::Global;
 use std::sync::Wait;
 use std::test::Fail;
 use std::thread::Threads;
 
-/// Command lines of jobs over ranges without their workers, the input, and what is written; at a fault what is on standard error, and the
+/// Command lines of jobs over ranges without their workers, the input, and the output; at a fault what is on standard error, and the
 /// status.
 const RANGES: [&str; 16] = [
     "sum --from 5 --to 4 |  | 0;",
@@ -41,13 +41,13 @@ const TREES: [&str; 11] = [
     "tree | - 5;0 2;0 3 |  | fault: line 3; | 3",
 ];
 
-/// A hundred thousand leaves, and as many as may be.
+/// A hundred thousand leaves, and the most allowed.
 const LONG_RANGES: [&str; 2] = [
     "sum --from 1 --to 100000 --grain 1 |  | 5000050000;",
     "sum --from 0 --to 199999 |  | 19999900000;",
 ];
 
-/// The first row that gave something else, lazily or with `--eager`, by so many workers.
+/// The first mismatch of a row, lazily or with `--eager`, by so many workers.
 fn first_other_range<H: Threads + Wait + Sync>(
     rt: &H,
     alloc: Global,

@@ -1,11 +1,11 @@
-//! Scripts in which tasks have names.
+//! Tests of scripts in which tasks have names.
 use crate::streams::Halting;
 use crate::test_rows::{REPLAY, Row, bytes, command, first_other, other};
 use fj_cli::{ReplayFault, replay};
 use std::alloc::{AllocError, Global};
 use std::test::Fail;
 
-/// Scripts of version 2, their replies, and what ends them.
+/// Scripts of version 2, their replies, and their faults.
 fn rows() -> [&'static str; 24] {
     [
         "names, a seal, a name that is taken | fj 2;async 1 1 2 4;submit a 0;poll 0 0;end 0 ok;seal;epoch;submit a 0;submit b 0;seal;state b;cancel c; | task a;run a;done;sealed 0 4;epoch 1 0;refused 16;task b;refused 14;state queued 0 undone;refused 5;",
@@ -38,7 +38,7 @@ fn rows() -> [&'static str; 24] {
 /// The longest line, of 66 bytes.
 const LONGEST: &str = "fork aaaaaaaaaaaaaaa1 4294967295 aaaaaaaaaaaaaaa2 4294967295 relay";
 
-/// What ends a script whose third line begins so, where its reader fails behind that.
+/// The fault of a script whose third line begins so, where its reader fails after that.
 fn fault_behind(alloc: Global, line: &str) -> Result<Option<ReplayFault>, AllocError> {
     let script = format!(in alloc; "fj 2;async 1 1 2 8;{line}")?;
     let mut input = Halting::new(bytes(alloc, &script)?, true);
@@ -46,7 +46,8 @@ fn fault_behind(alloc: Global, line: &str) -> Result<Option<ReplayFault>, AllocE
     Ok(replay(alloc, &mut input, &mut out).err())
 }
 
-/// 3,000 tasks, each of a name of its own, from its submission to its release; each 300 fill the history, and are sealed. And the replies.
+/// A script of 3,000 tasks, each with its own name, from submission to release, and its replies. Each 300 fill the history, and are
+/// sealed.
 fn long_script(alloc: Global) -> Result<(String, String), AllocError> {
     let mut script = String::new(alloc);
     let mut replies = String::new(alloc);

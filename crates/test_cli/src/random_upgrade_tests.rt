@@ -1,4 +1,4 @@
-//! Random scripts, replied to in both versions.
+//! Random scripts, replayed in both versions.
 use crate::upgrade_scripts::renamed;
 use fj_replay::{replayed, upgraded};
 use rand_core::utils::NextWord;
@@ -15,7 +15,7 @@ fn below(rng: &mut Pcg32, n: u32) -> u32 {
     rng.next_word().checked_rem(n).unwrap_or(0)
 }
 
-/// A line of a step. Tasks are mostly those of small numbers, and workers and submitters now and then one too many.
+/// A line of a step. Tasks have numbers below 24; one worker or submitter in three is unknown.
 fn push_line(rng: &mut Pcg32, text: &mut String) -> Result<(), AllocError> {
     let (w, t, n) = (below(rng, 3), below(rng, 24), below(rng, 3));
     match below(rng, 24) {
@@ -74,7 +74,7 @@ fn an_upgrade_keeps_the_replies(rt: HostRuntime) -> Result<(), Fail> {
         let told = later.lines().filter(|line| line.starts_with("task t"));
         tasks = tasks.saturating_add(told.count());
     }
-    // Something happens.
+    // Enough has happened.
     assert!(rt; tasks > 1000);
     Ok(())
 }

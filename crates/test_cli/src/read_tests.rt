@@ -8,7 +8,7 @@ use std::sync::Wait;
 use std::test::Fail;
 use std::thread::Threads;
 
-/// Whether a reader that fails behind a script is told, with the replies to the whole lines of it.
+/// Whether a reader that fails after a script is reported, with the replies to its whole lines.
 fn is_read_failed<H: Threads + Wait + Sync>(
     rt: &H,
     alloc: Global,
@@ -52,7 +52,7 @@ fn another_command_behind_a_reader_that_fails(rt: HostRuntime) -> Result<(), Fai
     Ok(())
 }
 
-/// Whether so many letters behind these lines are a fault of this line, with these replies.
+/// Whether so many letters after these lines are a fault of this line, with these replies.
 fn is_too_long(
     alloc: Global,
     lines: &str,

@@ -40,7 +40,7 @@ fn watched_streams(rt: HostRuntime) -> Result<(), Fail> {
     Ok(())
 }
 
-/// A `Watched` writer hands a flush on.
+/// A `Watched` writer forwards a flush.
 #[test]
 fn a_watched_flush_that_fails(rt: HostRuntime) -> Result<(), Fail> {
     let alloc = rt.alloc();

@@ -1,8 +1,8 @@
-//! Readers and writers that stumble.
+//! Readers and writers that are interrupted and fail.
 use std::alloc::Global;
 use std::io::{self, ErrorKind, Read, Write};
 
-/// Gives one byte at each second read, is interrupted at the others, and fails at the end.
+/// Gives one byte at each second read, is interrupted at the others, and may fail at the end.
 #[derive(Drop)]
 pub struct Halting {
     bytes: Vec<u8>,
@@ -12,7 +12,7 @@ pub struct Halting {
 }
 
 impl Halting {
-    /// A reader of these bytes, which fails at their end if it is told so.
+    /// A reader of these bytes, which fails at their end if `fails`.
     pub fn new(bytes: Vec<u8>, fails: bool) -> Halting {
         Halting {
             bytes,
@@ -52,7 +52,7 @@ pub enum End {
     DoesNotFlush,
 }
 
-/// Takes one byte at each second write, is interrupted at the others, and ends after as many bytes as it has room for.
+/// Takes one byte at each second write, is interrupted at the others, and ends once it is full.
 #[derive(Drop)]
 pub struct Narrow {
     pub taken: Vec<u8>,

@@ -6,7 +6,7 @@ use std::sync::Wait;
 use std::test::Fail;
 use std::thread::Threads;
 
-/// What a command gave.
+/// The result of a command.
 #[derive(Drop)]
 pub struct Ran {
     pub status: u8,
@@ -37,7 +37,7 @@ pub fn bytes(alloc: Global, text: &str) -> Result<Vec<u8>, AllocError> {
     Ok(all)
 }
 
-/// What a script gives: the replies, the text on standard error and the exit status.
+/// A test of a script: the expected replies, text on standard error and exit status.
 ///
 /// As text, a row has ` | ` between its parts: its name, a script, the replies to it; and at a fault what is on standard error and the
 /// status. `;` stands for a line feed.
@@ -82,7 +82,7 @@ fn read(text: &str) -> Row<'_> {
     }
 }
 
-/// What a script gave in place of what its row says; empty where it gave that.
+/// The actual result of a row's script if it differs from the row; otherwise empty.
 pub fn other<H: Threads + Wait + Sync>(
     rt: &H,
     alloc: Global,
@@ -91,7 +91,7 @@ pub fn other<H: Threads + Wait + Sync>(
     other_for(rt, alloc, REPLAY.as_slice(), row)
 }
 
-/// The same of the command with these words.
+/// The same of the command with these arguments.
 fn other_for<H: Threads + Wait + Sync>(
     rt: &H,
     alloc: Global,
@@ -119,7 +119,7 @@ fn is_as_told(alloc: Global, ran: &Ran, row: Row<'_>) -> Result<bool, AllocError
     Ok(is_said && ran.status == row.status)
 }
 
-/// The same of the first script that gave something else.
+/// The first mismatch of these rows.
 pub fn first_other<H: Threads + Wait + Sync>(
     rt: &H,
     alloc: Global,
@@ -134,7 +134,7 @@ pub fn first_other<H: Threads + Wait + Sync>(
     Ok(String::new(alloc))
 }
 
-/// The words of a command line: the program's name, and what stands between spaces.
+/// The arguments of a command line: the program's name, and the words between spaces.
 pub fn words<'a>(alloc: Global, line: &'a str, more: &'a str) -> Result<Vec<&'a str>, AllocError> {
     let mut words = Vec::new(alloc);
     words.push("fj")?;
@@ -146,7 +146,7 @@ pub fn words<'a>(alloc: Global, line: &'a str, more: &'a str) -> Result<Vec<&'a 
     Ok(words)
 }
 
-/// What the first row gave in place of what it says. In these rows the name is the command line, and `more` stands behind it.
+/// The first mismatch of these rows, in which the name is the command line, to be followed by `more`.
 pub fn first_other_command<H: Threads + Wait + Sync>(
     rt: &H,
     alloc: Global,

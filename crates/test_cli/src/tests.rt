@@ -29,7 +29,7 @@ const ROWS: [&str; 12] = [
     "a second heading | async 1 1 1 4;async 1 1 1 4; |  | fault: line 2; | 3",
 ];
 
-/// What no script has as a line.
+/// Lines that no script has.
 const NO_STEPS: [&str; 22] = [
     "",
     " poll 0 0",
@@ -55,7 +55,7 @@ const NO_STEPS: [&str; 22] = [
     "pppppppppppppppppppppppppppppppppppppppppppppppppppppppppppppppppp",
 ];
 
-/// What a script with a faulty third line gave in place of that fault.
+/// The actual result of a script with a faulty third line, if it is not that fault.
 fn other_fault<H: Threads + Wait + Sync>(
     rt: &H,
     alloc: Global,
@@ -72,7 +72,7 @@ fn other_fault<H: Threads + Wait + Sync>(
     other(rt, alloc, row)
 }
 
-/// How many lines end in the text.
+/// The number of whole lines in the text.
 pub fn ended(text: &str) -> usize {
     text.as_bytes().iter().filter(|byte| **byte == b';').count()
 }
@@ -86,7 +86,7 @@ pub fn first_lines(alloc: Global, text: &str, count: usize) -> Result<String, Fa
     Ok(all)
 }
 
-/// What the beginning of a script gave in place of the replies to its whole lines, and of a fault where it ends within a line.
+/// The actual result of a prefix of a script, if it is not the replies to its whole lines, with a fault where it ends within a line.
 fn other_beginning<H: Threads + Wait + Sync>(
     rt: &H,
     alloc: Global,

@@ -1,10 +1,10 @@
-//! Scripts with what is written of them.
+//! Tests of upgrades, as rows.
 use crate::upgrade_scripts::{bytes, on_one_line, written};
 use fj_replay::{replayed, upgraded};
 use std::alloc::Global;
 use std::test::Fail;
 
-/// A script of version 1, and what is written of it, with the fault behind it; `;` stands for a line feed.
+/// A script of version 1, and its upgrade, followed by the fault if there is one; `;` stands for a line feed.
 const ROWS: [&str; 19] = [
     "async 1 1 1 4;submit 0;submit 0;cancel 0;state 1; | fj 2;async 1 1 1 4;submit t0 0;submit t1 0;cancel t0;state t1;",
     "joining 1 1 1 1; | fj 2;joining 1 1 1 1;",
@@ -27,7 +27,7 @@ const ROWS: [&str; 19] = [
     "async 1 1 1 4;seal; | fj 2;async 1 1 1 4;fault: line 2",
 ];
 
-/// What was written in place of what a row says; empty where it was that.
+/// The actual output of a row, if it differs from the row; otherwise empty.
 fn other(alloc: Global, row: &str) -> Result<String, Fail> {
     let (script, expected) = row.split_once(" | ").unwrap_or((row, ""));
     let given = written(alloc, bytes(alloc, script)?.as_slice())?;

@@ -12,7 +12,7 @@ pub fn bytes(alloc: Global, text: &str) -> Result<Vec<u8>, AllocError> {
     Ok(all)
 }
 
-/// What was written of a script, and why not all of it was; `;` stands for a line feed.
+/// The upgrade of a script, and its fault; `;` stands for a line feed.
 pub fn written(alloc: Global, script: &[u8]) -> Result<String, Fail> {
     let mut rest = script;
     let mut out = Vec::new(alloc);
@@ -38,7 +38,7 @@ pub fn on_one_line(alloc: Global, text: &[u8]) -> Result<String, Fail> {
     Ok(all)
 }
 
-/// The replies to a script of version 1 as they are to it in version 2: each task number T in them is tT.
+/// Replies in version 1 as in version 2: each task number T becomes tT.
 pub fn renamed(alloc: Global, replies: &str) -> Result<String, AllocError> {
     let mut all = String::new(alloc);
     for reply in replies.lines() {

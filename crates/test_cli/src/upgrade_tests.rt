@@ -1,8 +1,8 @@
-//! Scripts of version 1 that are written as version 2.
+//! Tests of the upgrade command.
 use crate::test_rows::first_other_command;
 use std::test::Fail;
 
-/// The command, a script, and what is written; at a fault what is on standard error, and the status.
+/// The command, a script, and the output; at a fault what is on standard error, and the status.
 const ROWS: [&str; 9] = [
     "replay | async 1 1 1 4;submit 0;submit 0;cancel 0;state 1; | task 0;refused 2;yes;refused 5;",
     "upgrade | async 1 1 1 4;submit 0;submit 0;cancel 0;state 1; | fj 2;async 1 1 1 4;submit t0 0;submit t1 0;cancel t0;state t1;",

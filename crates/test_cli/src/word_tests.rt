@@ -1,4 +1,4 @@
-//! Arguments: their faults, help, the version.
+//! Tests of arguments: usage errors, help, the version.
 use crate::test_rows::{command, cut, words};
 use fj_cli::without_words;
 use std::alloc::Global;
@@ -8,7 +8,7 @@ use std::sync::Wait;
 use std::test::Fail;
 use std::thread::Threads;
 
-/// Command lines, and a part of what is told of each.
+/// Command lines, and a part of the error message of each.
 const FAULTS: [&str; 21] = [
     " | Usage: fj",
     "add | unrecognized subcommand 'add'",
@@ -33,7 +33,7 @@ const FAULTS: [&str; 21] = [
     "upgrade file | Usage: fj upgrade < SCRIPT",
 ];
 
-/// Command lines, and parts of the help that each writes: each option with its range and default, and each exit status.
+/// Command lines, and parts of their help: each option with its range and default, and each exit status.
 fn help() -> [&'static str; 8] {
     [
         "--help | A fork-join pool | Usage: fj | replay   Runs the script | upgrade  Writes the script | sum      Writes the sum | min      Writes the least value | find     Writes the first number | tree     Writes the value | Each command has its help: fj replay --help | Example:\n  $ printf | $ fj sum --from | Exit status:\n  0  the command was run to its end, or help or the version was written\n  2  a fault of the command line\n  3  a fault of the input, told by its line, or a refusal, told by its number\n  4  out of memory\n  5  a read or a write failed\n",
@@ -52,8 +52,8 @@ fn has_80_columns(text: &str) -> bool {
     text.split('\n').all(|line| line.len() <= 80)
 }
 
-/// What a command line without input tells in place of the parts that its row has; empty where it has them. At status 0 it tells it on
-/// standard output, in 80 columns, else on standard error, and on the other one nothing.
+/// The actual text of a command line without input, if it lacks a part in its row; otherwise empty. At status 0 the text has to be on
+/// standard output, in 80 columns, else on standard error; the other stays empty.
 fn other_text<H: Threads + Wait + Sync>(
     rt: &H,
     alloc: Global,

@@ -7,7 +7,7 @@ use std::sync::Wait;
 use std::test::Fail;
 use std::thread::Threads;
 
-/// What a command gave that wrote into this sink.
+/// The result of a command that writes into this sink.
 fn poured<H: Threads + Wait + Sync>(
     rt: &H,
     alloc: Global,
@@ -23,13 +23,13 @@ fn poured<H: Threads + Wait + Sync>(
     Ok(Ran { status, out, err })
 }
 
-/// Whether these bytes were written and the failed write was told.
+/// Whether these bytes were written and the failed write was reported.
 fn is_write_failed(ran: &Ran, written: &[u8]) -> bool {
     let is_told = ran.err.as_slice() == b"write failed\n".as_slice() && ran.status == 5;
     is_told && ran.out.as_slice() == written
 }
 
-/// Commands, their input, and what they write.
+/// Commands, their input, and their output.
 fn writers() -> [(&'static [&'static str], &'static str, &'static str); 4] {
     [
         (REPLAY.as_slice(), SCRIPT, REPLIES),
@@ -43,7 +43,7 @@ fn writers() -> [(&'static [&'static str], &'static str, &'static str); 4] {
     ]
 }
 
-/// Whether a writer that ends after so many bytes is told, with what was written up to there.
+/// Whether a writer that ends after so many bytes is reported, with the output up to there.
 fn is_full_at<H: Threads + Wait + Sync>(
     rt: &H,
     alloc: Global,
@@ -59,7 +59,7 @@ fn is_full_at<H: Threads + Wait + Sync>(
     })
 }
 
-/// The first of the bytes after which a writer that ends so is not told.
+/// The first number of bytes after which a writer that ends so is not reported.
 fn first_untold<H: Threads + Wait + Sync>(
     rt: &H,
     alloc: Global,
@@ -85,7 +85,7 @@ fn a_writer_that_fails(rt: HostRuntime) -> Result<(), Fail> {
     Ok(())
 }
 
-/// What is written byte by byte, with an interruption before each, is the whole text.
+/// Written byte by byte, with an interruption before each, the output is the whole text.
 #[test]
 fn a_writer_that_takes_one_byte_at_a_time(rt: HostRuntime) -> Result<(), Fail> {
     for (words, input, text) in writers() {
@@ -102,7 +102,7 @@ fn a_writer_that_takes_one_byte_at_a_time(rt: HostRuntime) -> Result<(), Fail> {
     Ok(())
 }
 
-/// Whether a flush that fails is told, with all the text written.
+/// Whether a flush that fails is reported, with all the text written.
 fn is_unflushed<H: Threads + Wait + Sync>(
     rt: &H,
     alloc: Global,
@@ -152,7 +152,7 @@ fn a_flush_that_fails(rt: HostRuntime) -> Result<(), Fail> {
     Ok(())
 }
 
-/// Where even the text on a fault of the arguments cannot be written the status is 5.
+/// If the message on a usage error cannot be written, the status is 5.
 #[test]
 fn a_text_on_arguments_that_cannot_be_written(rt: HostRuntime) -> Result<(), Fail> {
     let alloc = rt.alloc();

@@ -13,8 +13,7 @@ const TAKEN_IN: [(u64, u64, u32); 6] = [
     (9, 5, 0),
 ];
 
-/// A ticket, and the number of the task that was taken in first under it. There is room for tickets below 6; 9 and 7 are of no gate
-/// of so many admissions.
+/// A ticket, and the number of the task that was taken in first under it. There is room for tickets below 6; 9 and 7 are out of range.
 const FOUND: [(u64, Option<u64>); 7] = [
     (0, Some(1)),
     (1, Some(4)),
@@ -50,7 +49,7 @@ fn the_first_task_under_a_ticket_is_found(rt: HostRuntime) -> Result<(), Fail> {
     Ok(())
 }
 
-/// The two numbers that were given, and how many submissions are taken in; whether that is reached.
+/// Two closing numbers, set one after the other, how many submissions are taken in, and whether a step is due.
 fn reached() -> [(u64, u64, usize, bool); 6] {
     [
         (0, 5, 0, true),

@@ -1,10 +1,10 @@
-//! The calls that can be made at a core, and the lines that name them.
+//! The calls of a core, and the lines that name them.
 use fj_rules::{Kind, Serial};
 
 /// One call.
 #[derive(Drop)]
 pub enum Call {
-    /// A body of this number is pushed into the lane under a ticket; with a count it becomes a root.
+    /// Pushes a body of this number into the lane under a ticket; with a count it becomes a root.
     Push(u64, u32, Option<u16>),
     Intake,
     CloseAt(u64),
@@ -22,16 +22,16 @@ pub enum Call {
     IsUndone(u64),
     /// Whether a task was taken in.
     IsBooked(u64),
-    /// What was submitted under a ticket is cancelled.
+    /// Cancels the submission under a ticket.
     CancelTicket(u64),
     Seal,
-    /// How many parts are sealed, and were not taken.
+    /// How many sealed parts were not taken.
     Parts,
-    /// The parts are taken; how many they are.
+    /// Takes the parts: how many they are.
     TakeParts,
-    /// How many bodies there are.
+    /// How many bodies exist.
     Bodies,
-    /// The calls from here on are made by this worker.
+    /// This worker makes the calls from here on.
     By(u64),
     Poll,
     Act(Asks),
@@ -40,9 +40,9 @@ pub enum Call {
 /// What a running body or a hook asks.
 #[derive(Drop)]
 pub enum Asks {
-    /// It forks a body of this number.
+    /// Forks a body of this number.
     Fork(u32, Kind),
-    /// A trigger of a body of this number, with this count.
+    /// Makes a trigger with a body of this number, and this count.
     Trigger(u32, u32),
     Join(u64),
     Help,

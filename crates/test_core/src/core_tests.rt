@@ -49,7 +49,7 @@ fn each_part_of_2000_seals_is_kept(rt: HostRuntime) -> Result<(), Fail> {
     Ok(())
 }
 
-/// Scenarios of which each has another row than it must.
+/// Scenarios each of which has a wrong row.
 fn others() -> &'static str {
     "another reply
 1 1 4

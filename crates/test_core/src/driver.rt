@@ -12,10 +12,10 @@ use std::alloc::{AllocError, Global};
 use std::rc::Rc;
 use std::test::Fail;
 
-/// How many parcels may be pushed into the lane.
+/// The capacity of the lane.
 const ROOM: u32 = 8;
 
-/// A core with one submitter, the feed of its lane, the hands, and who makes the next call.
+/// A core with one submitter, the feed of its lane, the hands, and the worker that makes the next call.
 #[derive(Drop)]
 pub struct Driver {
     core: Core<Work>,
@@ -25,7 +25,7 @@ pub struct Driver {
     by: usize,
 }
 
-/// A core of so many workers, tasks and events in joining mode, in which nothing has happened.
+/// A new core in joining mode, with these limits of workers, tasks and events.
 pub fn drive(
     alloc: Global,
     owners: &Rc<u8>,
@@ -47,7 +47,7 @@ pub fn drive(
 }
 
 impl Driver {
-    /// Makes a call. By a worker it is made only where its hand fits.
+    /// Makes a call; a worker's call only if its hand fits.
     pub fn make(&mut self, alloc: Global, call: Call) -> Result<Tells, AllocError> {
         Ok(match call {
             Call::Push(ticket, number, root) => self.push(ticket, number, root)?,
@@ -82,7 +82,7 @@ impl Driver {
             Call::Parts => Tells::Number(self.core.parts().len()),
             Call::TakeParts => Tells::Number(self.core.take_parts(alloc).len()),
             Call::Bodies => {
-                // Two owners are the driver and who made it.
+                // Two owners are the driver and its creator.
                 Tells::Number(Rc::strong_count(&self.owners).saturating_sub(2))
             }
             Call::By(worker) => {
@@ -97,7 +97,7 @@ impl Driver {
         })
     }
 
-    /// The parts that nobody has taken.
+    /// The parts that were not taken.
     pub fn into_archive(self) -> Archive {
         let Driver {
             core,
@@ -116,7 +116,7 @@ impl Driver {
         archive
     }
 
-    /// A body is pushed into the lane.
+    /// Pushes a body into the lane.
     fn push(&mut self, ticket: u64, number: u32, root: Option<u16>) -> Result<Tells, AllocError> {
         let parcel = Parcel {
             ticket: Ticket(ticket),
@@ -128,7 +128,7 @@ impl Driver {
         }
     }
 
-    /// The worker polls, where its hand is empty.
+    /// The worker polls, if its hand is empty.
     fn poll(&mut self) -> Tells {
         let Some(hand) = self.hands.get_mut(self.by) else {
             return Tells::Misfit;
@@ -148,7 +148,7 @@ impl Driver {
         }
     }
 
-    /// The running body or the hook of the worker asks, where there is one.
+    /// The running body or the hook of the worker asks, if there is one.
     fn act(&mut self, ask: Ask<Work>) -> Tells {
         let Some(hand) = self.hands.get_mut(self.by) else {
             return Tells::Misfit;
@@ -164,9 +164,9 @@ impl Driver {
     }
 }
 
-/// The next parcel of the submitter is taken in.
+/// Takes in the next parcel of the submitter.
 fn intake(core: &mut Core<Work>) -> Tells {
-    // Tells that there is a submitter.
+    // For the proof: there is a submitter.
     let _limits = core.limits();
     match core.intake(SubId(0)) {
         Intake::Took(t) => Tells::Took(t.0),
@@ -179,7 +179,7 @@ fn said(is: bool) -> Tells {
     if is { Tells::Yes } else { Tells::No }
 }
 
-/// What is asked, with its body.
+/// The ask, with its body.
 fn ask(owners: &Rc<u8>, asks: Asks) -> Result<Ask<Work>, AllocError> {
     Ok(match asks {
         Asks::Fork(number, kind) => Ask::Fork(Work::new(owners, number, None)?, kind),

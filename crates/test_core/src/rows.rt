@@ -1,15 +1,15 @@
 //! Scenarios of a core in joining mode with one submitter, as text.
 //!
-//! Between scenarios is an empty line. A scenario has a name and a line end; then the numbers of workers, tasks and events; and then its
-//! calls, a line each. Behind a call and ` > ` stands what it must tell. The last line may be `left`, with how many events each part has
-//! that nobody has taken, in order; without it none is left. No body is left in the end.
+//! An empty line separates scenarios. The first line of a scenario is its name, the second has the limits of workers, tasks and events, and
+//! each further one a call, ` > ` and the expected reply. The last line may be `left`, with the number of events of each part that was not
+//! taken, in order; without it none is left. No body is left at the end.
 //!
 //! - `push TICKET BODY`, `push TICKET BODY root COUNT`: a body of this number goes into the lane; with a count it becomes a root
 //! - `intake`, `close_at N`, `stop_at N`, `is_quiescent`, `is_terminated`, `is_stuck`
 //! - `collect TICKET`, `is_awaited TICKET`, `booked TICKET`: the outcome under a ticket, whether it is still to come, and its task;
 //!   `cancel_ticket TICKET`; `is_undone T`, `is_booked T`
 //! - `seal`, `parts`, `take_parts`: how many parts are sealed and were not taken, and how many are taken now
-//! - `bodies`: how many there are; `by W`: the calls from here on are made by this worker
+//! - `bodies`: how many exist; `by W`: this worker makes the calls from here on
 //! - `poll`, and what a running body or a hook asks:
 //!   - `fork BODY`, `fork BODY root COUNT`, `fork BODY child PARENT COUNT`, `trigger BODY COUNT`
 //!   - `join T`, `help`, `take T`, `release T`, `add T N`, `quiet_root T`, `cancel T`, `fault T CODE`, `state T`
@@ -28,11 +28,11 @@ use std::fmt::Write;
 use std::rc::Rc;
 use std::test::Fail;
 
-/// Longer than what any call tells, so that no row allocates.
+/// Longer than any reply, so that no row allocates.
 const ROOM: usize = 80;
 
-/// What scenarios told or left in place of what stands there: the name, the call and what it told, a line a scenario. It is empty where
-/// each row told what it must.
+/// The mismatches of scenarios: for each wrong one a line with its name, its first wrong row, and the actual reply. Empty if there are
+/// none.
 pub fn wrong(alloc: Global, scenarios: &str) -> Result<String, Fail> {
     let mut all = String::new(alloc);
     for scenario in scenarios.split("\n\n") {
@@ -45,7 +45,7 @@ pub fn wrong(alloc: Global, scenarios: &str) -> Result<String, Fail> {
     Ok(all)
 }
 
-/// What a scenario told or left first in place of what stands there.
+/// The first mismatch of a scenario; empty if there is none.
 fn first_other(alloc: Global, script: &str) -> Result<String, Fail> {
     let owners = Rc::new(alloc, 0u8)?;
     let other = at_new_core(alloc, &owners, script)?;
@@ -55,7 +55,7 @@ fn first_other(alloc: Global, script: &str) -> Result<String, Fail> {
     Ok(other)
 }
 
-/// The same but for bodies. No other function holds the driver, since each way out proves its drop.
+/// The same, without the check of bodies. No other function owns the driver, since each exit proves its drop.
 fn at_new_core(alloc: Global, owners: &Rc<u8>, script: &str) -> Result<String, Fail> {
     let (heading, rows) = script.split_once('\n').unwrap_or((script, ""));
     let (rows, left) = rows.split_once("\nleft > ").unwrap_or((rows, ""));
@@ -71,7 +71,7 @@ fn at_new_core(alloc: Global, owners: &Rc<u8>, script: &str) -> Result<String, F
     Ok(other)
 }
 
-/// The call of the first row that told something else, and what it told.
+/// The call of the first row with another reply, and that reply.
 fn first_row(alloc: Global, driver: &mut Driver, rows: &str) -> Result<String, Fail> {
     let mut told = String::with_capacity(alloc, ROOM)?;
     for row in rows.split('\n') {
@@ -85,9 +85,9 @@ fn first_row(alloc: Global, driver: &mut Driver, rows: &str) -> Result<String, F
     Ok(String::new(alloc))
 }
 
-/// What the call of a line tells.
+/// The reply to the call of a line.
 fn tell(alloc: Global, driver: &mut Driver, asked: &str, told: &mut String) -> Result<(), Fail> {
-    // The check wants each type inside a reply to be named where one is moved.
+    // For the proof: each type inside a moved reply is named.
     let _inside: Option<(Place, Owner, Status, Refusal, SubId, WorkerId)> = None;
     match read_call(asked) {
         Some(call) => {

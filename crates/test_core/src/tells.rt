@@ -1,16 +1,16 @@
-//! What calls tell.
+//! The replies to calls.
 use crate::work::Work;
 use fj_bodies::{Heard, Outcome, Told};
 use fj_rules::{Place, Refusal, Status};
 use std::fmt;
 
-/// What a call tells. It is displayed as rows have it.
+/// The reply to a call. It is displayed as in rows.
 #[derive(Drop)]
 pub enum Tells {
     Done,
     Yes,
     No,
-    /// So many.
+    /// A count.
     Number(usize),
     Task(u64),
     /// The body of this number comes back, with a refusal.
@@ -19,11 +19,11 @@ pub enum Tells {
     /// The task was done before; the number of its body.
     Skip(u64, u32),
     Idle,
-    /// The completion action of the first runs, since the second one arrived.
+    /// The completion action of the first runs, caused by the second.
     Hook(u64, u64),
-    /// The body ended; its number, if it went out.
+    /// The body ended; its number, if it was returned.
     Over(Option<u32>),
-    /// The number of the body that came, and goes out.
+    /// The number of the body that came, and is returned.
     Stuck(Option<u32>),
     /// The number of the body that gave this result.
     Got(u32, u64),
@@ -42,7 +42,7 @@ pub enum Tells {
     /// A normal outcome, and whether with a result.
     Normal(bool),
     Exceptional(u32),
-    /// The hand does not fit, or is not as the call wants it.
+    /// The hand does not fit, or the call's precondition on it does not hold.
     Misfit,
     Other,
 }
@@ -83,7 +83,7 @@ impl fmt::Display for Tells {
     }
 }
 
-/// A word, and the number of the body that goes out.
+/// A word, and the number of the body that is returned.
 fn write_end<W: fmt::Write>(
     f: &mut fmt::Formatter<W>,
     word: &str,
@@ -95,7 +95,7 @@ fn write_end<W: fmt::Write>(
     }
 }
 
-/// What is told of a call of a worker.
+/// The reply to a call of a worker.
 pub fn told(told: Told<Work>) -> Tells {
     match told {
         Told::Hear(heard) => hears(heard),
@@ -108,7 +108,7 @@ pub fn told(told: Told<Work>) -> Tells {
     }
 }
 
-/// The number of a body that goes out.
+/// The number of a body that is returned.
 fn number(body: Option<Work>) -> Option<u32> {
     match body {
         Some(body) => Some(body.number),
@@ -134,7 +134,7 @@ fn hears(heard: Heard<Work>) -> Tells {
     }
 }
 
-/// What is told of an outcome.
+/// The reply with an outcome.
 pub fn collected(told: &Option<Result<Outcome<Work>, Refusal>>) -> Tells {
     match told {
         None => Tells::Undone,

@@ -1,4 +1,4 @@
-//! One body, driven by hand: what it asks is answered as a pool would, or otherwise.
+//! One body, driven by hand: its asks are answered as a pool would, or otherwise.
 ghost use Rattle.std.specs.Prelude.{◌≡◌, ◌<◌, ℕ, length, slice_index, IfOk};
 ghost use Rattle.fj_trees.specs.TreeValues.{AreValues};
 ghost use Rattle.fj_bodies.specs.Turns.{HeardRight};
@@ -13,7 +13,7 @@ const ME: u64 = 7;
 /// The task of its first child; those of the others follow.
 const FIRST: u64 = 100;
 
-/// What goes wrong.
+/// Which answer is wrong.
 #[derive(Clone, Copy)]
 pub enum Upset {
     Nothing,
@@ -27,7 +27,7 @@ pub enum Upset {
     OtherKey(usize, u32),
 }
 
-/// How it ended.
+/// How the body ended.
 #[derive(Clone, Copy, Debug, PartialEq)]
 pub enum Ended {
     Value(u64),
@@ -78,7 +78,7 @@ impl Hand {
         }
     }
 
-    /// The node whose result a take gives, or none where it is refused.
+    /// The node whose result a take gives; None where the take is refused.
     fn taken(&mut self, t: Serial) -> Result<Option<u32>, Ended> {
         let n = self.taken;
         if t.0 != FIRST.saturating_add(n as u64) {
@@ -146,7 +146,7 @@ impl Hand {
     }
 }
 
-/// The result of a node.
+/// The answer with the result of a node. Precondition: the values are those of the nodes.
 fn given<B: Body<Key = u32, Out = u64>>(values: &[u64], key: u32) -> Result<Heard<B>, Ended>
     requires { (k : ℕ) → k < length values.now → ∥ B.right k (slice_index values.now k) ∥₁ }
     ensures { IfOk result (HeardRight B.right) }
@@ -157,7 +157,7 @@ fn given<B: Body<Key = u32, Out = u64>>(values: &[u64], key: u32) -> Result<Hear
     Ok(Heard::Got(key, values[key as usize]))
 }
 
-/// Drives a body to its end.
+/// Drives a body to its end. Precondition: the values are those of the nodes.
 fn drive<B: Body<Key = u32, Out = u64>>(
     alloc: Global,
     mut body: B,

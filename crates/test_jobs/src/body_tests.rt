@@ -8,14 +8,14 @@ use std::test::Fail;
 
 /// How the body of the root ends.
 fn root(alloc: Global, nodes: &Nodes, upset: Upset) -> Result<Ended, Fail> {
-    // Tells that a tree has a root.
+    // For the proof: a tree has a root.
     let _nodes = nodes.as_slice();
     let family = Family::new(alloc, nodes)?;
     let values = tree_values(alloc, nodes)?;
     Ok(drive_node::<Brand>(alloc, &family, values.as_slice(), 0, upset))
 }
 
-/// What goes wrong before a body ends fails it; what goes wrong in its completion action is made good in place.
+/// A wrong answer before a body ends fails it; in its completion action the value is computed in place.
 #[test]
 fn refusals_fail_a_body_and_not_its_completion_action(rt: HostRuntime) -> Result<(), Fail> {
     let nodes = tree(rt.alloc(), b"- 5\n0 2\n0 3\n1 4\n")?;
@@ -36,7 +36,7 @@ fn refusals_fail_a_body_and_not_its_completion_action(rt: HostRuntime) -> Result
     Ok(())
 }
 
-/// A leaf adds nothing, forks nobody, and has its own value.
+/// A leaf adds 0, forks nothing, and has its own value.
 #[test]
 fn a_leaf_has_its_own_value(rt: HostRuntime) -> Result<(), Fail> {
     let nodes = tree(rt.alloc(), b"- 1000000006\n")?;
@@ -51,7 +51,7 @@ fn a_leaf_has_its_own_value(rt: HostRuntime) -> Result<(), Fail> {
     Ok(())
 }
 
-/// The value of a child below which there are 3,998 generations is computed in place.
+/// The value of a child with 3,998 generations below it is computed in place.
 #[test]
 fn a_deep_child_is_computed_in_place(rt: HostRuntime) -> Result<(), Fail> {
     let nodes = chain(rt.alloc(), 4000)?;

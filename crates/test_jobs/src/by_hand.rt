@@ -16,13 +16,13 @@ use std::test::Fail;
 /// How many bodies the lane takes.
 const LANE_CAPACITY: u32 = 1;
 
-/// After so many submissions the core is closed, or stopped.
+/// After so many submissions the core is closed or stopped.
 const SUBMISSIONS: u64 = 1;
 
-/// More actions than any job of these tests needs.
+/// More actions than any job here needs.
 const MOST_ACTIONS: usize = 1_000;
 
-/// What an action tells.
+/// What an action reports.
 #[derive(Clone, Copy, Debug, PartialEq)]
 pub enum Tells {
     Took(u64),
@@ -49,7 +49,7 @@ pub enum Ended {
     Otherwise,
 }
 
-/// When the core is told that nothing more comes.
+/// When the core learns that nothing more comes.
 #[derive(Clone, Copy)]
 pub enum Close {
     /// It is closed before the first action.
@@ -58,10 +58,10 @@ pub enum Close {
     StopAfter(usize),
 }
 
-/// What came of a job.
+/// The run of a job.
 #[derive(Drop)]
 pub struct Driven {
-    /// What each action told.
+    /// What each action reported.
     pub tells: Vec<Tells>,
     pub ended: Ended,
     /// How many tasks are gone.
@@ -83,7 +83,7 @@ struct ByHand<B: Body<Out = u64>> {
     hand: Hand<B>,
 }
 
-/// The completion action in a hand, or else its running body, takes a turn. None of an empty hand.
+/// The completion action in a hand, or else its running body, takes a turn. None if the hand is empty.
 fn take_turn<B: Body>(hand: &mut Hand<B>, heard: Heard<B>) -> Option<Ask<B>>
     requires { HeardRight B.right heard }
     ensures { IfSome result (λ ask. IsSome (asker hand.new) × IfSome (asker hand.new) (λ b. AskRight B.right (B.key_of b.1) ask)) }
@@ -106,7 +106,7 @@ fn take_turn<B: Body>(hand: &mut Hand<B>, heard: Heard<B>) -> Option<Ask<B>>
     Some(ask)
 }
 
-/// The body in a hand joins what it joined last once more. None where it joined nothing.
+/// The body in a hand repeats its last join. None where it joined nothing.
 fn join_again<B: Body>(hand: &mut Hand<B>) -> Option<Ask<B>>
     ensures { IfSome result (λ ask. IsSome (asker hand.new) × IfSome (asker hand.new) (λ b. AskRight B.right (B.key_of b.1) ask)) }
 {
@@ -122,7 +122,7 @@ fn join_again<B: Body>(hand: &mut Hand<B>) -> Option<Ask<B>>
     Some(Ask::Join(joined))
 }
 
-/// What is told of a body that goes on.
+/// What is reported of a body that goes on.
 fn going<B: Body>(heard: &Heard<B>) -> Tells {
     match heard {
         Heard::Task(t) => Tells::Task(t.0),
@@ -130,7 +130,7 @@ fn going<B: Body>(heard: &Heard<B>) -> Tells {
     }
 }
 
-/// What is told, and what is heard next.
+/// What is reported, and what is heard next.
 fn told<B: Body>(told: Told<B>) -> (Tells, Option<Heard<B>>)
     requires { ToldRight B.right told }
     ensures { IfSome result.1 (HeardRight B.right) }
@@ -147,8 +147,8 @@ fn told<B: Body>(told: Told<B>) -> (Tells, Option<Heard<B>>)
 }
 
 impl<B: Body<Out = u64>> ByHand<B> {
-    /// Makes one action: what is in the hand takes a turn, or joins once more, and what it asks is done; an empty hand polls, and where
-    /// nothing is queued the next submission is taken in. What is heard next stands beside what it told.
+    /// Makes one action. What is in the hand takes a turn, or repeats its join, and its ask is done. An empty hand polls; where nothing is
+    /// queued, the next submission is taken in. Returns the report, and what is heard next.
     fn act(&mut self, heard: Option<Heard<B>>) -> (Tells, Option<Heard<B>>)
         requires { IfSome heard (HeardRight B.right) }
         ensures { IfSome result.1 (HeardRight B.right) }
@@ -183,9 +183,9 @@ impl<B: Body<Out = u64>> ByHand<B> {
     }
 }
 
-/// The next submission is taken in.
+/// Takes in the next submission.
 fn take_in<B: Body>(core: &mut Core<B>) -> Tells {
-    // Tells that there is a submitter.
+    // For the proof: there is a submitter.
     let _limits = core.limits();
     match core.intake(SubId(0)) {
         Intake::Took(t) => Tells::Took(t.0),
@@ -214,7 +214,7 @@ fn end<B: Body<Out = u64>>(mut core: Core<B>, tells: Vec<Tells>) -> Driven {
     Driven { tells, ended, gone }
 }
 
-/// Submits a body to a new core, and drives that until it has terminated.
+/// Submits a body to a new core, and drives it until it has terminated.
 pub fn drive_job<B: Body<Out = u64>>(
     alloc: Global,
     mode: Mode,

@@ -2,7 +2,7 @@ use fj_invoke::{BlockedRange, LinearMod};
 use rand_core::utils::NextWord;
 use rand_pcg::Pcg32;
 
-/// The numbers of a job, and the values that loops over them give.
+/// The parameters of a random job; its methods compute the values by loops.
 #[derive(Clone, Copy)]
 pub struct Drawn {
     pub from: u32,

@@ -1,4 +1,4 @@
-//! Bodies of which one fails at a turn that is chosen.
+//! Bodies, one of which fails at a chosen turn.
 ghost use Rattle.std.specs.Prelude.{◌≡◌, ℕ};
 ghost use Rattle.fj_bodies.specs.Turns.{AskRight, HeardRight, Nearer};
 
@@ -6,26 +6,26 @@ use fj_bodies::{Ask, Body, Heard};
 use std::alloc::AllocError;
 use std::sync::Arc;
 
-/// The code that it fails with.
+/// The code with which it fails.
 pub const CODE: u32 = 9;
 
-/// Which body fails, by its key, and in which of its turns, counted from 0. Its completion action does not.
+/// Which body fails, by its key, and in which of its turns, counted from 0. Its completion action does not fail.
 #[derive(Clone, Copy)]
 pub struct Fault<K> {
     pub key: K,
     pub turn: u32,
 }
 
-/// What a body and all those that it forks have in common.
+/// What a body and all those that it forks share.
 #[derive(Drop)]
 pub struct Common<K> {
     pub fault: Fault<K>,
-    /// It has one owner for each body, and who made it.
+    /// Its owners are the bodies, and the test.
     pub owners: Arc<u8>,
 }
 
 impl<K: Copy> Common<K> {
-    /// The same for one body more.
+    /// The same for one more body.
     fn again(&self) -> Result<Common<K>, AllocError> {
         Ok(Common {
             fault: self.fault,
@@ -34,7 +34,7 @@ impl<K: Copy> Common<K> {
     }
 }
 
-/// A body that does as the one in it, unless it is the one that fails.
+/// A body that does as the one inside, unless it is the one to fail.
 #[derive(Drop)]
 pub struct Failing<B: Body> {
     body: B,
@@ -72,7 +72,7 @@ where
     }
 }
 
-/// What the body inside hears. A body that comes back is the one inside.
+/// What the body inside hears. A body handed back is unwrapped.
 fn heard_inside<B: Body>(heard: Heard<Failing<B>>) -> Heard<B>
 where
     B::Key: Copy,
@@ -105,7 +105,7 @@ where
     }
 }
 
-/// What the body inside asks. A body that it forks may fail too; without memory for that it fails itself.
+/// What the body inside asks. A body that it forks is wrapped; where out of memory for that, it fails.
 fn asked_outside<B: Body>(ask: Ask<B>, common: &Common<B::Key>) -> Ask<Failing<B>>
 where
     B::Key: Copy,

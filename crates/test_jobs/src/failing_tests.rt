@@ -4,7 +4,7 @@ use crate::{folds, lazies, sums};
 use fj_invoke::Interval;
 use std::test::Fail;
 
-/// How a job ends in which a body with so many turns fails at this one: with its code, or with the value if it has no such turn.
+/// How a job ends in which a body with so many turns fails at this one: with its code; with the value if there is no such turn.
 fn wanted(turns: u32, turn: u32, value: u64) -> Ended {
     if turn < turns {
         Ended::Exceptional(CODE)
@@ -13,7 +13,7 @@ fn wanted(turns: u32, turn: u32, value: u64) -> Ended {
     }
 }
 
-/// Wherever the body of a node fails, the root is told with its code, all tasks are gone, and no body is left.
+/// Wherever the body of a node fails, the root ends with its code, all tasks are gone, and no body is left.
 #[test]
 fn a_fold_fails_by_each_turn_of_each_body(rt: HostRuntime) -> Result<(), Fail> {
     for key in 0..4 {
@@ -44,7 +44,7 @@ fn a_fold_in_threads_fails_by_each_turn_of_each_body(rt: HostRuntime) -> Result<
     Ok(())
 }
 
-/// Wherever a body of a sum fails, the whole is told with its code, all tasks are gone, and no body is left.
+/// Wherever a body of a sum fails, the whole ends with its code, all tasks are gone, and no body is left.
 #[test]
 fn a_sum_fails_by_each_turn_of_each_body(rt: HostRuntime) -> Result<(), Fail> {
     for (from, to, turns) in sums::TURNS {
@@ -75,7 +75,7 @@ fn a_sum_in_threads_fails_by_each_turn_of_each_body(rt: HostRuntime) -> Result<(
     Ok(())
 }
 
-/// Wherever a body of a sum fails that splits lazily, the whole is told with its code, all tasks are gone, and no body is left.
+/// Wherever a body of a sum fails that splits lazily, the whole ends with its code, all tasks are gone, and no body is left.
 #[test]
 fn a_lazy_sum_fails_by_each_turn_of_each_body(rt: HostRuntime) -> Result<(), Fail> {
     for (from, to, turns) in lazies::TURNS {

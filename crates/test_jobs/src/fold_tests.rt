@@ -52,7 +52,7 @@ fn draw(alloc: Global, rng: &mut Pcg32) -> Result<Nodes, Fail> {
     Ok(tree(alloc, text.as_bytes())?)
 }
 
-/// A hundred trees that are drawn, against their values as one thread computes them.
+/// A hundred random trees, against their values by one thread.
 #[test]
 fn a_hundred_trees_are_folded(rt: HostRuntime) -> Result<(), Fail> {
     let mut rng = Pcg32::new(2026, 23);

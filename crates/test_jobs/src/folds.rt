@@ -14,7 +14,7 @@ use std::thread::Threads;
 /// The value of its root.
 pub const VALUE: u64 = 17;
 
-/// That no body of it fails.
+/// No body fails.
 pub const NO_FAULT: Fault<u32> = Fault {
     key: 0,
     turn: u32::MAX,
@@ -44,7 +44,7 @@ fn root<'a, F: NamedTree>(
     Ok(Failing::new(body, Common { fault, owners }))
 }
 
-/// The fold on a core that is driven by hand.
+/// The fold on a core driven by hand.
 fn by_hand_in<F: NamedTree>(
     alloc: Global,
     family: &Family,
@@ -59,10 +59,10 @@ fn by_hand_in<F: NamedTree>(
     drive_job(alloc, Mode::Async, body, close)
 }
 
-/// The same, and how many bodies are left of it.
+/// The same, and how many of its bodies are left.
 pub fn by_hand(alloc: Global, fault: Fault<u32>, close: Close) -> Result<(Driven, usize), Fail> {
     let nodes = nodes(alloc)?;
-    // Tells that a tree has a root.
+    // For the proof: a tree has a root.
     let _nodes = nodes.as_slice();
     let family = Family::new(alloc, &nodes)?;
     let owners = Arc::new(alloc, 0u8)?;
@@ -87,14 +87,14 @@ fn in_threads_in<F: NamedTree + Send, R: Threads + Wait + Sync>(
     Ok(end_of(run_alone(rt, alloc, settings, body, &Open)?))
 }
 
-/// The same, and how many bodies are left of it.
+/// The same, and how many of its bodies are left.
 pub fn in_threads<R: Threads + Wait + Sync>(
     rt: &R,
     alloc: Global,
     fault: Fault<u32>,
 ) -> Result<(Ended, usize), Fail> {
     let nodes = nodes(alloc)?;
-    // Tells that a tree has a root.
+    // For the proof: a tree has a root.
     let _nodes = nodes.as_slice();
     let family = Family::new(alloc, &nodes)?;
     let owners = Arc::new(alloc, 0u8)?;

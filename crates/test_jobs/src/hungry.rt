@@ -6,7 +6,7 @@ use fj_invoke::{Divide, Interval, RangeSum};
 use fj_lazy::Signals;
 use fj_rules::WorkerId;
 
-/// The sum of the numbers of a range, at each split of which a worker asks for work.
+/// The sum of a range; at each split a worker asks for work.
 #[derive(Drop)]
 pub struct Hungry<'s> {
     pub sum: RangeSum,
@@ -33,7 +33,7 @@ impl<'s> Divide for Hungry<'s> {
     }
 
     fn split(self) -> Result<(Hungry<'s>, Hungry<'s>), Hungry<'s>> {
-        // Each body for a worker of its own: else two that ask at once fork for one alone.
+        // Each body asks for a worker of its own: otherwise two that ask at once would fork only once.
         let asker = WorkerId((self.key().from % 64) as u32);
         let Hungry { sum, signals } = self;
         signals.ask(asker);

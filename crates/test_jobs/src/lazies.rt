@@ -42,7 +42,7 @@ fn whole<'s>(
     Ok(Failing::new(body, Common { fault, owners }))
 }
 
-/// The sum on a core that is driven by hand, and how many bodies are left of it.
+/// The sum on a core driven by hand, and how many of its bodies are left.
 pub fn by_hand(
     alloc: Global,
     fault: Fault<Interval>,
@@ -55,7 +55,7 @@ pub fn by_hand(
     Ok((run, Arc::strong_count(&owners).saturating_sub(1)))
 }
 
-/// The sum by two workers in threads, and how many bodies are left of it.
+/// The sum by two worker threads, and how many of its bodies are left.
 pub fn in_threads<R: Threads + Wait + Sync>(
     rt: &R,
     alloc: Global,

@@ -48,7 +48,7 @@ fn thirty_three_workers_are_refused(rt: HostRuntime) -> Result<(), Fail> {
     Ok(())
 }
 
-/// In both modes, wherever workers look first.
+/// In both modes, with any scan word.
 #[test]
 fn settings_change_no_value(rt: HostRuntime) -> Result<(), Fail> {
     for mode in [Mode::Async, Mode::Joining] {
@@ -105,7 +105,7 @@ fn agree<R: Threads + Wait + Sync>(
     Some(sums && least && first)
 }
 
-/// Each job on 100 ranges, by pools of which some have so few places that most forks are refused.
+/// Each job on 100 ranges; half of the pools have so few places that most forks are refused.
 #[test]
 fn lazy_jobs_agree_with_loops_on_100_ranges(rt: HostRuntime) -> Result<(), Fail> {
     let mut rng = Pcg32::new(2026, 12);

@@ -1,6 +1,5 @@
-//! Tests of jobs: `invoke` and trees that are folded, by workers in threads, against worked values and against loops; bodies that fail and
-//! stops, at each turn and after each action in turn, of a core that is driven by hand and of a pool in threads. A wait in a test for another
-//! thread is bounded.
+//! Tests of jobs: `invoke` and folded trees, by worker threads, against worked values and against loops; bodies that fail, and stops, at
+//! each turn and after each action, in a core driven by hand and in a pool of threads. Each wait for another thread is bounded.
 #![tactic(auto)]
 
 #[cfg(test)]

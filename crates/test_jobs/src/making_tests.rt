@@ -10,7 +10,7 @@ use std::test::Fail;
 /// The bodies of the pool.
 type Sum = Recursive<RangeSum>;
 
-/// Hands three bodies to each submitter.
+/// Submits three bodies with each submitter.
 fn hand_in<N: Naming>(
     alloc: Global,
     submitters: &mut [Submitter<Sum, N>],
@@ -25,7 +25,7 @@ fn hand_in<N: Naming>(
     Ok(())
 }
 
-/// How many bodies stand in the lanes, of which none has more than three.
+/// How many bodies are left in the lanes, none of which has more than three.
 fn count(lanes: Vec<Rest<Sum>>) -> u64 {
     let mut bodies = 0u64;
     for mut lane in lanes {
@@ -38,7 +38,7 @@ fn count(lanes: Vec<Rest<Sum>>) -> u64 {
     bodies
 }
 
-/// Opens a pool, hands bodies in while no worker is at work, and winds it up: how many were admitted, and how many stand in the lanes.
+/// Opens a pool, submits bodies while no worker runs, and winds it up: how many were admitted, and how many are left in the lanes.
 /// Preconditions: the name is that of the parts.
 fn handed_in<N: Naming>(alloc: Global, parts: Parts<Sum>) -> Result<(u64, u64), Fail>
     requires gate { N.gate ≡ parts.closer.gate }
@@ -55,7 +55,7 @@ fn handed_in<N: Naming>(alloc: Global, parts: Parts<Sum>) -> Result<(u64, u64), 
     Err("other submitters".into())
 }
 
-/// A pool is made, with lanes of two bodies, and wound up. `tests/refused_memory/makings.sh` refuses it its memory.
+/// A pool is made, with lanes of two bodies, and wound up. `tests/refused_memory/makings.sh` makes its allocations fail.
 #[test]
 fn a_pool_is_made_and_wound_up(rt: HostRuntime) -> Result<(), Fail> {
     let limits = Limits::new(2, 2, 8, 32)?;

@@ -3,13 +3,13 @@ use std::sync::atomic::{AtomicBool, Ordering};
 use std::thread;
 use std::time::{Clock, Duration, Instant};
 
-/// How many turns each waits for the other at most: some seconds where a processor is free.
+/// How often each yields at most while it waits for the other: some seconds where a processor is free.
 const MOST_TURNS: u32 = 20_000_000;
 
-/// How many seconds at most.
+/// How many seconds it waits at most.
 const MOST_SECONDS: u64 = 20;
 
-/// Holds each of tasks 1 and 2, for so many turns that each yield, until the other one comes: so a test fails, and never hangs.
+/// Holds each of tasks 1 and 2 until the other one comes, or until a bound: so a test fails, and never hangs.
 #[derive(Drop)]
 pub struct Pair<'c, C> {
     clock: &'c C,
@@ -39,7 +39,7 @@ impl<'c, C: Clock> Pair<'c, C> {
         self.late.load(Ordering::SeqCst)
     }
 
-    /// Whether the time is over since then.
+    /// Whether the time is up.
     fn is_over(&self, began: &Instant) -> bool {
         match began.elapsed(self.clock) {
             Ok(time) => time >= Duration::from_secs(MOST_SECONDS),
@@ -47,7 +47,7 @@ impl<'c, C: Clock> Pair<'c, C> {
         }
     }
 
-    /// Waits until both have come.
+    /// Waits until both have come, or the bound is reached.
     fn wait(&self) {
         if let Ok(began) = Instant::now(self.clock) {
             for _ in 0..MOST_TURNS {

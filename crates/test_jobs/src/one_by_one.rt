@@ -3,12 +3,12 @@ ghost use Rattle.fj_jobs.specs.Ranges.{range_sum, same_interval};
 
 use fj_invoke::{Divide, Interval};
 
-/// The sum of the numbers of a range, of which it splits off one at a time: it splits as deep as it has numbers.
+/// The sum of the numbers of a range, which splits off one at a time, as deep as it has numbers.
 #[derive(Drop)]
 pub struct OneByOne {
     /// The numbers.
     pub numbers: Interval,
-    /// Whether the one is the right half.
+    /// Whether that one is the right half.
     pub right: bool,
 }
 

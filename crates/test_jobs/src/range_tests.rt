@@ -51,7 +51,7 @@ fn finds_first<R: Threads + Wait + Sync>(
     Some(first == Ok(drawn.first()))
 }
 
-/// Each job on 200 ranges, by two workers, of whose pools some have so few places that halves are computed in place.
+/// Each job on 200 ranges, by two workers; half of the pools have so few places that halves are computed in place.
 #[test]
 fn jobs_agree_with_loops_on_200_ranges(rt: HostRuntime) -> Result<(), Fail> {
     let mut rng = Pcg32::new(2026, 11);

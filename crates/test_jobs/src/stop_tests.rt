@@ -3,7 +3,8 @@ use crate::folds::{NO_FAULT, VALUE, by_hand};
 use crate::lazies;
 use std::test::Fail;
 
-/// After each action a stop cancels what was accepted, every task is gone then, and no body is left. After the last one the value is told.
+/// After each action a stop cancels what was accepted; then every task is gone, and no body is left. After the last one the job has its
+/// value.
 #[test]
 fn a_stop_after_each_action_cancels(rt: HostRuntime) -> Result<(), Fail> {
     let (whole, _left) = by_hand(rt.alloc(), NO_FAULT, Close::First)?;
@@ -44,7 +45,7 @@ fn a_stop_after_each_action_cancels_a_lazy_sum(rt: HostRuntime) -> Result<(), Fa
     Ok(())
 }
 
-/// What is stopped before it was taken in is skipped.
+/// A submission that is stopped before its intake is skipped.
 #[test]
 fn a_stop_before_the_first_action_skips_the_root(rt: HostRuntime) -> Result<(), Fail> {
     let (run, _left) = by_hand(rt.alloc(), NO_FAULT, Close::StopAfter(0))?;

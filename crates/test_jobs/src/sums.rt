@@ -26,7 +26,7 @@ fn whole(
     Ok(Failing::new(body, Common { fault, owners }))
 }
 
-/// The sum on a core that is driven by hand, and how many bodies are left of it.
+/// The sum on a core driven by hand, and how many of its bodies are left.
 pub fn by_hand(alloc: Global, fault: Fault<Interval>) -> Result<(Driven, usize), Fail> {
     let owners = Arc::new(alloc, 0u8)?;
     let body = whole(alloc, fault, &owners)?;
@@ -34,7 +34,7 @@ pub fn by_hand(alloc: Global, fault: Fault<Interval>) -> Result<(Driven, usize),
     Ok((run, Arc::strong_count(&owners).saturating_sub(1)))
 }
 
-/// The sum by two workers in threads, and how many bodies are left of it.
+/// The sum by two worker threads, and how many of its bodies are left.
 pub fn in_threads<R: Threads + Wait + Sync>(
     rt: &R,
     alloc: Global,

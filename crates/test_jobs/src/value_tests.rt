@@ -17,7 +17,7 @@ fn one_worker_and_thirty_two_sum_100_000_numbers(rt: HostRuntime) -> Result<(), 
     Ok(())
 }
 
-/// No numbers have the sum 0, no least value and no hit.
+/// An empty range has the sum 0, no least value and no hit.
 #[test]
 fn an_empty_range_has_no_value(rt: HostRuntime) -> Result<(), Fail> {
     let limits = Limits::new(2, 1, 64, 256)?;
@@ -48,7 +48,7 @@ fn an_empty_range_has_no_value(rt: HostRuntime) -> Result<(), Fail> {
     Ok(())
 }
 
-/// The least value has the smallest number that has it.
+/// The least value comes with the smallest number that has it.
 #[test]
 fn the_least_value_is_at_its_first_number(rt: HostRuntime) -> Result<(), Fail> {
     for mode in [Mode::Async, Mode::Joining] {
@@ -79,7 +79,7 @@ fn the_first_hit_is_the_smallest_one(rt: HostRuntime) -> Result<(), Fail> {
     Ok(())
 }
 
-/// Where the history has no room for the run, that is told.
+/// Where the history has no room for the run, that is reported.
 #[test]
 fn a_full_history_is_told(rt: HostRuntime) -> Result<(), Fail> {
     for events in 1..=12 {

@@ -8,7 +8,7 @@ use std::test::Fail;
 use std::thread::Threads;
 use std::time::Clock;
 
-/// The value of a job by two workers, and whether each has begun a forked half before either went on.
+/// The value of a job by two workers, and whether each began a forked half before either went on.
 fn by_two<J: Divide + Send, H: Threads + Wait + Clock + Sync>(
     rt: &H,
     alloc: Global,

@@ -13,8 +13,8 @@ use std::alloc::Global;
 use std::fmt::Write;
 use std::str;
 
-/// How the lines of a script are handed on: one by one to a machine, which also shows what stands there; in one list to `run_epochs`; as
-/// text to `replayed`; or as text to `upgraded`, and what that writes to `replayed`.
+/// How the lines of a script are run: one by one on a machine, which also shows its state; in one list by `run_epochs`; as text by
+/// `replayed`; or as text by `upgraded`, and its output by `replayed`.
 #[derive(Clone, Copy, Debug, PartialEq)]
 pub enum Way {
     Machine,
@@ -56,7 +56,7 @@ impl Way {
     }
 }
 
-/// What a heading says, if it is one.
+/// The mode and limits of a heading, if it is one.
 pub fn heading(head: &str) -> Option<(Mode, Limits)> {
     let (mode, numbers) = read_head(head.as_bytes()).ok()?;
     let [workers, submitters, tasks, events] = numbers;
@@ -64,13 +64,13 @@ pub fn heading(head: &str) -> Option<(Mode, Limits)> {
     Some((mode, limits))
 }
 
-/// The answers of a new machine. It has one way out, since each proves the drop of the machine.
+/// The answers of a new machine. It has a single exit, since each exit has to prove the drop of the machine.
 fn of_machine(alloc: Global, mode: Mode, limits: Limits, lines: &[Line<'_>]) -> Result<String> {
     let mut machine = Machine::new(alloc, mode, limits)?;
     asked_of(alloc, &mut machine, &limits, lines)
 }
 
-/// The answers of a machine that is lent.
+/// The answers of a borrowed machine.
 fn asked_of(
     alloc: Global,
     machine: &mut Machine,
@@ -100,7 +100,7 @@ fn answer(alloc: Global, machine: &mut Machine, limits: &Limits, asked: &str) ->
 
 /// The move that a line asks for, if it is one.
 fn move_of(asked: &str) -> Option<Move> {
-    // The check wants each type inside a step to be named where one is moved.
+    // For the proof: moving a step needs each type inside it named.
     let _inside: Option<(Kind, SubmittedKind, Ending, Serial, SubId, WorkerId)> = None;
     if asked == "seal" {
         return Some(Move::Seal);
@@ -129,7 +129,7 @@ fn of_run_epochs(alloc: Global, mode: Mode, limits: Limits, moves: &[Move]) -> R
     told(alloc, &limits, parts.as_slice(), answers.as_slice())
 }
 
-/// What `run_epochs` gives but for the machine, which is dropped here.
+/// The result of `run_epochs` without the machine, which is dropped here.
 fn without_machine(
     alloc: Global,
     mode: Mode,
@@ -142,7 +142,7 @@ fn without_machine(
     Ok((parts, answers))
 }
 
-/// The lines of answers. Each seal that was made has handed out the next part.
+/// The lines of the answers. Each seal handed out the next part.
 fn told(alloc: Global, limits: &Limits, parts: &[Sealed], answers: &[Answer]) -> Result<String> {
     let mut text = String::new(alloc);
     let mut parts = parts.iter();
@@ -178,7 +178,7 @@ fn of_replayed(alloc: Global, script: &str) -> Result<String> {
     }
 }
 
-/// The replies to a script in which tasks have names: each of its lines is handed on as it is.
+/// The replies to a script in which tasks have names: its lines are run as they are.
 pub fn of_named(alloc: Global, title: &str, lines: &[Line<'_>]) -> Result<String> {
     let mut text = String::new(alloc);
     writeln!(text, "{title}")?;
@@ -188,7 +188,7 @@ pub fn of_named(alloc: Global, title: &str, lines: &[Line<'_>]) -> Result<String
     of_replayed(alloc, &text)
 }
 
-/// The replies to a script as version 2, in which task T goes by T again, and not by tT.
+/// The replies to a script as version 2, with each name tT turned back into T.
 fn of_upgraded(alloc: Global, script: &str) -> Result<String> {
     let Ok(later) = upgraded(alloc, script.as_bytes()) else {
         return of_replayed(alloc, script);

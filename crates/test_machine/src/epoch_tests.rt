@@ -36,7 +36,7 @@ fn made(rt: &HostRuntime) -> Result<Machine, Fail> {
     Ok(machine)
 }
 
-/// Whether it is as it was made.
+/// Whether it is as `made` makes it.
 fn is_as_made(machine: &Machine) -> bool {
     machine.history().len() == 7
         && machine.gone() == [Serial(1)].as_slice()
@@ -65,9 +65,9 @@ fn a_seal_without_memory_changes_nothing(rt: HostRuntime) -> Result<(), Fail> {
     Ok(())
 }
 
-/// The move that a line asks for; what is no step is a seal.
+/// The move that a line asks for; a line that is no step is a seal.
 fn move_of(line: &str) -> Move {
-    // The check wants each type inside a step to be named where one is moved.
+    // For the proof: moving a step needs each type inside it named.
     let _inside: Option<(Kind, SubmittedKind, Ending, Serial, SubId, WorkerId)> = None;
     match read_step(line.as_bytes()) {
         Ok(step) => Move::Step(step),
@@ -75,7 +75,7 @@ fn move_of(line: &str) -> Move {
     }
 }
 
-/// Another task is submitted behind the seal.
+/// Moves that submit another task after the seal.
 fn moves(alloc: Global) -> Result<Vec<Move>, OutOfMemory> {
     // As in `move_of`.
     let _inside: Option<(Step, Kind, SubmittedKind, Ending, Serial, SubId, WorkerId)> = None;

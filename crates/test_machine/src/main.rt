@@ -1,7 +1,6 @@
-//! Tests of the machine from outside: a program that replays the scripts of text files, and tests that give a machine threads and
-//! random steps.
+//! Tests of the machine from outside: a program that replays the scripts of text files, and tests with threads and random steps.
 //!
-//! `test_machine FILE..` tells of each file how many scripts it has. A script that gives another reply than the file says is told on standard
+//! `test_machine FILE..` prints how many scripts each file has. A script with another reply than in the file is reported on standard
 //! error, with its place; then the exit status is 1.
 #![tactic(auto)]
 

@@ -9,7 +9,7 @@ const SEEDS: u64 = 8;
 
 const TURNS: u32 = 1000;
 
-/// A machine whose one worker makes triggers and cancels them again, and the numbers of those that it did not cancel, in order.
+/// A machine whose one worker makes and cancels triggers, and the numbers of those that it did not cancel, in order.
 #[derive(Drop)]
 struct Triggers {
     machine: Machine,
@@ -81,7 +81,7 @@ impl Triggers {
     }
 }
 
-/// The first turn after which the open tasks were not those that were not canceled.
+/// The first turn after which the open tasks were not those that were not cancelled.
 fn first_wrong(triggers: &mut Triggers) -> Result<Option<u32>, Fail> {
     for i in 0..TURNS {
         triggers.turn()?;
@@ -92,7 +92,7 @@ fn first_wrong(triggers: &mut Triggers) -> Result<Option<u32>, Fail> {
     Ok(None)
 }
 
-/// The same from the start, and how many were canceled.
+/// The same of a new machine, and how many were cancelled.
 fn tried(alloc: Global, seed: u64) -> Result<(Option<u32>, u32), Fail> {
     let mut triggers = Triggers::new(alloc, seed)?;
     let wrong = first_wrong(&mut triggers)?;

@@ -9,7 +9,7 @@ const WORKERS: u32 = 4;
 
 const SUBMITTERS: u32 = 3;
 
-/// One pick in so many is of a worker or a submitter that does not exist, and of a count that is too large.
+/// One pick in so many is a worker or a submitter that does not exist, or a count that is too large.
 const ODD: u32 = 64;
 
 /// A number below `n`, or 0 where there is none.
@@ -26,7 +26,7 @@ fn task(rng: &mut Pcg32, accepted: u32) -> Serial {
     Serial(u64::from(accepted.saturating_sub(back)))
 }
 
-/// A number below `n`, and now and then the one that is given.
+/// A number below `n`, and now and then `odd`.
 fn mostly_below(rng: &mut Pcg32, n: u32, odd: u32) -> u32 {
     if below(rng, ODD) == 0 {
         odd
@@ -53,7 +53,7 @@ fn submitter(rng: &mut Pcg32) -> SubId {
     SubId(mostly_below(rng, SUBMITTERS, SUBMITTERS))
 }
 
-/// A pending count below `n`, and now and then one that no completer may have.
+/// A pending count below `n`, and now and then one that is too large.
 fn count(rng: &mut Pcg32, n: u32) -> u32 {
     mostly_below(rng, n, 65_536)
 }
@@ -73,7 +73,7 @@ fn submitted(rng: &mut Pcg32) -> SubmittedKind {
     }
 }
 
-/// A kind for what a worker forks: half of the completers are children of its running task, as where a job divides.
+/// A kind for a fork: half of the completers are children of the running task, as in a job that divides.
 fn forked(rng: &mut Pcg32, running: Option<&Serial>, accepted: u32) -> Kind {
     let parent = match below(rng, 8) {
         0 | 1 => return Kind::Plain,

@@ -10,7 +10,7 @@ const SEEDS: u64 = 100;
 
 const STEPS: u32 = 1000;
 
-/// What the 100,000 steps were, and what was replied: as they came, so that a change of the generator is seen.
+/// The kinds of the 100,000 steps, and the replies: recorded, so that a change of the generator is noticed.
 fn counted() -> &'static str {
     "\
 cancelled: 149
@@ -65,7 +65,7 @@ yes: 2159
 "
 }
 
-/// The tasks in all places, one list after another.
+/// The tasks in all places, concatenated.
 pub fn placed(alloc: Global, machine: &Machine) -> Result<Vec<Serial>, Fail> {
     let mut all = Vec::new(alloc);
     for s in 0..3 {
@@ -93,7 +93,7 @@ pub fn are_each_once(alloc: Global, tasks: &[Serial], accepted: u32) -> Result<b
     Ok(tasks.len() == seen.len())
 }
 
-/// A trial of so many steps of one seed.
+/// A machine with a random generator.
 #[derive(Drop)]
 struct Trial {
     machine: Machine,
@@ -102,7 +102,7 @@ struct Trial {
 }
 
 impl Trial {
-    /// The modes take turns. One history in five is full before the last step.
+    /// The modes alternate. One history in five is full before the last step.
     fn new(alloc: Global, seed: u64) -> Result<Trial, Fail> {
         let mode = if seed % 2 == 0 {
             Mode::Async
@@ -118,7 +118,7 @@ impl Trial {
         })
     }
 
-    /// Makes a step, and tells whether each accepted task is in one place after it.
+    /// Makes a step, and answers whether each accepted task is in one place after it.
     fn step(&mut self, alloc: Global, tally: &mut Tally) -> Result<bool, Fail> {
         let asked = step(&mut self.rng, &self.machine, self.accepted);
         let said = self.machine.step(&asked);

@@ -10,18 +10,18 @@ use std::test::Fail;
 
 const SEEDS: u64 = 8;
 
-/// Over all seeds 1,000 epochs.
+/// Epochs of a seed: 1,000 in all.
 const EPOCHS: u64 = 125;
 
 const STEPS: u32 = 40;
 
-/// A machine that is sealed again and again, with what its seals handed out, joined.
+/// A machine that is sealed again and again, with the sums of what its seals handed out.
 #[derive(Drop)]
 struct Epochs {
     machine: Machine,
     rng: Pcg32,
     accepted: u32,
-    // What happened in the sealed parts: how many tasks were accepted, handed out and released, and hooks handed out.
+    // How many tasks were accepted, handed out and released in the sealed parts, and how many hooks handed out.
     counts: Counts,
     // The tasks gone in the sealed parts, and those of them that may still be kept.
     gone: Vec<Serial>,
@@ -100,7 +100,7 @@ impl Epochs {
         }
     }
 
-    /// All that was begun is brought to its end.
+    /// Ends all that was begun.
     fn finish(&mut self) {
         for _ in 0..200 {
             if self.make(&Step::IsQuiescent) == Said::Yes {
@@ -117,7 +117,7 @@ impl Epochs {
         }
     }
 
-    /// One open task in two is cancelled, so that there is room for others.
+    /// Cancels every second open task, to make room for others.
     fn thin_out(&mut self, alloc: Global) -> Result<(), Fail> {
         let open: Vec<Serial> = self.machine.open().iter().copied().collect(alloc)?;
         for t in open.iter().copied() {
@@ -128,7 +128,7 @@ impl Epochs {
         Ok(())
     }
 
-    /// What is gone is released, the youngest first, which are no parents of older ones. What may not go yet is tried again later.
+    /// Releases the gone tasks, the youngest first, since a parent is older than its children. Those that may not go yet are retried later.
     fn release(&mut self, alloc: Global) -> Result<(), Fail> {
         self.kept.extend_from_slice(self.machine.gone())?;
         let kept = mem::replace(&mut self.kept, Vec::new(alloc));
@@ -140,7 +140,7 @@ impl Epochs {
         Ok(())
     }
 
-    /// The machine is sealed: what it showed is what is handed out, and it goes on with an empty history and the open tasks that it had.
+    /// Seals the machine, and answers whether it handed out what it showed, and goes on with an empty history and the same open tasks.
     fn seal(&mut self, alloc: Global) -> Result<bool, Fail> {
         let (events, gone) = (self.machine.history().len(), self.machine.gone().len());
         let (epoch, open) = (self.machine.epoch(), self.machine.open().len());
@@ -158,7 +158,7 @@ impl Epochs {
         )
     }
 
-    /// An epoch, and whether all is well at its end.
+    /// Runs an epoch, and answers whether all is well at its end.
     fn pass(&mut self, alloc: Global) -> Result<bool, Fail> {
         self.act();
         let before = self.are_in_one_place(alloc)?;
@@ -210,7 +210,7 @@ fn each_accepted_task_is_in_one_place_over_all_epochs(rt: HostRuntime) -> Result
         };
         let (wrong, epoch, counts, outlived) = tried(rt.alloc(), mode, seed)?;
         assert_eq!(rt; (wrong, epoch), (None, EPOCHS));
-        // It is seen if nothing happens.
+        // Enough has happened.
         assert!(rt; counts.is_each(100), "{counts:?}");
         assert!(rt; outlived >= 100, "{outlived}");
     }

@@ -4,7 +4,7 @@ use anyhow::Result;
 use std::alloc::Global;
 use std::fmt::Write;
 
-/// How many scripts a text has, and a line for each that did not give what it must.
+/// How many scripts a text has, and a line for each with a mismatch.
 #[derive(Drop)]
 pub struct Report {
     pub scripts: usize,
@@ -30,7 +30,7 @@ pub fn report_on(alloc: Global, file: &str, text: &str, form: Form) -> Result<Re
     })
 }
 
-/// The place of the first answer of a script that is another one, and what it is; empty where there is none.
+/// The place of the first answer of a script that differs, and the actual answer; empty where there is none.
 fn first_mismatch(alloc: Global, script: &Script<'_>) -> Result<String> {
     if script.lines.is_empty() {
         return Ok(format!(in alloc; "{}: {}: no steps", script.number, script.title)?);
@@ -38,7 +38,7 @@ fn first_mismatch(alloc: Global, script: &Script<'_>) -> Result<String> {
     if script.headings == TITLE {
         return named_mismatch(alloc, script);
     }
-    // No text of version 1 has a line for a seal.
+    // Version 1 has no line for a seal.
     let is_sealed = script.lines.iter().any(|line| line.asked == "seal");
     for k in 0..script.headings.split(" or ").count() {
         for way in [Way::Machine, Way::RunEpochs, Way::Replayed, Way::Upgraded] {
@@ -79,7 +79,7 @@ pub fn mismatch(alloc: Global, script: &Script<'_>, k: usize, way: Way) -> Resul
 /// The first line of a script in which tasks have names. Its heading is the second.
 const TITLE: &str = "fj 2";
 
-/// The place of the first answer of such a script that is another one, and what it is; empty where there is none.
+/// The same of a script in which tasks have names.
 fn named_mismatch(alloc: Global, script: &Script<'_>) -> Result<String> {
     let answers = of_named(alloc, script.headings, script.lines.as_slice())?;
     let mut answers = answers.lines();

@@ -4,7 +4,7 @@ use crate::script::{Form, Script, scripts};
 use std::alloc::Global;
 use std::test::Fail;
 
-/// How many scripts are told of a text, and what does not fit.
+/// How many scripts are reported of a text, and the mismatches.
 fn told(alloc: Global, text: &str, form: Form) -> Result<String, Fail> {
     let report = report_on(alloc, "file", text, form)?;
     Ok(format!(in alloc; "{} {}", report.scripts, report.mismatches)?)
@@ -31,7 +31,7 @@ fn good_scripts_are_counted(rt: HostRuntime) -> Result<(), Fail> {
     Ok(())
 }
 
-/// Texts in which something does not fit, and what is told of them.
+/// Texts with mismatches, and their reports.
 const FAULTY: [(&str, &str); 8] = [
     ("# Nothing", "0 file: no script\n"),
     (
@@ -69,7 +69,7 @@ fn what_does_not_fit_is_told_with_its_place(rt: HostRuntime) -> Result<(), Fail>
     Ok(())
 }
 
-/// The second heading and the last one have room for one event alone.
+/// The second and the last heading have room for one event only.
 fn alternatives() -> &'static str {
     "async 1 1 1 2 or async 1 1 1 1 or joining 1 1 1 1
 submit 0 > task 0
@@ -120,7 +120,7 @@ fn a_document_has_scripts_in_its_blocks_alone(rt: HostRuntime) -> Result<(), Fai
     Ok(())
 }
 
-/// Whether the wrong reply in line 4 is told.
+/// Whether the wrong reply in line 4 is reported.
 fn is_told(alloc: Global, script: &Script<'_>, way: Way) -> Result<bool, Fail> {
     let expected = format!(in alloc; "4: : quiet > no, and not yes ({way:?} at async 1 1 1 4)")?;
     Ok(mismatch(alloc, script, 0, way)? == expected)

@@ -33,7 +33,7 @@ fn a_run_gives_the_replies_and_the_machine(rt: HostRuntime) -> Result<(), Fail> 
     Ok(())
 }
 
-/// The lives of so many plain tasks, of four steps each, from the submission to the release.
+/// The lives of so many plain tasks, four steps each, from submission to release.
 fn lives(alloc: Global, tasks: u64) -> Result<Vec<Step>, AllocError> {
     let w = WorkerId(0);
     let ending = Ending::Ok;
@@ -80,14 +80,14 @@ fn one_run_fills_the_largest_history(rt: HostRuntime) -> Result<(), Fail> {
     Ok(())
 }
 
-/// The last submitter hands in as many tasks as there may be.
+/// The last submitter submits as many tasks as are allowed.
 fn fill(machine: &mut Machine) {
     for _ in 0..4096 {
         machine.step(&submit(31));
     }
 }
 
-/// The replies where no task can be submitted any more.
+/// The replies once no more tasks can be submitted.
 fn last_replies(machine: &mut Machine) -> (Said, Said, Said, Said) {
     let submitted = machine.step(&submit(31));
     let first = machine.step(&poll(31, 63));
@@ -96,7 +96,7 @@ fn last_replies(machine: &mut Machine) -> (Said, Said, Said, Said) {
     (submitted, first, second, third)
 }
 
-/// The words of a script's largest limits, and a scan word that must not wrap.
+/// The largest limits, and a scan word that must not wrap.
 #[test]
 fn the_largest_limits_hold(rt: HostRuntime) -> Result<(), Fail> {
     let alloc = rt.alloc();

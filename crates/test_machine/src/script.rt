@@ -1,13 +1,13 @@
 use std::alloc::{AllocError, Global};
 
-/// How scripts stand in a text: alone, or in a document, where they are its blocks with the word `script`.
+/// How a text has scripts: as all of it, or as a document with scripts in its blocks with the word `script`.
 #[derive(Clone, Copy)]
 pub enum Form {
     Plain,
     Document,
 }
 
-/// A line of a script: its number in the file, what is asked, and the reply that must come.
+/// A line of a script: its number in the file, what is asked, and the expected reply.
 #[derive(Clone, Copy)]
 pub struct Line<'a> {
     pub number: u64,
@@ -15,7 +15,7 @@ pub struct Line<'a> {
     pub replies: &'a str,
 }
 
-/// What a script shows, its heading with the number of its line, and the lines below.
+/// A script: its title, its heading with the number of its line, and the lines below.
 #[derive(Drop)]
 pub struct Script<'a> {
     pub title: &'a str,
@@ -24,7 +24,7 @@ pub struct Script<'a> {
     pub lines: Vec<Line<'a>>,
 }
 
-/// The alternatives stand with ` or ` between them. The last one also stands for those that are not there.
+/// Alternative number `k` of those separated by ` or `; the last one where there are fewer.
 pub fn alternative(all: &str, k: usize) -> &str {
     all.split(" or ")
         .take(k.saturating_add(1))
@@ -32,7 +32,7 @@ pub fn alternative(all: &str, k: usize) -> &str {
         .unwrap_or(all)
 }
 
-/// The scripts of a text, as the README of this crate says how they are written.
+/// The scripts of a text, in the form that the README of this crate describes.
 pub fn scripts<'a>(
     alloc: Global,
     text: &'a str,
@@ -65,7 +65,7 @@ pub fn scripts<'a>(
     Ok(scripts)
 }
 
-/// The title that a comment gives. Sections of a document have several `#`.
+/// The title in a comment. Sections of a document have several `#`.
 fn titled(comment: &str) -> &str {
     comment.trim_start_matches('#').trim()
 }
@@ -95,8 +95,8 @@ fn add<'a>(scripts: &mut Vec<Script<'a>>, line: Line<'a>) -> Result<(), AllocErr
     Ok(())
 }
 
-/// What a line of a document is for its scripts: nothing outside of their blocks, but for the titles of its sections. A heading outside
-/// of them stays, so that a block without its word is found.
+/// The part of a document's line that belongs to scripts: nothing outside of their blocks, but for the titles of sections. A heading
+/// outside of them stays, so that a block without its word is found.
 fn in_document<'a>(line: &'a str, is_shown: &mut bool) -> &'a str {
     if line.starts_with("```") {
         *is_shown = line == "```script";

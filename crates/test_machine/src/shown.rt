@@ -1,13 +1,13 @@
-//! What a machine shows, as the lines of a script ask for it.
+//! The state of a machine, as the lines of a script query it.
 use anyhow::Result;
 use fj_machine::Machine;
 use fj_rules::{Limits, Owner, Sealed, Serial, SubId, SubmittedKind, WorkerId};
 use std::alloc::Global;
 use std::fmt::Write;
 
-/// What a machine shows, where a line asks for it: the lists of tasks, the oldest first; `hand W`, the completer whose action a worker
-/// has in hand; `parent T`, a task's parent; `limits`; `submission S`, what a plain task of a submitter would be refused with; `epoch`,
-/// the number of seals; `events N`, the events of the present history but for the first N.
+/// The answer to a query: the lists of tasks, the oldest first; `hand W`, the completer whose action a worker has in hand; `parent T`, a
+/// task's parent; `limits`; `submission S`, the refusal of a plain task of a submitter; `epoch`, the number of seals; `events N`, the
+/// events of the present history but for the first N.
 pub fn shown(alloc: Global, machine: &Machine, asked: &str) -> Result<String> {
     let (word, number) = asked.split_once(' ').unwrap_or((asked, "0"));
     let Ok(number) = number.parse::<u32>() else {
@@ -29,7 +29,7 @@ pub fn shown(alloc: Global, machine: &Machine, asked: &str) -> Result<String> {
     }
 }
 
-/// What is neither a step nor a question.
+/// The answer to what is neither a step nor a query.
 fn no_step(alloc: Global) -> Result<String> {
     Ok(format!(in alloc; "no step")?)
 }
@@ -39,13 +39,13 @@ fn epoch(alloc: Global, machine: &Machine) -> Result<String> {
     Ok(format!(in alloc; "{}", machine.epoch())?)
 }
 
-/// How many events a part has that was sealed, and its gone tasks.
+/// How many events a sealed part has, and its gone tasks.
 pub fn part(alloc: Global, sealed: &Sealed) -> Result<String> {
     let gone = numbers(alloc, sealed.gone.as_slice())?;
     Ok(format!(in alloc; "sealed {} events, gone {gone}", sealed.events.len())?)
 }
 
-/// Asked of a worker that is not there, a machine answers nothing.
+/// The completer whose action a worker has in hand; `no worker` for an unknown one.
 fn hand(alloc: Global, machine: &Machine, worker: u32) -> Result<String> {
     if worker < machine.limits().workers() {
         maybe(alloc, machine.hook(WorkerId(worker)))
@@ -93,7 +93,7 @@ fn numbers(alloc: Global, tasks: &[Serial]) -> Result<String> {
     list(alloc, &text)
 }
 
-/// The events but for the first ones, as they are printed by `{:?}`.
+/// The events but for the first ones, printed by `{:?}`.
 fn events(alloc: Global, machine: &Machine, first: u32) -> Result<String> {
     let mut text = String::new(alloc);
     for event in machine.history().iter().skip(first as usize) {

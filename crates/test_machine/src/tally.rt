@@ -1,4 +1,4 @@
-//! What random steps were, and what was replied to them.
+//! The kinds of random steps, and the replies to them.
 use fj_rules::{Ending, Refusal, Said, Step};
 use std::alloc::Global;
 use std::fmt::Write;
@@ -11,7 +11,7 @@ pub struct Tally {
 }
 
 impl Tally {
-    /// Nothing happened yet.
+    /// No step so far.
     pub fn new(alloc: Global) -> Tally {
         Tally {
             counts: Vec::new(alloc),

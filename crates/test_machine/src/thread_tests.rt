@@ -21,7 +21,7 @@ fn submit_each(rt: &impl Wait, machine: &Mutex<Machine>, s: u32) {
     }
 }
 
-/// Polls, and ends what it was handed.
+/// Polls, and ends the task that it was handed.
 fn turn(rt: &impl Wait, machine: &Mutex<Machine>, r: u32) -> Said {
     let w = WorkerId(0);
     let said = machine.lock(rt).step(&Step::Poll { w, r });
@@ -109,7 +109,7 @@ fn seen(
     Ok((machine.gone().len(), first, second, left))
 }
 
-/// The machine that two submitters and a worker have shared behind a lock, which each step takes once.
+/// The machine after two submitters and a worker have shared it, guarded by a lock that each step takes once.
 fn shared<R: Threads + Wait + Sync>(rt: &R, alloc: Global) -> Result<Machine, Refusal> {
     let limits = Limits::new(1, 2, 4096, 4096)?;
     let machine = Mutex::new(Machine::new(alloc, Mode::Async, limits)?);

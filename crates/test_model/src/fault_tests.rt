@@ -2,7 +2,7 @@ use fj_model::{LineFault, read_step};
 use std::alloc::{AllocError, Global};
 use std::test::*;
 
-// Tables of lines that are no steps. A blank at the end of a line, a carriage return and a tab are written as escapes.
+// Tables of lines that are not steps. A space at the end of a line, a carriage return and a tab are written as escapes.
 
 /// Lines with another first word.
 fn other_first_words() -> &'static str {
@@ -200,7 +200,7 @@ state ok
 release -"
 }
 
-/// The lines of a table that are read as steps, each with a line end.
+/// The lines of a table that are read as steps, each with a line feed.
 fn steps_among(alloc: Global, table: &str) -> Result<String, AllocError> {
     let mut found = String::new(alloc);
     for line in table.split('\n') {

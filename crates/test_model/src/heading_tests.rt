@@ -2,7 +2,7 @@ use fj_model::{LineFault, Mode, read_head};
 use std::alloc::{AllocError, Global};
 use std::test::*;
 
-/// Headings, each with the mode and the numbers that are read of it.
+/// Headings, each with the mode and the numbers read from it.
 fn headings() -> &'static str {
     "async 1 1 1 4 > (Async, [1, 1, 1, 4])
 joining 2 1 8 64 > (Joining, [2, 1, 8, 64])
@@ -14,7 +14,7 @@ joining 4294967295 4294967294 4294967293 4294967292 > (Joining, [4294967295, 429
 "
 }
 
-// Tables of lines that are no headings. A blank at the end of a line and a carriage return are written as escapes.
+// Tables of lines that are not headings. A space at the end of a line and a carriage return are written as escapes.
 
 /// Lines with another first word.
 fn other_first_words() -> &'static str {
@@ -60,7 +60,7 @@ joining  2 1 8 64
 \x20joining 2 1 8 64"
 }
 
-/// The lines of a table that are headings, each with what is read of it.
+/// The lines of a table that are headings, each with what is read from it.
 fn headings_in(alloc: Global, table: &str) -> Result<String, AllocError> {
     let mut found = String::new(alloc);
     for row in table.split('\n') {

@@ -5,7 +5,7 @@ use fj_queues::*;
 use rows::wrong;
 use std::test::*;
 
-/// What scans meet.
+/// The results of scans.
 fn scans() -> &'static str {
     "a scan meets the first queue with a number
 3 2; push 0 0 > done; push 2 1 > done; first 1 > 2; new 2 > 1; push 0 2 > done; new 0 > 2; old 0 > 0; first 0 > none
@@ -21,7 +21,7 @@ a thief takes the oldest
 4 3; push 2 7 > done; push 2 8 > done; first 3 > 2; old 2 > 7; new 2 > 8; old 2 > none"
 }
 
-/// What is taken at both ends.
+/// Numbers taken at both ends.
 fn ends() -> &'static str {
     "the order at both ends
 2 3; owners > 2; room > 3; push 1 10 > done; push 1 11 > done; push 1 12 > done; len 0 > 0; len 1 > 3; total > 3;

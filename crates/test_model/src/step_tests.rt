@@ -2,7 +2,7 @@ use fj_model::read_step;
 use std::alloc::{AllocError, Global};
 use std::test::*;
 
-// Tables of lines, each with the step that is read of it.
+// Tables of lines, each with the step that is read from it.
 
 fn accept_rows() -> &'static str {
     "submit 0 > Submit { s: SubId(0), kind: Plain }
@@ -79,7 +79,7 @@ release 4294967295 > Release { t: Serial(4294967295) }
 "
 }
 
-/// The lines of a table that are steps, each with the step that is read of it.
+/// The lines of a table that are steps, each with the step that is read from it.
 fn steps_in(alloc: Global, table: &str) -> Result<String, AllocError> {
     let mut found = String::new(alloc);
     for row in table.lines() {

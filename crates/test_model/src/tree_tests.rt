@@ -9,7 +9,7 @@ use std::alloc::Global;
 use std::test::Fail;
 use trial::Trial;
 
-/// Records, handles, and what is written.
+/// Records, handles, and what is set.
 fn makes() -> &'static str {
     "each make has the next number
 3; len > 0; make - 1 stop open > 0:0; make 0 65535 stop submitted > 1:1; len > 2;
@@ -117,7 +117,7 @@ a key is used again but no number
 make 0 0 stop open > refused 5"
 }
 
-/// What a climb gave in place of this end, which began so many completers below the one at which this was done.
+/// The actual end of a climb, if it is another one. The climb begins so many completers below the completer where `put` was done.
 fn other_climb(
     alloc: Global,
     below: u32,
@@ -213,7 +213,7 @@ fn a_search_finds_each_number_and_no_other(rt: HostRuntime) -> Result<(), Fail> 
     Ok(())
 }
 
-/// The guess for a number is that of the last one with the same rest by 16,384, so these are found by a search.
+/// The guess for a number is that of the last number that is the same modulo 16,384, so these are found by a search.
 #[test]
 fn a_task_is_found_behind_thousands_that_were_released(rt: HostRuntime) -> Result<(), Fail> {
     for room in [2, 3, 4096] {

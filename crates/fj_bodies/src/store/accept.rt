@@ -13,12 +13,12 @@ use fj_rules::{
 };
 
 impl<B: Body> Store<B> {
-    /// The running task of a worker forks: `ForkJoinTask.fork`. The body hears its number, or is handed back with the refusal.
+    /// The running task of a worker forks: `ForkJoinTask.fork`. It hears the number of the new task, or gets the body back with the refusal.
     #[inline(always)]
     pub fn fork(&mut self, w: WorkerId, kind: &Kind, body: B) -> Told<B>
         ensures { Accepts self.old (Fork w kind.now) body result self.new }
     {
-        // The check wants each type inside a reply to be named where one is moved.
+        // For the proof: each type inside a moved reply is named.
         let _inside: Option<(Place, Owner, Status, Refusal, Serial, SubId, WorkerId)> = None;
         if self.stuck {
             return Told::Stuck(Some(body));
@@ -33,11 +33,11 @@ impl<B: Body> Store<B> {
         }
     }
 
-    /// The running task makes a trigger, which is open at once.
+    /// The running task makes a trigger, which is open at once. The answers are those of `fork`.
     pub fn trigger(&mut self, w: WorkerId, count: u32, body: B) -> Told<B>
         ensures { Accepts self.old (Trigger w count) body result self.new }
     {
-        // The check wants each type inside a reply to be named where one is moved.
+        // For the proof: each type inside a moved reply is named.
         let _inside: Option<(Place, Owner, Status, Refusal, Serial, SubId, WorkerId)> = None;
         if self.stuck {
             return Told::Stuck(Some(body));
@@ -59,14 +59,14 @@ impl<B: Body> Store<B> {
         self.machine.submit_refusal(s, kind)
     }
 
-    /// A submitter hands a task in. Precondition: it would not be refused.
+    /// A submitter submits a task: its number. Precondition: `submit_refusal` is none.
     pub fn submit(&mut self, s: SubId, kind: &SubmittedKind, body: B) -> Serial
         requires { refusal_of self.old.past (Submit s kind.now) ≡ None }
         ensures step { Steps self.old.past (Submit s kind.now) (Task result) self.new.past }
         ensures body { entries self.new.bodies ≡ with_entry (entries self.old.bodies) result body }
         ensures others { self.new ≡ record self.old { past = self.new.past; bodies = self.new.bodies } }
     {
-        // The check wants each type inside a reply to be named where one is moved.
+        // For the proof: each type inside a moved reply is named.
         let _inside: Option<(Place, Owner, Status, Refusal, Serial, SubId, WorkerId)> = None;
         match self.machine.step(&Step::Submit { s, kind: *kind }) {
             Said::Task(t) => {

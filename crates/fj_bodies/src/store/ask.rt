@@ -11,12 +11,12 @@ use crate::store::Store;
 use fj_rules::{Owner, Place, Refusal, Said, Serial, Status, Step, SubId, WorkerId};
 
 impl<B: Body> Store<B> {
-    /// Makes a step that hands no task out and ends no body. The bodies of open tasks that go by it are dropped.
+    /// Makes a step that hands out no task and ends no body. Drops the stored bodies of the tasks that become gone by it.
     pub(crate) fn ask(&mut self, asked: &Step) -> Said
         requires { is_calm asked.now ≡ true }
         ensures { Makes self.old asked.now result self.new }
     {
-        // The check wants each type inside a reply to be named where one is moved.
+        // For the proof: each type inside a moved reply is named.
         let _inside: Option<(Place, Owner, Status, Refusal, Serial, SubId, WorkerId)> = None;
         match make(&mut self.machine, &mut self.bodies, asked) {
             Said::Refused(refusal) => Said::Refused(refusal),
@@ -42,7 +42,7 @@ impl<B: Body> Store<B> {
         }
     }
 
-    /// The root of a task's path becomes normal: `CountedCompleter.quietlyCompleteRoot`. It hears `Went`, also where that is done.
+    /// Makes the root of a task's path normal: `CountedCompleter.quietlyCompleteRoot`. It hears `Went`, also if the root was done before.
     pub fn quiet_root(&mut self, w: WorkerId, t: Serial) -> Told<B>
         ensures { QuietsRoot self.old (QuietRoot w t) result self.new }
     {
@@ -55,7 +55,7 @@ impl<B: Body> Store<B> {
         }
     }
 
-    /// Cancels a task: `ForkJoinTask.cancel`.
+    /// Cancels a task: `ForkJoinTask.cancel`. It hears `Yes` if the task is cancelled now or was before, else `No`.
     pub fn cancel(&mut self, t: Serial) -> Told<B>
         ensures { Settles self.old (Cancel t) result self.new }
     {
@@ -70,7 +70,8 @@ impl<B: Body> Store<B> {
         }
     }
 
-    /// A task gets a code, and with it each to whom it is relayed: `ForkJoinTask.completeExceptionally`.
+    /// Ends a task exceptionally, and each one to which the code is relayed: `ForkJoinTask.completeExceptionally`. It hears `Yes`, or `No` if
+    /// the task was done before.
     pub fn fault(&mut self, t: Serial, code: u32) -> Told<B>
         ensures { Settles self.old (Fault t code) result self.new }
     {
@@ -85,11 +86,11 @@ impl<B: Body> Store<B> {
         }
     }
 
-    /// Where a task is, and how far it has come.
+    /// The place and the status of a task.
     pub fn state(&mut self, t: Serial) -> Told<B>
         ensures { Shows self.old (State t) result self.new }
     {
-        // The check wants each type inside a reply to be named where one is moved.
+        // For the proof: each type inside a moved reply is named.
         let _inside: Option<(Place, Owner, Status, Refusal, Serial, SubId, WorkerId)> = None;
         if self.stuck {
             return Told::Stuck(None);
@@ -101,7 +102,7 @@ impl<B: Body> Store<B> {
         }
     }
 
-    /// Whether a task is kept and undone: not `ForkJoinTask.isDone`. It also serves where the store is stuck.
+    /// Whether a task is kept and undone: not `ForkJoinTask.isDone`. It also answers if the store is stuck.
     pub fn is_undone(&self, t: Serial) -> bool
         ensures { result ≡ is_kept self.now.past.events t && is_undone (status self.now.past.events t) }
     {

@@ -13,7 +13,7 @@ use fj_rules::{Owner, Place, Refusal, Said, Serial, Status, Step, SubId, WorkerI
 use fj_slots::Hand;
 
 impl<B: Body> Store<B> {
-    /// Makes a step that takes the worker's choice, and moves the body that belongs to it.
+    /// Makes a step that takes the worker's choice, and moves its body.
     #[inline(always)]
     fn choose(&mut self, hand: &mut Hand<B>, asked: &Step) -> Chosen<B>
         requires fits { Fits self.old.past hand.old }
@@ -21,7 +21,7 @@ impl<B: Body> Store<B> {
         ensures chooses { Chooses self.old hand.old asked.now result self.new hand.new }
         ensures fits { Fits self.new.past hand.new }
     {
-        // The check wants each type inside a reply to be named where one is moved.
+        // For the proof: each type inside a moved reply is named.
         let _inside: Option<(Place, Owner, Status, Refusal, Serial, SubId, WorkerId)> = None;
         match self.machine.step(asked) {
             Said::Run(t) => match self.bodies.take(t) {
@@ -48,7 +48,7 @@ impl<B: Body> Store<B> {
         }
     }
 
-    /// An idle worker asks for its next task. It is stuck where the history is full. Precondition: the hand fits and is empty.
+    /// An idle worker asks for its next task. Gets stuck if the history is full. Precondition: the hand fits and is empty.
     #[inline(always)]
     pub fn poll(&mut self, hand: &mut Hand<B>) -> Told<B>
         requires fits { Fits self.old.past hand.old }
@@ -76,7 +76,7 @@ impl<B: Body> Store<B> {
         }
     }
 
-    /// The running task helps: `ForkJoinTask.helpQuiesce` by one task. Precondition: the hand fits.
+    /// The running task helps: `ForkJoinTask.helpQuiesce` for one task. Precondition: the hand fits.
     pub fn help(&mut self, hand: &mut Hand<B>) -> Told<B>
         requires fits { Fits self.old.past hand.old }
         ensures helps { Helps self.old hand.old result self.new hand.new }
@@ -99,10 +99,10 @@ impl<B: Body> Store<B> {
         }
     }
 
-    /// The running task joins another one, by one turn: `ForkJoinTask.join`. Precondition: the hand fits.
+    /// One try of the running task to join another one: `ForkJoinTask.join`. Precondition: the hand fits.
     ///
-    /// Of a done task it tells how it ended; a result is taken out, and its task released as soon as it can be. Of an undone one it takes the
-    /// worker's choice.
+    /// If that task is done, it hears how; a result is taken out, and the task released as soon as it can be. If not, the worker takes its
+    /// choice of another task.
     #[inline(always)]
     pub fn join(&mut self, hand: &mut Hand<B>, t: Serial) -> Told<B>
         requires fits { Fits self.old.past hand.old }

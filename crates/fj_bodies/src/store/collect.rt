@@ -13,7 +13,7 @@ use crate::store::Store;
 use fj_rules::{Refusal, Serial};
 
 impl<B: Body> Store<B> {
-    /// Keeps the one result of a task under its number, or drops it where the task's result was taken. Preconditions: the task is kept, has no
+    /// Keeps the only result of a task under its number, or drops it if the task is marked as taken. Preconditions: the task is kept, has no
     /// result, and gives no other.
     #[inline(always)]
     pub(crate) fn keep(&mut self, t: Serial, kept: KeptResult<B>)
@@ -43,7 +43,7 @@ impl<B: Body> Store<B> {
         }
     }
 
-    /// A body takes the result of a task that is gone. `Unknown` of a task that is not kept, `NotDone` where it is not gone or has no result.
+    /// A body takes the result of a gone task. `Unknown` if the task is not kept, `NotDone` if it is not gone or has no result.
     ///
     /// The task is released as soon as it can be.
     pub fn take(&mut self, t: Serial) -> Told<B>
@@ -70,8 +70,8 @@ impl<B: Body> Store<B> {
         }
     }
 
-    /// A body wants no result of a task any more, nor shall anybody else: the task is released as soon as it can be, at once or when it has
-    /// ended, and its result is dropped. `Unknown` where its outcome or result was taken before, or it is not kept.
+    /// A body gives up a task's result and outcome, for all callers: the task is released as soon as it can be, now or later, and its result
+    /// is dropped. `Unknown` if its outcome or result was taken before, or it is not kept.
     pub fn release(&mut self, t: Serial) -> Told<B>
         ensures { LetsGo self.old t result self.new }
     {
@@ -91,9 +91,9 @@ impl<B: Body> Store<B> {
         }
     }
 
-    /// The outcome of a task, which is taken out: the task is released as soon as it can be.
+    /// Takes out the outcome of a task, which is released as soon as it can be.
     ///
-    /// None while it is undone. `Unknown` where it was taken out before, or is not kept.
+    /// None while it is undone. `Unknown` if its outcome or result was taken before, or it is not kept.
     pub fn collect(&mut self, t: Serial) -> Option<Result<Outcome<B>, Refusal>>
         ensures { Collects self.old t result self.new }
     {

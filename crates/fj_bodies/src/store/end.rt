@@ -16,7 +16,7 @@ use fj_slots::Hand;
 impl<B: Body> Store<B> {
     /// The body of the running plain task ends, with its result. Preconditions: the hand fits, and the result is right for its body's key.
     ///
-    /// The body of a completer hears `NotCompleter`. Where the history has no room the store is stuck, here and in the next two.
+    /// The body of a completer hears `NotCompleter`. If the history has no room the store gets stuck, here and in the next two.
     #[inline(always)]
     pub fn ok(&mut self, hand: &mut Hand<B>, out: B::Out) -> Told<B>
         requires fits { Fits self.old.past hand.old }
@@ -24,7 +24,7 @@ impl<B: Body> Store<B> {
         ensures ends { EndsOk B.key_of self.old hand.old out result self.new hand.new }
         ensures fits { Fits self.new.past hand.new }
     {
-        // The check wants each type inside a reply to be named where one is moved.
+        // For the proof: each type inside a moved reply is named.
         let _inside: Option<(Place, Owner, Status, Refusal, Serial, SubId, WorkerId)> = None;
         if self.stuck {
             return Told::Stuck(None);
@@ -52,14 +52,14 @@ impl<B: Body> Store<B> {
     }
     /// The running body ends without a result: `Quiet`, `Try`, `Pass`, `Complete` or `Fail`. Precondition: the hand fits.
     ///
-    /// Where the hook of its own task comes, the body goes on in it. If not, it goes out where its task is gone, and stays here where that is
-    /// open. The body of a plain task hears `NotCompleter`, but of `Fail`.
+    /// If the hook of its own task begins, the body stays in the hand to run it. If not, the body is returned if its task is gone, and stored
+    /// if that is open. The body of a plain task hears `NotCompleter`, except for `Fail`.
     pub fn end(&mut self, hand: &mut Hand<B>, ending: Ending) -> Told<B>
         requires fits { Fits self.old.past hand.old }
         ensures ends { EndsBody self.old hand.old ending result self.new hand.new }
         ensures fits { Fits self.new.past hand.new }
     {
-        // The check wants each type inside a reply to be named where one is moved.
+        // For the proof: each type inside a moved reply is named.
         let _inside: Option<(Place, Owner, Status, Refusal, Serial, SubId, WorkerId)> = None;
         if self.stuck {
             return Told::Stuck(None);
@@ -100,20 +100,20 @@ impl<B: Body> Store<B> {
     /// The hook in the hand ends, with its result: `CountedCompleter.onCompletion` has returned. Preconditions: the hand fits, and the result
     /// is right for the key of the hook's body.
     ///
-    /// Where the hook of its parent comes, the parent's body goes on in it. A hand without a hook hears `NotRunning`.
+    /// If the hook of its parent begins, the parent's body moves into the hand to run it. A hand without a hook hears `NotRunning`.
     pub fn hook_done(&mut self, hand: &mut Hand<B>, out: B::Out) -> Told<B>
         requires fits { Fits self.old.past hand.old }
         requires right { IfSome hand.old.hook (λ b. ∥ B.right (B.key_of b.1) out ∥₁) }
         ensures ends { EndsHook B.key_of self.old hand.old out result self.new hand.new }
         ensures fits { Fits self.new.past hand.new }
     {
-        // The check wants each type inside a reply to be named where one is moved.
+        // For the proof: each type inside a moved reply is named.
         let _inside: Option<(Place, Owner, Status, Refusal, Serial, SubId, WorkerId)> = None;
         if self.stuck {
             return Told::Stuck(None);
         }
         let w = hand.worker();
-        // Tells that no hand has two hooks.
+        // For the proof: no hand has two hooks.
         let _hook = self.machine.hook(w);
         let before = self.machine.gone().len();
         match self.machine.step(&Step::HookDone { w }) {

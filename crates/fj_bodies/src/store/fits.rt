@@ -7,7 +7,7 @@ use fj_rules::Serial;
 use fj_slots::Hand;
 
 impl<B: Body> Store<B> {
-    /// Whether the bodies and the hook of a hand stand under the numbers that the machine has for its worker.
+    /// Whether the bodies and the hook of a hand have the task numbers that the machine has for its worker.
     pub fn fits(&self, hand: &Hand<B>) -> bool
         ensures { IsTrue result ↔ Fits self.now.past hand.now }
     {
@@ -19,7 +19,7 @@ impl<B: Body> Store<B> {
     }
 }
 
-/// Whether both are the same, or neither is there.
+/// Whether both are the same, or both are none.
 fn is_same(held: Option<Serial>, known: Option<Serial>) -> bool
     ensures { IsTrue result ↔ (held ≡ known) }
 {

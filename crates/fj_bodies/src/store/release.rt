@@ -14,8 +14,8 @@ use crate::tries::{HistoryFull, Tried};
 use fj_rules::{Owner, Place, Refusal, Said, Serial, Status, Step, SubId, WorkerId};
 
 impl<B: Body> Store<B> {
-    /// Releases a task whose outcome or result was taken as soon as it can be: a plain one mostly at once, without a mark. Preconditions: the
-    /// task is kept, was not taken before, and has no result.
+    /// Releases a task whose outcome or result was just taken: a plain one mostly at once, without a mark, others as soon as they can be.
+    /// Preconditions: the task is kept, was not taken before, and has no result.
     #[inline(always)]
     pub(crate) fn release_taken(&mut self, t: Serial)
         requires kept { is_kept self.old.past.events t ≡ true }
@@ -29,7 +29,7 @@ impl<B: Body> Store<B> {
         self.release_marked(t);
     }
 
-    /// Marks a task for its release, and releases what can be. Preconditions: as above.
+    /// Marks a task as taken, and releases what can be. Preconditions: as above.
     fn release_marked(&mut self, t: Serial)
         requires kept { is_kept self.old.past.events t ≡ true }
         requires free { is_in t self.old.taken ≡ false }
@@ -41,8 +41,8 @@ impl<B: Body> Store<B> {
         self.release_due();
     }
 
-    /// Releases what can be released of the tasks whose outcome or result was taken: the one that the last step was about, then its parent,
-    /// and so on. All of them are tried only after a stop, and where the store is stuck.
+    /// Releases those taken tasks that can be released: the task of the last step, then its parent, and so on. All of them are tried only if
+    /// any may be due, as after a stop, or if the store is stuck.
     #[inline(always)]
     pub(crate) fn release_due(&mut self)
         ensures { Releases self.old self.new }
@@ -51,12 +51,12 @@ impl<B: Body> Store<B> {
             self.due = Due::Nothing;
             return;
         }
-        // Where the history is full, the store is stuck from now on.
+        // If the history is full, the store is stuck from now on.
         let _full = self.release_found();
         self.due = Due::Nothing;
     }
 
-    /// Releases from what is due upwards, or whichever can be released.
+    /// Releases from the due task upwards, or tries all.
     fn release_found(&mut self) -> Result<(), HistoryFull>
         ensures { Releases self.old self.new }
     {
@@ -72,8 +72,8 @@ impl<B: Body> Store<B> {
         }
     }
 
-    /// Releases what can be released, whichever it is: from each of the taken tasks upwards, the newest first. A release lets none go but its
-    /// parent, so one pass is enough.
+    /// Releases all taken tasks that can be released: from each one upwards, the newest first. A release enables at most that of its parent,
+    /// so one pass is enough.
     fn release_all(&mut self) -> Result<(), HistoryFull>
         ensures { Releases self.old self.new }
     {
@@ -85,8 +85,8 @@ impl<B: Body> Store<B> {
         Ok(())
     }
 
-    /// Releases from the taken task at this place upwards, if one stands there: releases before may have left fewer. Precondition: of the taken
-    /// tasks behind this place none can be released.
+    /// Releases from the taken task at this index upwards, if there is one: earlier releases may have left fewer. Precondition: no taken task
+    /// behind this index can be released.
     fn release_from(&mut self, i: usize) -> Result<(), HistoryFull>
         requires { NoneGoesFrom (i + 1) self.old }
         ensures { ReleasesFrom i self.old result self.new }
@@ -98,7 +98,7 @@ impl<B: Body> Store<B> {
         self.release_up(t)
     }
 
-    /// Releases a task if it was taken and can be released, then so its parent, and so on.
+    /// Releases a task if it was taken and can be released, then likewise its parent, and so on.
     fn release_up(&mut self, t: Serial) -> Result<(), HistoryFull>
         ensures { ReleasesUp t self.old result self.new }
     {
@@ -109,7 +109,7 @@ impl<B: Body> Store<B> {
         Ok(())
     }
 
-    /// Releases a task if it was taken and can be released. Tells its parent, if it was released and has one.
+    /// Releases a task if it was taken and can be released. Returns its parent, if it was released and has one.
     fn release_here(&mut self, t: Serial) -> Result<Option<Serial>, HistoryFull>
         ensures { ReleasesHere t self.old result self.new }
     {
@@ -124,12 +124,12 @@ impl<B: Body> Store<B> {
         }
     }
 
-    /// Releases this one, if it can be.
+    /// Releases a task, if it can be. Precondition: it was taken.
     fn try_release(&mut self, t: Serial) -> Tried
         requires { is_in t self.old.taken ≡ true }
         ensures { Tries self.old t result self.new }
     {
-        // The check wants each type inside a reply to be named where one is moved.
+        // For the proof: each type inside a moved reply is named.
         let _inside: Option<(Place, Owner, Status, Refusal, Serial, SubId, WorkerId)> = None;
         if is_hooked(&self.machine, t) {
             return Tried::Needed;

@@ -12,12 +12,10 @@ use fj_slots::SerialMap;
 use std::alloc::Global;
 
 impl<B: Body> Store<B> {
-    /// Hands out what has happened since the last seal, and goes on with an empty history. The bodies, the results and what was taken stay,
-    /// and task numbers go on.
+    /// Hands out the history since the last seal, and goes on with an empty one. Bodies, results and marks stay, and task numbers go on.
     ///
-    /// It is refused by `LogFull` where the store is stuck, else by `NotIdle` where the machine is not quiescent, else by `Closed` after a
-    /// shutdown or a stop, else by `LogFull` where the events, the sealed ones too, and the seals are more than 2^62, else by `OutOfMemory`,
-    /// and then changes nothing.
+    /// Errors, after which nothing has changed: `LogFull` if the store is stuck, else `NotIdle` if the machine is not quiescent, else `Closed`
+    /// after a shutdown or a stop, else `LogFull` if all events, the sealed ones too, and the seals are more than 2^62, else `OutOfMemory`.
     pub fn seal(&mut self, alloc: Global) -> Result<Sealed, Refusal>
         ensures { Seals self.old result self.new }
     {
@@ -35,7 +33,7 @@ impl<B: Body> Store<B> {
         self.machine.history().len() > events / 2
     }
 
-    /// The machine, and the results that were not taken, each under its task's number. The bodies that no worker holds are dropped.
+    /// The machine, and the results that were not taken, each under its task's number. The stored bodies are dropped.
     pub fn into_parts(self) -> (Machine, SerialMap<KeptResult<B>>)
         ensures past { result.0 ≡ self.past }
         ensures results { entries result.1 ≡ entries self.results }

@@ -9,7 +9,7 @@ use crate::store::Store;
 use fj_rules::{Said, Step};
 
 impl<B: Body> Store<B> {
-    /// No submissions are taken any more: `ForkJoinPool.shutdown`. False where the history is full: then it is stuck.
+    /// No submission is accepted from now on: `ForkJoinPool.shutdown`. False if the history is full: then the store is stuck.
     pub fn shutdown(&mut self) -> bool
         ensures { Shuts self.old Shutdown result self.new }
     {
@@ -22,7 +22,8 @@ impl<B: Body> Store<B> {
         }
     }
 
-    /// All is cancelled, and nothing is taken any more: `ForkJoinPool.shutdownNow`. False where the history is full: then it is stuck.
+    /// Cancels each undone task, and neither submissions nor forks are accepted from now on: `ForkJoinPool.shutdownNow`. False if the history
+    /// is full: then the store is stuck.
     pub fn stop(&mut self) -> bool
         ensures { Shuts self.old Stop result self.new }
     {
@@ -35,7 +36,7 @@ impl<B: Body> Store<B> {
         }
     }
 
-    /// Whether submissions are taken no more, since a shutdown or a stop was made: `ForkJoinPool.isShutdown`.
+    /// Whether a shutdown or a stop was made: `ForkJoinPool.isShutdown`.
     pub fn is_shut(&self) -> bool
         ensures { result ≡ is_closed self.now.past.events || is_stopped self.now.past.events }
     {

@@ -1,4 +1,4 @@
-//! The options as the command line declares them: each has a number, in a range, or is a flag.
+//! The declarations of the options: each has a number, in a range, or is a flag.
 ghost use Rattle.std.specs.Prelude.{◌≡◌, true, false};
 ghost use Rattle.clap.specs.Walk.{rule_of};
 ghost use Rattle.fj_cli.specs.Options.{defaulted_rule, flag_rule, required_rule};
@@ -20,7 +20,7 @@ fn option<'a>(alloc: Global, name: &'a str, least: u32, most: u32, help: &'a str
         .help(help)
 }
 
-/// An option that has to be given: a number from `least` to 4,294,967,295.
+/// A required option: a number from `least` to 4,294,967,295.
 pub fn required<'a>(alloc: Global, name: &'a str, least: u32, help: &'a str) -> Arg<'a>
     ensures rule { rule_of result ≡ required_rule name.entry.now least 4294967295 true }
     ensures local { result.global ≡ false }
@@ -28,7 +28,7 @@ pub fn required<'a>(alloc: Global, name: &'a str, least: u32, help: &'a str) -> 
     option(alloc, name, least, u32::MAX, help).required(true)
 }
 
-/// An option that is 1 where it is not given: a number from 1 to `most`.
+/// An option that is 1 by default: a number from 1 to `most`.
 pub fn defaulted<'a>(alloc: Global, name: &'a str, most: u32, help: &'a str) -> Arg<'a>
     ensures rule { rule_of result ≡ defaulted_rule name.entry.now most }
     ensures local { result.global ≡ false }

@@ -1,4 +1,4 @@
-//! The commands as the command line declares them, each with its help.
+//! The declarations of the commands, each with its help.
 ghost use Rattle.std.specs.Prelude.{◌≡◌, IfOk, codes, false};
 ghost use Rattle.clap.specs.Words.{app_of, new_app, with_subcommand};
 ghost use Rattle.clap.specs.declared.builder.command.Command.TheViews.{out-Command};
@@ -168,7 +168,7 @@ fn program<'a>(alloc: Global) -> Result<Command<'a>, AllocError>
         .subcommand(replay(alloc))
 }
 
-/// A command with one subcommand more. Precondition: this one has no option that its own subcommands share.
+/// A command with one more subcommand, `sub`. Precondition: `sub` has no option that its own subcommands share.
 fn with_one<'a>(command: Command<'a>, sub: Command<'a>) -> Result<Command<'a>, AllocError>
     requires { (out-Command sub).has_globals ≡ false }
     ensures { IfOk result (λ c. app_of c ≡ with_subcommand (app_of command.entry) (app_of sub.entry).top) }

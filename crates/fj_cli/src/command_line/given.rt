@@ -1,4 +1,4 @@
-//! The options as the arguments give them.
+//! The values of the options.
 ghost use Rattle.std.specs.Prelude.{◌≤◌, IfSome, codes};
 ghost use Rattle.clap.specs.Words.{found_of, rows_of};
 ghost use Rattle.fj_cli.specs.Given.{Gives, GivesFlag, GivesFunction, GivesRange};
@@ -7,7 +7,7 @@ use crate::command_line::options::{FunctionOptions, RangeOptions, Workers};
 use clap::ArgMatches;
 use fj_rules::MAX_WORKERS;
 
-/// The number of an option, where one in this range was given.
+/// The number of an option, if it is in this range.
 fn number(matches: &ArgMatches, name: &str, least: u32, most: u32) -> Option<u32>
     ensures range { IfSome result (λ n. (least ≤ n) × (n ≤ most)) }
     ensures given { IfSome result (λ n. Gives (rows_of (found_of matches.now)) name.now n) }
@@ -26,7 +26,7 @@ fn flag(matches: &ArgMatches, name: &str) -> bool
     matches.get_one(name).unwrap_or(false)
 }
 
-/// How many workers there are to be.
+/// The number of workers.
 pub fn read_workers(matches: &ArgMatches) -> Option<Workers>
     ensures { IfSome result (λ w. Gives (rows_of (found_of matches.now)) (codes "workers") w.count) }
 {

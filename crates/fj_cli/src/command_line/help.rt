@@ -1,4 +1,4 @@
-//! What help says last: the form of the input, an example, the exit statuses.
+//! The ends of the help texts: the form of the input, an example, the exit statuses.
 
 /// Of the whole program.
 pub const WHOLE: &str = "Each command has its help: fj replay --help

@@ -1,8 +1,8 @@
-//! What was given for the options of a command.
+//! The parsed options of a command.
 ghost use Rattle.std.specs.Prelude.{◌≤◌};
 ghost use Rattle.fj_rules.specs.declared.limits.TheConstants.{MAX_WORKERS};
 
-/// How many workers a job has: 1 to 32.
+/// The number of workers of a job: 1 to 32.
 #[derive(Clone, Copy)]
 pub struct Workers {
     pub count: u32,
@@ -10,7 +10,7 @@ pub struct Workers {
     ghost few: { count ≤ MAX_WORKERS },
 }
 
-/// The numbers that a job goes over, from first to last, the blocks in which it does so, by how many workers, and how it forks.
+/// The numbers that a job goes over, from first to last, the size of its blocks, the number of its workers, and how it forks.
 #[derive(Clone, Copy)]
 pub struct RangeOptions {
     pub from: u32,

@@ -1,4 +1,4 @@
-//! What a running body or a hook asks of the core.
+//! Requests of a running body or a hook.
 ghost use Rattle.std.specs.Prelude.{◌≡◌, ◌↔◌, IfSome, IsSome, IsTrue, None};
 ghost use Rattle.fj_slots.specs.Hands.{asker};
 ghost use Rattle.fj_bodies.specs.Fitting.{Fits};
@@ -12,10 +12,10 @@ use fj_rules::{Ending, Refusal};
 use fj_slots::Hand;
 
 impl<B: Body> Core<B> {
-    /// What the running body or the hook asks: one step of the machine, with the moving of its body.
+    /// Serves what the running body or the hook asks: one step of the machine, which also moves the body.
     ///
-    /// A stuck core answers `Stuck`, with the body that came, and nothing changes. In a hook only `Take` and `HookDone` are served; any
-    /// other ask hears `NotIdle`, with the body that came, and nothing changes. `HookDone` without a hook is refused by the machine.
+    /// A stuck core answers `Stuck`, returns a body that came, and changes nothing. In a hook only `Take` and `HookDone` are served; any
+    /// other ask hears `NotIdle`, gets its body back, and changes nothing. `HookDone` without a hook is refused by the machine.
     /// Preconditions: the hand fits and has a body or a hook, and a result that is given is right for the key of the body that asks.
     #[inline(always)]
     pub fn act(&mut self, hand: &mut Hand<B>, ask: Ask<B>) -> Told<B>
@@ -35,7 +35,7 @@ impl<B: Body> Core<B> {
         }
     }
 
-    /// Whether the bodies and the hook of a hand stand under the numbers that the machine has for its worker.
+    /// Whether the bodies and the hook of a hand have the task numbers that the machine has for its worker.
     pub fn fits(&self, hand: &Hand<B>) -> bool
         ensures { IsTrue result ↔ Fits self.now.store.past hand.now }
     {
@@ -43,7 +43,7 @@ impl<B: Body> Core<B> {
     }
 }
 
-/// What a hook asks.
+/// Serves what a hook asks.
 fn serve_hook<B: Body>(store: &mut Store<B>, hand: &mut Hand<B>, ask: Ask<B>) -> Told<B>
     requires fits { Fits store.old.past hand.old }
     requires right { IfSome hand.old.hook (λ b. AskRight B.right (B.key_of b.1) ask) }
@@ -60,7 +60,7 @@ fn serve_hook<B: Body>(store: &mut Store<B>, hand: &mut Hand<B>, ask: Ask<B>) ->
     }
 }
 
-/// What is told of an ask that is not served, with the body that came.
+/// The answer to an ask that is not served, with the body that came.
 fn hand_back<B: Body>(stuck: bool, body: Option<B>) -> Told<B>
     ensures is { result ≡ unserved stuck body }
     ensures right { ToldRight B.right result }
@@ -74,7 +74,7 @@ fn hand_back<B: Body>(stuck: bool, body: Option<B>) -> Told<B>
     }
 }
 
-/// What a running body asks.
+/// Serves what a running body asks.
 #[inline(always)]
 fn serve_body<B: Body>(store: &mut Store<B>, hand: &mut Hand<B>, ask: Ask<B>) -> Told<B>
     requires fits { Fits store.old.past hand.old }

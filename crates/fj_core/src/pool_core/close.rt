@@ -9,9 +9,9 @@ use crate::pool_core::Core;
 use fj_bodies::Body;
 
 impl<B: Body> Core<B> {
-    /// The Shutdown is made as soon as so many submissions were taken in, at once if they were: `ForkJoinPool.shutdown`.
+    /// Makes the Shutdown as soon as `number` submissions are taken in, at once if they are: `ForkJoinPool.shutdown`.
     ///
-    /// The first number that is given stays. A stuck core makes no step.
+    /// The first closing number stays. A stuck core makes no step.
     pub fn close_at(&mut self, number: u64)
         ensures shuts { ShutsAt self.old (closed_at self.old.closing number) self.new }
         ensures pool { self.new.store.past.pool ≡ self.old.store.past.pool }
@@ -20,10 +20,9 @@ impl<B: Body> Core<B> {
         make_due(&mut self.store, self.closing, self.bookings.len());
     }
 
-    /// The Stop is made as soon as so many submissions were taken in, at once if they were, and also after a Shutdown:
-    /// `ForkJoinPool.shutdownNow`.
+    /// Makes the Stop as soon as `number` submissions are taken in, at once if they are, and also after a Shutdown: `ForkJoinPool.shutdownNow`.
     ///
-    /// The first number that is given stays. A stuck core makes no step.
+    /// The first closing number stays. A stuck core makes no step.
     pub fn stop_at(&mut self, number: u64)
         ensures shuts { ShutsAt self.old (stopped_at self.old.closing number) self.new }
         ensures pool { self.new.store.past.pool ≡ self.old.store.past.pool }
@@ -35,21 +34,21 @@ impl<B: Body> Core<B> {
         make_due(&mut self.store, self.closing, self.bookings.len());
     }
 
-    /// Whether all queues, stacks and hands of the machine are empty: `ForkJoinPool.isQuiescent`. Parcels in the lanes are not looked at.
+    /// Whether all queues, stacks and hands of the machine are empty: `ForkJoinPool.isQuiescent`. Parcels in the lanes do not count.
     pub fn is_quiescent(&self) -> bool
         ensures { result ≡ is_quiet self.now.store.past.pool.limits self.now.store.past.events }
     {
         self.store.is_quiescent()
     }
 
-    /// Whether it is shut down or stopped: `ForkJoinPool.isShutdown`. A closing number that was not reached does not count.
+    /// Whether the Shutdown or the Stop was made: `ForkJoinPool.isShutdown`. A closing number that is not reached does not count.
     pub fn is_shut(&self) -> bool
         ensures { result ≡ is_over self.now.store.past.events }
     {
         self.store.is_shut()
     }
 
-    /// Whether it is shut down or stopped, exactly as many submissions were taken in as the closing number says, and it is quiescent:
+    /// Whether the Shutdown or the Stop was made, the closing number is the number of submissions taken in, and the machine is quiescent:
     /// `ForkJoinPool.isTerminated`.
     pub fn is_terminated(&self) -> bool
         ensures { result ≡ is_finished self.now }

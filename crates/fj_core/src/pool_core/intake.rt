@@ -15,11 +15,11 @@ use fj_lane::Parcel;
 use fj_rules::{Refusal, Serial, SubId, SubmittedKind};
 
 impl<B: Body> Core<B> {
-    /// Takes the next parcel of a submitter in, and submits its body as that says. Precondition: there is such a submitter.
+    /// Takes in the next parcel of a submitter, and submits its body as `Body::rooted` says. Precondition: there is such a submitter.
     ///
-    /// The first of these that holds: `Full(LogFull)` where the core is stuck; `Empty` once the machine is shut; `Full` with the refusal
-    /// where the machine has no room for a task or an event, by which the core gets stuck if that is an event and the machine is
-    /// quiescent; `Empty` where the drain gives nothing. Where the closing number is reached now, what is due is made.
+    /// Answers the first of these that holds: `Full(LogFull)` if the core is stuck; `Empty` once the machine is shut; `Full` with the refusal
+    /// if the machine has no room for a task or an event; `Empty` if the drain gives nothing. If an event finds no room and the machine is
+    /// quiescent, the core gets stuck. If the closing number is reached now, the Shutdown or Stop is made.
     pub fn intake(&mut self, s: SubId) -> Intake
         requires { s < self.old.store.past.pool.limits.submitters }
         ensures intakes { Intakes B.rooted_as self.old s result self.new }
@@ -45,7 +45,7 @@ impl<B: Body> Core<B> {
     }
 }
 
-/// What an intake answers before it looks into the lane.
+/// The answer of an intake that does not look into the lane, if there is one.
 fn ready<B: Body>(store: &mut Store<B>, s: SubId) -> Option<Intake>
     requires { s < store.old.past.pool.limits.submitters }
     ensures { Readies store.old s result store.new }
@@ -68,7 +68,7 @@ fn ready<B: Body>(store: &mut Store<B>, s: SubId) -> Option<Intake>
     }
 }
 
-/// Submits a body as it says. Precondition: a submission is not refused.
+/// Submits a body as `Body::rooted` says. Precondition: a submission is not refused.
 fn hand_in<B: Body>(store: &mut Store<B>, s: SubId, body: B) -> Serial
     requires { refused_now store.old.past s ≡ None }
     ensures submits { Submits B.rooted_as store.old s body result store.new }
@@ -78,7 +78,7 @@ fn hand_in<B: Body>(store: &mut Store<B>, s: SubId, body: B) -> Serial
     store.submit(s, &kind, body)
 }
 
-/// As what a body is submitted.
+/// The kind under which a body is submitted. The code of a completer is relayed.
 fn kind_of(rooted: Option<u16>) -> SubmittedKind
     ensures kind { result ≡ kind_rooted rooted }
     ensures small { count_in (Some (submitted_kind result)) ≤ MAX_PENDING }

@@ -15,7 +15,7 @@ use fj_slots::SerialMap;
 /// What is left of a core that is taken apart. Java has no counterpart.
 #[derive(Drop)]
 pub struct Remains<B: Body> {
-    /// The machine, with what happened since the last seal.
+    /// The machine, with the history since the last seal.
     pub machine: Machine,
     /// The results that were not taken, each under its task's number.
     pub results: SerialMap<KeptResult<B>>,
@@ -28,7 +28,7 @@ pub struct Remains<B: Body> {
 }
 
 impl<B: Body> Core<B> {
-    /// Takes the core apart. It takes no memory, and drops the bodies that no worker holds.
+    /// Takes the core apart. It allocates nothing, and drops the bodies that no worker holds.
     pub fn into_remains(self) -> Remains<B>
         ensures past { result.machine ≡ self.store.past }
         ensures results { entries result.results ≡ entries self.store.results }

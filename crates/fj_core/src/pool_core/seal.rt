@@ -10,12 +10,12 @@ use fj_rules::{Refusal, Sealed};
 use std::alloc::Global;
 
 impl<B: Body> Core<B> {
-    /// Seals what has happened since the last seal, and keeps it as a part behind those before it: from then on the history has room for as
-    /// many events again. Bodies, results, bookings and the closing number stay.
+    /// Seals the history since the last seal, and appends it to the kept parts: the history has room for its full limit of events again.
+    /// Bodies, results, bookings and the closing number stay.
     ///
-    /// It is refused by `LogFull` where the core is stuck; else by `OutOfMemory` where the list of parts cannot grow; else by `NotIdle` where
-    /// the machine is not quiescent, by `Closed` after a shutdown or a stop, by `LogFull` where the events, the sealed ones too, and the seals
-    /// are more than 2^62, or by `OutOfMemory`. Then nothing has changed. Java has no counterpart: it keeps no history.
+    /// Errors, after which nothing has changed: `LogFull` if the core is stuck; else `OutOfMemory` if the list of parts cannot grow; else
+    /// `NotIdle` if the machine is not quiescent, `Closed` after a shutdown or a stop, `LogFull` if all events, the sealed ones too, and the
+    /// seals are more than 2^62, or `OutOfMemory`. Java has no counterpart: it keeps no history.
     pub fn seal(&mut self, alloc: Global) -> Result<(), Refusal>
         ensures seals { SealsCore self.old result self.new }
         ensures pool { self.new.store.past.pool ≡ self.old.store.past.pool }
@@ -31,8 +31,8 @@ impl<B: Body> Core<B> {
         Ok(())
     }
 
-    /// The parts that are kept, the oldest first: joined behind those that were handed out, they are the history up to the last seal, and
-    /// the tasks that were gone by then.
+    /// The parts that are kept, the oldest first. Appended to those that were handed out they are the history up to the last seal, with the
+    /// tasks that were gone by then.
     pub fn parts(&self) -> &[Sealed]
         ensures parts { result.now ≡ self.now.parts }
         ensures history { AreParts (self.now.handed ++ self.now.parts) self.now.store.past }
@@ -40,8 +40,8 @@ impl<B: Body> Core<B> {
         self.archive.as_slice()
     }
 
-    /// The parts that are kept, the oldest first. From then on they count as handed out, so the next call begins where these end; nothing
-    /// else changes. It takes no memory, and also serves where the core is stuck or shut.
+    /// Hands out the kept parts, the oldest first: the next call begins where these end. Nothing else changes. It allocates nothing, and also
+    /// answers if the core is stuck or shut.
     pub fn take_parts(&mut self, alloc: Global) -> Vec<Sealed>
         ensures parts { result.items ≡ self.old.parts }
         ensures handed { self.new ≡ record self.old { handed = self.old.handed ++ self.old.parts; parts = [] } }
@@ -50,7 +50,7 @@ impl<B: Body> Core<B> {
         self.archive.take(alloc)
     }
 
-    /// Whether a worker that looks for work seals first: the machine is quiescent and open, and the history since the last seal is longer
+    /// Whether a worker that looks for work seals first: the machine is quiescent and not shut, and the history since the last seal is longer
     /// than half its limit.
     pub fn is_seal_due(&self) -> bool
         ensures { result ≡ may_be_sealed self.now.store.past }
@@ -58,8 +58,8 @@ impl<B: Body> Core<B> {
         self.store.is_half_full() && !self.store.is_shut() && self.store.is_quiescent()
     }
 
-    /// Whether nothing is to be taken in before the next seal, so that what has begun finds room to end: the history since the last seal is
-    /// longer than half its limit, and the machine is open and not quiescent. Before a Stop everything is taken in.
+    /// Whether nothing is to be taken in before the next seal, so that there is room for running tasks to end: the history since the last seal
+    /// is longer than half its limit, and the machine is neither shut nor quiescent. Not if a Stop is pending: then everything is taken in.
     pub fn holds_back(&self) -> bool
         ensures holds { result ≡ holds_back self.now }
         ensures quiescent { is_quiet self.now.store.past.pool.limits self.now.store.past.events ≡ true → result ≡ false }

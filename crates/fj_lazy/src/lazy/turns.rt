@@ -14,14 +14,14 @@ use fj_jobs::Divide;
 use fj_rules::{Refusal, Serial};
 use std::mem;
 
-/// Whether there was no room for a task: then its job may be computed in place.
+/// Whether a fork was refused for lack of room: then its job may be computed in place.
 fn is_want_of_room(refusal: Refusal) -> bool
     ensures { result ≡ is_want_of_room refusal }
 {
     matches!(refusal, Refusal::TooManyTasks | Refusal::LogFull)
 }
 
-/// The code by which a body ends that hears this and cannot go on.
+/// The code with which a body fails that hears this and cannot go on.
 fn failure_code<J: Divide>(heard: &Heard<Lazy<'_, J>>) -> u32
     ensures { result ≡ code_heard heard.now }
 {
@@ -32,7 +32,7 @@ fn failure_code<J: Divide>(heard: &Heard<Lazy<'_, J>>) -> u32
     }
 }
 
-/// The job of a body that was not forked, if its key is this one, and it was refused for want of room.
+/// The job of a body that was not forked, if it has this key and was refused for lack of room.
 fn half_of<J: Divide>(body: Lazy<'_, J>, refusal: Refusal, key: J::Key) -> Option<J>
     ensures value { IfSome result (λ j. J.value (J.key_of j) ≡ J.value key) }
     ensures room { IfSome result (λ j. is_want_of_room refusal ≡ true) }
@@ -58,7 +58,7 @@ fn half_of<J: Divide>(body: Lazy<'_, J>, refusal: Refusal, key: J::Key) -> Optio
 }
 
 impl<'s, J: Divide> Lazy<'s, J> {
-    /// Computes a job and those after it, until something is to be asked. Precondition: with the parts it gives the value of the whole.
+    /// Computes a job and those after it, until it asks something. Precondition: with the parts, the job gives the value of the whole.
     fn go_on(&mut self, job: J) -> Ask<Lazy<'s, J>>
         requires { whole J.key_of J.value J.combined self.old.parts.outer.items self.old.parts.inner.items (J.value (J.key_of job)) ≡ J.value self.old.key }
         ensures key { self.new.key ≡ self.old.key }
@@ -77,7 +77,8 @@ impl<'s, J: Divide> Lazy<'s, J> {
         }
     }
 
-    /// Goes on with what is to be done next, unless something is asked. Precondition: with the parts that is left to do gives the value of the whole.
+    /// Combines a value with those beside it, and goes on until it asks something. Precondition: with the parts, the value gives that of
+    /// the whole.
     fn go_up(&mut self, value: J::Out) -> Ask<Lazy<'s, J>>
         requires { whole J.key_of J.value J.combined self.old.parts.outer.items self.old.parts.inner.items value ≡ J.value self.old.key }
         ensures key { self.new.key ≡ self.old.key }
@@ -151,8 +152,8 @@ impl<'s, J: Divide> Lazy<'s, J> {
         }
     }
 
-    /// A turn after the fork of a half with this key. Preconditions: there is room, and the half and the leaf give the value of the whole with
-    /// the parts.
+    /// A turn after the fork of a half with this key. Preconditions: there is room; with the parts, the half and the leaf give the value of
+    /// the whole.
     fn after_fork(&mut self, key: J::Key, leaf: J, heard: Heard<Lazy<'s, J>>) -> Ask<Lazy<'s, J>>
         requires total { around (outside J.value J.combined) self.old.parts.outer.items (J.combined (around (beside J.key_of J.value J.combined) self.old.parts.inner.items (J.value (J.key_of leaf))) (J.value key)) ≡ J.value self.old.key }
         requires leaf { J.value (J.key_of leaf) ≡ J.leaf_of leaf }

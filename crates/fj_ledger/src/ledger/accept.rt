@@ -15,7 +15,7 @@ use fj_tree::{Handle, Tree};
 impl Ledger {
     /// Accepts a task into an owner's queue, with the next number: the event `Acc`.
     ///
-    /// Precondition: the parent is the one that the kind names, the event may follow the history, and there is room for it.
+    /// Precondition: the parent is that of the kind, the event may follow the history, and there is room for it.
     #[inline(always)]
     pub fn accept(&mut self, owner: &Owner, kind: &Kind, parent: Option<Handle>) -> Serial
         requires parent { option_map (λ p. p.serial) parent ≡ parent_in (Some kind.now) }

@@ -45,7 +45,7 @@ impl Ledger {
 
     /// Fires a completer: the event `Fire`. Its completion action goes into the hand of the worker.
     ///
-    /// Precondition: it is a kept completer, that hand is free and the one to which the history gives the action, the event may follow the
+    /// Precondition: it is a kept completer, the history gives its action to this worker, whose hand is free, the event may follow the
     /// history, and there is room for it.
     pub fn fire(&mut self, c: Handle, w: WorkerId, how: How)
         requires worker { w < self.old.pool.limits.workers }

@@ -13,7 +13,7 @@ use fj_rules::{Event, Place, WorkerId};
 use fj_tree::{Handle, Record};
 
 impl Ledger {
-    /// The body of a worker's running task ends: the event `End`. A completer that is not spent is open from now on, any other task gone.
+    /// The body of a worker's running task ends: the event `End`. A completer that is not spent becomes open, any other task gone.
     ///
     /// Precondition: there is such a worker, the event may follow the history, and there is room for it.
     #[inline(always)]
@@ -50,7 +50,7 @@ impl Ledger {
     }
 }
 
-/// Whether a task whose body ends is open then: a completer that is not spent.
+/// Whether a task becomes open as its body ends: a completer that is not spent.
 #[inline(always)]
 fn stays_open(kept: &Record) -> bool
     ensures { result ≡ (is_completer_kind (Some kept.now.kind) && not (is_spent kept.now)) }

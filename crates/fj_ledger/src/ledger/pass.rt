@@ -19,7 +19,7 @@ impl Ledger {
         ensures climbs { Climbs (self.now.events ++ End t.serial w ∷ []) t.serial result }
         ensures few { result.passed ≤ 2 ^ 63 }
     {
-        // Only the precondition speaks of the worker.
+        // Only the precondition needs the worker.
         let _ = w;
         self.tree.pass_look(self.tree.renew(t).unwrap())
     }

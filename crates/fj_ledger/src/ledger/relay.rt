@@ -7,7 +7,7 @@ use crate::ledger::Ledger;
 use fj_tree::Handle;
 
 impl Ledger {
-    /// How many tasks get a code that is relayed from a task, itself counted. There are none if it is done. Precondition: it is kept.
+    /// How many tasks a code relayed from this one would reach, itself included: 0 if it is done. Precondition: it is kept.
     pub fn relay_look(&self, t: Handle) -> u64
         requires kept { is_kept self.now.events t.serial ≡ true }
         ensures count { result ≡ length (relayed self.now.events t.serial) }

@@ -22,7 +22,7 @@ impl Ledger {
         self.tree.get(h).unwrap().children > 0
     }
 
-    /// A task is released: the event `Rel`. If its completion action is in a hand, what the end of that needs stays there.
+    /// A task is released: the event `Rel`. If its completion action is in a hand, its status is kept there.
     ///
     /// Precondition: the event may follow the history, and there is room for it.
     #[inline(always)]

@@ -15,11 +15,10 @@ impl Ledger {
         self.log.seals()
     }
 
-    /// What has happened since the last seal is handed out, and the ledger goes on without events. What is kept stays.
+    /// A checkpoint: hands out the events since the last seal, and goes on without events. The kept tasks stay.
     ///
-    /// It is refused by `NotIdle` where the ledger is not quiescent, else by `Closed` after a shutdown or a stop, else by `LogFull` where
-    /// the events, the sealed ones too, and the seals are more than 2^62, else by `OutOfMemory` where an allocation failed, and then
-    /// changes nothing.
+    /// Refused, with nothing changed, as `NotIdle` where the ledger is not quiescent, else `Closed` after a shutdown or a stop, else
+    /// `LogFull` where the events, sealed or not, and the seals together are more than 2^62, else `OutOfMemory` where an allocation fails.
     pub fn seal(&mut self, alloc: Global) -> Result<Sealed, Refusal>
         ensures events { IfOk result (λ part. part.events.items ≡ present self.old) }
         ensures gone { IfOk result (λ part. part.gone.items ≡ gone_since self.old) }
@@ -38,7 +37,7 @@ impl Ledger {
         Ok(Sealed { events, gone })
     }
 
-    /// Why nothing can be handed out, if it cannot: the ledger is not quiescent, or it is shut, or there were too many events.
+    /// Why a seal is refused before anything is allocated, if it is: not quiescent, shut, or too many events.
     fn seal_refusal(&self) -> Option<Refusal>
         ensures { result ≡ seal_refusal self.now }
     {

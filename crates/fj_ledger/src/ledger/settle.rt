@@ -14,7 +14,7 @@ use fj_rules::{Event, Status};
 use fj_tree::Handle;
 
 impl Ledger {
-    /// An undone task gets its status: the event `Settle`. If the task is kept, its record tells it from now on.
+    /// An undone task gets its status: the event `Settle`. If the task is kept, its record has the status now.
     ///
     /// Precondition: a task whose completion action is in a hand is kept, the event may follow the history, and there is room for it.
     #[inline(always)]

@@ -12,7 +12,7 @@ use crate::open::OpenTasks;
 use fj_rules::{Event, Serial};
 
 impl Ledger {
-    /// No submission is accepted from now on: the event `Close`.
+    /// Submissions are refused from now on: the event `Close`.
     ///
     /// Precondition: the event may follow the history, and there is room for it.
     pub fn close_pool(&mut self)
@@ -23,8 +23,8 @@ impl Ledger {
         self.log.push(Event::Close);
     }
 
-    /// Each undone task is cancelled, the open ones go, and no task is accepted from now on: the event `Stop`. Queues and stacks stay as
-    /// they are.
+    /// Each undone task is cancelled, the open ones become gone, and no task is accepted from now on: the event `Stop`. Queues and stacks
+    /// stay as they are.
     ///
     /// Precondition: the event may follow the history, and there is room for it.
     pub fn stop_pool(&mut self)
@@ -40,7 +40,7 @@ impl Ledger {
     }
 }
 
-/// Moves all open tasks to the end of a list, by rising number, as one event sends them there.
+/// Moves all open tasks to the end of a list, by rising number, since one event moves them all.
 fn move_sorted(from: &mut OpenTasks, to: &mut Vec<Serial>)
     requires room { length to.old.items + length from.old.list ≤ vec_capacity to.old }
     ensures moved { (sorted : List ℕ) × IsPermutation from.old.list sorted × IsNonDecreasing sorted × (to.new.items ≡ to.old.items ++ sorted) }
@@ -51,7 +51,7 @@ fn move_sorted(from: &mut OpenTasks, to: &mut Vec<Serial>)
     let before = to.len();
     append(to, from.as_slice());
     from.clear();
-    // without allocating
+    // allocates nothing
     to.slice_mut(before..).sort_unstable_by_key(|t| t.0);
 }
 

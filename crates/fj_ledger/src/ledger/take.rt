@@ -13,8 +13,8 @@ use crate::queue_end::{QueueEnd, take_from};
 use fj_rules::{Event, Mode, Owner, Place, Said, WorkerId};
 
 impl Ledger {
-    /// Where the worker's next task stands: at the mode's end of its own queue, or at the old end of the first queue that the scan meets.
-    /// None if all queues are empty. Precondition: there is such a worker.
+    /// Where the worker's next task is: at the mode's end of its own queue, or at the old end of the first queue with a task in the scan
+    /// from `r`. None if all queues are empty. Precondition: there is such a worker.
     #[inline(always)]
     pub fn chosen(&self, w: WorkerId, r: u32) -> Option<QueueEnd>
         requires { w < self.now.pool.limits.workers }
@@ -33,9 +33,9 @@ impl Ledger {
         }
     }
 
-    /// Takes a queued task: it is handed out if it is undone, the event `Out`, and else skipped, the event `Skip`.
+    /// Takes a queued task: it is handed out if it is undone (the event `Out`), otherwise skipped (the event `Skip`).
     ///
-    /// Precondition: there is such a worker, a task stands there, the event may follow the history, and there is room for it.
+    /// Precondition: there is such a worker, a task is there, the event may follow the history, and there is room for it.
     #[inline(always)]
     pub fn take(&mut self, w: WorkerId, source: QueueEnd) -> Said
         requires worker { w < self.old.pool.limits.workers }

@@ -1,4 +1,4 @@
--- What the words behind the first say, of the lines of accept: a task comes into the pool.
+-- What the words after the first mean, in the lines of accept: a task enters the pool.
 use Rattle.std.specs.Prelude.{ℕ, Bool, true, false, if◌then◌else◌, List, Option, Some, None, codes}
 use Rattle.std.specs.Str.{bytes_eq}
 use Rattle.fj_rules.specs.declared.kind.SubmittedKind.{SubmittedKind}
@@ -25,7 +25,7 @@ count_and_relay ws = do
 unfoldable pub parent_said : {T : Type 0} → (List ℕ → Option T) → List ℕ → Option (Option T)
 parent_said task_in word = if bytes_eq word (codes "-") then Some None else (task_in word >>= λ t. Some (Some t))
 
--- ---- kinds: where nothing is said, the task is a plain one
+-- ---- kinds: without words, the task is a plain one
 
 unfoldable pub submitted_said : List (List ℕ) → Option SubmittedKind
 submitted_said ws =

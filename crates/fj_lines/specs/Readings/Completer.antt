@@ -1,4 +1,4 @@
--- What the words behind the first say, of the lines of completer: a count is raised, or a root made normal.
+-- What the words after the first mean, in the lines of completer: a count is raised, or a root made normal.
 use Rattle.std.specs.Prelude.{ℕ, List, Option, Some}
 use Rattle.fj_lines.specs.declared.line.Line.{Line}
 use Rattle.fj_lines.specs.declared.line.Line.TheVariants.{Add, QuietRoot}

@@ -1,4 +1,4 @@
--- What the words behind the first say, of the lines of end: a body or a completion action ends.
+-- What the words after the first mean, in the lines of end: a body or a completion action ends.
 use Rattle.std.specs.Prelude.{ℕ, if◌then◌else◌, List, Option, Some, None, codes}
 use Rattle.std.specs.Str.{bytes_eq}
 use Rattle.fj_rules.specs.declared.step.Ending.{Ending}

@@ -1,4 +1,4 @@
--- What the words behind the first say, of the lines of settle: a task gets a status.
+-- What the words after the first mean, in the lines of settle: a task gets a status.
 use Rattle.std.specs.Prelude.{ℕ, List, Option, Some}
 use Rattle.fj_lines.specs.declared.line.Line.{Line}
 use Rattle.fj_lines.specs.declared.line.Line.TheVariants.{Fault, Cancel}

@@ -1,4 +1,4 @@
--- What the words behind the first say, of the lines of take: a worker takes a task, or waits for one.
+-- What the words after the first mean, in the lines of take: a worker takes a task, or waits for one.
 use Rattle.std.specs.Prelude.{ℕ, List, Option, Some}
 use Rattle.fj_lines.specs.declared.line.Line.{Line}
 use Rattle.fj_lines.specs.declared.line.Line.TheVariants.{Poll, Help, Join}

@@ -9,7 +9,7 @@ use crate::read::task::TaskWord;
 use crate::read::words::{at_end, next_number, next_word, no_more};
 use fj_rules::{SubId, SubmittedKind, WorkerId};
 
-/// Reads what follows `submit`: the label, the submitter, and of a completer more.
+/// Reads what follows `submit`: the label, the submitter, and the kind.
 #[tactic(auto, unfolding(crate::specs::Readings::Accept::submit_in))]
 pub fn submit<W: TaskWord>(behind: &[u8]) -> Result<Line<W, W::Label>, LineFault>
     ensures { Reads (submit_in W.reader (words_behind behind.now)) result }
@@ -24,7 +24,7 @@ pub fn submit<W: TaskWord>(behind: &[u8]) -> Result<Line<W, W::Label>, LineFault
     })
 }
 
-/// Reads what follows `fork`: the label, the worker, and of a completer more.
+/// Reads what follows `fork`: the label, the worker, and the kind.
 #[tactic(auto, unfolding(crate::specs::Readings::Accept::fork_in))]
 pub fn fork<W: TaskWord>(behind: &[u8]) -> Result<Line<W, W::Label>, LineFault>
     ensures { Reads (fork_in W.reader (words_behind behind.now)) result }
@@ -53,7 +53,7 @@ pub fn trigger<W: TaskWord>(behind: &[u8]) -> Result<Line<W, W::Label>, LineFaul
     })
 }
 
-/// Reads what follows the submitter: nothing, or of a completer its count and its relay word.
+/// Reads what follows the submitter: nothing, or a completer's count and relay word.
 #[tactic(auto, unfolding(crate::specs::Readings::Accept::submitted_said))]
 fn submitted_kind(behind: &[u8]) -> Result<SubmittedKind, LineFault>
     ensures { Reads (submitted_said (words_behind behind.now)) result }
@@ -65,7 +65,7 @@ fn submitted_kind(behind: &[u8]) -> Result<SubmittedKind, LineFault>
     Ok(SubmittedKind::Completer { relay, count })
 }
 
-/// Reads what follows the worker that forks: nothing, or of a completer its parent or `-`, its count and its relay word.
+/// Reads what follows the worker that forks: nothing, or a completer's parent or `-`, its count and relay word.
 #[tactic(auto, unfolding(crate::specs::Readings::Accept::forked_said))]
 fn forked_kind<W: TaskWord>(behind: &[u8]) -> Result<ForkedKind<W>, LineFault>
     ensures { Reads (forked_said W.reader.task_in (words_behind behind.now)) result }
@@ -83,7 +83,7 @@ fn forked_kind<W: TaskWord>(behind: &[u8]) -> Result<ForkedKind<W>, LineFault>
     })
 }
 
-/// Reads a count and a relay word that are all that is left.
+/// Reads a count and a relay word, the last words of a line.
 #[tactic(auto, unfolding(crate::specs::Readings::Accept::count_and_relay))]
 fn count_and_relay(behind: &[u8]) -> Result<(u32, bool), LineFault>
     ensures { Reads (count_and_relay (words_behind behind.now)) result }

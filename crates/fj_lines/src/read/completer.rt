@@ -8,7 +8,7 @@ use crate::read::task::{TaskWord, one_task, worker_task_number};
 use crate::read::words::next_number;
 use fj_rules::WorkerId;
 
-/// Reads what follows `add`: the worker, the completer and what is added.
+/// Reads what follows `add`: the worker, the completer and the number to add.
 #[tactic(auto, unfolding(crate::specs::Readings::Completer::add_in))]
 pub fn add<W: TaskWord>(behind: &[u8]) -> Result<Line<W, W::Label>, LineFault>
     ensures { Reads (add_in W.reader (words_behind behind.now)) result }

@@ -21,7 +21,7 @@ pub fn end<T: Drop, N: Drop>(behind: &[u8]) -> Result<Line<T, N>, LineFault>
     })
 }
 
-/// Reads an ending, which is all that is left.
+/// Reads an ending, up to the end of the line.
 #[tactic(auto, unfolding(crate::specs::Readings::End::ending_said))]
 fn ending(behind: &[u8]) -> Result<Ending, LineFault>
     ensures { Reads (ending_said (words_behind behind.now)) result }

@@ -1,6 +1,6 @@
 use thiserror::Error;
 
-/// The line is none that a script may have there.
+/// Not a valid line at this place of a script.
 #[derive(Clone, Copy, Debug, PartialEq, Error)]
 #[error("no line of a script")]
 pub struct LineFault;

@@ -10,22 +10,22 @@ use crate::read::words::{first_word, next_number, no_more};
 use fj_rules::Mode;
 
 /// Reads a heading, without its line feed: the mode, and the numbers of workers, submitters, tasks and events.
-/// A fault where no heading has this line. Whether the numbers lie in their limits is not looked at.
+/// `LineFault` where it is not a heading. Whether the numbers are in range is not checked.
 pub fn read_head(line: &[u8]) -> Result<(Mode, [u32; 4]), LineFault>
     ensures value { Reads (head_in line.now) result }
-    // What is read is written so.
+    // The line is that of the result.
     ensures written { IfOk result (λ head. HasHeadLine head × (line.now ≡ head_line head)) }
-    // What is written so is read.
+    // Each heading's line is read as that heading.
     ensures read { (head : Mode × List ℕ) → HasHeadLine head → line.now ≡ head_line head → result ≡ Ok head }
     ensures short { OnOk result (length line.now ≤ MAX_LINE) }
-    // The line of each heading is read as that heading.
+    // The definition reads each heading's line as that heading.
     ensures again { (head : Mode × List ℕ) → HasHeadLine head → head_in (head_line head) ≡ Some head }
 {
     let (verb, behind) = first_word(line);
     head_said(verb, behind)
 }
 
-/// The heading that a first word and what follows it say.
+/// The heading of a first word and what follows it.
 #[tactic(auto, unfolding(crate::specs::Readings::head_said))]
 fn head_said(verb: &[u8], behind: &[u8]) -> Result<(Mode, [u32; 4]), LineFault>
     ensures { Reads (head_said verb.now (words_behind behind.now)) result }

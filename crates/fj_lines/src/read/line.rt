@@ -7,7 +7,7 @@ use crate::read::task::TaskWord;
 use crate::read::words::{first_word, no_more};
 use crate::read::{accept, completer, end, query, release, settle, take};
 
-/// Reads a line, without its line feed. A fault where it is none.
+/// Reads a line, without its line feed. `LineFault` where it is not one.
 #[tactic(auto, unfolding(crate::specs::Readings::line_in))]
 pub fn read_line<W: TaskWord>(line: &[u8]) -> Result<Line<W, W::Label>, LineFault>
     ensures { Reads (line_in W.reader line.now) result }
@@ -16,7 +16,7 @@ pub fn read_line<W: TaskWord>(line: &[u8]) -> Result<Line<W, W::Label>, LineFaul
     line_said(verb, behind)
 }
 
-/// What a first word and what follows it ask for. What most lines say comes first: one each of accept, take, end and release.
+/// Reads a line by its first word. The most frequent lines come first: one each of accept, take, end and release.
 #[tactic(auto, unfolding(crate::specs::Readings::line_said))]
 fn line_said<W: TaskWord>(verb: &[u8], behind: &[u8]) -> Result<Line<W, W::Label>, LineFault>
     ensures { Reads (line_said W.reader verb.now (words_behind behind.now)) result }
@@ -34,7 +34,7 @@ fn line_said<W: TaskWord>(verb: &[u8], behind: &[u8]) -> Result<Line<W, W::Label
     }
 }
 
-/// The others of a worker, and what is below. Kept out of line, so that `line_said` stays small.
+/// The other lines of a worker, and all below. Not inlined, so that `line_said` stays small.
 #[tactic(auto, unfolding(crate::specs::Readings::worker_said))]
 #[inline(never)]
 fn worker_said<W: TaskWord>(verb: &[u8], behind: &[u8]) -> Result<Line<W, W::Label>, LineFault>
@@ -57,7 +57,7 @@ fn worker_said<W: TaskWord>(verb: &[u8], behind: &[u8]) -> Result<Line<W, W::Lab
     }
 }
 
-/// The others that name a task, and what is below.
+/// The other lines that name a task, and all below.
 #[tactic(auto, unfolding(crate::specs::Readings::task_said))]
 fn task_said<W: TaskWord>(verb: &[u8], behind: &[u8]) -> Result<Line<W, W::Label>, LineFault>
     ensures { Reads (task_said W.reader verb.now (words_behind behind.now)) result }
@@ -75,7 +75,7 @@ fn task_said<W: TaskWord>(verb: &[u8], behind: &[u8]) -> Result<Line<W, W::Label
     }
 }
 
-/// Shut, quiet and epoch: a word alone.
+/// The lines of one word: of shut and epoch, and `quiet`.
 #[tactic(auto, unfolding(crate::specs::Readings::word_said))]
 fn word_said<T: Drop, N: Drop>(verb: &[u8], behind: &[u8]) -> Result<Line<T, N>, LineFault>
     ensures { Reads (word_said verb.now (words_behind behind.now)) result }
@@ -95,7 +95,7 @@ fn word_said<T: Drop, N: Drop>(verb: &[u8], behind: &[u8]) -> Result<Line<T, N>,
     }
 }
 
-/// What a word asks for behind which nothing may stand.
+/// `asked`, or `LineFault` where a word is left.
 fn alone<A: Drop>(behind: &[u8], asked: A) -> Result<A, LineFault>
     ensures { Reads (if_last (words_behind behind.now) asked) result }
 {

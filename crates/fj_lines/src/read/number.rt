@@ -3,8 +3,7 @@ ghost use Rattle.fj_lines.specs.Words.{number_in, Reads, ReadsDigits};
 
 use crate::read::fault::LineFault;
 
-/// The number that a word is the decimal text of: 0 to 4,294,967,295, without a sign and without leading zeros.
-/// A fault where it is something else.
+/// Reads a decimal number: 0 to 4,294,967,295, without a sign and without leading zeros. `LineFault` where the word is something else.
 pub fn read_number(word: &[u8]) -> Result<u32, LineFault>
     ensures { Reads (number_in word.now) result }
 {
@@ -21,14 +20,14 @@ pub fn read_number(word: &[u8]) -> Result<u32, LineFault>
     }
 }
 
-/// Whether a zero stands before other bytes.
+/// Whether the word begins with a zero and has more bytes.
 fn has_leading_zero(word: &[u8]) -> bool
     ensures { IsTrue result ↔ ((slice_index word.now 0 ≡ 48) × (1 < length word.now)) }
 {
     word.len() > 1 && word[0] == b'0'
 }
 
-/// What the digits of a word write. A fault where a byte is no digit.
+/// The value of a word's digits. `LineFault` where a byte is no digit. Precondition: the word has at most 10 bytes.
 fn value_of(word: &[u8]) -> Result<u64, LineFault>
     requires { length word.now ≤ 10 }
     ensures { ReadsDigits word.now result }

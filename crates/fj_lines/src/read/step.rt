@@ -9,22 +9,22 @@ use crate::read::fault::LineFault;
 use crate::read::line::read_line;
 use fj_rules::{Kind, Serial, Step};
 
-/// Reads the line of a step, without its line feed. A fault where no step has this line.
-/// Whether the numbers lie in the pool's limits is not looked at.
+/// Reads the line of a step, without its line feed. `LineFault` where it is not one.
+/// Whether the numbers are within the pool's limits is not checked.
 pub fn read_step(line: &[u8]) -> Result<Step, LineFault>
     ensures value { Reads (step_in line.now) result }
-    // What is read is written so.
+    // The line is that of the result.
     ensures written { IfOk result (λ step. HasLine step × (line.now ≡ step_line step)) }
-    // What is written so is read.
+    // Each step's line is read as that step.
     ensures read { (step : Step) → HasLine step → line.now ≡ step_line step → result ≡ Ok step }
     ensures short { OnOk result (length line.now ≤ MAX_LINE) }
-    // The line of each step is read as that step.
+    // The definition reads each step's line as that step.
     ensures again { (step : Step) → HasLine step → step_in (step_line step) ≡ Some step }
 {
     step_said(line)
 }
 
-/// The step that a line asks for. A fault at those of epochs too, which version 1 has not.
+/// The step that a line asks for. `LineFault` also at the lines of epochs, which version 1 does not have.
 #[tactic(auto, unfolding(crate::specs::Lines::step_in))]
 fn step_said(line: &[u8]) -> Result<Step, LineFault>
     ensures { Reads (step_in line.now) result }
@@ -58,7 +58,7 @@ fn step_said(line: &[u8]) -> Result<Step, LineFault>
     })
 }
 
-/// What is forked, with the number of its parent.
+/// The kind of a forked task, with the number of its parent.
 fn kind_of(kind: ForkedKind<Serial>) -> Kind
     ensures { result ≡ kind_of kind }
 {

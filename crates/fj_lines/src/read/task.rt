@@ -1,4 +1,4 @@
-//! What stands in a line where a task stands.
+//! Tasks in a line.
 ghost use Rattle.fj_lines.specs.Words.{words_behind, Reads, ReadsAs};
 ghost use Rattle.fj_lines.specs.Readings.Tasks.{TaskReader, name_in, task_first, numbers_read, names_read, one_task, worker_task_number};
 
@@ -9,19 +9,19 @@ use crate::read::numbers::one_number;
 use crate::read::words::{next_number, next_word, no_more};
 use fj_rules::Serial;
 
-/// What stands in a line where a task stands: its number in version 1, its name in version 2.
+/// How a line names a task: by its number in version 1, by its name in version 2.
 pub trait TaskWord: Drop + Sized {
-    /// What a line gives to a task that comes into the pool, in front of its other words.
+    /// What a line gives to a new task, in front of its other words.
     type Label: Drop;
 
-    /// What words say of a task, and of what one is given.
+    /// The definitions of both readers below.
     ghost reader: { TaskReader Self Self.Label };
 
-    /// The task that a word says. A fault where it says none.
+    /// Reads a task. `LineFault` where the word is none.
     fn read(word: &[u8]) -> Result<Self, LineFault>
         ensures { Reads (reader.task_in word.now) result };
 
-    /// What a task is given, and what follows that.
+    /// The label, and what follows it. `LineFault` where there is none.
     fn read_label(behind: &[u8]) -> Result<(Self::Label, &[u8]), LineFault>
         ensures { ReadsAs (λ p. (p.0, words_behind p.1.now)) (reader.label_in (words_behind behind.now)) result };
 }
@@ -36,7 +36,7 @@ impl TaskWord for Serial {
         Ok(Serial(u64::from(number)))
     }
 
-    /// Nothing, since it is counted.
+    /// Nothing, since tasks are counted.
     fn read_label(behind: &[u8]) -> Result<((), &[u8]), LineFault> {
         Ok(((), behind))
     }
@@ -59,7 +59,7 @@ impl TaskWord for Name {
     }
 }
 
-/// The name that a word is. A fault where it is no name.
+/// The word as a name. `LineFault` where it is not one.
 #[tactic(auto, unfolding(crate::specs::Readings::Tasks::name_in))]
 fn read_name(word: &[u8]) -> Result<Name, LineFault>
     ensures { Reads (name_in word.now) result }
@@ -70,7 +70,7 @@ fn read_name(word: &[u8]) -> Result<Name, LineFault>
     }
 }
 
-/// The task that the next word says, and what follows that. A fault where there is no word or it says none.
+/// The task in the next word, and what follows. `LineFault` where there is no word or it is no task.
 pub fn next_task<W: TaskWord>(behind: &[u8]) -> Result<(W, &[u8]), LineFault>
     ensures { ReadsAs (λ p. (p.0, words_behind p.1.now)) (task_first W.reader.task_in (words_behind behind.now)) result }
 {
@@ -79,7 +79,7 @@ pub fn next_task<W: TaskWord>(behind: &[u8]) -> Result<(W, &[u8]), LineFault>
     Ok((t, behind))
 }
 
-/// The task that is all that stands behind a word. A fault where something else stands there.
+/// Reads a task up to the end of the line. `LineFault` where there is something else.
 #[tactic(auto, unfolding(crate::specs::Readings::Tasks::one_task))]
 pub fn one_task<W: TaskWord>(behind: &[u8]) -> Result<W, LineFault>
     ensures { Reads (one_task W.reader.task_in (words_behind behind.now)) result }
@@ -89,7 +89,7 @@ pub fn one_task<W: TaskWord>(behind: &[u8]) -> Result<W, LineFault>
     Ok(t)
 }
 
-/// The worker, the task and the number that are all that stands behind a word. A fault where something else stands there.
+/// Reads a worker, a task and a number up to the end of the line. `LineFault` where there is something else.
 #[tactic(auto, unfolding(crate::specs::Readings::Tasks::worker_task_number))]
 pub fn worker_task_number<W: TaskWord>(behind: &[u8]) -> Result<(u32, W, u32), LineFault>
     ensures { Reads (worker_task_number W.reader.task_in (words_behind behind.now)) result }

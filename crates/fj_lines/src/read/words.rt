@@ -1,4 +1,4 @@
-//! The words of a line, one after the other.
+//! The words of a line, in order.
 ghost use Rattle.std.specs.Prelude.{◌≡◌, ◌==◌, ◌∷◌};
 ghost use Rattle.std.specs.List.{position_or_len};
 ghost use Rattle.fj_lines.specs.Words.{words, words_behind, word_first, number_first, is_last, IsOkIf, ReadsAs};
@@ -6,7 +6,7 @@ ghost use Rattle.fj_lines.specs.Words.{words, words_behind, word_first, number_f
 use crate::read::fault::LineFault;
 use crate::read::number::read_number;
 
-/// The byte that stands between two words of a line.
+/// The byte between two words of a line.
 const SPACE: u8 = b' ';
 
 /// How many bytes the first word of a line has.
@@ -25,7 +25,7 @@ pub fn first_word(line: &[u8]) -> (&[u8], &[u8])
     line.split_at(word_len(line))
 }
 
-/// The next word of what follows a word. A fault where there is none.
+/// The next word after a word, and what follows it. `LineFault` where there is none.
 pub fn next_word(behind: &[u8]) -> Result<(&[u8], &[u8]), LineFault>
     ensures { ReadsAs (λ p. (p.0.now, words_behind p.1.now)) (word_first (words_behind behind.now)) result }
 {
@@ -35,7 +35,7 @@ pub fn next_word(behind: &[u8]) -> Result<(&[u8], &[u8]), LineFault>
     }
 }
 
-/// The next word, where it is a number. A fault where there is none or it is something else.
+/// The number in the next word, and what follows it. `LineFault` where there is no word or it is no number.
 #[inline]
 pub fn next_number(behind: &[u8]) -> Result<(u32, &[u8]), LineFault>
     ensures { ReadsAs (λ p. (p.0, words_behind p.1.now)) (number_first (words_behind behind.now)) result }
@@ -52,7 +52,7 @@ pub fn at_end(behind: &[u8]) -> bool
     behind.is_empty()
 }
 
-/// A fault where a word is left.
+/// `LineFault` where a word is left.
 pub fn no_more(behind: &[u8]) -> Result<(), LineFault>
     ensures { IsOkIf (is_last (words_behind behind.now)) result }
 {

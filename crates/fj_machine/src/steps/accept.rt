@@ -10,7 +10,7 @@ use fj_ledger::Ledger;
 use fj_rules::{Kind, Owner, Refusal, Said, SubId, SubmittedKind, WorkerId};
 use fj_tree::Handle;
 
-/// A submitter hands in a task, which goes to the new end of its queue: `ForkJoinPool.submit`.
+/// A submitter submits a task, to the new end of its queue: `ForkJoinPool.submit`.
 pub fn submit(ledger: &mut Ledger, s: SubId, kind: &SubmittedKind) -> Result<Said, Refusal>
     ensures { Makes ledger.old (Submit s kind.now) result ledger.new }
 {
@@ -29,7 +29,7 @@ pub fn submit_refusal(ledger: &Ledger, s: SubId, kind: &SubmittedKind) -> Option
     room_for(ledger, 1).err()
 }
 
-/// The running task of a worker forks a task, which goes to the new end of the worker's queue: `ForkJoinTask.fork`.
+/// The running task of a worker forks a task, to the new end of the worker's queue: `ForkJoinTask.fork`.
 #[inline(always)]
 pub fn fork(ledger: &mut Ledger, w: WorkerId, kind: &Kind) -> Result<Said, Refusal>
     ensures { Makes ledger.old (Fork w kind.now) result ledger.new }
@@ -75,7 +75,7 @@ fn may_fork(ledger: &Ledger, w: WorkerId, kind: &Kind) -> Result<Option<Handle>,
     Ok(parent)
 }
 
-/// The parent that a kind names, if it names one: a kept completer.
+/// The parent in a kind, if there is one: a kept completer.
 #[inline(always)]
 fn parent_of(ledger: &Ledger, kind: &Kind) -> Result<Option<Handle>, Refusal>
     ensures refusal { ChecksFirst (parent_refusals ledger.now (parent_in (Some kind.now))) result }

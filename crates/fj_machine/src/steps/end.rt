@@ -68,7 +68,7 @@ fn end_quiet(ledger: &mut Ledger, t: Handle, w: WorkerId) -> Result<Said, Refusa
     Ok(Said::Done)
 }
 
-/// The end of a completer's body, after which the completer is arrived at: `CountedCompleter.tryComplete`.
+/// The end of a completer's body, and an arrival at that completer: `CountedCompleter.tryComplete`.
 fn end_try(ledger: &mut Ledger, t: Handle, w: WorkerId) -> Result<Said, Refusal>
     requires { MayEnd ledger.old w Ending.Try t.serial }
     ensures { Makes ledger.old (End w Ending.Try) result ledger.new }
@@ -79,7 +79,7 @@ fn end_try(ledger: &mut Ledger, t: Handle, w: WorkerId) -> Result<Said, Refusal>
     Ok(arrive(ledger, t, w))
 }
 
-/// The end of a completer's body, after which the completer fires whatever its pending count: `CountedCompleter.complete`.
+/// The end of a completer's body, after which the completer, if not spent, fires at any pending count: `CountedCompleter.complete`.
 fn end_complete(ledger: &mut Ledger, t: Handle, w: WorkerId) -> Result<Said, Refusal>
     requires { MayEnd ledger.old w Ending.Complete t.serial }
     ensures { Makes ledger.old (End w Ending.Complete) result ledger.new }
@@ -94,7 +94,7 @@ fn end_complete(ledger: &mut Ledger, t: Handle, w: WorkerId) -> Result<Said, Ref
     Ok(Said::Hook(t.serial))
 }
 
-/// The end of a body that failed, by which the task becomes exceptional, and with it those to whom the code is relayed.
+/// The end of a body that failed: if the task is undone, it becomes exceptional, and so do those to which the code is relayed.
 fn end_fail(ledger: &mut Ledger, t: Handle, w: WorkerId, code: u32) -> Result<Said, Refusal>
     requires { MayEnd ledger.old w (Ending.Fail code) t.serial }
     ensures { Makes ledger.old (End w (Ending.Fail code)) result ledger.new }
@@ -106,7 +106,7 @@ fn end_fail(ledger: &mut Ledger, t: Handle, w: WorkerId, code: u32) -> Result<Sa
     Ok(Said::Done)
 }
 
-/// Whether an ending suits a task that is a completer, or is not: `ok` is for plain tasks, and each other one but `fail` for completers.
+/// Whether an ending suits a task that is a completer, or is not: `ok` is for plain tasks, `fail` for all, the others for completers.
 #[inline(always)]
 fn suits(ending: Ending, is_completer: bool) -> bool
     ensures { result ≡ suits ending is_completer }

@@ -9,7 +9,7 @@ use fj_ledger::Ledger;
 use fj_rules::{MAX_PENDING, Refusal, Serial, WorkerId};
 use fj_tree::Handle;
 
-/// A worker that can make a step: there is one, and it has no completion action in hand.
+/// Checks that there is such a worker, with no completion action in hand.
 #[inline(always)]
 pub fn free_worker(ledger: &Ledger, w: WorkerId) -> Result<(), Refusal>
     ensures refusal { ChecksFirst (hand_refusals ledger.now w) result }
@@ -24,7 +24,7 @@ pub fn free_worker(ledger: &Ledger, w: WorkerId) -> Result<(), Refusal>
     Ok(())
 }
 
-/// The running task of a worker that can make a step.
+/// The running task of a worker that has no completion action in hand.
 #[inline(always)]
 pub fn running_task(ledger: &Ledger, w: WorkerId) -> Result<Serial, Refusal>
     ensures refusal { ChecksFirst (running_refusals ledger.now w) result }
@@ -38,7 +38,7 @@ pub fn running_task(ledger: &Ledger, w: WorkerId) -> Result<Serial, Refusal>
     }
 }
 
-/// Room for one task more, with this pending count.
+/// Checks that one more task, with this pending count, is allowed.
 #[inline(always)]
 pub fn task_room(ledger: &Ledger, count: u32) -> Result<(), Refusal>
     requires lawful { IsLawful ledger.now.pool (limit ledger.now) ledger.now.events }
@@ -53,7 +53,7 @@ pub fn task_room(ledger: &Ledger, count: u32) -> Result<(), Refusal>
     Ok(())
 }
 
-/// Room for so many events more.
+/// Checks that so many more events fit.
 #[inline(always)]
 pub fn room_for(ledger: &Ledger, events: u64) -> Result<(), Refusal>
     ensures room { FindsRoom ledger.now events result }

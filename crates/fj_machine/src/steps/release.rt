@@ -11,7 +11,7 @@ use fj_ledger::Ledger;
 use fj_rules::{Place, Refusal, Said, Serial};
 use fj_tree::{Handle, Record};
 
-/// A task that is gone, and that no kept task names as its parent, is forgotten: its number stands for no task any more.
+/// Forgets a task that is gone and that no kept task names as its parent.
 #[inline(always)]
 pub fn release(ledger: &mut Ledger, t: Serial) -> Result<Said, Refusal>
     ensures { Makes ledger.old (Release t) result ledger.new }

@@ -28,7 +28,7 @@ pub fn cancel(ledger: &mut Ledger, t: Serial) -> Result<Said, Refusal>
     Ok(Said::Yes)
 }
 
-/// An undone task becomes exceptional, and with it those to whom the code is relayed: `ForkJoinTask.completeExceptionally`.
+/// An undone task becomes exceptional, and so do those to which the code is relayed: `ForkJoinTask.completeExceptionally`.
 pub fn fault(ledger: &mut Ledger, t: Serial, code: u32) -> Result<Said, Refusal>
     ensures { Makes ledger.old (Fault t code) result ledger.new }
 {
@@ -42,7 +42,7 @@ pub fn fault(ledger: &mut Ledger, t: Serial, code: u32) -> Result<Said, Refusal>
     Ok(Said::Yes)
 }
 
-/// So many tasks become exceptional: the task first, and then each parent to whom the code is relayed.
+/// So many tasks become exceptional: the task first, and then each parent to which the code is relayed.
 pub fn relay(ledger: &mut Ledger, t: Handle, count: u64, code: u32)
     requires kept { is_kept ledger.old.events t.serial ≡ true }
     requires count { count ≡ length (relayed ledger.old.events t.serial) }

@@ -6,7 +6,7 @@ use crate::steps::refuse::room_for;
 use fj_ledger::Ledger;
 use fj_rules::{Refusal, Said};
 
-/// No submission is accepted from now on; what was accepted goes on, and forks are still accepted: `ForkJoinPool.shutdown`.
+/// Submissions are refused from now on; accepted tasks go on, and forks are still accepted: `ForkJoinPool.shutdown`.
 pub fn shutdown(ledger: &mut Ledger) -> Result<Said, Refusal>
     ensures { Makes ledger.old Shutdown result ledger.new }
 {
@@ -18,7 +18,7 @@ pub fn shutdown(ledger: &mut Ledger) -> Result<Said, Refusal>
     Ok(Said::Done)
 }
 
-/// Every undone task is cancelled, and neither submissions nor forks are accepted from now on: `ForkJoinPool.shutdownNow`.
+/// Every undone task is cancelled, and submissions, forks and triggers are refused from now on: `ForkJoinPool.shutdownNow`.
 pub fn stop(ledger: &mut Ledger) -> Result<Said, Refusal>
     ensures { Makes ledger.old Stop result ledger.new }
 {

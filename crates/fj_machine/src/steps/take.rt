@@ -14,7 +14,7 @@ use crate::steps::refuse::{free_worker, known, room_for, running_task};
 use fj_ledger::Ledger;
 use fj_rules::{Place, Refusal, Said, Serial, Status, WorkerId};
 
-/// An idle worker takes its choice, if there is one.
+/// An idle worker takes its next task, if there is one.
 #[inline(always)]
 pub fn poll(ledger: &mut Ledger, w: WorkerId, r: u32) -> Result<Said, Refusal>
     ensures { Makes ledger.old (Poll w r) result ledger.new }
@@ -23,7 +23,7 @@ pub fn poll(ledger: &mut Ledger, w: WorkerId, r: u32) -> Result<Said, Refusal>
     take_choice(ledger, w, r)
 }
 
-/// A running task takes its worker's choice, if there is one: one turn of `ForkJoinTask.helpQuiesce`.
+/// The worker of a running task takes its next task, if there is one: one turn of `ForkJoinTask.helpQuiesce`.
 pub fn help(ledger: &mut Ledger, w: WorkerId, r: u32) -> Result<Said, Refusal>
     ensures { Makes ledger.old (Help w r) result ledger.new }
 {
@@ -31,7 +31,7 @@ pub fn help(ledger: &mut Ledger, w: WorkerId, r: u32) -> Result<Said, Refusal>
     take_choice(ledger, w, r)
 }
 
-/// A running task asks for the status of a task that is done, and helps while it is not: one turn of `ForkJoinTask.join`.
+/// A running task gets the status of another one if that is done, and helps if it is not: one turn of `ForkJoinTask.join`.
 #[inline(always)]
 pub fn join(ledger: &mut Ledger, w: WorkerId, t: Serial, r: u32) -> Result<Said, Refusal>
     ensures { Makes ledger.old (Join w t r) result ledger.new }
@@ -44,7 +44,7 @@ pub fn join(ledger: &mut Ledger, w: WorkerId, t: Serial, r: u32) -> Result<Said,
     }
 }
 
-/// A worker that can poll: it has no completion action in hand, and runs nothing.
+/// Checks that a worker can poll: it has no completion action in hand, and runs nothing.
 #[inline(always)]
 fn idle_worker(ledger: &Ledger, w: WorkerId) -> Result<(), Refusal>
     ensures refusal { ChecksFirst (idle_refusals ledger.now w) result }
@@ -73,7 +73,7 @@ fn joined(ledger: &Ledger, w: WorkerId, t: Serial) -> Result<Status, Refusal>
     Ok(record.status)
 }
 
-/// A worker takes its choice, if it has one and the history has room for the event.
+/// A worker takes its next task, if there is one and the history has room for the event.
 #[inline(always)]
 fn take_choice(ledger: &mut Ledger, w: WorkerId, r: u32) -> Result<Said, Refusal>
     requires worker { w < ledger.old.pool.limits.workers }

@@ -1,4 +1,4 @@
-//! What is asked of a pool from outside, and what its lanes show.
+//! Calls from outside, and the intake of submissions.
 ghost use Rattle.std.specs.Prelude.{◌≡◌, ◌<◌, ◌++◌, [], IfSome};
 ghost use Rattle.fj_core.specs.Closes.{ShutsAt, closed_at, is_finished, stopped_at};
 ghost use Rattle.fj_core.specs.Cores.{CollectsTicket};
@@ -15,7 +15,7 @@ use fj_gate::Ticket;
 use fj_rules::{Refusal, Sealed, SubId};
 use std::alloc::Global;
 
-/// How many tasks a look at the lanes has queued.
+/// How many tasks a look at the lanes queued.
 #[derive(Clone, Copy)]
 pub enum TakenIn {
     Nothing,
@@ -24,7 +24,7 @@ pub enum TakenIn {
 }
 
 impl<B: Body, N: Naming> Guarded<B, N> {
-    /// A worker's look at the lanes: seals the history where that is due, and then takes in what they show, unless the core holds back.
+    /// A worker's look at the lanes: seals the history if that is due, and then takes in submissions, unless the core holds back.
     pub fn look_at_lanes(&mut self, alloc: Global) -> TakenIn
         ensures { LooksAtLanes B.rooted_as self.old result self.new }
     {
@@ -35,8 +35,8 @@ impl<B: Body, N: Naming> Guarded<B, N> {
         self.take_in()
     }
 
-    /// Takes in what the lanes show, each submitter once by rising number, and tells how many tasks are queued by that. It begins where the
-    /// last look found no room: else a place that comes free now and then would always go to the first submitter.
+    /// Takes in at most one parcel of each lane, by rising number, and returns how many tasks that queued. It begins at the submitter for
+    /// which the last look found no room: otherwise a place that becomes free now and then would always go to the first submitter.
     fn take_in(&mut self) -> TakenIn
         ensures { TakesEach B.rooted_as self.old result self.new }
     {
@@ -45,7 +45,7 @@ impl<B: Body, N: Naming> Guarded<B, N> {
         match taken {
             // An intake that found no room for an event may have made the core stuck.
             TakenIn::Nothing => self.tell_if_stuck(),
-            // With the last submission a stop may have been made.
+            // The last submission may have made a stop.
             TakenIn::One => self.tasks_ended(),
             TakenIn::Several => {
                 self.tasks_queued();
@@ -55,7 +55,7 @@ impl<B: Body, N: Naming> Guarded<B, N> {
         taken
     }
 
-    /// Seals the history where it is time for it. A refusal is ignored: it is tried again at the next look.
+    /// Seals the history if that is due. A refusal is ignored: the next look retries.
     fn seal_where_due(&mut self, alloc: Global)
         ensures { SealsWhere (may_be_sealed self.old.store.past) self.old self.new }
     {
@@ -64,7 +64,7 @@ impl<B: Body, N: Naming> Guarded<B, N> {
         }
     }
 
-    /// The outcome under a ticket, as `Core::collect` tells it.
+    /// The outcome under a ticket, as `Core::collect` returns it.
     pub fn collect(&mut self, ticket: Ticket) -> Option<Result<Outcome<B>, Refusal>>
         ensures { CollectsTicket self.old ticket result self.new }
     {
@@ -75,7 +75,7 @@ impl<B: Body, N: Naming> Guarded<B, N> {
         answer
     }
 
-    /// The first of these outcomes, in their order, that `Core::collect` tells, and at which place of them it stands.
+    /// The outcome under the first of these tickets for which `Core::collect` returns one, with the index of that ticket.
     pub fn collect_any(
         &mut self,
         tickets: &[Ticket],
@@ -90,7 +90,7 @@ impl<B: Body, N: Naming> Guarded<B, N> {
         None
     }
 
-    /// Cancels the submission under a ticket, once what the lanes show was taken in.
+    /// Cancels the submission under a ticket, after a look at the lanes.
     pub fn cancel(&mut self, alloc: Global, ticket: Ticket) -> Result<bool, Refusal>
         ensures { CancelsBehind B.rooted_as self.old ticket result self.new }
     {
@@ -102,7 +102,7 @@ impl<B: Body, N: Naming> Guarded<B, N> {
         answer
     }
 
-    /// The sealed parts that are kept, which count as handed out from then on.
+    /// Hands out the sealed parts that are kept.
     pub fn take_parts(&mut self, alloc: Global) -> Vec<Sealed>
         ensures parts { result.items ≡ self.old.parts }
         ensures handed { self.new ≡ record self.old { handed = self.old.handed ++ self.old.parts; parts = [] } }
@@ -110,7 +110,7 @@ impl<B: Body, N: Naming> Guarded<B, N> {
         self.core.take_parts(alloc)
     }
 
-    /// The closing number, at which the Shutdown is made.
+    /// Sets the closing number, at which the Shutdown is made.
     pub fn close_at(&mut self, number: u64)
         ensures { ShutsAt self.old (closed_at self.old.closing number) self.new }
     {
@@ -119,7 +119,7 @@ impl<B: Body, N: Naming> Guarded<B, N> {
         self.all_ended();
     }
 
-    /// The closing number, at which the Stop is made.
+    /// Sets the closing number, at which the Stop is made.
     pub fn stop_at(&mut self, number: u64)
         ensures { ShutsAt self.old (stopped_at self.old.closing number) self.new }
     {
@@ -128,7 +128,7 @@ impl<B: Body, N: Naming> Guarded<B, N> {
         self.all_ended();
     }
 
-    /// Whether all queues, stacks and hands are empty, once the history was sealed, where that is due, and what the lanes show was taken in.
+    /// Whether all queues, stacks and hands are empty, after the history is sealed, if that is due, and submissions are taken in.
     pub fn is_quiescent(&mut self, alloc: Global) -> bool
         ensures { IsQuietBehind B.rooted_as self.old result self.new }
     {
@@ -147,7 +147,7 @@ impl<B: Body, N: Naming> Guarded<B, N> {
     }
 }
 
-/// One intake for each submitter, from this one on; and the first for which there was no room, or else the same one.
+/// One intake for each submitter, from this one on. Also returns the first for which there was no room, or else this one.
 fn take_each<B: Body>(core: &mut Core<B>, first: SubId) -> (TakenIn, SubId)
     requires { first < core.old.store.past.pool.limits.submitters }
     ensures takes { TakesFrom B.rooted_as core.old.store.past.pool.limits.submitters first core.old.store.past.pool.limits.submitters core.old result.0 core.new }
@@ -168,7 +168,7 @@ fn take_each<B: Body>(core: &mut Core<B>, first: SubId) -> (TakenIn, SubId)
     (taken, waits.unwrap_or(first))
 }
 
-/// The submitter, where there was no room for what it handed in.
+/// The submitter, if there was no room for its submission.
 fn full(answer: &Intake, s: SubId) -> Option<SubId>
     ensures { IfSome result (λ t. t ≡ s) }
 {
@@ -178,7 +178,7 @@ fn full(answer: &Intake, s: SubId) -> Option<SubId>
     }
 }
 
-/// The submitter behind this one, which of the last one is the first.
+/// The next submitter; after the last one comes the first. Precondition: the submitter exists.
 fn next_behind(s: SubId, submitters: u32) -> SubId
     requires { s < submitters }
     ensures is { result ≡ behind submitters s }
@@ -191,7 +191,7 @@ fn next_behind(s: SubId, submitters: u32) -> SubId
     }
 }
 
-/// The same, with what an intake answered.
+/// The count after this answer of an intake.
 fn count(taken: TakenIn, answer: &Intake) -> TakenIn
     ensures { result ≡ with_answer taken answer.now }
 {

@@ -1,4 +1,4 @@
-//! What a worker does in one holding of the lock: what needs no turn of a body is done at once.
+//! What a worker does in one holding of the lock: all that needs no turn of a body is done at once.
 ghost use Rattle.std.specs.Prelude.{◌≡◌, [], None, IfSome, IfNone, IsSome, Err, true, false};
 ghost use Rattle.fj_slots.specs.Hands.{asker};
 ghost use Rattle.fj_bodies.specs.Choosing.{Polls};
@@ -22,8 +22,8 @@ use fj_slots::Hand;
 use std::alloc::Global;
 
 impl<B: Body, N: Naming> Guarded<B, N> {
-    /// What the hook or the running body asks is done; without an ask the worker goes on with what it left. Preconditions: the hand fits, and
-    /// what is asked may be asked by it.
+    /// Serves what the hook or the running body asks; without an ask the worker resumes. Preconditions: the hand fits, and has a body or a
+    /// hook that may ask this.
     pub fn serve(
         &mut self,
         alloc: Global,
@@ -47,7 +47,7 @@ impl<B: Body, N: Naming> Guarded<B, N> {
         }
     }
 
-    /// What the hook or the running body asks. Where it ends, the worker goes on at once.
+    /// Serves what the hook or the running body asks. If that body ends, the worker resumes at once.
     fn serve_ask(
         &mut self,
         alloc: Global,
@@ -96,12 +96,12 @@ impl<B: Body, N: Naming> Guarded<B, N> {
         ensures keeps { KeepsOthers hand.old.worker self.old.store.past self.new.store.past }
         ensures worker { hand.new.worker ≡ hand.old.worker }
     {
-        // Tells that the past is that of a run.
+        // For the proof: the past is that of a run.
         let _run = self.core.limits();
         self.core.act(hand, ask)
     }
 
-    /// The same, once it was noted of a running body what it joins, or that it helps.
+    /// The same, after noting what a running body joins, or that it helps.
     fn note_and_act(&mut self, hand: &mut Hand<B>, ask: Ask<B>) -> Told<B>
         requires fits { Fits self.old.store.past hand.old }
         requires asks { MayAsk B.right B.key_of hand.old ask }
@@ -130,7 +130,7 @@ impl<B: Body, N: Naming> Guarded<B, N> {
         self.core.poll(hand)
     }
 
-    /// No body runs: the one that waits goes on, or the worker looks for work.
+    /// No body takes a turn now: a body that waits goes on, or the worker looks for work.
     #[inline(always)]
     fn resume(&mut self, alloc: Global, hand: &mut Hand<B>, unneeded: &mut Unneeded<B>) -> Next<B>
         requires { Fits self.old.store.past hand.old }
@@ -146,12 +146,12 @@ impl<B: Body, N: Naming> Guarded<B, N> {
         }
         match hand.joined() {
             Some(t) => self.join(alloc, hand, t, unneeded),
-            // It helped. So hears a body, too, that an earlier call left, since the core was stuck: that is told to its next ask.
+            // It helped. A body that an earlier call left, since the core was stuck, hears this too: its next ask finds the core stuck.
             None => Next::Turn(Heard::Helped(true)),
         }
     }
 
-    /// The running body, or the hook, joins a task once more.
+    /// The running body, or the hook, retries to join a task.
     fn join(
         &mut self,
         alloc: Global,
@@ -179,12 +179,12 @@ impl<B: Body, N: Naming> Guarded<B, N> {
             Told::Skip(_, body) => skip(body, unneeded),
             Told::None => self.wait_for(alloc, hand.worker(), t),
             Told::Stuck(body) => self.leave_stuck(body, unneeded),
-            // Endings alone are answered otherwise.
+            // Only endings have other answers.
             _ => unreachable!(),
         }
     }
 
-    /// An idle worker: it looks at the lanes, and polls.
+    /// An idle worker looks at the lanes, and polls.
     fn look_for_work(
         &mut self,
         alloc: Global,
@@ -204,7 +204,7 @@ impl<B: Body, N: Naming> Guarded<B, N> {
         self.poll_on(hand, unneeded)
     }
 
-    /// An idle worker polls, and again where that skips a task, some times.
+    /// An idle worker polls, and again if that skips a task: `MOST_SKIPPED` polls at most.
     #[inline(always)]
     fn poll_on(&mut self, hand: &mut Hand<B>, unneeded: &mut Unneeded<B>) -> Next<B>
         requires fits { Fits self.old.store.past hand.old }
@@ -250,7 +250,7 @@ impl<B: Body, N: Naming> Guarded<B, N> {
         self.after_poll(hand, told, unneeded)
     }
 
-    /// What an idle worker does that was told this.
+    /// What an idle worker does after this answer to a poll.
     fn after_poll(&mut self, hand: &Hand<B>, told: Told<B>, unneeded: &mut Unneeded<B>) -> Next<B>
         requires { IsPolled self.old.store told }
         ensures next { NextOfPoll self.old told result }
@@ -267,7 +267,7 @@ impl<B: Body, N: Naming> Guarded<B, N> {
         }
     }
 
-    /// No task is queued: the worker leaves where the pool has terminated, and with it all others.
+    /// No task is queued: the worker leaves if the pool has terminated, and wakes all others for that. If not, it rests.
     fn after_no_task(&mut self, worker: WorkerId) -> Next<B>
         ensures next { Then (next_idle (is_finished self.old)) self.old result self.new }
         ensures right { NextRight B.right result }
@@ -282,7 +282,7 @@ impl<B: Body, N: Naming> Guarded<B, N> {
         }
     }
 
-    /// What a body does that asked for another task and was given none: it waits for what it joined, or hears that there was none.
+    /// No task was there for a body that helps or joins: one that helps hears so, one that joins waits.
     fn after_none(&mut self, alloc: Global, hand: &Hand<B>, helps: bool) -> Next<B>
         ensures helped { helps ≡ true → Then (Next.Turn (Heard.Helped false)) self.old result self.new }
         ensures waits { helps ≡ false → Waits B.rooted_as self.old result self.new }
@@ -298,8 +298,8 @@ impl<B: Body, N: Naming> Guarded<B, N> {
         }
     }
 
-    /// The worker waits for a task. Before the shutdown or the stop of the pool it takes in what the lanes show, as an idle one does: that
-    /// comes with the last submission, and all workers may wait for tasks that only a stop ends.
+    /// The worker waits for a task. While a shutdown or a stop is pending it looks at the lanes first, as an idle worker does: the step is made
+    /// with the last submission, and all workers may be waiting for tasks that only a stop ends.
     fn wait_for(&mut self, alloc: Global, worker: WorkerId, t: Serial) -> Next<B>
         ensures waits { Waits B.rooted_as self.old result self.new }
         ensures right { NextRight B.right result }
@@ -311,7 +311,7 @@ impl<B: Body, N: Naming> Guarded<B, N> {
         self.sleep_until(worker, t)
     }
 
-    /// The worker takes in what the lanes show, and waits if that was nothing.
+    /// The worker looks at the lanes, and waits if nothing was taken in.
     fn look_and_wait(&mut self, alloc: Global, worker: WorkerId, t: Serial) -> Next<B>
         ensures waits { Waits B.rooted_as self.old result self.new }
         ensures right { NextRight B.right result }
@@ -335,7 +335,7 @@ impl<B: Body, N: Naming> Guarded<B, N> {
         Next::Wait
     }
 
-    /// Who waits for what this may have changed is to be woken, once it is known whether a result was taken.
+    /// Marks the threads that wait for what this may have changed. `taken` says whether a result was taken.
     #[inline(always)]
     fn tell_waiting(&mut self, effect: Effect, taken: bool)
         ensures { self.new ≡ self.old }
@@ -350,7 +350,7 @@ impl<B: Body, N: Naming> Guarded<B, N> {
         }
     }
 
-    /// The core is stuck: all leave. Precondition: it is.
+    /// The worker leaves, and all others are woken for that. Precondition: the core is stuck.
     fn leave_stuck(&mut self, body: Option<B>, unneeded: &mut Unneeded<B>) -> Next<B>
         requires { self.old.store.stuck ≡ true }
         ensures leaves { result ≡ Next.Leave (Err Refusal.LogFull) }
@@ -362,7 +362,7 @@ impl<B: Body, N: Naming> Guarded<B, N> {
     }
 }
 
-/// A task was skipped, and its body goes. The worker looks on.
+/// A task was skipped: its body is dropped later. The worker goes on looking.
 fn skip<B: Body>(body: B, unneeded: &mut Unneeded<B>) -> Next<B>
     ensures { result ≡ Next.Again }
 {

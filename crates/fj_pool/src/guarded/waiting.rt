@@ -1,4 +1,4 @@
-//! Who is woken by what was done under the lock.
+//! Which threads are woken by what was done under the lock.
 ghost use Rattle.std.specs.Prelude.{◌≡◌};
 
 use crate::guarded::Guarded;
@@ -11,7 +11,7 @@ use fj_rules::{Serial, WorkerId};
 use fj_sleep::{Sleepers, Wanted};
 
 impl<B: Body, N: Naming> Guarded<B, N> {
-    /// Puts into `due` who is to be woken by all that was done since the last call, if anybody is.
+    /// Puts into `due` the threads that were marked since the last call, if there are any.
     #[inline(always)]
     pub fn take_due(&mut self, due: &mut ToWake)
         ensures { self.new ≡ self.old }
@@ -26,7 +26,7 @@ impl<B: Body, N: Naming> Guarded<B, N> {
         self.waits.workers.come_back(place_of(worker));
     }
 
-    /// A worker that slept has something to do. If it was the lookout, another one that has nothing to do looks for work from now on.
+    /// A worker that slept has something to do. If it was the lookout, another one that rests becomes it.
     pub fn begin(&mut self, worker: WorkerId)
         ensures { self.new ≡ self.old }
     {
@@ -40,35 +40,35 @@ impl<B: Body, N: Naming> Guarded<B, N> {
         self.waits.workers.rest(place_of(worker));
     }
 
-    /// A worker sleeps until this task is done, or another one is queued.
+    /// A worker waits until this task is done, or another one is queued.
     pub fn sleep_for(&mut self, worker: WorkerId, t: Serial)
         ensures { self.new ≡ self.old }
     {
         self.waits.workers.wait(place_of(worker), t);
     }
 
-    /// Somebody awaits this outcome from now on: at which seat, or among those without one.
+    /// A caller awaits this outcome from now on. Returns its seat; none if it joins the crowd.
     pub fn sit(&mut self, ticket: Ticket) -> Option<usize>
         ensures { self.new ≡ self.old }
     {
         self.waits.sit(ticket)
     }
 
-    /// Somebody awaits the first of several outcomes from now on, without a seat.
+    /// A caller awaits the first of several outcomes from now on, in the crowd.
     pub fn sit_for_any(&mut self)
         ensures { self.new ≡ self.old }
     {
         self.waits.sit_for_any();
     }
 
-    /// Who sat there is back.
+    /// The caller that sat there is back.
     pub fn stand_up(&mut self, seat: Option<usize>)
         ensures { self.new ≡ self.old }
     {
         self.waits.stand_up(seat);
     }
 
-    /// A task was queued: one that has nothing to do is to be woken, or else one that waits for a task.
+    /// A task was queued: marks a worker that rests, or else one that waits in a join.
     #[inline(always)]
     pub fn task_queued(&mut self)
         ensures { self.new ≡ self.old }
@@ -76,14 +76,14 @@ impl<B: Body, N: Naming> Guarded<B, N> {
         self.waits.workers.wake_one();
     }
 
-    /// Several tasks were queued.
+    /// Several tasks were queued: marks all workers that sleep.
     pub fn tasks_queued(&mut self)
         ensures { self.new ≡ self.old }
     {
         self.waits.workers.wake_all();
     }
 
-    /// This task may be done now: who sleeps for it is to be woken. All are where its release made the core stuck.
+    /// This task may be done now: marks the threads that wait for it; all, if its release made the core stuck.
     #[inline(always)]
     pub fn task_ended(&mut self, t: Serial)
         ensures { self.new ≡ self.old }
@@ -98,8 +98,8 @@ impl<B: Body, N: Naming> Guarded<B, N> {
         self.tell_booked(t);
     }
 
-    /// The result of this task is taken: who awaits its outcome is to be woken, and who joined it, or a task that was released with
-    /// it. All are where a release made the core stuck.
+    /// The result of this task was taken: marks callers that await its outcome, and workers that joined it or a task that was released with
+    /// it; all threads, if a release made the core stuck.
     #[inline(always)]
     pub fn result_taken(&mut self, t: Serial)
         ensures { self.new ≡ self.old }
@@ -109,12 +109,11 @@ impl<B: Body, N: Naming> Guarded<B, N> {
             return;
         }
         self.tell_joining();
-        // What is released with it has lost its result before.
+        // Tasks that are released with it had lost their results before.
         self.tell_booked(t);
     }
 
-    /// Tasks may be done now, or their results taken: who sleeps for one of them is to be woken. All are where a release made the core
-    /// stuck.
+    /// Tasks may be done now, or their results taken: marks the threads that wait for them; all, if a release made the core stuck.
     pub fn tasks_ended(&mut self)
         ensures { self.new ≡ self.old }
     {
@@ -126,9 +125,9 @@ impl<B: Body, N: Naming> Guarded<B, N> {
         self.tell_awaiting();
     }
 
-    /// An outcome is told: each thread that awaits the same ticket is to be woken, to hear that it was told before, and who joined its task, which
-    /// may be released now. Before the shutdown or the stop of the pool there may be room now for what stands in the lanes, into which those
-    /// look who wait in joins.
+    /// An outcome was delivered: marks other callers that await the same ticket, which get `Unknown`, and workers that joined its task, which
+    /// may be released now. While a shutdown or a stop is pending it also marks all workers in joins: there may be room now for a parcel, and
+    /// they look at the lanes.
     pub fn outcome_told(&mut self)
         ensures { self.new ≡ self.old }
     {
@@ -138,7 +137,7 @@ impl<B: Body, N: Naming> Guarded<B, N> {
         }
     }
 
-    /// Where the core is stuck all are to be woken.
+    /// Marks all threads if the core is stuck.
     #[inline(always)]
     pub fn tell_if_stuck(&mut self)
         ensures { self.new ≡ self.old }
@@ -148,14 +147,14 @@ impl<B: Body, N: Naming> Guarded<B, N> {
         }
     }
 
-    /// The core is stuck, or the pool is shut down or has terminated: all are to be woken.
+    /// Marks all threads: the core is stuck, or the pool is shut down or has terminated.
     pub fn all_ended(&mut self)
         ensures { self.new ≡ self.old }
     {
         self.waits.all_ended();
     }
 
-    /// Who sleeps for a task that is done now, or released, is to be woken.
+    /// Marks the workers that wait for a task that is done now, or released.
     #[inline(always)]
     fn tell_joining(&mut self)
         ensures { self.new ≡ self.old }
@@ -165,7 +164,7 @@ impl<B: Body, N: Naming> Guarded<B, N> {
         }
     }
 
-    /// Who awaits the outcome of this task is to be woken.
+    /// Marks the callers that await the outcome of this task.
     #[inline(always)]
     fn tell_booked(&mut self, t: Serial)
         ensures { self.new ≡ self.old }
@@ -178,7 +177,7 @@ impl<B: Body, N: Naming> Guarded<B, N> {
         }
     }
 
-    /// Who awaits an outcome that may be told is to be woken.
+    /// Marks the callers that await an outcome that can be delivered.
     fn tell_awaiting(&mut self)
         ensures { self.new ≡ self.old }
     {
@@ -190,7 +189,7 @@ impl<B: Body, N: Naming> Guarded<B, N> {
         }
     }
 
-    /// Who awaits an outcome without a seat is to be woken, where it may be told: that of this task, or, without one, any.
+    /// Marks the crowd, if an outcome that it awaits may be ready: that of this task, or, without one, any.
     fn tell_crowd(&mut self, ended: Option<Serial>)
         ensures { self.new ≡ self.old }
     {
@@ -208,7 +207,7 @@ impl<B: Body, N: Naming> Guarded<B, N> {
     }
 }
 
-/// Who sleeps for a task that is done now, or released, is to be woken.
+/// Marks the workers that wait for a task that is done now, or released.
 fn tell_joining<B: Body>(core: &Core<B>, workers: &mut Sleepers<Serial>) {
     for worker in 0..core.limits().workers() {
         let place = place_of(WorkerId(worker));
@@ -220,7 +219,7 @@ fn tell_joining<B: Body>(core: &Core<B>, workers: &mut Sleepers<Serial>) {
     }
 }
 
-/// Who awaits the outcome of this task at one of the first seats is to be woken.
+/// Marks the first `used` seats whose callers await the outcome of this task.
 fn tell_booked<B: Body>(core: &Core<B>, seats: &mut Sleepers<Ticket>, used: usize, t: Serial) {
     for seat in 0..used {
         if let Some(ticket) = seats.waited_for(seat) {
@@ -231,7 +230,7 @@ fn tell_booked<B: Body>(core: &Core<B>, seats: &mut Sleepers<Ticket>, used: usiz
     }
 }
 
-/// Who awaits an outcome that may be told at one of the first seats is to be woken.
+/// Marks the first `used` seats whose callers await an outcome that can be delivered.
 fn tell_awaiting<B: Body>(core: &Core<B>, seats: &mut Sleepers<Ticket>, used: usize) {
     for seat in 0..used {
         if let Some(ticket) = seats.waited_for(seat) {

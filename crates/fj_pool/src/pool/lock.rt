@@ -7,14 +7,14 @@ use fj_sleep::Contention;
 use std::sync::{MutexGuard, Wait};
 use std::{hint, thread};
 
-/// How often a thread looks for the lock before it sleeps until it gets it.
+/// How often a thread tries the lock before it blocks.
 const LOOKS: u32 = 64;
 
-/// A wait of so many pauses of the processor gives it to other threads, too.
+/// A wait of this many pauses of the processor, or more, also yields.
 const LONG_WAIT: u32 = 1_024;
 
 impl<B: Body, N: Naming> Pool<B, N> {
-    /// Takes the lock. A thread that mostly finds it held looks for it less often.
+    /// Takes the lock. A thread that mostly finds it held backs off longer between tries.
     pub(crate) fn lock_for_work<R: Wait>(
         &self,
         rt: &R,
@@ -30,13 +30,13 @@ impl<B: Body, N: Naming> Pool<B, N> {
         self.core.lock(rt)
     }
 
-    /// Takes the lock for somebody from outside, who remembers nothing of it.
+    /// Takes the lock for a caller from outside, without a memory of contention.
     pub(crate) fn lock<R: Wait>(&self, rt: &R) -> MutexGuard<'_, Locked<B, N>> {
         self.lock_for_work(rt, &mut Contention::new())
     }
 }
 
-/// Waits for so many pauses of the processor.
+/// Waits for `pauses` pauses of the processor.
 fn wait_for(pauses: u32) {
     for _pause in 0..pauses {
         hint::spin_loop();

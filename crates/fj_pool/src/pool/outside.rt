@@ -1,4 +1,4 @@
-//! What is asked of a pool by those who do not work for it.
+//! Calls by threads that are no workers of the pool.
 ghost use Rattle.std.specs.Prelude.{◌<◌, IfSome, length};
 
 use crate::closer::Closer;
@@ -14,14 +14,14 @@ use std::sync::Wait;
 use std::time::Duration;
 
 impl<B: Body, N: Naming> Pool<B, N> {
-    /// Waits for the outcome of what was submitted under a ticket, which is told once: `ForkJoinTask.join`. A result in it is right for the
+    /// Waits for the outcome of the submission under a ticket, which is delivered once: `ForkJoinTask.join`. A result in it is right for the
     /// key beside it.
     ///
-    /// A task keeps its place among the live tasks until its outcome was told. So where more is submitted than there are places, the
-    /// outcomes of each submitter are to be asked for in the order of its submissions, and those of several submitters by as many threads.
+    /// A task counts against the task limit until its outcome was delivered. So if more is submitted than the limit, ask for the outcomes of
+    /// each submitter in the order of its submissions, and for those of several submitters from as many threads.
     ///
-    /// `Unknown` where the outcome was told before, where a body has had the result by a join or a take, or where the pool was shut down or
-    /// stopped and all that was admitted was taken in, nothing of it under this ticket. `LogFull` where the core is stuck.
+    /// `Unknown` if the outcome was delivered before, if a body had the result by a join or a take, or gave it up, or if the pool was shut down
+    /// or stopped and all that was admitted was taken in, nothing of it under this ticket. `LogFull` if the core is stuck.
     pub fn await_done<R: Wait>(&self, rt: &R, ticket: Ticket) -> Result<Outcome<B>, Refusal> {
         let mut due = ToWake::nobody();
         let mut guard = self.lock(rt);
@@ -45,8 +45,8 @@ impl<B: Body, N: Naming> Pool<B, N> {
         unreachable!()
     }
 
-    /// The outcome of what was submitted under a ticket, if it can be told now: `ForkJoinTask.isDone`, and `join` where it is. It waits for the
-    /// lock alone. None while it is still to come. Refused as [`await_done`](Pool::await_done) is.
+    /// The outcome of the submission under a ticket, if it is ready: `ForkJoinTask.isDone`, and then `join`. It waits for the lock alone. None
+    /// while the outcome is still to come. Refused as [`await_done`](Pool::await_done) is.
     pub fn try_done<R: Wait>(&self, rt: &R, ticket: Ticket) -> Option<Result<Outcome<B>, Refusal>> {
         let mut due = ToWake::nobody();
         let mut guard = self.lock(rt);
@@ -58,11 +58,11 @@ impl<B: Body, N: Naming> Pool<B, N> {
         answer
     }
 
-    /// Waits until one of the outcomes of what was submitted under these tickets can be told, the first in their order, and gives its place
-    /// among them: `ExecutorService.invokeAny` by tickets, failures too. It is told once. None where there is no ticket.
+    /// Waits until an outcome under one of these tickets is ready, and returns the first in their order, with the index of its ticket:
+    /// `ExecutorService.invokeAny` by tickets, failures too. It is delivered once. None if there is no ticket.
     ///
-    /// Each time it wakes it looks at the tickets in order, under the lock, up to one whose outcome can be told: so have the oldest first.
-    /// Refused as [`await_done`](Pool::await_done) is.
+    /// Each time it wakes it walks over the tickets under the lock, up to the first that is ready: so put the oldest first. Refused as
+    /// [`await_done`](Pool::await_done) is.
     pub fn await_any<R: Wait>(
         &self,
         rt: &R,
@@ -93,11 +93,11 @@ impl<B: Body, N: Naming> Pool<B, N> {
         unreachable!()
     }
 
-    /// Cancels what was submitted under a ticket: `ForkJoinTask.cancel`. Whether it is cancelled now; false where it has ended otherwise. Its
-    /// outcome is still to be asked for. A body that runs goes on to its end.
+    /// Cancels the submission under a ticket: `ForkJoinTask.cancel`. True if it is cancelled now, also if it was before; false if it ended
+    /// otherwise. Its outcome is still to be asked for. A body that runs goes on to its end.
     ///
-    /// First it looks at the lanes, as a worker does. `Unknown` where the submission stands in its lane all the same, since there is no place
-    /// for it, and where its outcome was told and its task is released. `LogFull` where the core is stuck, or the history is full.
+    /// First it looks at the lanes, as a worker does. `Unknown` if the submission is still in its lane after that, behind others or without
+    /// room for it, or if its task was released. `LogFull` if the core is stuck, or the history is full.
     pub fn cancel<R: Wait>(&self, rt: &R, ticket: Ticket) -> Result<bool, Refusal> {
         let mut due = ToWake::nobody();
         let mut guard = self.lock(rt);
@@ -109,20 +109,19 @@ impl<B: Body, N: Naming> Pool<B, N> {
         answer
     }
 
-    /// The sealed parts of the history that nobody has taken yet, the oldest first. It takes no memory, and waits for the lock alone.
+    /// The sealed parts of the history that were not taken yet, the oldest first. It allocates nothing, and waits for the lock alone.
     ///
-    /// Each part is given once, in order: two calls give consecutive runs of the history, and the record of a pool that is wound up begins
-    /// where the last call ended. Nobody has to call it: what is not taken is kept for the record. Java has no counterpart: it keeps no
-    /// history.
+    /// Each part is returned once, in order: two calls give consecutive runs of the history, and the record of a pool that is wound up begins
+    /// where the last call ended. Calls are optional: what is not taken is kept for the record. Java has no counterpart: it keeps no history.
     pub fn take_parts<R: Wait>(&self, rt: &R) -> Vec<Sealed> {
         let mut guard = self.core.lock(rt);
         let core = &mut *guard;
         core.take_parts(self.alloc)
     }
 
-    /// Nothing more is admitted; what was admitted is run, and then the workers leave: `ForkJoinPool.shutdown`. A repeat has no effect.
+    /// Admits nothing more; what was admitted is run, and then the workers leave: `ForkJoinPool.shutdown`. A repeat has no effect.
     ///
-    /// It finds its end only where all that was admitted can be taken in: a task keeps its place until its outcome was told.
+    /// It completes only if all that was admitted can be taken in: a task counts against the limit until its outcome was delivered.
     pub fn shutdown<R: Wait>(&self, rt: &R, closer: &mut Closer<N>) {
         let number = number_of(closer.close());
         let mut due = ToWake::nobody();
@@ -134,8 +133,8 @@ impl<B: Body, N: Naming> Pool<B, N> {
         self.wake_due(&mut due);
     }
 
-    /// Nothing more is admitted; once all that was admitted was taken in, every task that is undone is cancelled, and the workers leave:
-    /// `ForkJoinPool.shutdownNow`. It also serves after a shutdown. A repeat has no effect. What a shutdown needs for its end this needs too.
+    /// Admits nothing more; once all that was admitted was taken in, every undone task is cancelled, and the workers leave:
+    /// `ForkJoinPool.shutdownNow`. It may follow a shutdown. A repeat has no effect. It needs the same as a shutdown to complete.
     pub fn shutdown_now<R: Wait>(&self, rt: &R, closer: &mut Closer<N>) {
         let number = number_of(closer.close());
         let mut due = ToWake::nobody();
@@ -147,17 +146,18 @@ impl<B: Body, N: Naming> Pool<B, N> {
         self.wake_due(&mut due);
     }
 
-    /// What the pool does at this moment. It waits for the lock alone, and takes nothing in.
+    /// A snapshot of what the pool does. It waits for the lock alone, and takes nothing in.
     pub fn glance<R: Wait>(&self, rt: &R) -> Glance {
         let mut guard = self.core.lock(rt);
         let core = &mut *guard;
         core.glance()
     }
 
-    /// Whether all queues are empty and no worker runs anything, once what the lanes show was taken in: `ForkJoinPool.isQuiescent`.
+    /// Whether all queues are empty and no worker runs anything, after at most one parcel of each lane is taken in:
+    /// `ForkJoinPool.isQuiescent`.
     ///
-    /// Submissions for which there is no place stay in their lanes, and do not count. Before it takes anything in it seals the history, where
-    /// that is due, which takes memory; a refusal of that is ignored.
+    /// Submissions that stay in their lanes do not count. Before it takes anything in it seals the history, if that is due, which allocates; a
+    /// refusal of that is ignored.
     pub fn is_quiescent<R: Wait>(&self, rt: &R) -> bool {
         let mut due = ToWake::nobody();
         let mut guard = self.core.lock(rt);

@@ -17,21 +17,21 @@ use std::sync::{MutexGuard, Wait};
 use std::thread;
 use std::time::Duration;
 
-/// Each sleeper looks again after so many seconds, though it was not notified.
+/// The longest sleep, in seconds: then a thread looks again, also without a notification.
 pub(crate) const LONGEST_WAIT: u64 = 1;
 
-/// How a worker waits, for work and for the lock.
+/// How a worker backs off, without work and at the lock.
 #[derive(Drop)]
 struct Pace {
     idle: Idle,
     contention: Contention,
-    /// Whether it has rested, or waited in a join, since it had the lock last.
+    /// Whether it has rested, or waited in a join, since it last had the lock.
     slept: bool,
-    /// Whom it wakes once it has let the lock go.
+    /// The threads that it notifies once the lock is free.
     due: ToWake,
 }
 
-/// A thread that works: by what it waits, and who observes it.
+/// A thread that works: its runtime, its observer and its worker.
 #[derive(Drop)]
 struct Working<'r, 't, R, T> {
     rt: &'r R,
@@ -40,10 +40,10 @@ struct Working<'r, 't, R, T> {
 }
 
 impl<B: Body, N: Naming> Pool<B, N> {
-    /// Works with a hand until the pool has terminated: takes tasks, runs their bodies outside the lock, and does what they ask. A body
-    /// that joins or helps stands on the explicit stack of the hand while another one runs. It follows what a `ForkJoinWorkerThread` runs.
+    /// Works with a hand until the pool has terminated: takes tasks, runs their bodies outside the lock, and serves what they ask. A body
+    /// that joins or helps stays on the explicit stack of the hand while another one runs. It follows `ForkJoinWorkerThread.run`.
     ///
-    /// `LogFull` where the core is stuck, and no other refusal.
+    /// `LogFull` if the core is stuck; there is no other refusal.
     pub fn work<R: Wait, T: Turnstile>(
         &self,
         rt: &R,
@@ -77,7 +77,7 @@ impl<B: Body, N: Naming> Pool<B, N> {
         unreachable!()
     }
 
-    /// Takes the lock once, and lets it go again as what comes next wants it.
+    /// One holding of the lock, with the wait that follows if there is nothing to do.
     #[inline(always)]
     fn serve<R: Wait, T: Turnstile>(
         &self,
@@ -119,7 +119,7 @@ impl<B: Body, N: Naming> Pool<B, N> {
         next
     }
 
-    /// Lets the lock go, wakes those whose wait has ended, and drops what is needed no more.
+    /// Releases the lock, notifies the threads that are due, and drops what is not needed any more.
     #[inline(always)]
     fn let_go(
         &self,
@@ -145,12 +145,12 @@ impl<B: Body, N: Naming> Pool<B, N> {
         let place = &self.condvars.workers[place_of(working.worker)];
         let seen = place.notifications();
         self.let_go(guard, due, unneeded);
-        // What is queued because of this is a notification after those that were seen.
+        // If this leads to a task being queued, that notification comes after those that were seen.
         working.turnstile.idle(working.worker);
         place.sleep(working.rt, seen, Duration::from_secs(LONGEST_WAIT));
     }
 
-    /// The same, and sleeps or yields until there is work, or, if it is the lookout, until it is time to look for some.
+    /// The same, and yields, or sleeps until there is work; the lookout sleeps until it is time to look for some.
     fn rest<R: Wait, T: Turnstile>(
         &self,
         working: &Working<'_, '_, R, T>,

@@ -1,4 +1,4 @@
-//! One of those who sleep.
+//! The choice of one place.
 ghost use Rattle.std.specs.Prelude.{◌≢◌, MatchOption, Some};
 ghost use Rattle.fj_sleep.specs.Places.{is_asleep, is_awake, is_due, is_resting, is_waiting};
 ghost use Rattle.fj_sleep.specs.Sleeping.{IsAt, NobodyIs};
@@ -6,7 +6,7 @@ ghost use Rattle.fj_sleep.specs.Waking.{MayWake, OnlyLookoutRests};
 
 use crate::sleeper::Sleeper;
 
-/// A place at which nobody sleeps.
+/// A place that is `Awake`.
 pub fn any_awake<T: Copy>(places: &[Sleeper<T>]) -> Option<usize>
     ensures { MatchOption result (NobodyIs is_awake places.now) (λ p. IsAt is_awake places.now p) }
 {
@@ -27,14 +27,14 @@ fn any_waiting<T: Copy>(places: &[Sleeper<T>]) -> Option<usize>
     places.iter().position(|sleeper| sleeper.waits())
 }
 
-/// A place at which somebody is to be woken.
+/// A place that is `Due`.
 pub fn any_due<T: Copy>(places: &[Sleeper<T>]) -> Option<usize>
     ensures { MatchOption result (NobodyIs is_due places.now) (λ p. IsAt is_due places.now p) }
 {
     places.iter().position(|sleeper| sleeper.is_due())
 }
 
-/// A place at which somebody rests that is not the lookout.
+/// A place at which somebody other than the lookout rests.
 fn resting_beside<T: Copy>(places: &[Sleeper<T>], lookout: Option<usize>) -> Option<usize>
     ensures { MatchOption result (OnlyLookoutRests places.now lookout) (λ p. IsAt is_resting places.now p × (lookout ≢ Some p)) }
 {
@@ -46,7 +46,7 @@ fn resting_beside<T: Copy>(places: &[Sleeper<T>], lookout: Option<usize>) -> Opt
     None
 }
 
-/// Whom to wake for what anyone may do.
+/// The place to wake for work that any thread may do.
 pub fn anyone<T: Copy>(places: &[Sleeper<T>], lookout: Option<usize>) -> Option<usize>
     ensures { MatchOption result (NobodyIs is_asleep places.now) (λ p. MayWake places.now lookout p) }
 {

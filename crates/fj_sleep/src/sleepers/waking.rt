@@ -1,4 +1,4 @@
-//! Who is woken.
+//! Which threads are woken.
 ghost use Rattle.std.specs.Prelude.{◌≡◌, ◌≤◌, ◌↔◌, false, map, IfNone, IfSome, IsNone, OnSome, length, slice_index_or, slice_set};
 ghost use Rattle.fj_sleep.specs.Places.{is_asleep, is_due, is_resting, is_waiting, roused_if, taken, waits_for};
 ghost use Rattle.fj_sleep.specs.Sleeping.{NobodyIs};
@@ -10,7 +10,7 @@ use crate::places::{MAX_PLACES, Places};
 use crate::sleeper::Sleeper;
 use crate::whom::Whom;
 
-/// What is at some place.
+/// Which states occur.
 #[derive(Clone, Copy)]
 struct Kinds {
     waiting: bool,
@@ -19,7 +19,7 @@ struct Kinds {
 }
 
 impl<T: Copy> Sleepers<T> {
-    /// Who sleeps at this place is to be woken.
+    /// Marks the thread that sleeps at this place, if one does, as to be woken.
     #[inline(always)]
     pub fn wake(&mut self, place: usize)
         ensures { self.new ≡ with_roused self.old place }
@@ -30,8 +30,8 @@ impl<T: Copy> Sleepers<T> {
         }
     }
 
-    /// Something was queued that anyone may take: one of those who sleep is to be woken. It is one who rests, if anybody does, and not the
-    /// lookout, if another one rests.
+    /// Something was queued that any thread may take: marks one that sleeps. It is one that rests, if there is one, and not the lookout, if
+    /// another one rests.
     #[inline(always)]
     pub fn wake_one(&mut self)
         ensures { WakesOne self.old self.new }
@@ -41,7 +41,7 @@ impl<T: Copy> Sleepers<T> {
         }
     }
 
-    /// The same, where somebody may sleep.
+    /// The same, if somebody may sleep.
     #[inline(never)]
     fn rouse_one(&mut self)
         ensures { WakesOne self.old self.new }
@@ -58,7 +58,7 @@ impl<T: Copy> Sleepers<T> {
         }
     }
 
-    /// Who is to be woken: they are woken now. None where nobody is.
+    /// The places that are due; now they count as woken. None if nobody is due.
     #[inline(always)]
     pub fn take_due(&mut self) -> Option<Places>
         ensures none { IsNone result ↔ NobodyIs is_due self.old.places }
@@ -69,7 +69,7 @@ impl<T: Copy> Sleepers<T> {
         if self.due { self.take_all_due() } else { None }
     }
 
-    /// The same, where somebody may be due.
+    /// The same, if somebody may be due.
     #[inline(never)]
     fn take_all_due(&mut self) -> Option<Places>
         ensures none { IsNone result ↔ NobodyIs is_due self.old.places }
@@ -88,7 +88,7 @@ impl<T: Copy> Sleepers<T> {
 }
 
 impl<T: Copy + PartialEq> Sleepers<T> {
-    /// This is over: exactly those who wait for it are to be woken.
+    /// Marks exactly those threads that wait for `t`.
     #[inline(always)]
     pub fn wake_for(&mut self, t: T)
         ensures { self.new ≡ record self.old { places = map (roused_if (waits_for T.eq t)) self.old.places } }
@@ -98,7 +98,7 @@ impl<T: Copy + PartialEq> Sleepers<T> {
         }
     }
 
-    /// All who wait are to be woken.
+    /// Marks all threads that wait.
     #[inline(always)]
     pub fn wake_waiting(&mut self)
         ensures { self.new ≡ record self.old { places = map (roused_if is_waiting) self.old.places } }
@@ -108,7 +108,7 @@ impl<T: Copy + PartialEq> Sleepers<T> {
         }
     }
 
-    /// All who sleep are to be woken.
+    /// Marks all threads that rest or wait.
     #[inline(always)]
     pub fn wake_all(&mut self)
         ensures { self.new ≡ record self.old { places = map (roused_if is_asleep) self.old.places } }
@@ -118,7 +118,7 @@ impl<T: Copy + PartialEq> Sleepers<T> {
         }
     }
 
-    /// Those are to be woken.
+    /// Marks these.
     #[inline(never)]
     fn rouse(&mut self, whom: Whom<T>)
         ensures { self.new ≡ record self.old { places = map (roused_if (includes T.eq whom)) self.old.places } }
@@ -130,7 +130,7 @@ impl<T: Copy + PartialEq> Sleepers<T> {
     }
 }
 
-/// Each of those is to be woken. What there is then.
+/// Marks these. Returns which states occur afterwards.
 fn rouse_each<T: Copy + PartialEq>(places: &mut [Sleeper<T>], whom: Whom<T>) -> Kinds
     ensures places { places.new ≡ map (roused_if (includes T.eq whom)) places.old }
     ensures waiting { result.waiting ≡ false → NobodyIs is_waiting places.new }
@@ -154,7 +154,7 @@ fn rouse_each<T: Copy + PartialEq>(places: &mut [Sleeper<T>], whom: Whom<T>) -> 
     kinds
 }
 
-/// Who is to be woken is woken. Precondition: the places are `MAX_PLACES` at most.
+/// Turns each `Due` into `Woken`, and returns their places. Precondition: there are at most `MAX_PLACES` places.
 fn take_each_due<T: Copy>(places: &mut [Sleeper<T>]) -> [bool; MAX_PLACES]
     requires { length places.old ≤ MAX_PLACES }
     ensures due { AreDue result places.old }

@@ -15,7 +15,7 @@ impl Tree {
         ensures made { self.new.made ≡ self.old.made }
         ensures room { self.new.room ≡ self.old.room }
     {
-        // no key is as large as the capacity
+        // each key is below the capacity
         for key in 0..self.records.capacity() {
             self.close_at(key);
         }

@@ -8,18 +8,17 @@ use crate::pass::{self, PassEnd, PassHow};
 use crate::tree::Tree;
 
 impl Tree {
-    /// Where a climb without hooks from a completer would end, which is what [`Tree::pass_up`] answers. Precondition: a good handle
-    /// of a completer.
+    /// Where a climb without hooks from a completer would end: the answer of [`Tree::pass_up`]. Precondition: a good handle of a completer.
     ///
     /// A record at which an arrival would fire is passed, and the climb goes on at its parent; any other one ends the climb, and so
-    /// does a passed one without a parent. The place of the first record is not looked at, since its body ends as the climb begins.
+    /// does a passed one without a parent. The place of the first record is ignored, since its body ends as the climb begins.
     pub fn pass_look(&self, h: Handle) -> PassEnd
         requires { IsCompleter self.now h }
         ensures passed { result.passed ≡ length (passed self.now h) }
         ensures ends { EndsAs self.now h result }
         ensures good { IsGood self.now result.at }
     {
-        // fewer records are passed than were made
+        // For the proof: fewer records are passed than were made.
         let _made = self.made;
         let mut passed = 0;
         let mut at = h;

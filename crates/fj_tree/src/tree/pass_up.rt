@@ -14,8 +14,8 @@ impl Tree {
     /// Climbs without hooks from a completer: `CountedCompleter.propagateCompletion`. Precondition: a good handle of a
     /// completer.
     ///
-    /// The passed records become spent, and where the climb is counted at its end, that count falls by one. Statuses and places stay.
-    /// The answer is what [`Tree::pass_look`] would have told.
+    /// The passed records become spent, and where the climb ends as `Counted`, that count falls by one. Statuses and places stay.
+    /// The answer is that of [`Tree::pass_look`] before.
     pub fn pass_up(&mut self, h: Handle) -> PassEnd
         requires { IsCompleter self.old h }
         ensures passed { result.passed ≡ length (passed self.old h) }
@@ -26,7 +26,7 @@ impl Tree {
         ensures made { self.new.made ≡ self.old.made }
         ensures room { self.new.room ≡ self.old.room }
     {
-        // fewer records are passed than were made
+        // For the proof: fewer records are passed than were made.
         let _made = self.made;
         let mut passed = 0;
         let mut at = h;

@@ -7,8 +7,8 @@ use crate::handle::Handle;
 use crate::tree::Tree;
 
 impl Tree {
-    /// The last on the path from a record to its parent, the parent's parent and so on: `CountedCompleter.getRoot`. Precondition: a good
-    /// handle.
+    /// The root of a record: the end of the path to its parent, the parent's parent and so on. `CountedCompleter.getRoot`. Precondition:
+    /// a good handle.
     pub fn root(&self, h: Handle) -> Handle
         requires { IsGood self.now h }
         ensures root { result ≡ root_of self.now h }
@@ -21,7 +21,7 @@ impl Tree {
         at
     }
 
-    /// The parent of a record, if it names one that is kept: `CountedCompleter.getCompleter`. Precondition: a good handle.
+    /// The parent of a record, if it has one that is kept: `CountedCompleter.getCompleter`. Precondition: a good handle.
     pub fn above(&self, h: Handle) -> Option<Handle>
         requires { IsGood self.now h }
         ensures parent { result ≡ above self.now h }
@@ -29,7 +29,7 @@ impl Tree {
         ensures completer { IfSome result (IsCompleter self.now) }
         ensures smaller { IfSome result (λ up. up.serial < h.serial) }
     {
-        // the records are sound
+        // For the proof: the records are sound.
         let _ = self.len();
         let record = self.get(h)?;
         let serial = record.kind.parent()?;

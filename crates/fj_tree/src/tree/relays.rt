@@ -9,16 +9,16 @@ use crate::tree::Tree;
 use fj_rules::Status;
 
 impl Tree {
-    /// How many get a status that is relayed from a task, itself counted, which is what [`Tree::relay_up`] answers. Precondition: a good
+    /// How many tasks a status relayed from this one would reach, itself included: the answer of [`Tree::relay_up`]. Precondition: a good
     /// handle.
     ///
     /// A done task gets nothing and ends the relay. An undone one gets the status, and if its kind says relay, the relay goes on at its
-    /// parent. So 0 is answered for a done task.
+    /// parent. So the answer is 0 for a done task.
     pub fn relay_look(&self, h: Handle) -> u64
         requires { IsGood self.now h }
         ensures { result ≡ length (relayed self.now h) }
     {
-        // fewer records get it than were made
+        // For the proof: fewer records get it than were made.
         let _made = self.made;
         let mut relayed = 0;
         let mut at = h;
@@ -32,10 +32,10 @@ impl Tree {
         relayed
     }
 
-    /// Relays a status from a task, and answers how many get it, itself counted. Precondition: a good handle.
+    /// Relays a status from a task, and answers how many tasks get it, itself included. Precondition: a good handle.
     ///
-    /// They are those that [`Tree::relay_look`] counts. All else stays. Which parents a status reaches is what
-    /// `CountedCompleter.onExceptionalCompletion` answers in Java.
+    /// They are those that [`Tree::relay_look`] counts. All else stays. In Java, `CountedCompleter.onExceptionalCompletion` decides
+    /// which parents a status reaches.
     pub fn relay_up(&mut self, h: Handle, status: Status) -> u64
         requires { IsGood self.old h }
         ensures relayed { result ≡ length (relayed self.old h) }
@@ -44,7 +44,7 @@ impl Tree {
         ensures made { self.new.made ≡ self.old.made }
         ensures room { self.new.room ≡ self.old.room }
     {
-        // fewer records get it than were made
+        // For the proof: fewer records get it than were made.
         let _made = self.made;
         let mut relayed = 0;
         let mut at = h;
@@ -68,7 +68,7 @@ impl Tree {
         self.records[h.key].status.is_undone()
     }
 
-    /// The parent to which a task relays what it gets.
+    /// The parent to which a task relays its status.
     fn next_relayed(&self, h: Handle) -> Option<Handle>
         requires { IsGood self.now h }
         ensures next { result ≡ next_relayed self.now h }

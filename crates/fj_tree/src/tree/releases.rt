@@ -10,11 +10,11 @@ use crate::tree::Tree;
 use fj_rules::{Place, Refusal};
 
 impl Tree {
-    /// Forgets a task. Refused, with nothing changed, by `Unknown` if the handle is not good, and `NotDone` if the task is not gone
+    /// Forgets a task. Refused, with nothing changed, as `Unknown` if the handle is not good, and `NotDone` if the task is not gone
     /// or has children that are kept.
     ///
-    /// The number of the task is not used again, and its handle is never good again. Its parent has one child fewer. Java has no such
-    /// call: it collects what nobody names.
+    /// The number of the task is never reused, and its handle is never good again. Its parent has one child fewer. Java has no such
+    /// call: it has a garbage collector.
     pub fn release(&mut self, h: Handle) -> Result<(), Refusal>
         ensures refused { IsRefusedBy (release_refusal (record_of self.old h)) result }
         ensures stays { OnErr result (self.new ≡ self.old) }
@@ -35,7 +35,7 @@ impl Tree {
         Ok(())
     }
 
-    /// Takes a record out, and counts it no more as a child of its parent.
+    /// Removes a record, and lowers the child count of its parent.
     fn remove(&mut self, h: Handle, parent: Option<Handle>)
         requires good { IsSomeAnd (record_of self.old h) (λ r. r.children ≡ 0) }
         requires parent { parent ≡ above self.old h }

@@ -1,4 +1,4 @@
-//! Each way to get stuck, and what each call tells then.
+//! Each way to get stuck, and the reply to each call then.
 
 pub fn scenarios() -> &'static str {
     "Four events are full with the end of the first task: no parcel is taken in any more

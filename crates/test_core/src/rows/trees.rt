@@ -1,4 +1,4 @@
-//! What trees of completers tell, by one worker and by two, and what a completion action hears.
+//! Trees of completers, by one worker and by two, and what a completion action hears.
 
 pub fn scenarios() -> &'static str {
     "A tree of four nodes: 0 has the children 1 and 2, and 1 has 3

@@ -3,14 +3,13 @@ use fj_queues::*;
 use std::alloc::Global;
 use std::test::Fail;
 
-// Tables of tests. Between the rows of a table is an empty line. A row has a name and a line end; then the number of owners and the room;
-// and then calls, each behind `;`. Behind a call and ` > ` stands its answer.
+// Tables of tests. Rows are separated by an empty line. A row is a name and a line feed; then the number of owners and the room; and then
+// calls, each after `;`. After a call and ` > ` comes its answer.
 //
 // - `push O N`, `old O`, `new O`, `len O`, `list O` at the queue of an owner
 // - `first R`, `owners`, `room`, `total`
 
-/// What the rows gave in place of what stands there: the name, the call and what it gave, a line a row. It is empty where each row gave
-/// what it must.
+/// The mismatches of the rows: the name, the call and its actual answer, a line a row. Empty where there is none.
 pub fn wrong(alloc: Global, table: &str) -> Result<String, Fail> {
     let mut all = String::new(alloc);
     for row in table.split("\n\n") {
@@ -23,7 +22,7 @@ pub fn wrong(alloc: Global, table: &str) -> Result<String, Fail> {
     Ok(all)
 }
 
-/// The first call that did not give what follows it, and what it gave.
+/// The first call with another answer than the expected one, and its actual answer.
 fn first_other(alloc: Global, script: &str) -> Result<String, Fail> {
     let (head, calls) = script.split_once(';').unwrap_or((script, ""));
     let (owners, room) = head.split_once(' ').unwrap_or((head, ""));
@@ -64,7 +63,7 @@ fn pushed(alloc: Global, queues: &mut Queues, numbers: &str) -> Result<String, F
     Ok("done".to_string(alloc)?)
 }
 
-/// A call that asks for an owner alone.
+/// A call with an owner only.
 fn at_owner(alloc: Global, queues: &mut Queues, verb: &str, o: usize) -> Result<String, Fail> {
     if o >= queues.owners() {
         return Ok("no owner".to_string(alloc)?);

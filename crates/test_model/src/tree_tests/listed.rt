@@ -4,13 +4,13 @@ use std::alloc::Global;
 use std::marker::Model;
 use std::test::Fail;
 
-/// A list of numbers at which tests may ask for anything: what may not be put is left out.
+/// A list of numbers that tests may call with anything: what the precondition forbids is left out.
 #[derive(Drop)]
 pub struct Listed {
     kept: Kept,
-    /// No number of the list is as large.
+    /// Above all numbers of the list.
     next: u64,
-    /// How many more there is room for.
+    /// The room left.
     left: usize,
 }
 
@@ -48,12 +48,12 @@ impl Listed {
     }
 }
 
-/// The key that stands beside a number.
+/// The key of a number.
 pub fn key_of(kept: &Kept, number: u64) -> Option<usize> {
     search(kept, Serial(number), &mut Probes::new())
 }
 
-/// The odd numbers from 1 on, so many of them, the first with the largest key.
+/// So many odd numbers from 1 on, the first with the largest key.
 pub fn odd_numbers(alloc: Global, count: u32) -> Result<Listed, Fail> {
     let mut list = Listed::new(alloc, count as usize)?;
     for i in 0..count {

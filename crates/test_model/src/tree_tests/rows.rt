@@ -4,8 +4,8 @@ use fj_tree::*;
 use std::alloc::Global;
 use std::test::Fail;
 
-// Tables of tests. Between the rows of a table is an empty line. A row has a name and a line end; then the room of a tree; and then
-// calls, each behind `;`. Behind a call and ` > ` stands its answer, `none` where it may not be made.
+// Tables of tests. Rows are separated by an empty line. A row is a name and a line feed; then the room of a tree; and then calls, each
+// after `;`. After a call and ` > ` comes its answer, `none` where its precondition fails.
 //
 // A handle is written as the key and the number: `0:1`, or `1` for `1:1`. A completer is written `P C R`: its parent or `-`, its count,
 // `relay` or `stop`.
@@ -16,8 +16,7 @@ use std::test::Fail;
 //
 // A PLACE is `open`, `gone`, `submitted`, `forked` or `held`; a STATUS `normal`, `cancelled` or a code.
 
-/// What the rows gave in place of what stands there: the name, the call and what it gave, a line a row. It is empty where each row gave
-/// what it must.
+/// The mismatches of the rows: the name, the call and its actual answer, a line a row. Empty where there is none.
 pub fn wrong(alloc: Global, table: &str) -> Result<String, Fail> {
     let mut all = String::new(alloc);
     for row in table.split("\n\n") {
@@ -33,7 +32,7 @@ pub fn wrong(alloc: Global, table: &str) -> Result<String, Fail> {
     Ok(all)
 }
 
-/// The first call that did not give what follows it, and what it gave.
+/// The first call with another answer than the expected one, and its actual answer.
 pub fn first_other(alloc: Global, script: &str) -> Result<String, Fail> {
     let (room, calls) = script.split_once(';').unwrap_or((script, ""));
     let mut trial = Trial::new(alloc, room.parse()?)?;
@@ -106,7 +105,7 @@ fn refused(alloc: Global, refusal: Refusal) -> Result<String, Fail> {
     Ok(format!(in alloc; "refused {}", refusal.number())?)
 }
 
-/// A call that asks for a handle alone.
+/// A call with a handle only.
 fn at_handle(alloc: Global, trial: &mut Trial, verb: &str, h: Handle) -> Result<String, Fail> {
     match verb {
         "get" => record(alloc, trial.get(h)),
@@ -121,7 +120,7 @@ fn at_handle(alloc: Global, trial: &mut Trial, verb: &str, h: Handle) -> Result<
     }
 }
 
-/// A call that asks for one thing more.
+/// A call with one more argument.
 fn with_more(
     alloc: Global,
     trial: &mut Trial,

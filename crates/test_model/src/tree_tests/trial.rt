@@ -7,7 +7,7 @@ use std::alloc::Global;
 use std::marker::Model;
 use std::test::Fail;
 
-/// A tree at which tests may ask for anything: `None` is the answer where a call may not be made. The contracts of the calls stay in
+/// A tree that tests may call with anything: the answer is `None` where a precondition fails. The contracts of the calls stay in
 /// here, which keeps the proofs of tests small.
 #[derive(Drop)]
 pub struct Trial {
@@ -81,7 +81,7 @@ impl Trial {
         Some(())
     }
 
-    /// Looks at an arrival, and then arrives: the two agree.
+    /// `arrival`, then `arrive`: none where they differ.
     pub fn arrive(&mut self, h: Handle) -> Option<Arrived> {
         if !names_completer(&self.tree, h) {
             return None;
@@ -108,7 +108,7 @@ impl Trial {
         self.tree.close_open();
     }
 
-    /// Looks where a climb ends, and then climbs: the two agree.
+    /// `pass_look`, then `pass_up`: none where they differ.
     pub fn pass(&mut self, h: Handle) -> Option<PassEnd> {
         if !names_completer(&self.tree, h) {
             return None;
@@ -118,7 +118,7 @@ impl Trial {
         if seen == done { Some(done) } else { None }
     }
 
-    /// Looks how far a status is relayed, and then relays it: the two agree.
+    /// `relay_look`, then `relay_up`: none where they differ.
     pub fn relay(&mut self, h: Handle, status: Status) -> Option<u64> {
         self.tree.get(h)?;
         let seen = self.tree.relay_look(h);

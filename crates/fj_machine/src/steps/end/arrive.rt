@@ -27,7 +27,8 @@ pub fn arrival(ledger: &Ledger, c: Handle) -> Arrived
     }
 }
 
-/// Arrives at a completer. If it fires, its completion action goes into the hand of the worker: to whom the history gives it.
+/// Arrives at a completer. If it fires, its completion action goes into the hand of the worker. Precondition: that hand is free, the
+/// history would give it the action, and the events may follow and fit.
 pub fn arrive(ledger: &mut Ledger, c: Handle, w: WorkerId) -> Said
     requires worker { w < ledger.old.pool.limits.workers }
     requires completer { is_completer ledger.old.events c.serial ≡ true }

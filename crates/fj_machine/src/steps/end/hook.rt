@@ -15,7 +15,7 @@ use fj_ledger::{Hook, Ledger};
 use fj_rules::{How, Refusal, Said, Status, WorkerId};
 use fj_tree::Handle;
 
-/// The completion action in a worker's hand ends, and the parent of its completer is arrived at.
+/// The completion action in a worker's hand ends, and its completer arrives at the parent.
 ///
 /// A completer that was fired by `complete` becomes normal first, and so does a root.
 pub fn hook_done(ledger: &mut Ledger, w: WorkerId) -> Result<Said, Refusal>
@@ -33,7 +33,7 @@ pub fn hook_done(ledger: &mut Ledger, w: WorkerId) -> Result<Said, Refusal>
     }
 }
 
-/// The completion action in the hand of a worker.
+/// The completion action in a worker's hand.
 fn hook_in_hand(ledger: &Ledger, w: WorkerId) -> Result<Hook, Refusal>
     ensures refusal { Checks ledger.now (HookDone w) result }
     ensures hand { IfOk result (λ k. hand ledger.now.events w ≡ Some k.completer) }
@@ -49,7 +49,7 @@ fn hook_in_hand(ledger: &Ledger, w: WorkerId) -> Result<Hook, Refusal>
     }
 }
 
-/// How far the completer of a completion action in hand has come, be it kept or released.
+/// The status of the completer of a completion action in hand, kept or released.
 fn hooked_status(ledger: &Ledger, c: Handle, hook: &Hook) -> Status
     requires same { c.serial ≡ hook.now.completer }
     requires tells { TellsHook ledger.now.events hook.now }
@@ -83,7 +83,7 @@ fn root_hook_done(
     Ok(Said::Root(c.serial))
 }
 
-/// The completion action of a completer with a parent ends, the completer becomes normal or not, and the parent is arrived at.
+/// The completion action of a completer with a parent ends. The completer becomes normal if it `settles`, and arrives at the parent.
 fn inner_hook_done(
     ledger: &mut Ledger,
     c: Handle,
@@ -107,7 +107,7 @@ fn inner_hook_done(
     Ok(arrive(ledger, p, w))
 }
 
-/// Whether a completer of this status becomes normal as its completion action ends, whatever its parent: it does if it was fired by `complete`.
+/// Whether a completer of this status becomes normal as its completion action ends, with any parent: undone, and fired by `complete`.
 fn settles_own(how: How, status: Status) -> bool
     ensures { result ≡ (is_complete how && is_undone status) }
 {

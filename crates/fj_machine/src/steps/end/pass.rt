@@ -1,4 +1,4 @@
-//! The end of a body from which a climb goes up without completion actions.
+//! The end of a body, followed by a climb without completion actions.
 ghost use Rattle.std.specs.Prelude.{◌≡◌, ◌≤◌, ◌+◌, true, length, map};
 ghost use Rattle.fj_rules.specs.declared.event.Event.TheVariants as event;
 ghost use Rattle.fj_rules.specs.declared.step.Step.TheVariants.{End};
@@ -15,7 +15,7 @@ use fj_ledger::Ledger;
 use fj_rules::{Ending, Refusal, Said, Status, WorkerId};
 use fj_tree::{Handle, PassHow};
 
-/// The end of a completer's body, after which a climb passes each completer that would fire, up to the first that would not:
+/// The end of a completer's body, and a climb that passes each completer that would fire, up to the first that would not:
 /// `CountedCompleter.propagateCompletion`.
 pub fn end_pass(ledger: &mut Ledger, t: Handle, w: WorkerId) -> Result<Said, Refusal>
     requires { MayEnd ledger.old w Ending.Pass t.serial }
@@ -28,7 +28,7 @@ pub fn end_pass(ledger: &mut Ledger, t: Handle, w: WorkerId) -> Result<Said, Ref
     Ok(end_climb(ledger, climb.at, climb.how))
 }
 
-/// What comes where a climb ends: a count falls, or the root that was passed becomes normal, or nothing.
+/// The end of a climb: a count falls, or the root that was passed becomes normal, or nothing changes.
 fn end_climb(ledger: &mut Ledger, c: Handle, how: PassHow) -> Said
     requires kept { is_kept ledger.old.events c.serial ≡ true }
     requires completer { is_completer ledger.old.events c.serial ≡ true }
@@ -68,7 +68,7 @@ fn pass_all(ledger: &mut Ledger, t: Handle, count: u64)
     }
 }
 
-/// How many events come where a climb ends.
+/// How many events the end of a climb appends.
 fn climb_events(how: PassHow) -> u64
     ensures { result ≡ length (climb_end how 0) }
 {
