@@ -66,11 +66,12 @@ impl Model for Ledger {
       seals = m.log.seals;
     } };
 
-    ghost invariant = { λ m.
-        Holds (record { mode = m.mode; limits = m.limits }) m.log.sealed m.log.events m.queues m.stacks m.hands.items m.tree m.open_tasks.list m.gone.items
-        × (m.log.room ≡ m.limits.events)
-        × (m.open_tasks.room ≡ m.limits.tasks)
-        × (m.limits.events + m.limits.tasks ≤ vec_capacity m.gone) };
+    ghost invariant = { λ m. record {
+      holds : Holds (record { mode = m.mode; limits = m.limits }) m.log.sealed m.log.events m.queues m.stacks m.hands.items m.tree m.open_tasks.list m.gone.items;
+      log_room : m.log.room ≡ m.limits.events;
+      open_room : m.open_tasks.room ≡ m.limits.tasks;
+      gone_room : m.limits.events + m.limits.tasks ≤ vec_capacity m.gone;
+    } };
 }
 
 impl Ledger {

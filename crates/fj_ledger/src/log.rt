@@ -38,13 +38,14 @@ impl Model for Log {
       seals = l.seals;
     } };
 
-    ghost invariant = { λ l.
-        (l.room ≤ vec_capacity l.events)
-        × (l.closed ≡ is_closed (sealed_in (option_map (λ s. s.value) l.before) ++ l.events.items))
-        × (l.stopped ≡ is_stopped (sealed_in (option_map (λ s. s.value) l.before) ++ l.events.items))
-        × (l.sealed ≡ length (sealed_in (option_map (λ s. s.value) l.before)))
-        × (l.seals ≡ seals_in (option_map (λ s. s.value) l.before))
-        × (l.sealed + l.seals ≤ MAX_EVENTS_AND_SEALS + 1) };
+    ghost invariant = { λ l. record {
+      fits : l.room ≤ vec_capacity l.events;
+      closed : l.closed ≡ is_closed (sealed_in (option_map (λ s. s.value) l.before) ++ l.events.items);
+      stopped : l.stopped ≡ is_stopped (sealed_in (option_map (λ s. s.value) l.before) ++ l.events.items);
+      sealed : l.sealed ≡ length (sealed_in (option_map (λ s. s.value) l.before));
+      seals : l.seals ≡ seals_in (option_map (λ s. s.value) l.before);
+      few : l.sealed + l.seals ≤ MAX_EVENTS_AND_SEALS + 1;
+    } };
 
     // a log that was sealed had fewer seals
     ghost size = { λ v. v.seals };

@@ -29,7 +29,10 @@ impl Model for OpenTasks {
 
     ghost view = { λ o. o.tasks };
 
-    ghost invariant = { λ o. (length o.stamps.list ≡ length o.tasks.list) × (o.stamps.room ≡ o.tasks.room) };
+    ghost invariant = { λ o. record {
+      each_stamped : length o.stamps.list ≡ length o.tasks.list;
+      same_room : o.stamps.room ≡ o.tasks.room;
+    } };
 }
 
 impl OpenTasks {

@@ -23,7 +23,10 @@ impl<T> Model for Window<T> {
 
     ghost view = { λ w. record { list = drop w.first w.cells.items; room = w.room } };
 
-    ghost invariant = { λ w. (w.first ≤ length w.cells.items) × (w.room ≤ vec_capacity w.cells) };
+    ghost invariant = { λ w. record {
+      within : w.first ≤ length w.cells.items;
+      fits : w.room ≤ vec_capacity w.cells;
+    } };
 }
 
 impl<T: Copy> Window<T> {

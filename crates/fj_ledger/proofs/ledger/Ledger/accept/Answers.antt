@@ -24,18 +24,18 @@ pub renewed-parent-requires : goal.renewed-parent-requires
 renewed-parent-requires c =
     let at = (goal.at.renewed-parent-requires c).After-self in
     let limits = c.self.inside.limits in
-    parent_there c.self.inside.log.events c.self.inside.tree limits _ c.args.parent c.self.invariant.0.tree_kept (may at).0.under c.requires.parent
+    parent_there c.self.inside.log.events c.self.inside.tree limits _ c.args.parent c.self.invariant.holds.tree_kept (may at).0.under c.requires.parent
 
 pub insert-requires-clause-made : goal.insert-requires-clause-made
 insert-requires-clause-made c =
     let at = (goal.at.insert-requires-clause-made c).After-self in
     let h = c.self.inside.log.events in
-    omega (arith, c.self.invariant.0.tree_kept.made, few_accepted h, fits at, c.self.invariant.0.within.few_events)
+    omega (arith, c.self.invariant.holds.tree_kept.made, few_accepted h, fits at, c.self.invariant.holds.within.few_events)
 
 pub insert-requires-clause-room : goal.insert-requires-clause-room
 insert-requires-clause-room c =
     let at = (goal.at.insert-requires-clause-room c).After-self in
-    let keeps = c.self.invariant.0.tree_kept in
+    let keeps = c.self.invariant.holds.tree_kept in
     omega (arith, keeps.live, keeps.room, (may at).0.room)
 
 pub insert-requires-clause-pending : goal.insert-requires-clause-pending
@@ -48,7 +48,7 @@ pub insert-requires-clause-completer : goal.insert-requires-clause-completer
 insert-requires-clause-completer c =
     let at = (goal.at.insert-requires-clause-completer c).After-self in
     let limits = c.self.inside.limits in
-    parent_is c.self.inside.log.events c.self.inside.tree limits _ c.renewed-parent.result c.self.invariant.0.tree_kept (may at).0.under
+    parent_is c.self.inside.log.events c.self.inside.tree limits _ c.renewed-parent.result c.self.invariant.holds.tree_kept (may at).0.under
     (c.renewed-parent.ensures.number ∙ c.requires.parent) c.renewed-parent.ensures.found
 
 pub push-requires-2-clause-room : goal.push-requires-2-clause-room
@@ -56,7 +56,7 @@ push-requires-2-clause-room c =
     let at = (goal.at.push-requires-2-clause-room c).After-self in
     let pool : Pool = record { mode = c.self.inside.mode; limits = c.self.inside.limits } in
     let h = c.self.inside.log.events in
-    let holds = c.self.invariant.0 in
+    let holds = c.self.invariant.holds in
     omega (arith, queues_are_short pool h c.self.inside.queues holds.lawful holds.queues_kept, holds.queues_kept.room, (may at).0.room)
 
 -- what the insertion left
@@ -68,12 +68,12 @@ invariant_of-self c =
     let at = goal.at.invariant_of-self c in
     let pool : Pool = record { mode = c.self.inside.mode; limits = c.self.inside.limits } in
     let h = c.self.inside.log.events in
-    let holds = c.self.invariant.0 in
+    let holds = c.self.invariant.holds in
     let number : c.insert.result.serial ≡ accepted h = c.insert.ensures.number ∙ holds.tree_kept.made in
-    let read : c.t.inside.serial ≡ c.insert.result.serial = ap (λ (x : Handle). x.serial) c.t.view_is in (
-      rw (c.push.ensures, c.push-2.ensures.pushed, c.queue_number.ensures, read, number)
-          (accept_holds pool h (accepted h) c.args.owner.now c.args.kind.now _ _ _ _ _ _ _ c.insert.result.key holds (may at.After-self) (fits at.After-self) (rw number at (made at.After-queue_number))),
-      rw c.push.ensures (c.self.invariant.1),
-      c.self.invariant.2,
-      c.self.invariant.3,
-    )
+    let read : c.t.inside.serial ≡ c.insert.result.serial = ap (λ (x : Handle). x.serial) c.t.view_is in record {
+      holds = rw (c.push.ensures, c.push-2.ensures.pushed, c.queue_number.ensures, read, number)
+          (accept_holds pool h (accepted h) c.args.owner.now c.args.kind.now _ _ _ _ _ _ _ c.insert.result.key holds (may at.After-self) (fits at.After-self) (rw number at (made at.After-queue_number)));
+      log_room = rw c.push.ensures (c.self.invariant.log_room);
+      open_room = c.self.invariant.open_room;
+      gone_room = c.self.invariant.gone_room;
+    }

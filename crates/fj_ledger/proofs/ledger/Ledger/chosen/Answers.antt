@@ -21,13 +21,13 @@ own c =
     let l = c.self.inside.limits in
     let below : l.submitters + c.args.w < queues_in l = omega (arith, within c) in
     c.len.ensures ∙ ap (λ q. length (queue_at c.self.inside.queues q)) c.queue_number-own.ensures
-    ∙ ap length (c.self.invariant.0.queues_kept.each (l.submitters + c.args.w) below ∙ ap (queue c.self.inside.log.events) (work_owner l c.args.w))
+    ∙ ap length (c.self.invariant.holds.queues_kept.each (l.submitters + c.args.w) below ∙ ap (queue c.self.inside.log.events) (work_owner l c.args.w))
 
 -- what was found is what the scan of the definition finds
 scanned : (c : After-first_from) → c.args.w < c.self.inside.limits.workers → ComesFrom c.self.inside.limits c.self.inside.log.events (first_queued c.self.inside.log.events (scan_order c.self.inside.limits c.args.r)) c.first_from.result
 scanned c inside =
     let l = c.self.inside.limits in
-    let kept = c.self.invariant.0.queues_kept in
+    let kept = c.self.invariant.holds.queues_kept in
     let found : c.first_from.result ≡ first_filled c.self.inside.queues.lists (places_from (queues_in l) c.args.r) =
     c.first_from.ensures.scan ∙ ap (λ n. first_filled c.self.inside.queues.lists (places_from n c.args.r)) kept.count in
     rw found (scan_found l c.self.inside.log.events c.self.inside.queues.lists c.args.r (omega arith) kept.each)

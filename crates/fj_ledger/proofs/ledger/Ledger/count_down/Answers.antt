@@ -16,7 +16,7 @@ arrive-requires c =
     let h = c.self.inside.log.events in
     let is : is_completer h c.args.c.serial ≡ true = subst (λ (p : Past). is_completer p.events c.args.c.serial ≡ true) (sym c.self.view_is) c.requires.completer in
     let l = located c.self.inside.tree c.args.c.serial c.renew.result c.unwrap-h.result c.renew.ensures.found c.renew.ensures.good c.unwrap-h.ensures in
-    completer_at h c.self.inside.tree c.args.c.serial c.unwrap-h.result l (c.self.invariant.0.tree_kept.each c.unwrap-h.result.key l.found l.at) is
+    completer_at h c.self.inside.tree c.args.c.serial c.unwrap-h.result l (c.self.invariant.holds.tree_kept.each c.unwrap-h.result.key l.found l.at) is
 
 pub invariant_of-self : goal.invariant_of-self
 invariant_of-self c =
@@ -26,9 +26,9 @@ invariant_of-self c =
     let may : Allowed pool h (Dec c.args.c.serial) = subst (λ (p : Past). Allowed p.pool p.events (Dec c.args.c.serial)) (sym c.self.view_is) c.requires.may in
     let is : is_completer h c.args.c.serial ≡ true = subst (λ (p : Past). is_completer p.events c.args.c.serial ≡ true) (sym c.self.view_is) c.requires.completer in
     let l = located c.self.inside.tree c.args.c.serial c.renew.result c.unwrap-h.result c.renew.ensures.found c.renew.ensures.good c.unwrap-h.ensures in
-    let counted : c.arrive.result ≡ Counted = counted_at pool h c.args.c.serial _ _ _ _ _ _ c.unwrap-h.result c.arrive.result c.self.invariant.0 l may c.arrive.ensures.answer in (
-      rw (c.push.ensures, c.arrive.ensures.arrived, counted, ap (λ (x : Handle). x.serial) c.c.view_is) (count_down_holds pool h c.args.c.serial _ _ _ _ _ _ c.unwrap-h.result c.self.invariant.0 c.renew.ensures.sound l may is fits),
-      rw c.push.ensures (c.self.invariant.1),
-      c.self.invariant.2,
-      c.self.invariant.3,
-    )
+    let counted : c.arrive.result ≡ Counted = counted_at pool h c.args.c.serial _ _ _ _ _ _ c.unwrap-h.result c.arrive.result c.self.invariant.holds l may c.arrive.ensures.answer in record {
+      holds = rw (c.push.ensures, c.arrive.ensures.arrived, counted, ap (λ (x : Handle). x.serial) c.c.view_is) (count_down_holds pool h c.args.c.serial _ _ _ _ _ _ c.unwrap-h.result c.self.invariant.holds c.renew.ensures.sound l may is fits);
+      log_room = rw c.push.ensures (c.self.invariant.log_room);
+      open_room = c.self.invariant.open_room;
+      gone_room = c.self.invariant.gone_room;
+    }

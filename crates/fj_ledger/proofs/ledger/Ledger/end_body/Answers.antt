@@ -37,7 +37,7 @@ unwrap-h-requires c =
     let at = (goal.at.unwrap-h-requires c).After-self in
     let pool : Pool = record { mode = c.self.inside.mode; limits = c.self.inside.limits } in
     let h = c.self.inside.log.events in
-    let holds = c.self.invariant.0 in
+    let holds = c.self.invariant.holds in
     rw c.renew.ensures.found (holds.tree_kept.all c.args.t.serial (held_kept pool h c.args.w c.args.t.serial holds.lawful (get_is_in c.args.t.serial (stack h c.args.w) (length (stack h c.args.w) - 1) (may at).0)))
 
 found : (c : After-unwrap-h) → IsLocated c.self.inside.tree c.args.t.serial c.unwrap-h.result
@@ -50,7 +50,7 @@ read c l =
     let here = read_at c.self.inside.tree c.args.t.serial c.unwrap-h.result l c.unwrap.result.now (rw c.unwrap.ensures at c.get.ensures) in
     c.stays_open-stays.ensures
     ∙ ap (λ (r : Record). is_completer_kind (Some r.kind) && not (is_spent r)) here
-    ∙ stays_told h l.found (c.self.invariant.0.tree_kept.each c.unwrap-h.result.key l.found l.at)
+    ∙ stays_told h l.found (c.self.invariant.holds.tree_kept.each c.unwrap-h.result.key l.found l.at)
     ∙ ap (opens h) (l.serial ∙ l.number)
 
 some_last : (ts : List ℕ) (t : ℕ) → last_of ts ≡ Some t → 0 < length ts
@@ -62,9 +62,9 @@ push-requires-then-stays c =
     let at = (goal.at.push-requires-then-stays c).After-self in
     let pool : Pool = record { mode = c.self.inside.mode; limits = c.self.inside.limits } in
     let h = c.self.inside.log.events in
-    let holds = c.self.invariant.0 in
+    let holds = c.self.invariant.holds in
     let short = open_is_short pool h c.args.w holds.lawful (within at) (some_last (stack h c.args.w) c.args.t.serial (may at).0) in
-    omega (arith, short, few_live pool h holds.lawful, ap (λ (ts : List ℕ). length ts) holds.open_kept, c.self.invariant.2)
+    omega (arith, short, few_live pool h holds.lawful, ap (λ (ts : List ℕ). length ts) holds.open_kept, c.self.invariant.open_room)
 
 pub invariant_of-self : goal.invariant_of-self
 invariant_of-self c =
@@ -72,18 +72,18 @@ invariant_of-self c =
     let pool : Pool = record { mode = c.self.inside.mode; limits = c.self.inside.limits } in
     let h = c.self.inside.log.events in
     let l = found at.After-unwrap-h in
-    let is = sym (read at.After-stays_open-stays l) ∙ c.if-stays.true in (
-      rw (c.push.ensures, c.take_last.ensures, c.set_place.ensures, c.push-then-stays.ensures, c.w.view_is, ap (λ (x : Handle). x.serial) c.t.view_is)
-          (ended_holds pool h c.args.t.serial c.args.w true _ _ _ _ _ _ _ _ _ c.unwrap-h.result c.self.invariant.0 c.renew.ensures.sound l (may at.After-self) (within at.After-self) (fits at.After-self) is refl refl (sym (append-nil c.self.inside.gone.items))),
-      rw c.push.ensures (c.self.invariant.1),
-      rw c.push-then-stays.ensures (c.self.invariant.2),
-      c.self.invariant.3,
-    )
+    let is = sym (read at.After-stays_open-stays l) ∙ c.if-stays.true in record {
+      holds = rw (c.push.ensures, c.take_last.ensures, c.set_place.ensures, c.push-then-stays.ensures, c.w.view_is, ap (λ (x : Handle). x.serial) c.t.view_is)
+          (ended_holds pool h c.args.t.serial c.args.w true _ _ _ _ _ _ _ _ _ c.unwrap-h.result c.self.invariant.holds c.renew.ensures.sound l (may at.After-self) (within at.After-self) (fits at.After-self) is refl refl (sym (append-nil c.self.inside.gone.items)));
+      log_room = rw c.push.ensures (c.self.invariant.log_room);
+      open_room = rw c.push-then-stays.ensures (c.self.invariant.open_room);
+      gone_room = c.self.invariant.gone_room;
+    }
 
 pub push_reserved-requires : goal.push_reserved-requires
 push_reserved-requires c =
     let at = (goal.at.push_reserved-requires c).After-self in
-    omega (arith, gone_room _ _ _ _ _ _ _ _ c.self.invariant.0, fits at, c.self.inside.gone.ok.0, c.self.invariant.3)
+    omega (arith, gone_room _ _ _ _ _ _ _ _ c.self.invariant.holds, fits at, c.self.inside.gone.ok.0, c.self.invariant.gone_room)
 
 pub invariant_of-self-else-stays : goal.invariant_of-self-else-stays
 invariant_of-self-else-stays c =
@@ -91,10 +91,10 @@ invariant_of-self-else-stays c =
     let pool : Pool = record { mode = c.self.inside.mode; limits = c.self.inside.limits } in
     let h = c.self.inside.log.events in
     let l = found at.After-unwrap-h in
-    let is = sym (read at.After-stays_open-stays l) ∙ c.if-stays.false in (
-      rw (c.push.ensures, c.take_last.ensures, c.set_place-else-stays.ensures, c.push_reserved.ensures.items, c.w.view_is, ap (λ (x : Handle). x.serial) c.t.view_is)
-          (ended_holds pool h c.args.t.serial c.args.w false _ _ _ _ _ _ _ _ _ c.unwrap-h.result c.self.invariant.0 c.renew.ensures.sound l (may at.After-self) (within at.After-self) (fits at.After-self) is refl (sym (append-nil c.self.inside.open_tasks.list)) refl),
-      rw c.push.ensures (c.self.invariant.1),
-      c.self.invariant.2,
-      omega (arith, c.push_reserved.ensures.capacity, c.self.invariant.3),
-    )
+    let is = sym (read at.After-stays_open-stays l) ∙ c.if-stays.false in record {
+      holds = rw (c.push.ensures, c.take_last.ensures, c.set_place-else-stays.ensures, c.push_reserved.ensures.items, c.w.view_is, ap (λ (x : Handle). x.serial) c.t.view_is)
+          (ended_holds pool h c.args.t.serial c.args.w false _ _ _ _ _ _ _ _ _ c.unwrap-h.result c.self.invariant.holds c.renew.ensures.sound l (may at.After-self) (within at.After-self) (fits at.After-self) is refl (sym (append-nil c.self.inside.open_tasks.list)) refl);
+      log_room = rw c.push.ensures (c.self.invariant.log_room);
+      open_room = c.self.invariant.open_room;
+      gone_room = omega (arith, c.push_reserved.ensures.capacity, c.self.invariant.gone_room);
+    }

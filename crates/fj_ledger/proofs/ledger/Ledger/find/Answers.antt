@@ -6,7 +6,7 @@ use Rattle.fj_ledger.proofs.Histories.Lawfuls.{lawful}
 use Rattle.fj_ledger.proofs.ledger.Ledger.find.Goals as goal
 
 pub returns-in_err-h-clause-lawful : goal.returns-in_err-h-clause-lawful
-returns-in_err-h-clause-lawful c = subst (λ (p : Past). IsLawful p.pool (limit p) p.events) c.self.view_is (lawful _ _ _ _ _ _ _ _ c.self.invariant.0)
+returns-in_err-h-clause-lawful c = subst (λ (p : Past). IsLawful p.pool (limit p) p.events) c.self.view_is (lawful _ _ _ _ _ _ _ _ c.self.invariant.holds)
 
 pub returns-clause-lawful : goal.returns-clause-lawful
-returns-clause-lawful c = subst (λ (p : Past). IsLawful p.pool (limit p) p.events) c.self.view_is (lawful _ _ _ _ _ _ _ _ c.self.invariant.0)
+returns-clause-lawful c = subst (λ (p : Past). IsLawful p.pool (limit p) p.events) c.self.view_is (lawful _ _ _ _ _ _ _ _ c.self.invariant.holds)

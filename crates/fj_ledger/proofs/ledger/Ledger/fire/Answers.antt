@@ -19,15 +19,15 @@ fire-requires c =
     let h = c.self.inside.log.events in
     let is : is_completer h c.args.c.serial ≡ true = subst (λ (p : Past). is_completer p.events c.args.c.serial ≡ true) (sym c.self.view_is) c.requires.completer in
     let l = located c.self.inside.tree c.args.c.serial c.renew.result c.unwrap-h.result c.renew.ensures.found c.renew.ensures.good c.unwrap-h.ensures in
-    completer_at h c.self.inside.tree c.args.c.serial c.unwrap-h.result l (c.self.invariant.0.tree_kept.each c.unwrap-h.result.key l.found l.at) is
+    completer_at h c.self.inside.tree c.args.c.serial c.unwrap-h.result l (c.self.invariant.holds.tree_kept.each c.unwrap-h.result.key l.found l.at) is
 
 pub close-requires-clause-once : goal.close-requires-clause-once
-close-requires-clause-once c = open_once _ _ _ _ _ _ _ _ c.self.invariant.0
+close-requires-clause-once c = open_once _ _ _ _ _ _ _ _ c.self.invariant.holds
 
 pub close-requires-clause-room : goal.close-requires-clause-room
 close-requires-clause-room c =
     let fits : length c.self.inside.log.events < length c.self.inside.log.sealed + c.self.inside.limits.events = subst (λ (p : Past). length p.events < limit p) (sym c.self.view_is) c.requires.fits in
-    omega (arith, gone_room _ _ _ _ _ _ _ _ c.self.invariant.0, fits, c.self.invariant.3)
+    omega (arith, gone_room _ _ _ _ _ _ _ _ c.self.invariant.holds, fits, c.self.invariant.gone_room)
 
 pub invariant_of-self : goal.invariant_of-self
 invariant_of-self c =
@@ -43,10 +43,10 @@ invariant_of-self c =
     let given : receiver t (hooks h).just_ended (hooks h).last_worker ≡ Some w = subst (λ (p : Past). receiver t (hooks p.events).just_ended (hooks p.events).last_worker ≡ Some w) (sym c.self.view_is) c.requires.given in
     let l = located c.self.inside.tree t c.renew.result c.unwrap-h.result c.renew.ensures.found c.renew.ensures.good c.unwrap-h.ensures in
     let read = read_at c.self.inside.tree t c.unwrap-h.result l c.unwrap.result.now (rw c.unwrap.ensures at c.get.ensures) in
-    let hook : InHand = record { completer = t; parent = c.parent-parent.result; how = c.args.how; released = None } in (
-      rw (c.push.ensures, c.close.ensures.tree, c.close.ensures.open, c.close.ensures.gone, c.fire.ensures, c.w.view_is, ap (λ (x : Handle). x.serial) c.c.view_is)
-          (fire_holds pool h t w c.args.how _ _ _ hook _ _ _ c.unwrap-h.result c.self.invariant.0 c.renew.ensures.sound l may is fits within free given refl (c.parent-parent.ensures ∙ ap (λ (r : Record). parent_in (Some r.kind)) read) refl refl),
-      rw c.push.ensures (c.self.invariant.1),
-      omega (arith, c.close.ensures.open_room, c.self.invariant.2),
-      omega (arith, c.close.ensures.gone_room, c.self.invariant.3),
-    )
+    let hook : InHand = record { completer = t; parent = c.parent-parent.result; how = c.args.how; released = None } in record {
+      holds = rw (c.push.ensures, c.close.ensures.tree, c.close.ensures.open, c.close.ensures.gone, c.fire.ensures, c.w.view_is, ap (λ (x : Handle). x.serial) c.c.view_is)
+          (fire_holds pool h t w c.args.how _ _ _ hook _ _ _ c.unwrap-h.result c.self.invariant.holds c.renew.ensures.sound l may is fits within free given refl (c.parent-parent.ensures ∙ ap (λ (r : Record). parent_in (Some r.kind)) read) refl refl);
+      log_room = rw c.push.ensures (c.self.invariant.log_room);
+      open_room = omega (arith, c.close.ensures.open_room, c.self.invariant.open_room);
+      gone_room = omega (arith, c.close.ensures.gone_room, c.self.invariant.gone_room);
+    }

@@ -15,5 +15,5 @@ returns c =
     let l = located tree t c.renew.result c.unwrap-h.result c.renew.ensures.found c.renew.ensures.good c.unwrap-h.ensures in
     let read = read_at tree t c.unwrap-h.result l c.unwrap.result.now (rw c.unwrap.ensures at c.get.ensures) in
     let told : nat_lt 0 l.found.children ≡ has_kept_child h t =
-    children_tell c.self.inside.limits h tree t c.unwrap-h.result.key l.found c.self.invariant.0.tree_kept c.renew.ensures.sound l.at (l.serial ∙ l.number) in
+    children_tell c.self.inside.limits h tree t c.unwrap-h.result.key l.found c.self.invariant.holds.tree_kept c.renew.ensures.sound l.at (l.serial ∙ l.number) in
     ap (λ (r : Record). nat_lt 0 r.children) read ∙ told ∙ ap (λ (p : Past). has_kept_child p.events t) c.self.view_is

@@ -6,4 +6,4 @@ use Rattle.fj_ledger.proofs.Histories.Lawfuls.{lawful}
 use Rattle.fj_ledger.proofs.ledger.Ledger.has_worker.Goals as goal
 
 pub returns-clause-lawful : goal.returns-clause-lawful
-returns-clause-lawful c = subst (λ (p : Past). IsLawful p.pool (limit p) p.events) c.self.view_is (lawful _ _ _ _ _ _ _ _ c.self.invariant.0)
+returns-clause-lawful c = subst (λ (p : Past). IsLawful p.pool (limit p) p.events) c.self.view_is (lawful _ _ _ _ _ _ _ _ c.self.invariant.holds)

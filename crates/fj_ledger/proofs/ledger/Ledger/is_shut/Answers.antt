@@ -6,7 +6,7 @@ use Rattle.fj_ledger.proofs.Histories.Lawfuls.{lawful}
 use Rattle.fj_ledger.proofs.ledger.Ledger.is_shut.Goals as goal
 
 pub returns-then-is_closed-clause-lawful : goal.returns-then-is_closed-clause-lawful
-returns-then-is_closed-clause-lawful c = subst (λ (p : Past). IsLawful p.pool (limit p) p.events) c.self.view_is (lawful _ _ _ _ _ _ _ _ c.self.invariant.0)
+returns-then-is_closed-clause-lawful c = subst (λ (p : Past). IsLawful p.pool (limit p) p.events) c.self.view_is (lawful _ _ _ _ _ _ _ _ c.self.invariant.holds)
 
 pub returns-else-is_closed-clause-lawful : goal.returns-else-is_closed-clause-lawful
-returns-else-is_closed-clause-lawful c = subst (λ (p : Past). IsLawful p.pool (limit p) p.events) c.self.view_is (lawful _ _ _ _ _ _ _ _ c.self.invariant.0)
+returns-else-is_closed-clause-lawful c = subst (λ (p : Past). IsLawful p.pool (limit p) p.events) c.self.view_is (lawful _ _ _ _ _ _ _ _ c.self.invariant.holds)

@@ -10,7 +10,7 @@ pub returns-clause-record : goal.returns-clause-record
 returns-clause-record c =
     let h = c.self.inside.log.events in
     let limits = c.self.inside.limits in
-    rw (c.look.ensures.found, ← c.self.view_is) (looked limits h c.self.inside.tree c.args.t.serial c.self.invariant.0.tree_kept)
+    rw (c.look.ensures.found, ← c.self.view_is) (looked limits h c.self.inside.tree c.args.t.serial c.self.invariant.holds.tree_kept)
 
 pub returns-clause-lawful : goal.returns-clause-lawful
-returns-clause-lawful c = subst (λ (p : Past). IsLawful p.pool (limit p) p.events) c.self.view_is (lawful _ _ _ _ _ _ _ _ c.self.invariant.0)
+returns-clause-lawful c = subst (λ (p : Past). IsLawful p.pool (limit p) p.events) c.self.view_is (lawful _ _ _ _ _ _ _ _ c.self.invariant.holds)

@@ -25,12 +25,12 @@ pub insert-h-requires-clause-made : goal.insert-h-requires-clause-made
 insert-h-requires-clause-made c =
     let at = (goal.at.insert-h-requires-clause-made c).After-self in
     let h = c.self.inside.log.events in
-    omega (arith, c.self.invariant.0.tree_kept.made, few_accepted h, fits at, c.self.invariant.0.within.few_events)
+    omega (arith, c.self.invariant.holds.tree_kept.made, few_accepted h, fits at, c.self.invariant.holds.within.few_events)
 
 pub insert-h-requires-clause-room : goal.insert-h-requires-clause-room
 insert-h-requires-clause-room c =
     let at = (goal.at.insert-h-requires-clause-room c).After-self in
-    let keeps = c.self.invariant.0.tree_kept in
+    let keeps = c.self.invariant.holds.tree_kept in
     omega (arith, keeps.live, keeps.room, (may at).0.room)
 
 pub insert-h-requires-clause-pending : goal.insert-h-requires-clause-pending
@@ -42,9 +42,9 @@ pub push-requires-2 : goal.push-requires-2
 push-requires-2 c =
     let pool : Pool = record { mode = c.self.inside.mode; limits = c.self.inside.limits } in
     let h = c.self.inside.log.events in
-    let holds = c.self.invariant.0 in
+    let holds = c.self.invariant.holds in
     let at = (goal.at.push-requires-2 c).After-self in
-    omega (arith, few_open pool h holds.lawful, (may at).0.room, ap (λ (ts : List ℕ). length ts) holds.open_kept, c.self.invariant.2)
+    omega (arith, few_open pool h holds.lawful, (may at).0.room, ap (λ (ts : List ℕ). length ts) holds.open_kept, c.self.invariant.open_room)
 
 -- what the insertion left
 made : (c : After-insert-h) → IsMade c.self.inside.tree c.insert-h.new.self c.insert-h.result.key c.insert-h.result.serial c.trigger.result Open
@@ -55,12 +55,12 @@ invariant_of-self c =
     let at = goal.at.invariant_of-self c in
     let pool : Pool = record { mode = c.self.inside.mode; limits = c.self.inside.limits } in
     let h = c.self.inside.log.events in
-    let holds = c.self.invariant.0 in
+    let holds = c.self.invariant.holds in
     let number : c.insert-h.result.serial ≡ accepted h = c.insert-h.ensures.number ∙ holds.tree_kept.made in
-    let read : c.h.inside.serial ≡ c.insert-h.result.serial = ap (λ (x : Handle). x.serial) c.h.view_is in (
-      rw (c.push.ensures, c.push-2.ensures, c.trigger-2.ensures, read, number)
-          (trigger_holds pool h (accepted h) (Completer true c.args.count None) _ _ _ _ _ _ _ c.insert-h.result.key holds (may at.After-self) (fits at.After-self) (rw (number, c.trigger.ensures) at (made at.After-insert-h))),
-      rw c.push.ensures (c.self.invariant.1),
-      rw c.push-2.ensures (c.self.invariant.2),
-      c.self.invariant.3,
-    )
+    let read : c.h.inside.serial ≡ c.insert-h.result.serial = ap (λ (x : Handle). x.serial) c.h.view_is in record {
+      holds = rw (c.push.ensures, c.push-2.ensures, c.trigger-2.ensures, read, number)
+          (trigger_holds pool h (accepted h) (Completer true c.args.count None) _ _ _ _ _ _ _ c.insert-h.result.key holds (may at.After-self) (fits at.After-self) (rw (number, c.trigger.ensures) at (made at.After-insert-h)));
+      log_room = rw c.push.ensures (c.self.invariant.log_room);
+      open_room = rw c.push-2.ensures (c.self.invariant.open_room);
+      gone_room = c.self.invariant.gone_room;
+    }

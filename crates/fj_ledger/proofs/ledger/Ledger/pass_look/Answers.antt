@@ -28,7 +28,7 @@ unwrap-requires c =
     let at = (goal.at.unwrap-requires c).After-self in
     let pool : Pool = record { mode = c.self.inside.mode; limits = c.self.inside.limits } in
     let h = c.self.inside.log.events in
-    let holds = c.self.invariant.0 in
+    let holds = c.self.invariant.holds in
     rw c.renew.ensures.found (holds.tree_kept.all c.args.t.serial (held_kept pool h c.args.w c.args.t.serial holds.lawful (get_is_in c.args.t.serial (stack h c.args.w) (length (stack h c.args.w) - 1) (may at).0)))
 
 pub pass_look-requires : goal.pass_look-requires
@@ -36,14 +36,14 @@ pass_look-requires c =
     let at = (goal.at.pass_look-requires c).After-self in
     let h = c.self.inside.log.events in
     let l = located c.self.inside.tree c.args.t.serial c.renew.result c.unwrap.result c.renew.ensures.found c.renew.ensures.good c.unwrap.ensures in
-    completer_at h c.self.inside.tree c.args.t.serial c.unwrap.result l (c.self.invariant.0.tree_kept.each c.unwrap.result.key l.found l.at) (completer at)
+    completer_at h c.self.inside.tree c.args.t.serial c.unwrap.result l (c.self.invariant.holds.tree_kept.each c.unwrap.result.key l.found l.at) (completer at)
 
 pub returns-clause-climbs : goal.returns-clause-climbs
 returns-clause-climbs c =
     let at = (goal.at.returns-clause-climbs c).After-self in
     let pool : Pool = record { mode = c.self.inside.mode; limits = c.self.inside.limits } in
     let h = c.self.inside.log.events in
-    let holds = c.self.invariant.0 in
+    let holds = c.self.invariant.holds in
     let l = located c.self.inside.tree c.args.t.serial c.renew.result c.unwrap.result c.renew.ensures.found c.renew.ensures.good c.unwrap.ensures in
     let ends : Allowed pool h (End c.unwrap.result.serial c.args.w) = subst (λ (u : ℕ). Allowed pool h (End u c.args.w)) (sym l.number) (may at) in
     let told = climbs_told pool.limits pool h c.self.inside.tree c.unwrap.result c.args.w c.pass_look.result (record { so = holds.lawful; keeps = holds.tree_kept })
@@ -56,7 +56,7 @@ returns-clause-few c =
     let pool : Pool = record { mode = c.self.inside.mode; limits = c.self.inside.limits } in
     let h = c.self.inside.log.events in
     let t = c.args.t.serial in
-    let holds = c.self.invariant.0 in
+    let holds = c.self.invariant.holds in
     let l = located c.self.inside.tree t c.renew.result c.unwrap.result c.renew.ensures.found c.renew.ensures.good c.unwrap.ensures in
     let ends : Allowed pool h (End c.unwrap.result.serial c.args.w) = subst (λ (u : ℕ). Allowed pool h (End u c.args.w)) (sym l.number) (may at) in
     let told = climbs_told pool.limits pool h c.self.inside.tree c.unwrap.result c.args.w c.pass_look.result (record { so = holds.lawful; keeps = holds.tree_kept })

@@ -16,7 +16,7 @@ unwrap-requires c =
     let h = c.self.inside.log.events in
     let may : Allowed pool h (Add c.args.c.serial c.args.n) = subst (λ (p : Past). Allowed p.pool p.events (Add c.args.c.serial c.args.n)) (sym c.self.view_is) c.requires.may in
     let l = located c.self.inside.tree c.args.c.serial c.renew.result c.unwrap-h.result c.renew.ensures.found c.renew.ensures.good c.unwrap-h.ensures in
-    unrefused c.add.result _ c.add.ensures.refused (addable pool h c.args.c.serial c.args.n _ _ _ _ _ _ c.unwrap-h.result c.self.invariant.0 l may)
+    unrefused c.add.result _ c.add.ensures.refused (addable pool h c.args.c.serial c.args.n _ _ _ _ _ _ c.unwrap-h.result c.self.invariant.holds l may)
 
 pub invariant_of-self : goal.invariant_of-self
 invariant_of-self c =
@@ -25,9 +25,9 @@ invariant_of-self c =
     let fits : length h < length c.self.inside.log.sealed + c.self.inside.limits.events = subst (λ (p : Past). length p.events < limit p) (sym c.self.view_is) c.requires.fits in
     let may : Allowed pool h (Add c.args.c.serial c.args.n) = subst (λ (p : Past). Allowed p.pool p.events (Add c.args.c.serial c.args.n)) (sym c.self.view_is) c.requires.may in
     let l = located c.self.inside.tree c.args.c.serial c.renew.result c.unwrap-h.result c.renew.ensures.found c.renew.ensures.good c.unwrap-h.ensures in
-    let ok = unrefused c.add.result _ c.add.ensures.refused (addable pool h c.args.c.serial c.args.n _ _ _ _ _ _ c.unwrap-h.result c.self.invariant.0 l may) in (
-      rw (c.push.ensures, ap (λ (x : Handle). x.serial) c.c.view_is, of_ok c.add.result _ c.add.ensures.added ok) (raise_holds pool h c.args.c.serial c.args.n _ _ _ _ _ _ c.unwrap-h.result c.self.invariant.0 c.renew.ensures.sound l may fits),
-      rw c.push.ensures (c.self.invariant.1),
-      c.self.invariant.2,
-      c.self.invariant.3,
-    )
+    let ok = unrefused c.add.result _ c.add.ensures.refused (addable pool h c.args.c.serial c.args.n _ _ _ _ _ _ c.unwrap-h.result c.self.invariant.holds l may) in record {
+      holds = rw (c.push.ensures, ap (λ (x : Handle). x.serial) c.c.view_is, of_ok c.add.result _ c.add.ensures.added ok) (raise_holds pool h c.args.c.serial c.args.n _ _ _ _ _ _ c.unwrap-h.result c.self.invariant.holds c.renew.ensures.sound l may fits);
+      log_room = rw c.push.ensures (c.self.invariant.log_room);
+      open_room = c.self.invariant.open_room;
+      gone_room = c.self.invariant.gone_room;
+    }

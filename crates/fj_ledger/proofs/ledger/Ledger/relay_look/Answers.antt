@@ -18,7 +18,7 @@ kept c = subst (λ (p : Past). is_kept p.events c.args.t.serial ≡ true) (sym c
 pub unwrap-requires : goal.unwrap-requires
 unwrap-requires c =
     let at = (goal.at.unwrap-requires c).After-self in
-    rw c.renew.ensures.found (c.self.invariant.0.tree_kept.all c.args.t.serial (kept at))
+    rw c.renew.ensures.found (c.self.invariant.holds.tree_kept.all c.args.t.serial (kept at))
 
 pub relay_look-requires : goal.relay_look-requires
 relay_look-requires c =
@@ -30,7 +30,7 @@ count : (c : After-relay_look) → c.relay_look.result ≡ length (relayed c.sel
 count c =
     let pool : Pool = record { mode = c.self.inside.mode; limits = c.self.inside.limits } in
     let h = c.self.inside.log.events in
-    let holds = c.self.invariant.0 in
+    let holds = c.self.invariant.holds in
     let l = located c.self.inside.tree c.args.t.serial c.renew.result c.unwrap.result c.renew.ensures.found c.renew.ensures.good c.unwrap.ensures in
     c.relay_look.ensures
     ∙ relayed_told pool.limits pool h c.self.inside.tree c.unwrap.result (record { so = holds.lawful; keeps = holds.tree_kept }) (good_at c.self.inside.tree c.args.t.serial c.unwrap.result l)
@@ -47,6 +47,6 @@ returns-clause-few c =
     let pool : Pool = record { mode = c.self.inside.mode; limits = c.self.inside.limits } in
     let h = c.self.inside.log.events in
     let t = c.args.t.serial in
-    let holds = c.self.invariant.0 in
+    let holds = c.self.invariant.holds in
     let there : t < accepted h = ltb-true t (accepted h) (sym (is_numbered pool h holds.lawful t) ∙ kept_known h t (kept at.After-self)) in
     omega (arith, count at.After-relay_look, few_relayed h t, there, few_accepted h, holds.fits, holds.sealed_part.few, holds.within.few_events)

@@ -31,7 +31,7 @@ unwrap-requires-2 c =
     let at = goal.at.unwrap-requires-2 c in
     let pool : Pool = record { mode = c.self.inside.mode; limits = c.self.inside.limits } in
     let h = c.self.inside.log.events in
-    unrefused c.release.result _ c.release.ensures.refused (releasable pool h c.self.inside.tree c.args.t.serial c.unwrap-h.result (found at.After-unwrap-h) c.self.invariant.0.tree_kept c.renew.ensures.sound (may at.After-self))
+    unrefused c.release.result _ c.release.ensures.refused (releasable pool h c.self.inside.tree c.args.t.serial c.unwrap-h.result (found at.After-unwrap-h) c.self.invariant.holds.tree_kept c.renew.ensures.sound (may at.After-self))
 
 pub invariant_of-self : goal.invariant_of-self
 invariant_of-self c =
@@ -46,14 +46,14 @@ invariant_of-self c =
     c.release.ensures.removed c.release.ensures.others c.release.ensures.kept c.release.ensures.made c.release.ensures.room in
     let read = read_at tree t c.unwrap-h.result l c.unwrap.result.now (rw c.unwrap.ensures at c.get.ensures) in
     let number : r.serial ≡ t = l.serial ∙ l.number in
-    let told : status h t ≡ c.unwrap.result.now.status = ap (status h) (sym number) ∙ (c.self.invariant.0.tree_kept.each c.unwrap-h.result.key r l.at).status ∙ ap (λ (x : Record). x.status) (sym read) in
+    let told : status h t ≡ c.unwrap.result.now.status = ap (status h) (sym number) ∙ (c.self.invariant.holds.tree_kept.each c.unwrap-h.result.key r l.at).status ∙ ap (λ (x : Record). x.status) (sym read) in
     let f = option_map (released_with t c.unwrap.result.now.status) in
     let put = rw (ap (λ (x : Handle). x.serial) c.t.view_is) at c.keep_status.ensures in
     let left = put ∙ ap (map f) c.as_mut_slice.ensures.value in
-    let back = written_back c.self.inside.hands.len c.keep_status.new.hands c.self.inside.hands.items (ap (λ ks. length ks) put ∙ length-map c.as_mut_slice.result.now f ∙ c.as_mut_slice.ensures.len) ∙ left in (
-      rw (c.push.ensures, back, ap (λ (x : Handle). x.serial) c.t.view_is)
-          (release_holds pool h t c.unwrap.result.now.status _ _ _ tree c.release.new.self _ _ c.unwrap-h.result.key r c.self.invariant.0 c.renew.ensures.sound is number (may at.After-self) (fits at.After-self) told),
-      rw c.push.ensures (c.self.invariant.1),
-      c.self.invariant.2,
-      c.self.invariant.3,
-    )
+    let back = written_back c.self.inside.hands.len c.keep_status.new.hands c.self.inside.hands.items (ap (λ ks. length ks) put ∙ length-map c.as_mut_slice.result.now f ∙ c.as_mut_slice.ensures.len) ∙ left in record {
+      holds = rw (c.push.ensures, back, ap (λ (x : Handle). x.serial) c.t.view_is)
+          (release_holds pool h t c.unwrap.result.now.status _ _ _ tree c.release.new.self _ _ c.unwrap-h.result.key r c.self.invariant.holds c.renew.ensures.sound is number (may at.After-self) (fits at.After-self) told);
+      log_room = rw c.push.ensures (c.self.invariant.log_room);
+      open_room = c.self.invariant.open_room;
+      gone_room = c.self.invariant.gone_room;
+    }

@@ -20,9 +20,9 @@ invariant_of-self-2 c =
     let at = (goal.at.invariant_of-self-2 c).In_default in
     let pool : Pool = record { mode = c.self.inside.mode; limits = c.self.inside.limits } in
     let h = c.self.inside.log.events in
-    let sealed = may at _ c.self.view_is in (
-      rw (c.in_ok-events.ensures.sealed, c.clear.ensures.items) (sealed_holds pool h _ _ _ _ _ _ c.self.invariant.0 sealed.quiet (omega (arith, sealed.few))),
-      rw c.in_ok-events.ensures.sealed (c.self.invariant.1),
-      c.self.invariant.2,
-      rw c.clear.ensures.capacity (c.self.invariant.3),
-    )
+    let sealed = may at _ c.self.view_is in record {
+      holds = rw (c.in_ok-events.ensures.sealed, c.clear.ensures.items) (sealed_holds pool h _ _ _ _ _ _ c.self.invariant.holds sealed.quiet (omega (arith, sealed.few)));
+      log_room = rw c.in_ok-events.ensures.sealed (c.self.invariant.log_room);
+      open_room = c.self.invariant.open_room;
+      gone_room = rw c.clear.ensures.capacity (c.self.invariant.gone_room);
+    }

@@ -24,24 +24,24 @@ may : (c : After-self) → Allowed (record { mode = c.self.inside.mode; limits =
 may c = subst (λ (p : Past). Allowed p.pool p.events (Settle c.args.t.serial c.args.status)) (sym c.self.view_is) c.requires.may
 
 pub close-requires-clause-once : goal.close-requires-clause-once
-close-requires-clause-once c = open_once _ _ _ _ _ _ _ _ c.self.invariant.0
+close-requires-clause-once c = open_once _ _ _ _ _ _ _ _ c.self.invariant.holds
 
 pub close-requires-clause-room : goal.close-requires-clause-room
 close-requires-clause-room c =
-    omega (arith, gone_room _ _ _ _ _ _ _ _ c.self.invariant.0, fits (goal.at.close-requires-clause-room c).After-self, c.self.invariant.3)
+    omega (arith, gone_room _ _ _ _ _ _ _ _ c.self.invariant.holds, fits (goal.at.close-requires-clause-room c).After-self, c.self.invariant.gone_room)
 
 pub invariant_of-self : goal.invariant_of-self
 invariant_of-self c =
     let at = (goal.at.invariant_of-self c).After-self in
     let pool : Pool = record { mode = c.self.inside.mode; limits = c.self.inside.limits } in
     let h = c.self.inside.log.events in
-    let l = located c.self.inside.tree c.args.t.serial c.renew.result c.in-Some.h c.renew.ensures.found c.renew.ensures.good c.in-Some.is in (
-      rw (c.push.ensures, c.close.ensures.tree, c.close.ensures.open, c.close.ensures.gone, c.set_status.ensures, ap (λ (x : Handle). x.serial) c.t.view_is)
-          (settle_holds pool h c.args.t.serial c.args.status _ _ _ _ _ _ c.in-Some.h c.self.invariant.0 c.renew.ensures.sound l (may at) (fits at)),
-      rw c.push.ensures (c.self.invariant.1),
-      omega (arith, c.close.ensures.open_room, c.self.invariant.2),
-      omega (arith, c.close.ensures.gone_room, c.self.invariant.3),
-    )
+    let l = located c.self.inside.tree c.args.t.serial c.renew.result c.in-Some.h c.renew.ensures.found c.renew.ensures.good c.in-Some.is in record {
+      holds = rw (c.push.ensures, c.close.ensures.tree, c.close.ensures.open, c.close.ensures.gone, c.set_status.ensures, ap (λ (x : Handle). x.serial) c.t.view_is)
+          (settle_holds pool h c.args.t.serial c.args.status _ _ _ _ _ _ c.in-Some.h c.self.invariant.holds c.renew.ensures.sound l (may at) (fits at));
+      log_room = rw c.push.ensures (c.self.invariant.log_room);
+      open_room = omega (arith, c.close.ensures.open_room, c.self.invariant.open_room);
+      gone_room = omega (arith, c.close.ensures.gone_room, c.self.invariant.gone_room);
+    }
 
 none_there : {A : Type 0} {o : Option A} → o ≡ None → IsSome o → ⊥
 none_there none some = let bad = rw none at some in absurd cc
@@ -51,12 +51,12 @@ invariant_of-self-in_default c =
     let at = (goal.at.invariant_of-self-in_default c).After-self in
     let pool : Pool = record { mode = c.self.inside.mode; limits = c.self.inside.limits } in
     let h = c.self.inside.log.events in
-    let holds = c.self.invariant.0 in
+    let holds = c.self.invariant.holds in
     let none : is_kept h c.args.t.serial ≡ false = never (is_kept h c.args.t.serial) (λ kept. none_there (sym c.renew.ensures.found ∙ c.in_default.is) (holds.tree_kept.all c.args.t.serial kept)) in
     let kept : is_in c.args.t.serial (hook_completers h) ≡ true → is_kept h c.args.t.serial ≡ true = subst (λ (p : Past). is_in c.args.t.serial (hook_completers p.events) ≡ true → is_kept p.events c.args.t.serial ≡ true) (sym c.self.view_is) c.requires.kept in
-    let unlisted : is_in c.args.t.serial (hook_completers h) ≡ false = never (is_in c.args.t.serial (hook_completers h)) (λ there. true≢false (sym (kept there) ∙ none)) in (
-      rw (c.push.ensures, ap (λ (x : Handle). x.serial) c.t.view_is) (settle_left_holds pool h c.args.t.serial c.args.status _ _ _ _ _ _ holds (may at) (fits at) none unlisted),
-      rw c.push.ensures (c.self.invariant.1),
-      c.self.invariant.2,
-      c.self.invariant.3,
-    )
+    let unlisted : is_in c.args.t.serial (hook_completers h) ≡ false = never (is_in c.args.t.serial (hook_completers h)) (λ there. true≢false (sym (kept there) ∙ none)) in record {
+      holds = rw (c.push.ensures, ap (λ (x : Handle). x.serial) c.t.view_is) (settle_left_holds pool h c.args.t.serial c.args.status _ _ _ _ _ _ holds (may at) (fits at) none unlisted);
+      log_room = rw c.push.ensures (c.self.invariant.log_room);
+      open_room = c.self.invariant.open_room;
+      gone_room = c.self.invariant.gone_room;
+    }

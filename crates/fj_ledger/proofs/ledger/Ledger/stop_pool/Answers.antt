@@ -19,7 +19,7 @@ fits c = subst (λ (p : Past). length p.events < limit p) (sym c.self.view_is) c
 pub move_sorted-requires : goal.move_sorted-requires
 move_sorted-requires c =
     let at = (goal.at.move_sorted-requires c).After-self in
-    omega (arith, gone_room _ _ _ _ _ _ _ _ c.self.invariant.0, fits at, c.self.invariant.3)
+    omega (arith, gone_room _ _ _ _ _ _ _ _ c.self.invariant.holds, fits at, c.self.invariant.gone_room)
 
 pub invariant_of-self : goal.invariant_of-self
 invariant_of-self c =
@@ -34,10 +34,10 @@ invariant_of-self c =
     let value = c.as_mut_slice.ensures.value in
     let swept : c.cancel_released.new.hands ≡ map (option_map if_cancelled) hands = c.cancel_released.ensures ∙ ap (map (option_map if_cancelled)) value in
     let back = written_back c.self.inside.hands.len c.cancel_released.new.hands hands (ap (λ ks. length ks) c.cancel_released.ensures ∙ length-map c.as_mut_slice.result.now (option_map if_cancelled) ∙ c.as_mut_slice.ensures.len) ∙ swept in
-    let moved = c.move_sorted.ensures.moved in (
-      rw (c.push.ensures, back, c.move_sorted.ensures.left, moved.3)
-          (stop_holds pool h _ _ _ _ _ _ _ moved.0 c.self.invariant.0 may (fits at) is moved.1 moved.2),
-      rw c.push.ensures (c.self.invariant.1),
-      omega (arith, c.move_sorted.ensures.from_room, c.self.invariant.2),
-      omega (arith, c.move_sorted.ensures.to_room, c.self.invariant.3),
-    )
+    let moved = c.move_sorted.ensures.moved in record {
+      holds = rw (c.push.ensures, back, c.move_sorted.ensures.left, moved.3)
+          (stop_holds pool h _ _ _ _ _ _ _ moved.0 c.self.invariant.holds may (fits at) is moved.1 moved.2);
+      log_room = rw c.push.ensures (c.self.invariant.log_room);
+      open_room = omega (arith, c.move_sorted.ensures.from_room, c.self.invariant.open_room);
+      gone_room = omega (arith, c.move_sorted.ensures.to_room, c.self.invariant.gone_room);
+    }

@@ -30,7 +30,7 @@ within c = subst (λ (p : Past). queue_of c.args.source < queues_in p.pool.limit
 
 -- the task that is taken
 taken : (c : After-take_from-t) → queue_of c.args.source < queues_in c.self.inside.limits → end_of c.args.source (queue c.self.inside.log.events (owner_at c.self.inside.limits (queue_of c.args.source))) ≡ Some c.take_from-t.result
-taken c within = ap (end_of c.args.source) (sym (c.self.invariant.0.queues_kept.each (queue_of c.args.source) within)) ∙ sym c.take_from-t.ensures.taken
+taken c within = ap (end_of c.args.source) (sym (c.self.invariant.holds.queues_kept.each (queue_of c.args.source) within)) ∙ sym c.take_from-t.ensures.taken
 
 pub unwrap-h-requires : goal.unwrap-h-requires
 unwrap-h-requires c =
@@ -38,7 +38,7 @@ unwrap-h-requires c =
     let h = c.self.inside.log.events in
     let t = c.take_from-t.result in
     let o = owner_at c.self.inside.limits (queue_of c.args.source) in
-    let holds = c.self.invariant.0 in
+    let holds = c.self.invariant.holds in
     let pool : Pool = record { mode = c.self.inside.mode; limits = c.self.inside.limits } in
     rw c.find.ensures.found (holds.tree_kept.all t (queued_kept pool h o t holds.lawful (in_end c.args.source (queue h o) t (taken at.After-take_from-t (within at.After-self)))))
 
@@ -52,7 +52,7 @@ undone c l =
     let here = read_at c.self.inside.tree c.take_from-t.result c.unwrap-h.result l c.unwrap.result.now (rw c.unwrap.ensures at c.get.ensures) in
     c.is_undone.ensures
     ∙ ap (λ (r : Record). is_undone r.status) here
-    ∙ ap is_undone (sym (c.self.invariant.0.tree_kept.each c.unwrap-h.result.key l.found l.at).status)
+    ∙ ap is_undone (sym (c.self.invariant.holds.tree_kept.each c.unwrap-h.result.key l.found l.at).status)
     ∙ ap (λ t. is_undone (status h t)) (l.serial ∙ l.number)
 
 -- the event may follow
@@ -64,7 +64,7 @@ may c b within is =
 pub push_reserved-requires : goal.push_reserved-requires
 push_reserved-requires c =
     let at = (goal.at.push_reserved-requires c).After-self in
-    omega (arith, gone_room _ _ _ _ _ _ _ _ c.self.invariant.0, fits at, c.self.inside.gone.ok.0, c.self.invariant.3)
+    omega (arith, gone_room _ _ _ _ _ _ _ _ c.self.invariant.holds, fits at, c.self.inside.gone.ok.0, c.self.invariant.gone_room)
 
 pub invariant_of-self : goal.invariant_of-self
 invariant_of-self c =
@@ -73,20 +73,20 @@ invariant_of-self c =
     let h = c.self.inside.log.events in
     let l = found at.After-unwrap-h in
     let here = within at.After-self in
-    let done = sym (undone at.After-is_undone l) ∙ c.if-not-is_undone.true in (
-      rw (c.push.ensures, c.take_from-t.ensures.rest, c.set_place.ensures, c.push_reserved.ensures.items)
-          (skipped_holds pool h c.take_from-t.result c.args.w c.args.source _ _ _ _ _ _ c.unwrap-h.result c.self.invariant.0 c.find.ensures.sound l (may at.After-take_from-t false here done) (fits at.After-self) here (taken at.After-take_from-t here)),
-      rw c.push.ensures (c.self.invariant.1),
-      c.self.invariant.2,
-      omega (arith, c.push_reserved.ensures.capacity, c.self.invariant.3),
-    )
+    let done = sym (undone at.After-is_undone l) ∙ c.if-not-is_undone.true in record {
+      holds = rw (c.push.ensures, c.take_from-t.ensures.rest, c.set_place.ensures, c.push_reserved.ensures.items)
+          (skipped_holds pool h c.take_from-t.result c.args.w c.args.source _ _ _ _ _ _ c.unwrap-h.result c.self.invariant.holds c.find.ensures.sound l (may at.After-take_from-t false here done) (fits at.After-self) here (taken at.After-take_from-t here));
+      log_room = rw c.push.ensures (c.self.invariant.log_room);
+      open_room = c.self.invariant.open_room;
+      gone_room = omega (arith, c.push_reserved.ensures.capacity, c.self.invariant.gone_room);
+    }
 
 pub push-requires-3-clause-room : goal.push-requires-3-clause-room
 push-requires-3-clause-room c =
     let at = goal.at.push-requires-3-clause-room c in
     let pool : Pool = record { mode = c.self.inside.mode; limits = c.self.inside.limits } in
     let h = c.self.inside.log.events in
-    let holds = c.self.invariant.0 in
+    let holds = c.self.invariant.holds in
     let w = worker at.After-self in
     let filled : 0 < length (queue h (owner_at c.self.inside.limits (queue_of c.args.source))) = subst (λ (p : Past). 0 < length (tasks_there p c.args.source)) (sym c.self.view_is) c.requires.filled in
     let short = stack_is_short pool h c.args.w (queue_of c.args.source) holds.lawful w (within at.After-self) filled in
@@ -99,10 +99,10 @@ invariant_of-self-2 c =
     let h = c.self.inside.log.events in
     let l = found at.After-unwrap-h in
     let here = within at.After-self in
-    let done = sym (undone at.After-is_undone l) ∙ c.if-not-is_undone.false in (
-      rw (c.push-2.ensures, c.take_from-t.ensures.rest, c.set_place-2.ensures, c.push-3.ensures, c.w.view_is)
-          (handed_holds pool h c.take_from-t.result c.args.w c.args.source _ _ _ _ _ _ c.unwrap-h.result c.self.invariant.0 c.find.ensures.sound l (may at.After-take_from-t true here done) (fits at.After-self) (worker at.After-self) here (taken at.After-take_from-t here)),
-      rw c.push-2.ensures (c.self.invariant.1),
-      c.self.invariant.2,
-      c.self.invariant.3,
-    )
+    let done = sym (undone at.After-is_undone l) ∙ c.if-not-is_undone.false in record {
+      holds = rw (c.push-2.ensures, c.take_from-t.ensures.rest, c.set_place-2.ensures, c.push-3.ensures, c.w.view_is)
+          (handed_holds pool h c.take_from-t.result c.args.w c.args.source _ _ _ _ _ _ c.unwrap-h.result c.self.invariant.holds c.find.ensures.sound l (may at.After-take_from-t true here done) (fits at.After-self) (worker at.After-self) here (taken at.After-take_from-t here));
+      log_room = rw c.push-2.ensures (c.self.invariant.log_room);
+      open_room = c.self.invariant.open_room;
+      gone_room = c.self.invariant.gone_room;
+    }

@@ -4,11 +4,11 @@ use Rattle.fj_ledger.proofs.log.Log.new.Goals as goal
 
 pub invariant_of-result : goal.invariant_of-result
 unfolding is_closed is_stopped
-invariant_of-result c = (
-  omega (arith, c.in_ok-with_capacity.ensures.capacity),
-  rw c.in_ok-with_capacity.ensures.items refl,
-  rw c.in_ok-with_capacity.ensures.items refl,
-  refl,
-  refl,
-  omega arith,
-)
+invariant_of-result c = record {
+  fits = omega (arith, c.in_ok-with_capacity.ensures.capacity);
+  closed = rw c.in_ok-with_capacity.ensures.items refl;
+  stopped = rw c.in_ok-with_capacity.ensures.items refl;
+  sealed = refl;
+  seals = refl;
+  few = omega arith;
+}

@@ -4,11 +4,11 @@ use Rattle.fj_ledger.proofs.log.Log.push.Goals as goal
 
 pub invariant_of-self : goal.invariant_of-self
 invariant_of-self c =
-    let whole = c.self.inside in (
-      omega (arith, c.push_reserved.ensures.capacity, c.self.invariant.0),
-      rw (c.push_reserved.ensures.items, ← append_assoc, c.is_close.ensures, c.self.invariant.1) (sym (closed_more _ c.args.event)),
-      rw (c.push_reserved.ensures.items, ← append_assoc, c.is_stop.ensures, c.self.invariant.2) (sym (stopped_more _ c.args.event)),
-      c.self.invariant.3,
-      c.self.invariant.4,
-      c.self.invariant.5,
-    )
+    let whole = c.self.inside in record {
+      fits = omega (arith, c.push_reserved.ensures.capacity, c.self.invariant.fits);
+      closed = rw (c.push_reserved.ensures.items, ← append_assoc, c.is_close.ensures, c.self.invariant.closed) (sym (closed_more _ c.args.event));
+      stopped = rw (c.push_reserved.ensures.items, ← append_assoc, c.is_stop.ensures, c.self.invariant.stopped) (sym (stopped_more _ c.args.event));
+      sealed = c.self.invariant.sealed;
+      seals = c.self.invariant.seals;
+      few = c.self.invariant.few;
+    }
