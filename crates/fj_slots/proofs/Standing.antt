@@ -160,36 +160,37 @@ from_aside {T} slots aside rest n x is took m =
 
 -- ---- it stays a shelf
 
-slot_shelf : {T : Type 0} (slots : List (Option (ℕ × T))) (aside : List (ℕ × T)) (n : ℕ) (o : Option (ℕ × T)) (i : ℕ) → i ≡ n % length slots → 0 < length slots
+slot_shelf : {T : Type 0} (slots : List (Option (ℕ × T))) (aside : List (ℕ × T)) (n : ℕ) (o : Option (ℕ × T)) (i : ℕ) → i ≡ n % length slots
     → ((m : ℕ) → is_in m (numbers aside) ≡ true → in_slot (Some o) m ≡ None) → IsShelf slots aside → IsShelf (set slots i o) aside
 unfolding guessed
-slot_shelf {T} slots aside n o i is some apart was = record {
+slot_shelf {T} slots aside n o i is apart was = record {
+  some = omega (arith, was.some, length-set slots i o);
   once = was.once;
   apart = λ m there. rw length-set (⊎_elim (here m there) (other m there) (cases_eq (m % length slots) i));
 }
   where
     within : i < length slots
-    within = omega (arith, is, mod_below n (length slots) some)
+    within = omega (arith, is, mod_below n (length slots) was.some)
 
     here : (m : ℕ) → is_in m (numbers aside) ≡ true → m % length slots ≡ i → in_slot (slice_get (set slots i o) (m % length slots)) m ≡ None
     here m there at = rw (at, slot_here slots i o within) (apart m there)
 
     other : (m : ℕ) → is_in m (numbers aside) ≡ true → m % length slots ≢ i → in_slot (slice_get (set slots i o) (m % length slots)) m ≡ None
-    other m there differs = rw (slot_there slots i (m % length slots) o (mod_below m (length slots) some) differs) (was.apart m there)
+    other m there differs = rw (slot_there slots i (m % length slots) o (mod_below m (length slots) was.some) differs) (was.apart m there)
 
 -- what the two places of a number say, where nothing stands under it
 neither : {T : Type 0} (first later : Option T) → or_else first later ≡ None → (first ≡ None) × (later ≡ None)
 neither None later is = (refl, is)
 neither (Some x) later is = absurd cc
 
-pub put_in_slot : {T : Type 0} (slots new : List (Option (ℕ × T))) (aside : List (ℕ × T)) (n : ℕ) (x : T) (i : ℕ) → IsShelf slots aside → 0 < length slots → i ≡ n % length slots → slice_get slots i ≡ Some None
-    → entry_of slots aside n ≡ None → new ≡ set slots i (Some (n, x)) → ((0 < length new) × IsShelf new aside) × (entry_of new aside ≡ with_entry (entry_of slots aside) n x)
+pub put_in_slot : {T : Type 0} (slots new : List (Option (ℕ × T))) (aside : List (ℕ × T)) (n : ℕ) (x : T) (i : ℕ) → IsShelf slots aside → i ≡ n % length slots → slice_get slots i ≡ Some None
+    → entry_of slots aside n ≡ None → new ≡ set slots i (Some (n, x)) → IsShelf new aside × (entry_of new aside ≡ with_entry (entry_of slots aside) n x)
 unfolding entry_of
-put_in_slot {T} slots new aside n x i was some is empty free at =
+put_in_slot {T} slots new aside n x i was is empty free at =
     rw at (
-      (omega (arith, some, length-set slots i (Some (n, x))), slot_shelf slots aside n (Some (n, x)) i is some apart was),
+      slot_shelf slots aside n (Some (n, x)) i is apart was,
       same_everywhere (entry_of (set slots i (Some (n, x))) aside) (with_entry (entry_of slots aside) n x)
-          (λ m. into_slot slots aside n x i is (omega (arith, is, mod_below n (length slots) some)) empty m (mod_below m (length slots) some)),
+          (λ m. into_slot slots aside n x i is (omega (arith, is, mod_below n (length slots) was.some)) empty m (mod_below m (length slots) was.some)),
     )
   where
     apart : (m : ℕ) → is_in m (numbers aside) ≡ true → (if n == m then Some x else None) ≡ None
@@ -199,14 +200,14 @@ put_in_slot {T} slots new aside n x i was some is empty free at =
         go true same = absurd (true≢false (sym (ap (λ v. is_in v (numbers aside)) (eqb-true n m same) ∙ there) ∙ none_aside aside n (neither (guessed slots n) (entry_in aside n) free).1))
         go false same = refl
 
-pub take_from_slot : {T : Type 0} (slots new : List (Option (ℕ × T))) (aside : List (ℕ × T)) (n : ℕ) (x : T) (i : ℕ) → IsShelf slots aside → 0 < length slots → i ≡ n % length slots → slice_get slots i ≡ Some (Some (n, x))
-    → new ≡ set slots i None → ((0 < length new) × IsShelf new aside) × (entry_of new aside ≡ without_entry (entry_of slots aside) n) × (Some x ≡ entry_of slots aside n)
+pub take_from_slot : {T : Type 0} (slots new : List (Option (ℕ × T))) (aside : List (ℕ × T)) (n : ℕ) (x : T) (i : ℕ) → IsShelf slots aside → i ≡ n % length slots → slice_get slots i ≡ Some (Some (n, x))
+    → new ≡ set slots i None → IsShelf new aside × (entry_of new aside ≡ without_entry (entry_of slots aside) n) × (Some x ≡ entry_of slots aside n)
 unfolding entry_of guessed
-take_from_slot {T} slots new aside n x i was some is filled at =
+take_from_slot {T} slots new aside n x i was is filled at =
     rw at (
-      (omega (arith, some, length-set slots i None), slot_shelf slots aside n None i is some (λ m there. refl) was),
+      slot_shelf slots aside n None i is (λ m there. refl) was,
       same_everywhere (entry_of (set slots i None) aside) (without_entry (entry_of slots aside) n)
-          (λ m. from_slot slots aside n x i is (omega (arith, is, mod_below n (length slots) some)) filled absent m (mod_below m (length slots) some)),
+          (λ m. from_slot slots aside n x i is (omega (arith, is, mod_below n (length slots) was.some)) filled absent m (mod_below m (length slots) was.some)),
       rw (← is, filled, eq-eqb n n refl) refl,
     )
   where
@@ -227,7 +228,7 @@ pub put_aside : {T : Type 0} (slots : List (Option (ℕ × T))) (aside : List (�
     → IsShelf slots (aside ++ (n, x) ∷ []) × (entry_of slots (aside ++ (n, x) ∷ []) ≡ with_entry (entry_of slots aside) n x)
 unfolding entry_of
 put_aside {T} slots aside n x was free = (
-  record { once = subst Once (sym (map-append (λ (i : ℕ × T). i.0) aside ((n, x) ∷ []))) (once_more (numbers aside) n (none_aside aside n none.1) was.once); apart = λ m there. apart m there },
+  record { some = was.some; once = subst Once (sym (map-append (λ (i : ℕ × T). i.0) aside ((n, x) ∷ []))) (once_more (numbers aside) n (none_aside aside n none.1) was.once); apart = λ m there. apart m there },
   same_everywhere (entry_of slots (aside ++ (n, x) ∷ [])) (with_entry (entry_of slots aside) n x) (into_aside slots aside n x none.0 none.1),
 )
   where
@@ -245,7 +246,7 @@ pub take_aside : {T : Type 0} (slots : List (Option (ℕ × T))) (aside new : Li
     → IsShelf slots new × (entry_of slots new ≡ without_entry (entry_of slots aside) n) × (Some x ≡ entry_of slots aside n)
 unfolding entry_of entry_in
 take_aside {T} slots aside new n x was took = (
-  record { once = λ m. omega (arith, was.once m, counts m); apart = λ m there. was.apart m (still m there) },
+  record { some = was.some; once = λ m. omega (arith, was.once m, counts m); apart = λ m there. was.apart m (still m there) },
   same_everywhere (entry_of slots new) (without_entry (entry_of slots aside) n) (from_aside slots aside new n x was took),
   rw (was.apart n here, took.2) (sym (found took.0)),
 )
@@ -316,12 +317,12 @@ room_aside {T} slots aside room was fewer =
 
 -- ---- an empty shelf
 
-pub nothing_stands : {T : Type 0} (room : ℕ) → 0 < room → ((0 < length (replicate {A = Option (ℕ × T)} room None)) × IsShelf (replicate {A = Option (ℕ × T)} room None) []) × (entry_of (replicate {A = Option (ℕ × T)} room None) [] ≡ no_entries {T = T})
+pub nothing_stands : {T : Type 0} (room : ℕ) → 0 < room → IsShelf (replicate {A = Option (ℕ × T)} room None) [] × (entry_of (replicate {A = Option (ℕ × T)} room None) [] ≡ no_entries {T = T})
 unfolding entry_of guessed entry_in
 nothing_stands {T} room some =
     let slots : List (Option (ℕ × T)) = replicate room None in
     let long : length slots ≡ room = length-replicate room None in (
-      (omega (arith, some, long), record { once = λ n. omega arith; apart = λ n there. absurd cc }),
+      record { some = omega (arith, some, long); once = λ n. omega arith; apart = λ n there. absurd cc },
       same_everywhere (entry_of slots []) no_entries (λ n. empty n),
     )
   where
@@ -345,14 +346,14 @@ in_slot_is {T} (Some (Some y)) n is = go (y.0 == n) refl is
     go false at there = absurd cc
 
 -- it is taken out of that slot
-pub take_read : {T : Type 0} (slots new : List (Option (ℕ × T))) (aside : List (ℕ × T)) (n i : ℕ) (result : Option T) (b : Bool) → IsShelf slots aside → 0 < length slots
+pub take_read : {T : Type 0} (slots new : List (Option (ℕ × T))) (aside : List (ℕ × T)) (n i : ℕ) (result : Option T) (b : Bool) → IsShelf slots aside
     → i ≡ n % length slots → b ≡ is_some (in_slot (slice_get slots i) n) → b ≡ true → result ≡ option_map (λ x. x.1) (get_or slots i None) → new ≡ set slots i None
-    → ((0 < length new) × IsShelf new aside) × (entry_of new aside ≡ without_entry (entry_of slots aside) n) × (result ≡ entry_of slots aside n)
-take_read {T} slots new aside n i result b was some at test held gives made =
+    → IsShelf new aside × (entry_of new aside ≡ without_entry (entry_of slots aside) n) × (result ≡ entry_of slots aside n)
+take_read {T} slots new aside n i result b was at test held gives made =
     let has : is_some (in_slot (slice_get slots i) n) ≡ true = sym test ∙ held in
     let there = in_slot_is (slice_get slots i) n has in
     let read : get_or slots i None ≡ Some (n, there.0) = get_or_from_slice_get slots i (Some (n, there.0)) None there.1 in
-    let done = take_from_slot slots new aside n there.0 i was some at there.1 made in
+    let done = take_from_slot slots new aside n there.0 i was at there.1 made in
     (done.0, done.1, gives ∙ ap (option_map (λ x. x.1)) read ∙ done.2)
 
 -- where the slot has it not, it is not the guess

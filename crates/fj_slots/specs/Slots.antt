@@ -1,5 +1,5 @@
 -- A map as it is kept: a row of slots, each of which is the guess for some numbers, and the entries whose slot another one filled.
-use Rattle.std.specs.Prelude.{ℕ, ◌≡◌, ◌==◌, ◌-◌, ◌≤◌, ◌%◌, ◌++◌, true, if◌then◌else◌, List, length, Option, Some, None, replicate, slice_get}
+use Rattle.std.specs.Prelude.{ℕ, ◌≡◌, ◌==◌, ◌-◌, ◌<◌, ◌≤◌, ◌%◌, ◌++◌, true, if◌then◌else◌, List, length, Option, Some, None, replicate, slice_get}
 use Rattle.fj_rules.specs.Lists.{is_in, or_else, times_in}
 use Rattle.fj_slots.specs.Aside.{numbers, entry_in}
 
@@ -22,7 +22,8 @@ module _ {T : Type 0} where
   unfoldable pub entry_of : List (Option (ℕ × T)) → List (ℕ × T) → ℕ → Option T
   entry_of slots aside n = or_else (guessed slots n) (entry_in aside n)
 
-  -- no number has two entries aside, and none of these has one in the slot of its guess
+  -- there is a slot, no number has two entries aside, and none of these has one in the slot of its guess
   pub record IsShelf (slots : List (Option (ℕ × T))) (aside : List (ℕ × T)) : Type 0 where
+    pub some : 0 < length slots
     pub once : (n : ℕ) → times_in n (numbers aside) ≤ 1
     pub apart : (n : ℕ) → is_in n (numbers aside) ≡ true → guessed slots n ≡ None

@@ -39,8 +39,14 @@ impl<B> Model for Hand<B> {
       hook = h.hook;
     } };
 
-    ghost invariant = { λ h. (4096 ≤ vec_capacity h.serials) × (4096 ≤ vec_capacity h.bodies) × (4096 ≤ vec_capacity h.joined)
-        × (length h.serials.items ≤ 4096) × (length h.bodies.items ≡ length h.serials.items) × (length h.joined.items ≡ length h.serials.items) };
+    ghost invariant = { λ h. record {
+      serials_fit : 4096 ≤ vec_capacity h.serials;
+      bodies_fit : 4096 ≤ vec_capacity h.bodies;
+      joined_fit : 4096 ≤ vec_capacity h.joined;
+      few : length h.serials.items ≤ 4096;
+      one_body_each : length h.bodies.items ≡ length h.serials.items;
+      one_note_each : length h.joined.items ≡ length h.serials.items;
+    } };
 }
 
 impl<B: Drop> Hand<B> {

@@ -18,7 +18,6 @@ pub struct SerialMap<T> {
 }
 
 impl<T> Model for SerialMap<T> {
-    ghost use Rattle.std.specs.Prelude.{◌≡◌, ◌<◌, length};
     ghost use Rattle.fj_slots.specs.Shelves.{Shelved};
     ghost use Rattle.fj_slots.specs.Slots.{IsShelf};
 
@@ -26,7 +25,7 @@ impl<T> Model for SerialMap<T> {
 
     ghost view = { λ s. record { slots = s.slots; aside = s.aside.items; room = s.aside.room } };
 
-    ghost invariant = { λ s. (0 < length s.slots) × IsShelf s.slots s.aside.items };
+    ghost invariant = { λ s. IsShelf s.slots s.aside.items };
 }
 
 impl<T: Drop> SerialMap<T> {

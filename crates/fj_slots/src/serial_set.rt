@@ -24,7 +24,10 @@ impl Model for SerialSet {
 
     ghost view = { λ s. record { items = s.numbers.items; room = s.marks.room } };
 
-    ghost invariant = { λ s. AreMarked (entries s.marks) s.numbers.items × (s.marks.room ≤ vec_capacity s.numbers) };
+    ghost invariant = { λ s. record {
+      marked : AreMarked (entries s.marks) s.numbers.items;
+      fits : s.marks.room ≤ vec_capacity s.numbers;
+    } };
 }
 
 impl SerialSet {

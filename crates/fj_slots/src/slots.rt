@@ -24,7 +24,11 @@ impl<T> Model for Slots<T> {
 
     ghost view = { λ s. padded s.written.items s.count None };
 
-    ghost invariant = { λ s. (0 < s.count) × (length s.written.items ≤ s.count) × (s.count ≤ vec_capacity s.written) };
+    ghost invariant = { λ s. record {
+      some : 0 < s.count;
+      within : length s.written.items ≤ s.count;
+      fits : s.count ≤ vec_capacity s.written;
+    } };
 }
 
 impl<T: Drop> Slots<T> {

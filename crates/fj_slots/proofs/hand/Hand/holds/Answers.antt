@@ -41,7 +41,7 @@ returns-then-len-serials g c =
     let q = c.self.inside in (
       λ is. absurd (true≢false (sym is)),
       λ all.
-          let same = sym (numbers_zip q.serials.items q.bodies.items c.self.invariant.4) ∙ ap (λ h. numbers h.stack) c.self.view_is ∙ all in
+          let same = sym (numbers_zip q.serials.items q.bodies.items c.self.invariant.one_body_each) ∙ ap (λ h. numbers h.stack) c.self.view_is ∙ all in
           absurd (c.if-len-serials.true (omega (arith, c.len.ensures, q.serials.ok.0, ap length same))),
     )
 
@@ -50,7 +50,7 @@ returns g c =
     let xs = c.self.inside.serials.items in
     let ys = c.args.serials.now in
     let long : length xs ≡ length ys = omega (arith, c.len.ensures, c.self.inside.serials.ok.0, c.if-len-serials.false) in
-    let are = numbers_zip xs c.self.inside.bodies.items c.self.invariant.4 in
+    let are = numbers_zip xs c.self.inside.bodies.items c.self.invariant.one_body_each in
     rw (← c.self.view_is, are) (
       λ is. same_number_lists xs ys long (λ k low. c.loop-i.invariant.0 is k (omega (arith, low, long, c.loop-i-test.false))),
       λ all. c.loop-i.invariant.1 (λ k low. ap (λ ns. get_or ns k 0) all),

@@ -9,6 +9,6 @@ returns-else-is_empty g c =
     let q = c.self.inside in (
       λ is. absurd (true≢false (sym is ∙ c.if-is_empty.false)),
       λ none.
-          let empty : vec_len q.serials ≡ 0 = omega (arith, length_zip q.serials.items q.bodies.items c.self.invariant.4, ap (λ h. length h.stack) c.self.view_is, ap length none.0, q.serials.ok.0) in
+          let empty : vec_len q.serials ≡ 0 = omega (arith, length_zip q.serials.items q.bodies.items c.self.invariant.one_body_each, ap (λ h. length h.stack) c.self.view_is, ap length none.0, q.serials.ok.0) in
           c.is_empty.ensures ∙ eq-eqb _ _ empty,
     )

@@ -11,7 +11,7 @@ returns-clause-popped g c =
     let bodies : q.bodies.items ≡ bs ++ c.unwrap-body.result ∷ [] = c.pop-2.ensures.items ∙ rw c.unwrap-body.ensures refl in
     let joined : q.joined.items ≡ c.pop-3.new.self.items ++ c.unwrap-note.result ∷ [] = c.pop-3.ensures.items ∙ rw c.unwrap-note.ensures refl in
     let even : length bs ≡ length ns =
-    omega (arith, ap length serials, ap length bodies, length-append ns (c.unwrap-serial.result ∷ []), length-append bs (c.unwrap-body.result ∷ []), c.self.invariant.4) in
+    omega (arith, ap length serials, ap length bodies, length-append ns (c.unwrap-serial.result ∷ []), length-append bs (c.unwrap-body.result ∷ []), c.self.invariant.one_body_each) in
     (c.unwrap-note.result, rw (← c.self.view_is, serials, bodies, joined, zip_append ns bs c.unwrap-serial.result c.unwrap-body.result even) refl)
 
 pub returns-clause-room : goal.returns-clause-room
@@ -22,5 +22,5 @@ returns-clause-room g c =
     let serials : q.serials.items ≡ ns ++ c.unwrap-serial.result ∷ [] = c.pop.ensures.items ∙ rw c.unwrap-serial.ensures refl in
     let bodies : q.bodies.items ≡ bs ++ c.unwrap-body.result ∷ [] = c.pop-2.ensures.items ∙ rw c.unwrap-body.ensures refl in
     let fewer = length-append ns (c.unwrap-serial.result ∷ []) in
-    let even : length bs ≡ length ns = omega (arith, ap length serials, ap length bodies, fewer, length-append bs (c.unwrap-body.result ∷ []), c.self.invariant.4) in
-    omega (arith, length_zip ns bs even, ap length serials, fewer, c.self.invariant.3)
+    let even : length bs ≡ length ns = omega (arith, ap length serials, ap length bodies, fewer, length-append bs (c.unwrap-body.result ∷ []), c.self.invariant.one_body_each) in
+    omega (arith, length_zip ns bs even, ap length serials, fewer, c.self.invariant.few)

@@ -5,22 +5,22 @@ use Rattle.fj_slots.proofs.hand.Hand.push.Goals as goal
 pub push_reserved-requires : goal.push_reserved-requires
 push_reserved-requires g c =
     let q = c.self.inside in
-    omega (arith, length_zip q.serials.items q.bodies.items c.self.invariant.4, ap (λ h. length h.stack) c.self.view_is, c.requires, c.self.invariant.0, q.serials.ok.0)
+    omega (arith, length_zip q.serials.items q.bodies.items c.self.invariant.one_body_each, ap (λ h. length h.stack) c.self.view_is, c.requires, c.self.invariant.serials_fit, q.serials.ok.0)
 
 pub push_reserved-requires-2 : goal.push_reserved-requires-2
 push_reserved-requires-2 g c =
     let q = c.self.inside in
-    omega (arith, length_zip q.serials.items q.bodies.items c.self.invariant.4, ap (λ h. length h.stack) c.self.view_is, c.requires, c.self.invariant.1, c.self.invariant.4, q.bodies.ok.0)
+    omega (arith, length_zip q.serials.items q.bodies.items c.self.invariant.one_body_each, ap (λ h. length h.stack) c.self.view_is, c.requires, c.self.invariant.bodies_fit, c.self.invariant.one_body_each, q.bodies.ok.0)
 
 pub push_reserved-requires-3 : goal.push_reserved-requires-3
 push_reserved-requires-3 g c =
     let q = c.self.inside in
-    omega (arith, length_zip q.serials.items q.bodies.items c.self.invariant.4, ap (λ h. length h.stack) c.self.view_is, c.requires, c.self.invariant.2, c.self.invariant.5, q.joined.ok.0)
+    omega (arith, length_zip q.serials.items q.bodies.items c.self.invariant.one_body_each, ap (λ h. length h.stack) c.self.view_is, c.requires, c.self.invariant.joined_fit, c.self.invariant.one_note_each, q.joined.ok.0)
 
 pub invariant_of-self : goal.invariant_of-self
 invariant_of-self g c =
     let q = c.self.inside in
-    let long : length q.serials.items < 4096 = omega (arith, length_zip q.serials.items q.bodies.items c.self.invariant.4, ap (λ h. length h.stack) c.self.view_is, c.requires) in
+    let long : length q.serials.items < 4096 = omega (arith, length_zip q.serials.items q.bodies.items c.self.invariant.one_body_each, ap (λ h. length h.stack) c.self.view_is, c.requires) in
     rw (
       c.push_reserved.ensures.capacity,
       c.push_reserved-2.ensures.capacity,
@@ -32,9 +32,16 @@ invariant_of-self g c =
       length-append q.bodies.items (c.args.body ∷ []),
       length-append q.joined.items (None ∷ []),
     )
-    (c.self.invariant.0, c.self.invariant.1, c.self.invariant.2, omega (arith, long), ap (λ n. n + 1) c.self.invariant.4, ap (λ n. n + 1) c.self.invariant.5)
+    (record {
+      serials_fit = c.self.invariant.serials_fit;
+      bodies_fit = c.self.invariant.bodies_fit;
+      joined_fit = c.self.invariant.joined_fit;
+      few = omega (arith, long);
+      one_body_each = ap (λ n. n + 1) c.self.invariant.one_body_each;
+      one_note_each = ap (λ n. n + 1) c.self.invariant.one_note_each;
+    })
 
 pub returns : goal.returns
 returns g c =
     let q = c.self.inside in
-    rw (← c.self.view_is, c.push_reserved.ensures.items, c.push_reserved-2.ensures.items, c.push_reserved-3.ensures.items, zip_append q.serials.items q.bodies.items c.args.t c.args.body c.self.invariant.4) refl
+    rw (← c.self.view_is, c.push_reserved.ensures.items, c.push_reserved-2.ensures.items, c.push_reserved-3.ensures.items, zip_append q.serials.items q.bodies.items c.args.t c.args.body c.self.invariant.one_body_each) refl

@@ -11,6 +11,6 @@ returns-then-at-len g c =
 pub returns-else-at-len : goal.returns-else-at-len
 returns-else-at-len g c =
     let q = c.self.inside in
-    let within : c.args.at < q.count = omega (arith, length_padded q.written.items q.count None c.self.invariant.1, ap length c.self.view_is, c.requires) in
+    let within : c.args.at < q.count = omega (arith, length_padded q.written.items q.count None c.self.invariant.within, ap length c.self.view_is, c.requires) in
     rw (← c.self.view_is, c.push_reserved.ensures.items, c.write_up_to.ensures.items)
     (write_high q.written.items q.count None (Some (c.args.number, c.args.item)) c.args.at (omega (arith, c.if-at-len.false, c.len.ensures, q.written.ok.0)) within)
