@@ -33,7 +33,11 @@ impl Model for Kept {
 
     ghost view = { λ k. record { pairs = k.pairs.items; room = k.room; released = k.released } };
 
-    ghost invariant = { λ k. IsRising k.pairs.items × (k.room + k.room ≤ deque_capacity k.pairs) × (k.released ≤ k.room - 1) };
+    ghost invariant = { λ k. record {
+      rising : IsRising k.pairs.items;
+      fits : k.room + k.room ≤ deque_capacity k.pairs;
+      released : k.released ≤ k.room - 1;
+    } };
 }
 
 impl Kept {

@@ -7,11 +7,11 @@ use Rattle.fj_tree.proofs.kept.Kept.release.Goals as goal
 
 pub invariant_of-self-else-released-self : goal.invariant_of-self-else-released-self
 invariant_of-self-else-released-self c =
-    let left : c.retain.new.self.items ≡ filter (is_current c.args.records.now.slots) c.self.inside.pairs.items = filter_same _ _ _ (λ x b f' k. search rules) _ _ c.retain.ensures.filtered in (
-      rw left (rising_left _ _ c.self.invariant.0),
-      omega (arith, c.self.invariant.1, c.retain.ensures.capacity),
-      omega arith,
-    )
+    let left : c.retain.new.self.items ≡ filter (is_current c.args.records.now.slots) c.self.inside.pairs.items = filter_same _ _ _ (λ x b f' k. search rules) _ _ c.retain.ensures.filtered in record {
+      rising = rw left (rising_left _ _ c.self.invariant.rising);
+      fits = omega (arith, c.self.invariant.fits, c.retain.ensures.capacity);
+      released = omega arith;
+    }
 
 pub returns-else-released-self-clause-left : goal.returns-else-released-self-clause-left
 returns-else-released-self-clause-left c =
