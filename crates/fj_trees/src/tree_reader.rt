@@ -25,7 +25,12 @@ impl Model for TreeReader {
 
     ghost view = { λ r. record { nodes = r.nodes.items; line = r.line.items } };
 
-    ghost invariant = { λ r. (64 ≤ vec_capacity r.line) × (vec_len r.line ≤ 64) × (vec_len r.nodes ≤ 4000) × AreNodes 0 r.nodes.items };
+    ghost invariant = { λ r. record {
+      line_fits : 64 ≤ vec_capacity r.line;
+      line_within : vec_len r.line ≤ 64;
+      few : vec_len r.nodes ≤ 4000;
+      nodes : AreNodes 0 r.nodes.items;
+    } };
 }
 
 impl TreeReader {
