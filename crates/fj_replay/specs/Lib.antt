@@ -1,3 +1,4 @@
+pub mod Counted
 pub mod Cuts
 pub mod Namings
 pub mod Plays

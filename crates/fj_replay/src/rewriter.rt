@@ -33,15 +33,14 @@ pub struct Rewriter {
 }
 
 impl Model for Rewriter {
-    ghost use Rattle.std.specs.Prelude.{◌≡◌, []};
     ghost use Rattle.fj_rules.specs.Pasts.{Past};
-    ghost use Rattle.fj_rules.specs.Tasks.{accepted};
+    ghost use Rattle.fj_replay.specs.Counted.{IsCounted};
 
     ghost Value = { Past };
 
     ghost view = { λ r. r.machine };
 
-    ghost invariant = { λ r. (r.count ≡ accepted r.machine.events) × (r.machine.sealed ≡ []) };
+    ghost invariant = { λ r. IsCounted r.machine r.count };
 }
 
 impl Rewriter {

@@ -36,7 +36,10 @@ impl Model for Session {
 
     ghost view = { λ s. record { count = s.count; line = s.line.items; stage = s.stage } };
 
-    ghost invariant = { λ s. (MAX_LINE2 ≤ vec_capacity s.line) × (vec_len s.line ≤ MAX_LINE2) };
+    ghost invariant = { λ s. record {
+      fits : MAX_LINE2 ≤ vec_capacity s.line;
+      within : vec_len s.line ≤ MAX_LINE2;
+    } };
 }
 
 impl Session {

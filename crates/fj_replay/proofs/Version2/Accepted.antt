@@ -20,6 +20,7 @@ use Rattle.fj_rules.specs.Epochs.{IsPast}
 use Rattle.fj_rules.proofs.Events.Lawful.{is_numbered}
 use Rattle.fj_rules.proofs.Steps.AnswersAllowed.{history_allowed}
 use Rattle.fj_rules.proofs.Steps.RunsGrow.{history_fits}
+use Rattle.fj_replay.specs.Counted.{IsCounted}
 use Rattle.fj_replay.specs.Plays.{is_task}
 use Rattle.fj_replay.specs.Scripts.{start}
 
@@ -106,8 +107,8 @@ none_accepted = refl
 
 -- ---- a count of the accepted tasks, at the start and after a step
 
-pub fresh_counted : (m : Past) → m ≡ start m.pool → (0 ≡ accepted m.events) × (m.sealed ≡ [])
-fresh_counted m is = (sym (ap (λ (past : Past). accepted past.events) is ∙ none_accepted), ap (λ (past : Past). past.sealed) is)
+pub fresh_counted : (m : Past) → m ≡ start m.pool → IsCounted m 0
+fresh_counted m is = record { count = sym (ap (λ (past : Past). accepted past.events) is ∙ none_accepted); unsealed = ap (λ (past : Past). past.sealed) is }
 
 counted : (old new : Past) (asked : Step) (reply : Said) → Steps old asked reply new → RepliesTell (answer old asked).1 (reply ∷ []) → accepted new.events ≡ after_reply (accepted old.events) reply
 counted old new asked reply step tells = ap (λ (past : Past). accepted past.events) step.1 ∙ accepted_after old.events (answer old asked).1 reply tells
@@ -115,15 +116,12 @@ counted old new asked reply step tells = ap (λ (past : Past). accepted past.eve
 still_unsealed : (old new : Past) (asked : Step) (reply : Said) → Steps old asked reply new → old.sealed ≡ [] → new.sealed ≡ []
 still_unsealed old new asked reply step none = ap (λ (past : Past). past.sealed) step.1 ∙ none
 
-pub counted_task : (old new : Past) (asked : Step) (reply : Said) (n : ℕ) → Steps old asked reply new → RepliesTell (answer old asked).1 (reply ∷ []) → is_task reply ≡ true → (n ≡ accepted old.events) × (old.sealed ≡ [])
-    → (n + 1 ≡ accepted new.events) × (new.sealed ≡ [])
+pub counted_task : (old new : Past) (asked : Step) (reply : Said) (n : ℕ) → Steps old asked reply new → RepliesTell (answer old asked).1 (reply ∷ []) → is_task reply ≡ true → IsCounted old n → IsCounted new (n + 1)
 counted_task old new asked reply n step tells accepts before =
     let more : accepted new.events ≡ accepted old.events + 1 = counted old new asked reply step tells ∙ rw accepts refl in
-    let same = before.0 in
-    (omega (arith, more, same), still_unsealed old new asked reply step before.1)
+    record { count = omega (arith, more, before.count); unsealed = still_unsealed old new asked reply step before.unsealed }
 
-pub counted_none : (old new : Past) (asked : Step) (reply : Said) (n : ℕ) → Steps old asked reply new → RepliesTell (answer old asked).1 (reply ∷ []) → is_task reply ≡ false → (n ≡ accepted old.events) × (old.sealed ≡ [])
-    → (n ≡ accepted new.events) × (new.sealed ≡ [])
+pub counted_none : (old new : Past) (asked : Step) (reply : Said) (n : ℕ) → Steps old asked reply new → RepliesTell (answer old asked).1 (reply ∷ []) → is_task reply ≡ false → IsCounted old n → IsCounted new n
 counted_none old new asked reply n step tells accepts before =
     let none : accepted new.events ≡ accepted old.events = counted old new asked reply step tells ∙ rw accepts refl in
-    (before.0 ∙ sym none, still_unsealed old new asked reply step before.1)
+    record { count = before.count ∙ sym none; unsealed = still_unsealed old new asked reply step before.unsealed }

@@ -6,8 +6,8 @@ use Rattle.fj_replay.proofs.rewriter.Rewriter.make.Goals as goal
 
 pub overflow_add-self : goal.overflow_add-self
 overflow_add-self c =
-    let few : accepted c.self.inside.machine.events ≤ MAX_EVENTS = few_tasks c.self.inside.machine c.limits-limits.result c.history-history.ensures.run c.self.invariant.1 c.limits-limits.ensures.limits c.limits-limits.ensures.within in
-    let same = c.self.invariant.0 in
+    let few : accepted c.self.inside.machine.events ≤ MAX_EVENTS = few_tasks c.self.inside.machine c.limits-limits.result c.history-history.ensures.run c.self.invariant.unsealed c.limits-limits.ensures.limits c.limits-limits.ensures.within in
+    let same = c.self.invariant.count in
     omega arith
 
 pub invariant_of-self : goal.invariant_of-self
