@@ -1,7 +1,7 @@
 ghost use Rattle.std.specs.Prelude.{◌≡◌, ◌<◌, ◌≤◌, ◌+◌, ◌∷◌, [], ◌++◌, length, nat_lt, vec_capacity, IfOk, OnOk, OnErr};
 ghost use Rattle.fj_rules.specs.Allowed.{is_close, is_stop, is_closed, is_stopped};
 
-use fj_rules::{Event, How, Kind, MAX_EVENTS_AND_SEALS, Owner, Serial, Status, SubId, WorkerId};
+use fj_rules::{Event, InnerTypes, MAX_EVENTS_AND_SEALS};
 use std::alloc::{AllocError, Global};
 use std::marker::Model;
 use std::mem;
@@ -132,8 +132,8 @@ impl Log {
         requires { length self.old.events < length self.old.sealed + self.old.room }
         ensures { self.new ≡ record self.old { events = self.old.events ++ event ∷ [] } }
     {
-        // For the proof: moving an event needs each type inside it named.
-        let _inside: Option<(Owner, Kind, Status, How, Serial, SubId, WorkerId)> = None;
+        // For the proof: see `InnerTypes`.
+        let _inside: Option<InnerTypes> = None;
         self.closed |= is_close(&event);
         self.stopped |= is_stop(&event);
         self.events.push_reserved(event);

@@ -7,6 +7,7 @@
 mod epoch;
 mod event;
 mod ids;
+mod inner_types;
 mod kind;
 mod limits;
 mod memory;
@@ -21,6 +22,7 @@ mod step;
 pub use epoch::{Answer, MAX_EVENTS_AND_SEALS, Move, Sealed};
 pub use event::{Event, How};
 pub use ids::{Serial, SubId, WorkerId};
+pub use inner_types::InnerTypes;
 pub use kind::{Kind, SubmittedKind};
 pub use limits::{Limits, MAX_EVENTS, MAX_PENDING, MAX_SUBMITTERS, MAX_TASKS, MAX_WORKERS};
 pub use memory::OutOfMemory;
