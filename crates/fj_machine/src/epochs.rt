@@ -8,10 +8,7 @@ ghost use Rattle.fj_rules.specs.Parts.{Fits, events_in, gone_in};
 ghost use Rattle.fj_machine.specs.Handed.{handed, shown};
 
 use crate::machine::Machine;
-use fj_rules::{
-    Answer, Limits, Mode, Move, OutOfMemory, Owner, Place, Refusal, Said, Sealed, Serial, Status,
-    SubId, WorkerId,
-};
+use fj_rules::{Answer, InnerTypes, Limits, Mode, Move, OutOfMemory, Sealed};
 use std::alloc::Global;
 
 /// Runs steps and seals from the start: the machine after them, the parts that were handed out, and the answer to each move.
@@ -80,8 +77,8 @@ fn move_all(
     ensures parts { OnOk result (Fits parts.new.items machine.new) }
     ensures handed { OnOk result (map shown parts.new.items ≡ handed machine.old moves.now answers.new.items) }
 {
-    // For the proof: moving a reply needs each type inside it named.
-    let _inside: Option<(Said, Place, Owner, Status, Refusal, Serial, SubId, WorkerId)> = None;
+    // For the proof: see `InnerTypes`.
+    let _inside: Option<InnerTypes> = None;
     for asked in moves {
         answers.push(make_move(alloc, machine, parts, asked)?)?;
     }
