@@ -1,4 +1,4 @@
-ghost use Rattle.std.specs.Prelude.{◌≡◌, ◌+◌, ◌^◌};
+ghost use Rattle.std.specs.Prelude.{◌≡◌, ◌+◌, ◌-◌, ◌^◌};
 
 use crate::turns::Turns;
 use fj_run::{Ask, Body, Heard};
@@ -93,6 +93,7 @@ impl<J: Turns> Body for Free<J> {
         ensures rooted { ◌≡◌ {A = Option ℕ} None None }
         ensures right { AskRight (λ k o. ⊤) self.old.key result }
         ensures nearer { Nearer self.new.left self.old.left result }
+        ensures left { self.new.left ≡ self.old.left - 1 }
         ensures spent { self.old.left ≡ 0 → result ≡ AskFail SPENT }
     {
         if self.left == 0 {

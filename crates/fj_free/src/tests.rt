@@ -1,5 +1,9 @@
 use super::*;
+use std::alloc::AllocError;
+use std::sync::Arc;
+use std::sync::atomic::{AtomicU32, Ordering};
 use std::test::Fail;
+use std::thread;
 
 /// A Fibonacci number, counted from 0: of the two before it the greater one is forked, and the smaller one computed in place.
 #[derive(Drop)]
@@ -81,6 +85,67 @@ impl Turns for Barren {
             (Barren::NeverEnds, _) => Ask::Help,
         }
     }
+}
+
+/// A job that forks another one: each waits, yielding a bounded number of times, until both have begun. Its result is whether they have.
+#[derive(Drop)]
+struct Meeting {
+    is_root: bool,
+    has_met: bool,
+    begun: Arc<AtomicU32>,
+}
+
+impl Meeting {
+    fn meets(&self) -> bool {
+        self.begun.fetch_add(1, Ordering::SeqCst);
+        for _ in 0..20_000_000 {
+            if self.begun.load(Ordering::SeqCst) > 1 {
+                return true;
+            }
+            thread::yield_now();
+        }
+        false
+    }
+
+    fn other(&self) -> Result<Meeting, AllocError> {
+        Ok(Meeting {
+            is_root: false,
+            has_met: false,
+            begun: self.begun.clone()?,
+        })
+    }
+}
+
+impl Turns for Meeting {
+    type Out = bool;
+
+    fn turn(&mut self, heard: Heard<Free<Meeting>>) -> Ask<Free<Meeting>> {
+        match heard {
+            Heard::Start(_) if self.is_root => match self.other() {
+                Ok(other) => Ask::Fork(Free::new(other), Kind::Plain),
+                Err(_) => Ask::Fail(1),
+            },
+            Heard::Start(_) => Ask::Ok(self.meets()),
+            Heard::Task(task) => {
+                self.has_met = self.meets();
+                Ask::Join(task)
+            }
+            Heard::Got((), has_met) => Ask::Ok(self.has_met && has_met),
+            _ => Ask::Fail(1),
+        }
+    }
+}
+
+/// Of two workers one does what the other one forked.
+#[test]
+fn a_forked_job_is_done_beside_the_one_that_forked_it(rt: HostRuntime) -> Result<(), Fail> {
+    let root = Meeting {
+        is_root: true,
+        has_met: false,
+        begun: Arc::new(rt.alloc(), AtomicU32::new(0))?,
+    };
+    assert!(rt; run_free(&rt, rt.alloc(), Settings::workers(2)?, root)?);
+    Ok(())
 }
 
 /// By one worker and by four.
