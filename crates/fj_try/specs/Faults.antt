@@ -9,3 +9,7 @@ abbrev pub IfRefused : {O E : Type 0} → (Refusal → Type 0) → Result O (Fau
 IfRefused refuses (Ok out) = ⊤
 IfRefused refuses (Err (Failed error)) = ⊤
 IfRefused refuses (Err (Refused refusal)) = refuses refusal
+
+-- no refusal is reported
+abbrev pub NotRefused : {O E : Type 0} → Result O (Fault E) → Type 0
+NotRefused = IfRefused (λ refusal. ⊥)

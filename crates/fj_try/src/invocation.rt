@@ -1,4 +1,4 @@
-ghost use Rattle.std.specs.Prelude.{IfOk};
+ghost use Rattle.std.specs.Prelude.{◌≡◌, IfOk};
 ghost use Rattle.fj_try.specs.Faults.{IfRefused};
 ghost use Rattle.fj_run.specs.Runs.{RefusesRun};
 
@@ -36,10 +36,12 @@ where
     }
 }
 
-/// The same on the calling thread, with a stack as deep as the job splits. `Failed` with the first failure.
+/// The same on the calling thread, with a stack as deep as the job splits. `Failed` with the first failure. `Refused` with `OutOfMemory` where
+/// the value is under another key than that of the job, as `combine` gives it.
 pub fn try_compute<J: TryDivide>(alloc: Global, job: J) -> Result<J::Out, Fault<J::Error>>
     ensures ok { IfOk result (λ out. ∥ J.gives (J.key_of job) out ∥₁) }
     ensures err { IfRefused RefusesRun result }
+    ensures memory { IfRefused (λ refusal. refusal ≡ Refusal.OutOfMemory) result }
 {
     let key = job.key();
     answer_of(compute(Trying { job, alloc }), &key)
@@ -49,6 +51,7 @@ pub fn try_compute<J: TryDivide>(alloc: Global, job: J) -> Result<J::Out, Fault<
 fn answer_of<J: TryDivide>(tried: Tried<J>, key: &J::Key) -> Result<J::Out, Fault<J::Error>>
     ensures ok { IfOk result (λ out. ∥ J.gives key.now out ∥₁) }
     ensures err { IfRefused RefusesRun result }
+    ensures memory { IfRefused (λ refusal. refusal ≡ Refusal.OutOfMemory) result }
 {
     match tried.into_end() {
         Ok((kept_key, out)) => {
