@@ -1,7 +1,7 @@
 -- A graph that grows, and ranks that tell that it has no cycle.
-use Rattle.std.specs.Prelude.{◌⊎◌, Bool, slice_index, slice_set, true, ltb}
+use Rattle.std.specs.Prelude.{suc, Bool, slice_index, slice_set, true, ltb}
 use Rattle.std.specs.List.{list_all}
-use Rattle.std.proofs.Common.{ℕ, ◌≡◌, ◌≢◌, ◌+◌, ◌<◌, ◌∙◌, inl, inr, List, [], ◌∷◌, ◌++◌, length, get_or, map, sym, ap, arith}
+use Rattle.std.proofs.Common.{ℕ, ◌≡◌, ◌<◌, ◌∙◌, inl, inr, List, [], ◌∷◌, ◌++◌, length, get_or, map, refl, sym, ap, arith}
 use Rattle.std.proofs.Math.Seq.{map-set_same, get_or-append_seam}
 use Rattle.std.proofs.lemmas.Bool.{cases_eq}
 use Rattle.std.proofs.lemmas.Bool.Decides.{nat_tests}
@@ -10,7 +10,7 @@ use Rattle.std.proofs.lemmas.List.{map-set, map-append, get_or-map, length-map, 
 use Rattle.std.proofs.lemmas.List.Folds.{list_all-map, list_all_at}
 use Rattle.fj_graph.specs.declared.node.Node.{Node}
 use Rattle.fj_graph.specs.declared.node.NodeId.{NodeId}
-use Rattle.fj_graph.specs.Graphs.{AreNodes, IsAbove, graph_of, inputs_at, number_of, with_input}
+use Rattle.fj_graph.specs.Graphs.{AreNodes, HasInput, IsAbove, LeadsTo, graph_of, inputs_at, number_of, with_input}
 
 -- a node with the same inputs stands for another one
 pub graph_kept : (nodes : List Node) (i : ℕ) (node old : Node) → old ≡ get_or nodes i old → node.inputs.items ≡ old.inputs.items → graph_of (slice_set nodes i node) ≡ graph_of nodes
@@ -70,3 +70,11 @@ is_above graph n inputs ranks all below k lt =
     let test : ℕ → Bool = λ i. ltb (slice_index ranks i) (slice_index ranks n) in
     let each : list_all test (inputs_at graph n) ≡ true = rw (← all, list_all-map test number_of inputs) below in
     grind (arith, nat_tests, common_steps, list_all_at test (inputs_at graph n) k 0 lt)
+
+-- ---- steps from a node to an input of it
+
+pub leads_here : (graph : List (List ℕ)) (n : ℕ) → LeadsTo graph n n
+leads_here graph n = (0, refl)
+
+pub leads_on : (graph : List (List ℕ)) (n i m : ℕ) → LeadsTo graph n i → HasInput graph i m → LeadsTo graph n m
+leads_on graph n i m so_far input = (suc so_far.0, (i, so_far.1, input))

@@ -1,7 +1,7 @@
 -- One more step.
-use Rattle.std.specs.Prelude.{zero, suc, ◌⊎◌, Bool, true, false, not, ◌||◌, ◌==◌, Option, Some, None, IfSome, slice_get, slice_set}
+use Rattle.std.specs.Prelude.{zero, suc, ◌⊎◌, Bool, true, false, not, ◌||◌, ◌&&◌, ◌==◌, Option, Some, None, IfSome, slice_get, slice_set}
 use Rattle.std.specs.List.{list_any, list_all}
-use Rattle.std.proofs.Common.{ℕ, ◌≡◌, ◌≢◌, ◌+◌, ◌<◌, ◌≤◌, ◌∙◌, inl, inr, List, [], ◌∷◌, ◌++◌, length, get_or, map, take, refl, sym, ap, arith}
+use Rattle.std.proofs.Common.{ℕ, ◌≡◌, ◌≢◌, ◌+◌, ◌<◌, ◌≤◌, ◌∙◌, inl, inr, List, [], ◌∷◌, ◌++◌, length, map, refl, sym, ap, arith}
 use Rattle.std.proofs.Math.Seq.{take-append_seam}
 use Rattle.std.proofs.lemmas.Bool.{cases_eq, cases_lt, eq-eqb}
 use Rattle.std.proofs.lemmas.Bool.Decides.{nat_tests}
@@ -16,7 +16,8 @@ use Rattle.fj_graph.specs.declared.node_state.NodeState.TheVariants.{Waiting, Un
 use Rattle.fj_graph.specs.declared.graph_step.GraphStep.{GraphStep}
 use Rattle.fj_graph.specs.declared.graph_step.GraphStep.TheVariants.{Begun, Ended}
 use Rattle.fj_graph.specs.Graphs.{inputs_at, number_of}
-use Rattle.fj_graph.specs.Courses.{AreFates, AreStates, IsCourse, IsFate, IsSkipped, MayBegin, MayEnd, are_done, begins, ends, ends_done, ends_failed, has_begun, is_begun_state, is_done, is_done_state, is_ended_state, is_failed_state, state_at}
+use Rattle.fj_graph.specs.Fates.{was_called}
+use Rattle.fj_graph.specs.Courses.{AreFates, AreStates, IsCourse, IsFate, IsLeftOut, IsSkipped, MayBegin, MayEnd, are_done, begins, ends, ends_done, ends_failed, has_begun, is_begun_state, is_done, is_done_state, is_ended_state, is_failed_state, state_at}
 
 -- ---- the course
 
@@ -125,11 +126,11 @@ within [] n here = cc
 within (state ∷ states) zero here = omega arith
 within (state ∷ states) (suc n) here = let below = within states n here in omega arith
 
-pub may_begin : (graph : List (List ℕ)) (course : List GraphStep) (states : List NodeState) (n : ℕ) (inputs : List NodeId) → length states ≡ length graph → n < length states → state_at states n ≡ Waiting → map number_of inputs ≡ inputs_at graph n → list_all (λ node. is_done course node.0) inputs ≡ true → AreStates course states → MayBegin graph course n
-may_begin graph course states n inputs count lt here all done are = record {
+pub may_begin : (graph : List (List ℕ)) (course : List GraphStep) (states : List NodeState) (n : ℕ) → length states ≡ length graph → n < length states → state_at states n ≡ Waiting → are_done course (inputs_at graph n) ≡ true → AreStates course states → MayBegin graph course n
+may_begin graph course states n count lt here done are = record {
   node = omega arith;
   once = are.begun n ∙ ap is_begun_state here;
-  inputs = sym (inputs_done graph course n inputs all) ∙ done;
+  inputs = done;
 }
 
 pub may_end : (course : List GraphStep) (states : List NodeState) (n : ℕ) → state_at states n ≡ UnderWay → AreStates course states → MayEnd course n
@@ -137,28 +138,53 @@ may_end course states n here are = record { begun = are.begun n ∙ ap is_begun_
 
 -- ---- what became of a node
 
-pub fate_ended : (graph : List (List ℕ)) (stopped : Bool) (course : List GraphStep) (states : List NodeState) (n : ℕ) (fate : Fate) → state_at states n ≡ Over fate → (fate ≡ Skipped → stopped ≡ true) → AreStates course states → IsFate graph stopped course n fate
-fate_ended graph stopped course states n Done here stop are = are.done n ∙ ap is_done_state here
-fate_ended graph stopped course states n (Failed c) here stop are = are.failed n c ∙ ap (is_failed_state c) here ∙ eqb_same c
-fate_ended graph stopped course states n Skipped here stop are = record {
+-- where the run was stopped
+
+pub fate_ended : (graph : List (List ℕ)) (course : List GraphStep) (states : List NodeState) (n : ℕ) (fate : Fate) → state_at states n ≡ Over fate → AreStates course states → IsFate graph true course n fate
+fate_ended graph course states n Done here are = are.done n ∙ ap is_done_state here
+fate_ended graph course states n (Failed c) here are = are.failed n c ∙ ap (is_failed_state c) here ∙ eqb_same c
+fate_ended graph course states n Skipped here are = record {
   undone = are.done n ∙ ap is_done_state here;
   unfailed = λ code. are.failed n code ∙ ap (is_failed_state code) here;
-  inputs = λ unstopped. (let yes = stop refl in cc);
+  over = are.begun n ∙ ap is_begun_state here ∙ sym (are.ended n ∙ ap is_ended_state here);
+  inputs = λ unstopped. cc;
 }
 
-pub fate_waiting : (graph : List (List ℕ)) (stopped : Bool) (course : List GraphStep) (states : List NodeState) (n : ℕ) → state_at states n ≡ Waiting → (stopped ≡ false → are_done course (inputs_at graph n) ≡ false) → AreStates course states → IsSkipped graph stopped course n
-fate_waiting graph stopped course states n here undone are = record {
+pub fate_waiting : (graph : List (List ℕ)) (course : List GraphStep) (states : List NodeState) (n : ℕ) → state_at states n ≡ Waiting → AreStates course states → IsSkipped graph true course n
+fate_waiting graph course states n here are = record {
   undone = are.done n ∙ ap is_done_state here;
   unfailed = λ code. are.failed n code ∙ ap (is_failed_state code) here;
-  inputs = undone;
+  over = are.begun n ∙ ap is_begun_state here ∙ sym (are.ended n ∙ ap is_ended_state here);
+  inputs = λ unstopped. cc;
 }
+
+pub or_first : (a b c : Bool) → c ≡ (a || b) → a ≡ true → c ≡ true
+or_first true b c e is = e
+or_first false b c e is = cc
+
+or_second : (a b : Bool) → (a || b) ≡ false → b ≡ false
+or_second true b none = cc
+or_second false b none = none
+
+-- what became of a node, where this tells whether one was left out
+pub fate_told : (graph : List (List ℕ)) (old new : Bool) (course : List GraphStep) (n : ℕ) (fate : Fate) → new ≡ (old || not (was_called fate) && are_done course (inputs_at graph n)) → IsFate graph true course n fate → IsFate graph new course n fate
+fate_told graph old new course n Done e is = is
+fate_told graph old new course n (Failed c) e is = is
+fate_told graph old new course n Skipped e is = record { undone = is.undone; unfailed = is.unfailed; over = is.over; inputs = λ unstopped. or_second old (are_done course (inputs_at graph n)) (sym e ∙ unstopped) }
+
+-- one was left out, where this tells so
+pub left_more : (graph : List (List ℕ)) (old : Bool) (course : List GraphStep) (n : ℕ) (fate : Fate) → n < length graph → IsFate graph true course n fate → (old ≡ true → (i : ℕ) × IsLeftOut graph course i) → (old || not (was_called fate) && are_done course (inputs_at graph n)) ≡ true → (i : ℕ) × IsLeftOut graph course i
+left_more graph true course n fate lt is so_far e = so_far refl
+left_more graph false course n Done lt is so_far e = cc
+left_more graph false course n (Failed c) lt is so_far e = cc
+left_more graph false course n Skipped lt is so_far e = (n, record { node = lt; undone = is.undone; unfailed = is.unfailed; inputs = e })
 
 -- what became of a node stays so where the run turns out to have been stopped
 pub fate_stays : (graph : List (List ℕ)) (old new : Bool) (course : List GraphStep) (n : ℕ) (fate : Fate) → (old ≡ true → new ≡ true) → IsFate graph old course n fate → IsFate graph new course n fate
 fate_stays graph old new course n Done more is = is
 fate_stays graph old new course n (Failed c) more is = is
-fate_stays graph true new course n Skipped more is = record { undone = is.undone; unfailed = is.unfailed; inputs = λ unstopped. (let yes = more refl in cc) }
-fate_stays graph false new course n Skipped more is = record { undone = is.undone; unfailed = is.unfailed; inputs = λ unstopped. is.inputs refl }
+fate_stays graph true new course n Skipped more is = record { undone = is.undone; unfailed = is.unfailed; over = is.over; inputs = λ unstopped. (let yes = more refl in cc) }
+fate_stays graph false new course n Skipped more is = record { undone = is.undone; unfailed = is.unfailed; over = is.over; inputs = λ unstopped. is.inputs refl }
 
 set_here : (fates : List Fate) (k : ℕ) (fate : Fate) (P : Fate → Type 0) → P fate → IfSome (slice_get (slice_set fates k fate) k) P
 set_here [] k fate P is = tt
@@ -184,11 +210,12 @@ fates_more graph old new course fates k fate more so_far is n lt = elim (cases_e
       rw (set_other fates k n fate other) (if_some (slice_get fates n) (IsFate graph old course n) (IsFate graph new course n) (λ f. fate_stays graph old new course n f more) (so_far n before))
 ]
 
-pub fates_all : (graph : List (List ℕ)) (stopped : Bool) (course : List GraphStep) (fates : List Fate) (k : ℕ) → length fates ≡ length graph → length graph ≤ k → ((n : ℕ) → n < k → IfSome (slice_get fates n) (IsFate graph stopped course n)) → AreFates graph stopped course fates
-fates_all graph stopped course fates k all end so_far = record {
+pub fates_all : (graph : List (List ℕ)) (stopped : Bool) (course : List GraphStep) (fates : List Fate) (k : ℕ) → length fates ≡ length graph → length graph ≤ k → ((n : ℕ) → n < k → IfSome (slice_get fates n) (IsFate graph stopped course n)) → (stopped ≡ true → (n : ℕ) × IsLeftOut graph course n) → AreFates graph stopped course fates
+fates_all graph stopped course fates k all end so_far left = record {
   all = all;
   each = λ n. elim (cases_lt n k) [
     | inl before ↦ so_far n before
     | inr past ↦ (let beyond : length fates ≤ n = omega arith in rw (slice_get_past fates n beyond) tt)
   ];
+  left_out = left;
 }

@@ -72,10 +72,11 @@ pub record IsCourse (graph : List (List ℕ)) (course : List GraphStep) : Type 0
 
 -- ---- fates
 
--- n was skipped: its work was not called, since the run was stopped, or an input is not done
+-- n was skipped: its work was not called, since the run was stopped, or an input is not done; if it began, it has ended
 pub record IsSkipped (graph : List (List ℕ)) (stopped : Bool) (course : List GraphStep) (n : ℕ) : Type 0 where
   pub undone : is_done course n ≡ false
   pub unfailed : (code : ℕ) → has_failed course n code ≡ false
+  pub over : has_begun course n ≡ has_ended course n
   pub inputs : stopped ≡ false → are_done course (inputs_at graph n) ≡ false
 
 -- this became of n
@@ -84,10 +85,18 @@ IsFate graph stopped course n Done = is_done course n ≡ true
 IsFate graph stopped course n (Failed code) = has_failed course n code ≡ true
 IsFate graph stopped course n Skipped = IsSkipped graph stopped course n
 
--- this became of each node
+-- n was left out: it is a node whose work was not called, though all its inputs are done
+pub record IsLeftOut (graph : List (List ℕ)) (course : List GraphStep) (n : ℕ) : Type 0 where
+  pub node : n < length graph
+  pub undone : is_done course n ≡ false
+  pub unfailed : (code : ℕ) → has_failed course n code ≡ false
+  pub inputs : are_done course (inputs_at graph n) ≡ true
+
+-- this became of each node; where the run was stopped one was left out
 pub record AreFates (graph : List (List ℕ)) (stopped : Bool) (course : List GraphStep) (fates : List Fate) : Type 0 where
   pub all : length fates ≡ length graph
   pub each : (n : ℕ) → IfSome (slice_get fates n) (IsFate graph stopped course n)
+  pub left_out : stopped ≡ true → (n : ℕ) × IsLeftOut graph course n
 
 -- ---- how far each node has come
 

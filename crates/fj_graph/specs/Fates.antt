@@ -1,7 +1,7 @@
 -- What became of a node.
 use Rattle.std.specs.Prelude.{Bool, true, false}
 use Rattle.fj_graph.specs.declared.fate.Fate.{Fate}
-use Rattle.fj_graph.specs.declared.fate.Fate.TheVariants.{Done, Failed, Skipped}
+use Rattle.fj_graph.specs.declared.fate.Fate.TheVariants.{Skipped}
 
 -- its work was called
 abbrev pub was_called : Fate → Bool

@@ -79,7 +79,7 @@ impl Graph {
         ensures nodes { IfOk result (λ _. (node.0 < length self.old) × (input.0 < length self.old)) }
         ensures input { IfOk result (λ _. self.new ≡ with_input self.old node.0 input.0) }
         ensures same { OnErr result (self.new ≡ self.old) }
-        ensures err { IfErr result (FaultIn self.old) }
+        ensures err { IfErr result (FaultIn self.old node input) }
     {
         let nodes = self.nodes.len();
         if node.0 as usize >= nodes {

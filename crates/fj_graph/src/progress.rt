@@ -1,7 +1,9 @@
-ghost use Rattle.std.specs.Prelude.{◌≡◌, IfOk, IfSome, length, true, vec_len};
+ghost use Rattle.std.specs.Prelude.{◌≡◌, ◌&&◌, ◌||◌, IfOk, IfSome, length, not, true, vec_len};
 ghost use Rattle.std.specs.List.{list_all};
 ghost use Rattle.std.proofs.Props.{props};
-ghost use Rattle.fj_graph.specs.Courses.{AreFates, AreStates, IsCourse, IsFate, MayBegin, is_done, state_at};
+ghost use Rattle.fj_graph.specs.Courses.{AreFates, AreStates, IsCourse, IsFate, MayBegin, are_done, is_done, state_at};
+ghost use Rattle.fj_graph.specs.Fates.{was_called};
+ghost use Rattle.fj_graph.specs.Graphs.{inputs_at};
 
 use crate::fate::Fate;
 use crate::graph::Graph;
@@ -80,6 +82,14 @@ impl<G: NamedGraph> Progress<G> {
         nodes.iter().all(|node| self.is_done(*node))
     }
 
+    /// Whether the work of all inputs of a node is done. Precondition: the graph is the one that the type names.
+    fn inputs_are_done(&self, graph: &Graph, node: NodeId) -> bool
+        requires same { graph.now ≡ G.graph }
+        ensures { result ≡ are_done self.now.course.items (inputs_at G.graph node.0) }
+    {
+        self.are_done(graph.inputs(node))
+    }
+
     /// Whether a node may begin: it waits, and all its inputs are done. Precondition: the graph is the one that the type names.
     pub(crate) fn may_begin(&self, graph: &Graph, node: NodeId) -> bool
         requires same { graph.now ≡ G.graph }
@@ -91,7 +101,7 @@ impl<G: NamedGraph> Progress<G> {
         let NodeState::Waiting = self.state(node) else {
             return false;
         };
-        self.are_done(graph.inputs(node))
+        self.inputs_are_done(graph, node)
     }
 
     /// A node begins. `AllocError` where out of memory, and then it does not. Precondition: it may.
@@ -117,53 +127,43 @@ impl<G: NamedGraph> Progress<G> {
         Ok(())
     }
 
-    /// Sets the fate of each node, where nothing is under way: whether the run was stopped. `Err` is a node that could begin now.
-    /// Precondition: the graph is the one that the type names.
+    /// Sets the fate of each node: whether one was left out, though all its inputs are done. `Err` is a node that is under way, or that could
+    /// begin now in a run that was not stopped. Precondition: the graph is the one that the type names.
     pub(crate) fn tell(&mut self, graph: &Graph, was_stopped: bool) -> Result<bool, NodeId>
         requires same { graph.now ≡ G.graph }
         ensures { IfOk result (λ stopped. AreFates G.graph stopped self.new.course.items self.new.fates.items) }
     {
-        let mut stopped = was_stopped;
+        let mut stopped = false;
         for number in 0..graph.count() {
             let node = NodeId(number);
-            stopped = self.sees_stop(stopped, node);
-            let Some(fate) = self.fate(graph, stopped, node) else {
+            if !was_stopped && self.may_begin(graph, node) {
+                return Err(node);
+            }
+            let Some(fate) = self.fate(node) else {
                 return Err(node);
             };
+            stopped = self.sees_stop(graph, stopped, node, fate);
             self.fates[number as usize] = fate;
         }
         Ok(stopped)
     }
 
-    /// Whether the run was stopped, as a node shows that ended without a call.
-    fn sees_stop(&self, stopped: bool, node: NodeId) -> bool
-        ensures { stopped ≡ true → result ≡ true }
-    {
-        stopped || self.state(node) == NodeState::Ended(Fate::Skipped)
-    }
-
-    /// The fate of a node, where nothing is under way. None where it could begin now. Precondition: the graph is the one that the type
-    /// names.
-    fn fate(&self, graph: &Graph, stopped: bool, node: NodeId) -> Option<Fate>
-        requires same { graph.now ≡ G.graph }
-        ensures { IfSome result (IsFate G.graph stopped self.now.course.items node.0) }
+    /// The fate of a node. None where it is under way.
+    fn fate(&self, node: NodeId) -> Option<Fate>
+        ensures { IfSome result (IsFate G.graph true self.now.course.items node.0) }
     {
         match self.state(node) {
-            NodeState::Waiting => {
-                if !stopped && self.are_done(graph.inputs(node)) {
-                    None
-                } else {
-                    Some(Fate::Skipped)
-                }
-            }
+            NodeState::Waiting => Some(Fate::Skipped),
             NodeState::UnderWay => None,
-            NodeState::Ended(fate) => {
-                if stopped || fate.was_called() {
-                    Some(fate)
-                } else {
-                    None
-                }
-            }
+            NodeState::Ended(fate) => Some(fate),
         }
+    }
+
+    /// Whether a node was left out, or one before it. Precondition: the graph is the one that the type names.
+    fn sees_stop(&self, graph: &Graph, stopped: bool, node: NodeId, fate: Fate) -> bool
+        requires same { graph.now ≡ G.graph }
+        ensures { result ≡ (stopped || not (was_called fate) && are_done self.now.course.items (inputs_at G.graph node.0)) }
+    {
+        stopped || (!fate.was_called() && self.inputs_are_done(graph, node))
     }
 }

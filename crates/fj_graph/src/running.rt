@@ -31,7 +31,7 @@ pub struct Ran {
     pub fates: Vec<Fate>,
     /// The beginnings and ends, in the order in which they were noted.
     pub course: Vec<GraphStep>,
-    /// Whether something was not called since a flag was set.
+    /// Whether a node was left out since a flag was set: its work was not called, though that of all its inputs is done.
     pub stopped: bool,
 }
 

@@ -3,7 +3,9 @@ use crate::watch::{Shape, Watch};
 use std::alloc::Global;
 use std::process::Abort;
 use std::sync::Wait;
+use std::sync::atomic::{AtomicBool, AtomicU64, Ordering};
 use std::test::Fail;
+use std::thread;
 use std::thread::Threads;
 
 /// So many nodes of this shape, one of which fails, by so many workers with so many places.
@@ -137,6 +139,77 @@ fn a_flag_stops_a_run(rt: HostRuntime) -> Result<(), Fail> {
             .as_slice()
             .contains(&GraphStep::Begun(NodeId(11)))
     );
+    Ok(())
+}
+
+/// Waits in each node, yielding a bounded number of times, until another node has begun.
+#[derive(Drop)]
+struct Meeting {
+    inside: AtomicU64,
+    met: AtomicBool,
+}
+
+impl Work for Meeting {
+    fn run(&self, _node: NodeId) -> Result<(), u32> {
+        if self.inside.fetch_add(1, Ordering::SeqCst) > 0 {
+            self.met.store(true, Ordering::SeqCst);
+        }
+        for _ in 0..20_000 {
+            if self.met.load(Ordering::SeqCst) {
+                break;
+            }
+            thread::yield_now();
+        }
+        self.inside.fetch_sub(1, Ordering::SeqCst);
+        Ok(())
+    }
+}
+
+/// Two workers call the work of nodes concurrently.
+#[test]
+fn nodes_are_called_beside_each_other(rt: HostRuntime) -> Result<(), Fail> {
+    let meeting = Meeting {
+        inside: AtomicU64::new(0),
+        met: AtomicBool::new(false),
+    };
+    let mut graph = Graph::new(rt.alloc());
+    for _ in 0..1_000 {
+        graph.node()?;
+    }
+    run_graph(
+        &rt,
+        rt.alloc(),
+        Settings::workers(2)?,
+        Policy::KeepGoing,
+        graph,
+        &meeting,
+        &StopFlag::new(),
+    )?;
+    assert!(rt; meeting.met.load(Ordering::SeqCst));
+    Ok(())
+}
+
+/// A cycle is told by its first node, or by a node before it that needs one on it: each pair is a node and what it needs.
+#[test]
+fn a_cycle_is_found(rt: HostRuntime) -> Result<(), Fail> {
+    const ROWS: [(&[(u32, u32)], Option<NodeId>); 6] = [
+        (&[], None),
+        (&[(0, 1), (0, 2), (1, 3), (2, 3), (3, 4)], None),
+        (&[(4, 4)], Some(NodeId(4))),
+        (&[(1, 0), (1, 2), (2, 1), (4, 2)], Some(NodeId(1))),
+        (&[(0, 1), (1, 4), (1, 2), (2, 3), (3, 2)], Some(NodeId(0))),
+        (&[(0, 1), (0, 1), (2, 4), (4, 2), (2, 1)], Some(NodeId(2))),
+    ];
+    for (needs, found) in ROWS {
+        let mut graph = Graph::new(rt.alloc());
+        for _ in 0..5 {
+            graph.node()?;
+        }
+        for (node, input) in needs {
+            graph.needs(NodeId(*node), NodeId(*input))?;
+        }
+        assert_eq!(rt; graph.cycle(rt.alloc())?, found);
+    }
     Ok(())
 }
 

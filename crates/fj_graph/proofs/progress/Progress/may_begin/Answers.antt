@@ -1,5 +1,4 @@
-use Rattle.std.proofs.Common.{◌≡◌, ◌<◌, ◌∙◌, ap, arith, length, sym}
-use Rattle.fj_graph.specs.Graphs.{inputs_at}
+use Rattle.std.proofs.Common.{◌≡◌, ◌<◌, ◌∙◌, arith, length, sym}
 use Rattle.fj_graph.proofs.Steps.{may_begin}
 use Rattle.fj_graph.proofs.progress.Progress.may_begin.Goals as goal
 
@@ -11,4 +10,4 @@ returns g c = λ all.
     let size = c.len.ensures in
     let count : length self.states.items ≡ length g.G.NamedGraph.graph = omega arith in
     let lt : c.args.node.0 < length self.states.items = omega arith in
-    may_begin g.G.NamedGraph.graph self.course.items self.states.items c.args.node.0 _ count lt (sym c.state.ensures ∙ c.in-Waiting.is) (c.inputs.ensures ∙ ap (λ graph. inputs_at graph c.args.node.0) c.requires.same) (sym c.are_done.ensures ∙ all) self.tied
+    may_begin g.G.NamedGraph.graph self.course.items self.states.items c.args.node.0 count lt (sym c.state.ensures ∙ c.in-Waiting.is) (sym c.inputs_are_done.ensures ∙ all) self.tied
