@@ -1,4 +1,4 @@
-ghost use Rattle.std.specs.Prelude.{◌≡◌, ◌<◌, ◌≤◌, IfSome};
+ghost use Rattle.std.specs.Prelude.{◌≡◌, ◌+◌, ◌-◌, ◌<◌, ◌≤◌, IfNone, IfSome};
 
 /// Consecutive items, by their places.
 #[derive(Clone, Copy, PartialEq, Eq, Debug)]
@@ -19,10 +19,13 @@ impl Block {
         (self.to - self.from) / BLOCKS
     }
 
-    /// Its two halves; None where it has at most `grain` items, or fewer than 2.
+    /// Its two halves, of which the right one may have one item more; None where it has at most `grain` items, or fewer than 2.
     pub fn halves(self, grain: usize) -> Option<(Block, Block)>
         ensures ends { IfSome result (λ p. (p.0.from ≡ self.from) × (p.0.to ≡ p.1.from) × (p.1.to ≡ self.to)) }
         ensures some { IfSome result (λ p. (self.from < p.1.from) × (p.1.from < self.to)) }
+        ensures even { IfSome result (λ p. (p.0.to - p.0.from ≤ p.1.to - p.1.from) × (p.1.to - p.1.from ≤ p.0.to - p.0.from + 1)) }
+        ensures large { IfSome result (λ p. grain < self.to - self.from) }
+        ensures none { IfNone result (grain < self.to - self.from → self.to - self.from < 2) }
     {
         let Block { from, to } = self;
         let count = to - from;

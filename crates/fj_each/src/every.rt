@@ -1,5 +1,6 @@
-ghost use Rattle.std.specs.Prelude.{◌≡◌, ◌≤◌, ◌-◌, true};
+ghost use Rattle.std.specs.Prelude.{◌≡◌, ◌<◌, ◌≤◌, IfErr, IfOk, true, ⊤};
 ghost use Rattle.std.proofs.Common.{refl};
+ghost use Rattle.fj_each.specs.Blocks.{AreParts, size_of};
 
 use crate::block::Block;
 use crate::each::Each;
@@ -44,11 +45,17 @@ impl<'f, E: Each> Divide for Every<'f, E> {
 
     ghost combined = { λ a b. tt };
 
-    ghost size = { λ j. j.block.to - j.block.from };
+    ghost size = { λ j. size_of j.block };
 
     fn key(&self) {}
 
-    fn split(self) -> Result<(Every<'f, E>, Every<'f, E>), Every<'f, E>> {
+    fn split(self) -> Result<(Every<'f, E>, Every<'f, E>), Every<'f, E>>
+        ensures halves { IfOk result (λ p. ◌≡◌ {A = ⊤} tt tt) }
+        ensures parts { IfOk result (λ p. AreParts self.entry.block p.0.block p.1.block) }
+        ensures smaller { IfOk result (λ p. (size_of p.0.block < size_of self.entry.block) × (size_of p.1.block < size_of self.entry.block)) }
+        ensures leaf { IfErr result (λ j. (j ≡ self.entry) × ◌≡◌ {A = ⊤} tt tt) }
+        ensures small { IfErr result (λ j. self.entry.grain < size_of self.entry.block → size_of self.entry.block < 2) }
+    {
         match self.block.halves(self.grain) {
             Some((left, right)) => Ok((self.of_block(left), self.of_block(right))),
             None => Err(self),

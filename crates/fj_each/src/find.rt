@@ -1,5 +1,6 @@
-ghost use Rattle.std.specs.Prelude.{◌≡◌, ℕ, ◌<◌, ◌≤◌, ◌-◌, IfOk, IfErr, length};
+ghost use Rattle.std.specs.Prelude.{◌≡◌, ℕ, ◌<◌, ◌≤◌, ◌-◌, IfOk, IfErr, is_some, length, true};
 ghost use Rattle.std.specs.Option.{option_or};
+ghost use Rattle.fj_jobs.specs.Finals.{IsFinal};
 ghost use Rattle.fj_each.specs.Firsts.{first_in, same_first};
 
 use crate::block::Block;
@@ -80,7 +81,10 @@ impl<'d, 'p, T, P: Wanted<T>, N: Search<T>> Divide for Find<'d, 'p, T, P, N> {
         left.or(right)
     }
 
-    fn is_final(value: &Option<usize>) -> bool {
+    fn is_final(value: &Option<usize>) -> bool
+        ensures found { result ≡ is_some value.now }
+        ensures last { result ≡ true → IsFinal option_or value.now }
+    {
         value.is_some()
     }
 

@@ -1,4 +1,4 @@
-ghost use Rattle.std.specs.Prelude.{◌≡◌, ◌≤◌, IfOk, IfErr, length};
+ghost use Rattle.std.specs.Prelude.{◌≡◌, ◌≤◌, IfOk, IfErr, IsOk, length};
 ghost use Rattle.std.specs.List.{position};
 ghost use Rattle.fj_run.specs.Runs.{RefusesRun};
 ghost use Rattle.fj_each.specs.Firsts.{first_in};
@@ -18,8 +18,8 @@ use std::time::Clock;
 /// The place of the first wanted item of a slice, by worker threads; None where no item is wanted. Blocks right of the best place so far
 /// are not begun, and a worker there stops after its present block.
 ///
-/// It begins on the calling thread, and makes a pool only where about half a millisecond or more is left; one worker needs none. `LogFull`
-/// where the history is full, `OutOfMemory` where an allocation fails or a thread cannot be started.
+/// It begins on the calling thread, and makes a pool only where about half a millisecond or more is left; one worker needs none, and is never
+/// refused. `LogFull` where the history is full, `OutOfMemory` where an allocation fails or a thread cannot be started.
 pub fn find_first<T: Sync, P: Wanted<T> + Sync, R: Threads + Wait + Clock + Sync>(
     rt: &R,
     alloc: Global,
@@ -29,6 +29,7 @@ pub fn find_first<T: Sync, P: Wanted<T> + Sync, R: Threads + Wait + Clock + Sync
 ) -> Result<Option<usize>, Refusal>
     ensures ok { IfOk result (λ first. first ≡ position (P.wants wanted.now) items.now) }
     ensures err { IfErr result RefusesRun }
+    ensures alone { settings.limits.workers ≡ 1 → IsOk result }
 {
     let pace = Pace::start(rt);
     let mut done = 0;

@@ -1,4 +1,4 @@
-ghost use Rattle.std.specs.Prelude.{◌≤◌, IfErr};
+ghost use Rattle.std.specs.Prelude.{◌≡◌, ◌≤◌, IfErr, IsOk};
 ghost use Rattle.fj_run.specs.Runs.{RefusesRun};
 
 use crate::block::Block;
@@ -15,9 +15,9 @@ use std::time::Clock;
 /// Does something with each block of a range, by worker threads: `IntStream.range(..).parallel().forEach`. The blocks are disjoint, and
 /// together the range; they are done in no particular order. Precondition: the range ends at most at the limit.
 ///
-/// It begins on the calling thread, and makes a pool only where about half a millisecond or more is left; one worker needs none. `LogFull`
-/// where the history is full, `OutOfMemory` where an allocation of the pool fails or a thread cannot be started; what was done by then
-/// stays done.
+/// It begins on the calling thread, and makes a pool only where about half a millisecond or more is left; one worker needs none, and is never
+/// refused. `LogFull` where the history is full, `OutOfMemory` where an allocation of the pool fails or a thread cannot be started; what was
+/// done by then stays done.
 pub fn for_each<E: Each + Sync, R: Threads + Wait + Clock + Sync>(
     rt: &R,
     alloc: Global,
@@ -26,7 +26,8 @@ pub fn for_each<E: Each + Sync, R: Threads + Wait + Clock + Sync>(
     each: &E,
 ) -> Result<(), Refusal>
     requires { range.end ≤ E.limit each.now }
-    ensures { IfErr result RefusesRun }
+    ensures err { IfErr result RefusesRun }
+    ensures alone { settings.limits.workers ≡ 1 → IsOk result }
 {
     let pace = Pace::start(rt);
     let Range { start, end } = range;

@@ -1,5 +1,5 @@
-ghost use Rattle.std.specs.Prelude.{◌≡◌, ℕ, ◌<◌, ◌≤◌, ◌-◌, IfOk, IfErr, length, slice_range};
-ghost use Rattle.fj_each.specs.Blocks.{same_block};
+ghost use Rattle.std.specs.Prelude.{◌≡◌, ℕ, ◌<◌, ◌≤◌, IfOk, IfErr, IsSome, length, slice_range};
+ghost use Rattle.fj_each.specs.Blocks.{AreParts, same_block, size_of};
 
 use crate::block::Block;
 use crate::items::Items;
@@ -53,22 +53,28 @@ impl<'d, 'm, T, M: Reduce<T>, N: Items<T>> TryDivide for Part<'d, 'm, T, M, N> {
 
     ghost gives = { λ k o. M.gives (slice_range N.items k.from k.to) o };
 
-    ghost size = { λ j. j.block.to - j.block.from };
+    ghost size = { λ j. size_of j.block };
 
     fn key(&self) -> Block {
         self.block
     }
 
-    fn split(
-        self,
-    ) -> Result<(Part<'d, 'm, T, M, N>, Part<'d, 'm, T, M, N>), Part<'d, 'm, T, M, N>> {
+    fn split(self) -> Result<(Part<'d, 'm, T, M, N>, Part<'d, 'm, T, M, N>), Part<'d, 'm, T, M, N>>
+        ensures parts { IfOk result (λ p. AreParts self.entry.block p.0.block p.1.block) }
+        ensures smaller { IfOk result (λ p. (size_of p.0.block < size_of self.entry.block) × (size_of p.1.block < size_of self.entry.block)) }
+        ensures leaf { IfErr result (λ j. j ≡ self.entry) }
+        ensures small { IfErr result (λ j. self.entry.grain < size_of self.entry.block → size_of self.entry.block < 2) }
+    {
         match self.block.halves(self.grain) {
             Some((left, right)) => Ok((self.of_block(left), self.of_block(right))),
             None => Err(self),
         }
     }
 
-    fn leaf(&self, alloc: Global) -> Result<M::Out, Option<M::Error>> {
+    fn leaf(&self, alloc: Global) -> Result<M::Out, Option<M::Error>>
+        ensures gives { IfOk result (λ o. ∥ M.gives (slice_range N.items self.now.block.from self.now.block.to) o ∥₁) }
+        ensures err { IfErr result IsSome }
+    {
         let block = self.block;
         match self.reduce.map(alloc, &self.items[block.from..block.to]) {
             Ok(out) => Ok(out),
@@ -83,7 +89,9 @@ impl<'d, 'm, T, M: Reduce<T>, N: Items<T>> TryDivide for Part<'d, 'm, T, M, N> {
     ) -> Result<(Block, M::Out), Option<M::Error>>
         requires left { ∥ M.gives (slice_range N.items left.0.from left.0.to) left.1 ∥₁ }
         requires right { ∥ M.gives (slice_range N.items right.0.from right.0.to) right.1 ∥₁ }
-        ensures { IfOk result (λ r. ∥ M.gives (slice_range N.items r.0.from r.0.to) r.1 ∥₁) }
+        ensures gives { IfOk result (λ r. ∥ M.gives (slice_range N.items r.0.from r.0.to) r.1 ∥₁) }
+        ensures whole { IfOk result (λ r. (r.0.from ≡ left.0.from) × (r.0.to ≡ right.0.to)) }
+        ensures err { left.0.to ≡ right.0.from → IfErr result IsSome }
     {
         if left.0.to != right.0.from {
             return Err(None);

@@ -1,6 +1,6 @@
 ghost use Rattle.std.specs.Prelude.{◌≡◌, ◌≤◌, ◌++◌, List, IfOk, length, slice_range};
 ghost use Rattle.fj_run.specs.Runs.{RefusesRun};
-ghost use Rattle.fj_try.specs.Faults.{IfRefused};
+ghost use Rattle.fj_try.specs.Faults.{IfRefused, NotRefused};
 
 use crate::block::Block;
 use crate::items::Items;
@@ -18,9 +18,9 @@ use std::time::Clock;
 /// Reduces a slice, by worker threads: each block is mapped, and the values of adjacent blocks are combined, the left one first. Where the
 /// blocks end depends on the schedule; what is promised does not: it is what `gives` says of the whole slice.
 ///
-/// It begins on the calling thread, and makes a pool only where about half a millisecond or more is left; one worker needs none. `Failed`
-/// with the first failure from the left. `Refused` with `LogFull` where the history is full, and with `OutOfMemory` where an allocation of
-/// the pool fails or a thread cannot be started.
+/// It begins on the calling thread, and makes a pool only where about half a millisecond or more is left; one worker needs none, and is never
+/// refused. `Failed` with the first failure from the left. `Refused` with `LogFull` where the history is full, and with `OutOfMemory` where
+/// an allocation of the pool fails or a thread cannot be started.
 pub fn map_reduce<T: Sync, M: Reduce<T> + Sync, R: Threads + Wait + Clock + Sync>(
     rt: &R,
     alloc: Global,
@@ -33,6 +33,7 @@ where
     M::Error: Send,
     ensures ok { IfOk result (λ out. ∥ M.gives items.now out ∥₁) }
     ensures err { IfRefused RefusesRun result }
+    ensures alone { settings.limits.workers ≡ 1 → NotRefused result }
 {
     let pace = Pace::start(rt);
     let mut done = items.len().min(1);
@@ -65,6 +66,7 @@ fn map_block<T, M: Reduce<T>>(
     requires within { to ≤ length items.now }
     ensures ok { IfOk result (λ out. ∥ M.gives (slice_range items.now from to) out ∥₁) }
     ensures err { IfRefused RefusesRun result }
+    ensures own { NotRefused result }
 {
     match reduce.map(alloc, &items[from..to]) {
         Ok(out) => Ok(out),
@@ -80,6 +82,7 @@ fn combined<T, M: Reduce<T>>(
 ) -> Result<M::Out, Fault<M::Error>>
     ensures ok { (xs ys : List T) → ∥ M.gives xs left ∥₁ → ∥ M.gives ys right ∥₁ → IfOk result (λ out. ∥ M.gives (xs ++ ys) out ∥₁) }
     ensures err { IfRefused RefusesRun result }
+    ensures own { NotRefused result }
 {
     match M::combine(alloc, left, right) {
         Ok(out) => Ok(out),

@@ -3,6 +3,7 @@ ghost use Rattle.std.specs.Prelude.{◌≡◌, ⊤, ℕ, List, IfOk, length, ◌
 
 use super::*;
 use std::alloc::Global;
+use std::convert::Infallible;
 use std::ops::Range;
 use std::sync::Wait;
 use std::sync::atomic::{AtomicBool, AtomicU32, Ordering};
@@ -227,8 +228,15 @@ struct Meeting {
     met: AtomicBool,
 }
 
-impl Each for Meeting {
-    fn each(&self, _block: Range<usize>) {
+impl Meeting {
+    fn new() -> Meeting {
+        Meeting {
+            inside: AtomicU32::new(0),
+            met: AtomicBool::new(false),
+        }
+    }
+
+    fn wait(&self) {
         if self.inside.fetch_add(1, Ordering::SeqCst) > 0 {
             self.met.store(true, Ordering::SeqCst);
         }
@@ -242,14 +250,59 @@ impl Each for Meeting {
     }
 }
 
-/// Two workers do blocks concurrently.
+impl Each for Meeting {
+    fn each(&self, _block: Range<usize>) {
+        self.wait();
+    }
+}
+
+impl Reduce<u32> for Meeting {
+    type Out = ();
+
+    type Error = Infallible;
+
+    ghost gives = { λ xs o. ⊤ };
+
+    fn map(&self, _alloc: Global, _items: &[u32]) -> Result<(), Infallible>
+        ensures { IfOk result (λ o. ∥ ⊤ ∥₁) }
+    {
+        self.wait();
+        Ok(())
+    }
+
+    fn combine(_alloc: Global, _left: (), _right: ()) -> Result<(), Infallible>
+        ensures { (xs ys : List ℕ) → ∥ ⊤ ∥₁ → ∥ ⊤ ∥₁ → IfOk result (λ o. ∥ ⊤ ∥₁) }
+    {
+        Ok(())
+    }
+}
+
+impl Wanted<u32> for Meeting {
+    ghost use Rattle.std.specs.Prelude.{false};
+
+    ghost wants = { λ w x. false };
+
+    fn is_wanted(&self, _item: &u32) -> bool
+        ensures { result ≡ false }
+    {
+        self.wait();
+        false
+    }
+}
+
+/// Two workers do blocks concurrently, in each of the three loops.
 #[test]
 fn blocks_are_done_beside_each_other(rt: HostRuntime) -> Result<(), Fail> {
-    let meeting = Meeting {
-        inside: AtomicU32::new(0),
-        met: AtomicBool::new(false),
-    };
-    for_each(&rt, rt.alloc(), Settings::workers(2)?, 0..2_000, &meeting)?;
-    assert!(rt; meeting.met.load(Ordering::SeqCst));
+    let settings = Settings::workers(2)?;
+    let items = items(rt.alloc(), 2_000)?;
+    let each = Meeting::new();
+    for_each(&rt, rt.alloc(), settings, 0..2_000, &each)?;
+    assert!(rt; each.met.load(Ordering::SeqCst));
+    let reduced = Meeting::new();
+    let done = map_reduce(&rt, rt.alloc(), settings, items.as_slice(), &reduced);
+    assert!(rt; done.is_ok() && reduced.met.load(Ordering::SeqCst));
+    let searched = Meeting::new();
+    let found = find_first(&rt, rt.alloc(), settings, items.as_slice(), &searched)?;
+    assert!(rt; found.is_none() && searched.met.load(Ordering::SeqCst));
     Ok(())
 }

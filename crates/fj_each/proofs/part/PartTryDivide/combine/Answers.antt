@@ -2,8 +2,8 @@ use Rattle.std.proofs.Common.{rules, ◌≡◌, subst}
 use Rattle.fj_each.proofs.Rows.{in_a_row}
 use Rattle.fj_each.proofs.part.PartTryDivide.combine.Goals as goal
 
-pub returns-in-Ok : goal.returns-in-Ok
-returns-in-Ok g c =
+pub returns-in-Ok-clause-gives : goal.returns-in-Ok-clause-gives
+returns-in-Ok-clause-gives g c =
     let left = c.args.left in
     let right = c.args.right in
     let meet : left.0.to ≡ right.0.from = search rules in
