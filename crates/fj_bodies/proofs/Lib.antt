@@ -48,5 +48,11 @@ pub mod Sealing
 pub mod HookEndings
 -- What the step of one worker leaves of the hands of the others.
 pub mod Others
+-- What a call leaves of the submissions, and of a stuck store.
+pub mod Frames
+-- A hand fits as before.
+pub mod Bare
+-- What each action of a body leaves of the store and of the hands.
+pub mod Acts
 -- That it may go to another thread.
 pub mod Crossing

@@ -1,5 +1,6 @@
 -- A worker takes its choice: by a poll, a help, or a join of an undone task.
 use Rattle.std.specs.Prelude.{ℕ, ◌≡◌, ◌⊎◌, true, false, Some, None}
+use Rattle.fj_rules.specs.declared.refusal.Refusal.{Refusal}
 use Rattle.fj_rules.specs.declared.refusal.Refusal.TheVariants.{LogFull}
 use Rattle.fj_rules.specs.declared.step.Step.{Step}
 use Rattle.fj_rules.specs.declared.step.Step.TheVariants as ask
@@ -9,8 +10,6 @@ use Rattle.fj_rules.specs.Runs.{Steps}
 use Rattle.fj_bodies.specs.declared.body.Heard.TheVariants as hears
 use Rattle.fj_bodies.specs.declared.body.Told.{Told}
 use Rattle.fj_bodies.specs.declared.body.Told.TheVariants as told
-use Rattle.fj_bodies.specs.declared.choices.Chosen.{Chosen}
-use Rattle.fj_bodies.specs.declared.choices.Chosen.TheVariants as chosen
 use Rattle.fj_slots.specs.Shelves.{entries, without_entry}
 use Rattle.fj_slots.specs.Hands.{HandState, with_next_word, with_body}
 use Rattle.fj_bodies.specs.Stores.{StoreState}
@@ -34,6 +33,12 @@ module _ {B K O : Type 0} where
   abbrev pub GetsStuck : StoreState B K O → Step → StoreState B K O → Type 0
   GetsStuck old asked new = (old.stuck ≡ false) × Steps old.past asked (says.Refused LogFull) old.past × (new ≡ record old { stuck = true })
 
+  -- the answer to a refused poll or ending: if the history is full, the store gets stuck; else the refusal, and nothing has changed
+  abbrev pub TellsRefusal : StoreState B K O → Refusal → Told B K O → StoreState B K O → Type 0
+  TellsRefusal old r answer new =
+      ((r ≡ LogFull) × (answer ≡ told.Stuck None) × (new ≡ record old { stuck = true }))
+      ⊎ ((r ≡ LogFull → ⊥) × (answer ≡ told.Hear (hears.Refused r)) × (new ≡ old))
+
   -- the step handed the task out: its body went from the store to the hand
   pub record HandsOut (old : StoreState B K O) (hand : HandState B) (asked : Step) (t : ℕ) (new : StoreState B K O) (hand' : HandState B) : Type 0 where
     pub step : Steps old.past asked (says.Run t) new.past
@@ -52,15 +57,16 @@ module _ {B K O : Type 0} where
     pub others : mid ≡ record old { past = mid.past; bodies = mid.bodies }
     pub releases : Releases mid new
 
-  -- a step that takes the worker's choice, and moves the body
-  abbrev pub Chooses : StoreState B K O → HandState B → Step → Chosen B K O → StoreState B K O → HandState B → Type 0
-  Chooses old hand asked (chosen.Run t) new hand' = HandsOut old hand asked t new hand'
-  Chooses old hand asked (chosen.Skip t body) new hand' = Skips old asked t body new × (hand' ≡ hand)
-  Chooses old hand asked chosen.Idle new hand' = Moves old asked says.None new × (hand' ≡ hand)
-  Chooses old hand asked chosen.Normal new hand' = Moves old asked says.Normal new × (hand' ≡ hand)
-  Chooses old hand asked (chosen.Exceptional code) new hand' = Moves old asked (says.Exceptional code) new × (hand' ≡ hand)
-  Chooses old hand asked chosen.Cancelled new hand' = Moves old asked says.Cancelled new × (hand' ≡ hand)
-  Chooses old hand asked (chosen.Refused r) new hand' = Refuses old asked (says.Refused r) new × (hand' ≡ hand)
+  -- a step that takes the worker's choice, and moves the body; `Bare` says that the joined task is normal, before its result is looked for
+  abbrev pub Chooses : StoreState B K O → HandState B → Step → Told B K O → StoreState B K O → HandState B → Type 0
+  Chooses old hand asked (told.Run t) new hand' = HandsOut old hand asked t new hand'
+  Chooses old hand asked (told.Skip t body) new hand' = Skips old asked t body new × (hand' ≡ hand)
+  Chooses old hand asked told.None new hand' = Moves old asked says.None new × (hand' ≡ hand)
+  Chooses old hand asked (told.Hear hears.Bare) new hand' = Moves old asked says.Normal new × (hand' ≡ hand)
+  Chooses old hand asked (told.Hear (hears.Failed code)) new hand' = Moves old asked (says.Exceptional code) new × (hand' ≡ hand)
+  Chooses old hand asked (told.Hear hears.Cancelled) new hand' = Moves old asked says.Cancelled new × (hand' ≡ hand)
+  Chooses old hand asked (told.Hear (hears.Refused r)) new hand' = Refuses old asked (says.Refused r) new × (hand' ≡ hand)
+  Chooses old hand asked _ new hand' = ⊥
 
   -- a poll: it uses a scan word, unless the store was stuck
   abbrev pub Polls : StoreState B K O → HandState B → Told B K O → StoreState B K O → HandState B → Type 0

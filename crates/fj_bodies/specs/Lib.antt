@@ -20,5 +20,7 @@ pub mod Endings
 pub mod HookEndings
 -- Steps that end no body and hand none out.
 pub mod Asking
+-- What a body or a hook asks, and what is answered.
+pub mod Acting
 -- The history is handed out in parts.
 pub mod Sealing

@@ -7,6 +7,7 @@ use Rattle.fj_rules.specs.Lists.{is_in, times_in}
 use Rattle.fj_rules.specs.Tasks.{tasks, is_kept, is_completer, released}
 use Rattle.fj_rules.specs.Completers.{is_spent}
 use Rattle.fj_rules.specs.Places.{place, gone, is_gone}
+use Rattle.fj_rules.specs.Inside.{IsInside}
 use Rattle.fj_rules.specs.Releasable.{hooked}
 use Rattle.fj_rules.specs.Pasts.{Past}
 use Rattle.fj_rules.specs.Epochs.{IsPast}
@@ -77,3 +78,8 @@ module _ {B K O : Type 0} where
   -- the bodies without those of the tasks that became gone since
   abbrev pub still_held : StoreState B K O → Past → Entries B
   still_held old past = without_entries (entries old.bodies) (went old.past past)
+
+  -- nothing was submitted, closed, stopped or sealed, and a store that was stuck is stuck
+  pub record StaysInside (old new : StoreState B K O) : Type 0 where
+    pub past : IsInside old.past new.past
+    pub stuck : new.stuck ≡ false → old.stuck ≡ false

@@ -3,7 +3,6 @@
 #![tactic(auto)]
 
 mod body;
-mod choices;
 mod due;
 mod hooked;
 mod kept_result;

@@ -1,15 +1,13 @@
 ghost use Rattle.fj_bodies.specs.Releases.{ReleasesPlain};
 
 use fj_machine::Machine;
-use fj_rules::{Owner, Place, Refusal, Said, Serial, Status, Step, SubId, WorkerId};
+use fj_rules::{Said, Serial, Step};
 
 /// Releases a task if it is plain and can be released. Returns false if it did not; then nothing has changed.
 #[inline(always)]
 pub fn release_plain(machine: &mut Machine, t: Serial) -> bool
     ensures { ReleasesPlain machine.old t result machine.new }
 {
-    // For the proof: each type inside a moved reply is named.
-    let _inside: Option<(Place, Owner, Status, Refusal, Serial, SubId, WorkerId)> = None;
     if !machine.is_plain(t) {
         return false;
     }

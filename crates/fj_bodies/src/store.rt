@@ -3,8 +3,10 @@ ghost use Rattle.fj_rules.specs.Bounds.{IsWithin};
 ghost use Rattle.fj_rules.specs.Epochs.{IsPast};
 ghost use Rattle.fj_rules.specs.Pasts.{fresh};
 ghost use Rattle.fj_slots.specs.Shelves.{entries, no_entries};
+ghost use Rattle.fj_bodies.specs.Choosing.{TellsRefusal};
 
 mod accept;
+mod act;
 mod ask;
 mod choose;
 mod collect;
@@ -14,11 +16,11 @@ mod release;
 mod seal;
 mod shut;
 
-use crate::body::Body;
+use crate::body::{Body, Heard, Told};
 use crate::due::Due;
 use crate::kept_result::KeptResult;
 use fj_machine::Machine;
-use fj_rules::{Limits, Mode, OutOfMemory};
+use fj_rules::{Limits, Mode, OutOfMemory, Refusal};
 use fj_slots::{SerialMap, SerialSet};
 use std::alloc::Global;
 use std::marker::Model;
@@ -26,8 +28,8 @@ use std::marker::Model;
 /// A machine, the bodies that no worker holds, the results that were not taken, and the tasks that wait for their release. In Java a task
 /// is its body and holds its result, and is garbage once it has no references.
 ///
-/// If the machine refuses the step of a body, the body hears that refusal, and nothing has changed. Once the store is stuck, calls for
-/// a body answer `Stuck`, return a body that came, and change nothing.
+/// `act` serves what a body asks. If the machine refuses the step, the body hears that refusal, and nothing has changed. A stuck store
+/// answers `Stuck`, returns a body that came, and changes nothing; the private calls of one ask each require that it is not stuck.
 #[derive(Drop)]
 pub struct Store<B: Body> {
     machine: Machine,
@@ -114,6 +116,19 @@ impl<B: Body> Store<B> {
         ensures { result ≡ self.now.stuck }
     {
         self.stuck
+    }
+
+    /// The answer to a poll or an ending that the machine refused. If the history is full, the store gets stuck.
+    pub(crate) fn refused(&mut self, refusal: Refusal) -> Told<B>
+        ensures { TellsRefusal self.old refusal result self.new }
+    {
+        match refusal {
+            Refusal::LogFull => {
+                self.stuck = true;
+                Told::Stuck(None)
+            }
+            other => Told::Hear(Heard::Refused(other)),
+        }
     }
 
     /// Makes it stuck, permanently.

@@ -12,10 +12,6 @@ mod Frames
 mod Shutting
 -- an intake
 mod TakingIn
--- a hand fits as before
-mod Bare
--- what each action of a body leaves of the core
-mod Acts
 -- the parts that are kept
 mod Parts
 -- what an action leaves of the hands of the other workers

@@ -20,6 +20,7 @@ use Rattle.fj_bodies.specs.declared.body.Told.{Told}
 use Rattle.fj_bodies.specs.declared.body.Told.TheVariants as told
 use Rattle.fj_bodies.specs.declared.outcomes.Outcome.{Outcome}
 use Rattle.fj_bodies.specs.Fitting.{Fits}
+use Rattle.fj_bodies.specs.Acting.{Acts, ActsInBody, ActsInHook, ActsWhere}
 use Rattle.fj_bodies.specs.Stores.{StoreState}
 use Rattle.fj_bodies.specs.Releases.{Releases}
 use Rattle.fj_bodies.specs.Choosing.{HandsOut, Skips, Moves, WasStuck, GetsStuck, Polls, Helps, Joins}
@@ -27,20 +28,19 @@ use Rattle.fj_bodies.specs.Results.{Keeps, KeepsUnless, Marks, Collects}
 use Rattle.fj_bodies.specs.Asking.{Drops}
 use Rattle.fj_bodies.specs.Endings.{EndsOk, EndsBody}
 use Rattle.fj_bodies.specs.HookEndings.{EndsHook}
+use Rattle.fj_bodies.proofs.Acts.{Leaves, accepts_leave, adds_leave, drops_stay, lets_leave, quiets_leave, same_leaves, settles_leave, shows_leave, takes_leave}
 use Rattle.fj_bodies.proofs.Others.{Stays, PassesBy, step_stays, end_stays, hook_done_stays}
 use Rattle.fj_core.specs.declared.cutoff.Cutoff.{Cutoff}
 use Rattle.fj_core.specs.declared.taken_in.Intake.{Intake}
 use Rattle.fj_core.specs.declared.taken_in.Intake.TheVariants as intake
-use Rattle.fj_core.specs.Acting.{Acts, ActsInBody, ActsInHook, ActsWhere}
 use Rattle.fj_core.specs.Closes.{Dues, ShutsAt, shut_step}
 use Rattle.fj_core.specs.Closings.{is_due}
-use Rattle.fj_core.specs.Cancels.{CancelsTicket, CancelsUnless}
+use Rattle.fj_core.specs.Cancels.{CancelsTask, CancelsTicket, CancelsUnless}
 use Rattle.fj_core.specs.Cores.{CoreState, CollectsTicket, CollectsUnless}
 use Rattle.fj_core.specs.Hands.{KeepsHand}
 use Rattle.fj_core.specs.Intakes.{Intakes, Readies, kind_rooted}
 use Rattle.fj_core.specs.Sealing.{SealsCore}
 use Rattle.fj_core.specs.Booked.{booked_under}
-use Rattle.fj_core.proofs.Acts.{Leaves, accepts_leave, adds_leave, cancels_leave, lets_leave, quiets_leave, settles_leave, shows_leave, takes_leave}
 
 -- ---- one worker's hand
 
@@ -268,6 +268,11 @@ module _ {B K O : Type 0} where
   collects_keep v old new t None is = same_keeps v old new is.3
   collects_keep v old new t (Some (Err r)) is = same_keeps v old new is.2
   collects_keep v old new t (Some (Ok outcome)) is = then_released v old is.mid new (marks_keep v old is.mid t is.marks) is.releases
+
+  cancels_leave : (old new : StoreState B K O) (t : ℕ) (answer : Result Bool Refusal) → CancelsTask old t answer new → Leaves old new
+  cancels_leave old new t (Ok true) is = drops_stay old new (step.Cancel t) says.Yes refl refl is
+  cancels_leave old new t (Ok false) is = drops_stay old new (step.Cancel t) says.No refl refl is
+  cancels_leave old new t (Err r) is = same_leaves old new is.1
 
   -- an outcome is asked for
   pub cancels_hands : (old new : CoreState B K O) (ticket : ℕ) (answer : Result Bool Refusal) → CancelsTicket old ticket answer new → (v : ℕ) → KeepsHand v old.store.past new.store.past

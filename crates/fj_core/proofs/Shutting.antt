@@ -21,7 +21,7 @@ use Rattle.fj_core.specs.Closings.{IsClosing, first_set, is_due, is_over}
 use Rattle.fj_core.specs.Closes.{Dues, shut_step}
 use Rattle.fj_core.specs.Cores.{IsCore}
 use Rattle.fj_rules.specs.Inside.{IsInside}
-use Rattle.fj_core.proofs.Frames.{releases_stay}
+use Rattle.fj_bodies.proofs.Frames.{releases_stay}
 use Rattle.fj_core.proofs.Lanes.{PushesNone, same_booked}
 use Rattle.fj_core.proofs.Reached.{OnlyReached, due_there, due_reached, only_set}
 

@@ -18,7 +18,8 @@ use Rattle.fj_rules.specs.Pasts.{Past, grown}
 use Rattle.fj_rules.proofs.Events.Closing.{closed_more, stopped_more}
 use Rattle.fj_lane.specs.declared.parcel.Parcel.{Parcel}
 use Rattle.fj_lane.specs.Ends.{DrainState}
-use Rattle.fj_bodies.specs.Stores.{StoreState}
+use Rattle.fj_bodies.specs.Stores.{StoreState, StaysInside}
+use Rattle.fj_bodies.proofs.Frames.{same_stays}
 use Rattle.fj_rules.proofs.Steps.Answered.{submit_made}
 use Rattle.fj_core.specs.declared.booking.Booking.{Booking}
 use Rattle.fj_core.specs.declared.cutoff.Cutoff.{Cutoff}
@@ -27,11 +28,10 @@ use Rattle.fj_core.specs.declared.taken_in.Intake.TheVariants as intake
 use Rattle.fj_core.specs.Booked.{AreBooked, Booked}
 use Rattle.fj_core.specs.Closings.{IsClosing, is_due}
 use Rattle.fj_core.specs.Closes.{Dues}
-use Rattle.fj_core.specs.Cores.{IsCore, StaysInside}
+use Rattle.fj_core.specs.Cores.{IsCore}
 use Rattle.fj_rules.specs.Inside.{IsInside}
 use Rattle.fj_core.specs.Intakes.{Readies, is_log_full, with_drained}
 use Rattle.fj_rules.proofs.Steps.Inside.{same_inside}
-use Rattle.fj_core.proofs.Frames.{same_stays}
 use Rattle.fj_core.proofs.Lanes.{PushesNone, took_booked, missed_booked}
 use Rattle.fj_core.proofs.Reached.{OnlyReached, only_same, only_more}
 use Rattle.fj_core.proofs.Shutting.{due_pushes_none, due_closes}

@@ -8,7 +8,6 @@ use Rattle.fj_rules.specs.declared.refusal.Refusal.TheVariants.{LogFull, Unknown
 use Rattle.fj_rules.specs.Bounds.{Bounds}
 use Rattle.fj_rules.specs.Parts.{Fits}
 use Rattle.fj_rules.specs.Pasts.{Past, fresh}
-use Rattle.fj_rules.specs.Inside.{IsInside}
 use Rattle.fj_rules.specs.Statuses.{status, is_undone}
 use Rattle.fj_rules.specs.Tasks.{is_kept}
 use Rattle.fj_lane.specs.Ends.{DrainState}
@@ -58,11 +57,6 @@ module _ {B K O : Type 0} where
     pub closing : core.closing ≡ record { number = None; stopping = false }
     pub handed : core.handed ≡ []
     pub parts : core.parts ≡ []
-
-  -- what a call that reaches only the store leaves of it
-  pub record StaysInside (old new : StoreState B K O) : Type 0 where
-    pub past : IsInside old.past new.past
-    pub stuck : new.stuck ≡ false → old.stuck ≡ false
 
   -- nothing but the store has changed
   abbrev pub ChangesStore : CoreState B K O → CoreState B K O → Type 0

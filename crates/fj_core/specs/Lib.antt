@@ -12,8 +12,6 @@ pub mod Closes
 pub mod Intakes
 -- a submission is cancelled from outside
 pub mod Cancels
--- what a body or a hook asks
-pub mod Acting
 -- the history is sealed, and the part kept
 pub mod Sealing
 -- the hand of one worker

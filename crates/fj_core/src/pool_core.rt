@@ -6,9 +6,10 @@ ghost use Rattle.fj_rules.specs.Statuses.{status, is_undone};
 ghost use Rattle.fj_rules.specs.Tasks.{is_kept};
 ghost use Rattle.fj_bodies.specs.Choosing.{Polls};
 ghost use Rattle.fj_bodies.specs.Fitting.{Fits};
+ghost use Rattle.fj_bodies.specs.Stores.{StaysInside};
 ghost use Rattle.fj_core.specs.Booked.{HasTask, booked_under};
 ghost use Rattle.fj_core.specs.Cancels.{CancelsTicket};
-ghost use Rattle.fj_core.specs.Cores.{ChangesStore, CollectsTicket, IsNew, StaysInside, first_hands, is_awaited};
+ghost use Rattle.fj_core.specs.Cores.{ChangesStore, CollectsTicket, IsNew, first_hands, is_awaited};
 
 mod act;
 mod close;

@@ -13,7 +13,7 @@ use Rattle.fj_bodies.specs.Stores.{StoreState}
 use Rattle.fj_bodies.specs.Choosing.{Polls, Helps, Joins}
 use Rattle.fj_bodies.specs.Endings.{EndsOk, EndsBody}
 use Rattle.fj_bodies.specs.HookEndings.{EndsHook}
-use Rattle.fj_core.specs.Acting.{Acts, ActsInBody, ActsInHook, ActsWhere}
+use Rattle.fj_bodies.specs.Acting.{Acts, ActsInBody, ActsInHook, ActsWhere}
 
 module _ {B : Type 0} where
   -- of two hands that are the same

@@ -9,7 +9,7 @@ use Rattle.fj_bodies.specs.declared.body.Told.{Told}
 use Rattle.fj_bodies.specs.declared.body.Told.TheVariants as told
 use Rattle.fj_bodies.specs.Choosing.{Polls}
 use Rattle.fj_bodies.specs.Stores.{StoreState}
-use Rattle.fj_core.specs.Acting.{Acts}
+use Rattle.fj_bodies.specs.Acting.{Acts}
 use Rattle.fj_core.specs.Closes.{is_finished}
 use Rattle.fj_core.specs.Cores.{ChangesStore, CoreState}
 use Rattle.fj_pool.specs.declared.guarded.outside.TakenIn.{TakenIn}

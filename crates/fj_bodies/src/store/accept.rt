@@ -1,4 +1,4 @@
-ghost use Rattle.std.specs.Prelude.{◌≡◌, None};
+ghost use Rattle.std.specs.Prelude.{◌≡◌, None, false};
 ghost use Rattle.fj_rules.specs.Runs.{Steps};
 ghost use Rattle.fj_rules.specs.Answers.{refusal_of};
 ghost use Rattle.fj_rules.specs.declared.step.Step.TheVariants.{Submit, Fork, Trigger};
@@ -8,21 +8,15 @@ ghost use Rattle.fj_bodies.specs.Accepting.{Accepts};
 
 use crate::body::{Body, Heard, Told};
 use crate::store::Store;
-use fj_rules::{
-    Kind, Owner, Place, Refusal, Said, Serial, Status, Step, SubId, SubmittedKind, WorkerId,
-};
+use fj_rules::{Kind, Refusal, Said, Serial, Step, SubId, SubmittedKind, WorkerId};
 
 impl<B: Body> Store<B> {
     /// The running task of a worker forks: `ForkJoinTask.fork`. It hears the number of the new task, or gets the body back with the refusal.
     #[inline(always)]
-    pub fn fork(&mut self, w: WorkerId, kind: &Kind, body: B) -> Told<B>
+    pub(crate) fn fork(&mut self, w: WorkerId, kind: &Kind, body: B) -> Told<B>
+        requires { self.old.stuck ≡ false }
         ensures { Accepts self.old (Fork w kind.now) body result self.new }
     {
-        // For the proof: each type inside a moved reply is named.
-        let _inside: Option<(Place, Owner, Status, Refusal, Serial, SubId, WorkerId)> = None;
-        if self.stuck {
-            return Told::Stuck(Some(body));
-        }
         match self.machine.step(&Step::Fork { w, kind: *kind }) {
             Said::Task(t) => {
                 self.bodies.put(t, body);
@@ -34,14 +28,10 @@ impl<B: Body> Store<B> {
     }
 
     /// The running task makes a trigger, which is open at once. The answers are those of `fork`.
-    pub fn trigger(&mut self, w: WorkerId, count: u32, body: B) -> Told<B>
+    pub(crate) fn trigger(&mut self, w: WorkerId, count: u32, body: B) -> Told<B>
+        requires { self.old.stuck ≡ false }
         ensures { Accepts self.old (Trigger w count) body result self.new }
     {
-        // For the proof: each type inside a moved reply is named.
-        let _inside: Option<(Place, Owner, Status, Refusal, Serial, SubId, WorkerId)> = None;
-        if self.stuck {
-            return Told::Stuck(Some(body));
-        }
         match self.machine.step(&Step::Trigger { w, count }) {
             Said::Task(t) => {
                 self.bodies.put(t, body);
@@ -66,8 +56,6 @@ impl<B: Body> Store<B> {
         ensures body { entries self.new.bodies ≡ with_entry (entries self.old.bodies) result body }
         ensures others { self.new ≡ record self.old { past = self.new.past; bodies = self.new.bodies } }
     {
-        // For the proof: each type inside a moved reply is named.
-        let _inside: Option<(Place, Owner, Status, Refusal, Serial, SubId, WorkerId)> = None;
         match self.machine.step(&Step::Submit { s, kind: *kind }) {
             Said::Task(t) => {
                 self.bodies.put(t, body);

@@ -1,4 +1,4 @@
-ghost use Rattle.std.specs.Prelude.{◌≡◌, ◌&&◌, true};
+ghost use Rattle.std.specs.Prelude.{◌≡◌, ◌&&◌, true, false};
 ghost use Rattle.fj_rules.specs.declared.step.Step.TheVariants.{Add, QuietRoot, Fault, Cancel, State};
 ghost use Rattle.fj_rules.specs.Statuses.{status, is_undone};
 ghost use Rattle.fj_rules.specs.Tasks.{is_kept};
@@ -8,7 +8,7 @@ use crate::body::{Body, Heard, Told};
 use crate::due::after_step;
 use crate::moves::make;
 use crate::store::Store;
-use fj_rules::{Owner, Place, Refusal, Said, Serial, Status, Step, SubId, WorkerId};
+use fj_rules::{Said, Serial, Step, WorkerId};
 
 impl<B: Body> Store<B> {
     /// Makes a step that hands out no task and ends no body. Drops the stored bodies of the tasks that become gone by it.
@@ -16,8 +16,6 @@ impl<B: Body> Store<B> {
         requires { is_calm asked.now ≡ true }
         ensures { Makes self.old asked.now result self.new }
     {
-        // For the proof: each type inside a moved reply is named.
-        let _inside: Option<(Place, Owner, Status, Refusal, Serial, SubId, WorkerId)> = None;
         match make(&mut self.machine, &mut self.bodies, asked) {
             Said::Refused(refusal) => Said::Refused(refusal),
             said => {
@@ -29,12 +27,10 @@ impl<B: Body> Store<B> {
     }
 
     /// The running task of a worker adds to a pending count: `CountedCompleter.addToPendingCount`. It hears the new count.
-    pub fn add(&mut self, w: WorkerId, c: Serial, n: u32) -> Told<B>
+    pub(crate) fn add(&mut self, w: WorkerId, c: Serial, n: u32) -> Told<B>
+        requires { self.old.stuck ≡ false }
         ensures { Adds self.old (Add w c n) result self.new }
     {
-        if self.stuck {
-            return Told::Stuck(None);
-        }
         match self.ask(&Step::Add { w, c, n }) {
             Said::Count(n) => Told::Hear(Heard::Count(n)),
             Said::Refused(refusal) => Told::Hear(Heard::Refused(refusal)),
@@ -43,12 +39,10 @@ impl<B: Body> Store<B> {
     }
 
     /// Makes the root of a task's path normal: `CountedCompleter.quietlyCompleteRoot`. It hears `Went`, also if the root was done before.
-    pub fn quiet_root(&mut self, w: WorkerId, t: Serial) -> Told<B>
+    pub(crate) fn quiet_root(&mut self, w: WorkerId, t: Serial) -> Told<B>
+        requires { self.old.stuck ≡ false }
         ensures { QuietsRoot self.old (QuietRoot w t) result self.new }
     {
-        if self.stuck {
-            return Told::Stuck(None);
-        }
         match self.ask(&Step::QuietRoot { w, t }) {
             Said::Refused(refusal) => Told::Hear(Heard::Refused(refusal)),
             _ => Told::Hear(Heard::Went),
@@ -72,12 +66,10 @@ impl<B: Body> Store<B> {
 
     /// Ends a task exceptionally, and each one to which the code is relayed: `ForkJoinTask.completeExceptionally`. It hears `Yes`, or `No` if
     /// the task was done before.
-    pub fn fault(&mut self, t: Serial, code: u32) -> Told<B>
+    pub(crate) fn fault(&mut self, t: Serial, code: u32) -> Told<B>
+        requires { self.old.stuck ≡ false }
         ensures { Settles self.old (Fault t code) result self.new }
     {
-        if self.stuck {
-            return Told::Stuck(None);
-        }
         match self.ask(&Step::Fault { t, code }) {
             Said::Yes => Told::Hear(Heard::Yes),
             Said::No => Told::Hear(Heard::No),
@@ -87,14 +79,10 @@ impl<B: Body> Store<B> {
     }
 
     /// The place and the status of a task.
-    pub fn state(&mut self, t: Serial) -> Told<B>
+    pub(crate) fn state(&mut self, t: Serial) -> Told<B>
+        requires { self.old.stuck ≡ false }
         ensures { Shows self.old (State t) result self.new }
     {
-        // For the proof: each type inside a moved reply is named.
-        let _inside: Option<(Place, Owner, Status, Refusal, Serial, SubId, WorkerId)> = None;
-        if self.stuck {
-            return Told::Stuck(None);
-        }
         match self.machine.step(&Step::State { t }) {
             Said::State(place, status) => Told::Hear(Heard::Is(place, status)),
             Said::Refused(refusal) => Told::Hear(Heard::Refused(refusal)),

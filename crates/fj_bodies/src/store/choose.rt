@@ -1,4 +1,4 @@
-ghost use Rattle.std.specs.Prelude.{◌≡◌, [], None};
+ghost use Rattle.std.specs.Prelude.{◌≡◌, [], None, false};
 ghost use Rattle.fj_rules.specs.Answers.{answer};
 ghost use Rattle.fj_bodies.specs.Turns.{ToldRight};
 ghost use Rattle.fj_bodies.specs.Fitting.{Fits};
@@ -6,28 +6,25 @@ ghost use Rattle.fj_rules.specs.ChoiceTaken.{TakesChoice};
 ghost use Rattle.fj_bodies.specs.Choosing.{Chooses, Polls, Helps, Joins};
 
 use crate::body::{Body, Heard, Told};
-use crate::choices::Chosen;
 use crate::due::after;
 use crate::store::Store;
-use fj_rules::{Owner, Place, Refusal, Said, Serial, Status, Step, SubId, WorkerId};
+use fj_rules::{Refusal, Said, Serial, Step};
 use fj_slots::Hand;
 
 impl<B: Body> Store<B> {
     /// Makes a step that takes the worker's choice, and moves its body.
     #[inline(always)]
-    fn choose(&mut self, hand: &mut Hand<B>, asked: &Step) -> Chosen<B>
+    fn choose(&mut self, hand: &mut Hand<B>, asked: &Step) -> Told<B>
         requires fits { Fits self.old.past hand.old }
         requires takes { TakesChoice hand.old.worker (answer self.old.past asked.now).0 (answer self.old.past asked.now).1 }
         ensures chooses { Chooses self.old hand.old asked.now result self.new hand.new }
         ensures fits { Fits self.new.past hand.new }
     {
-        // For the proof: each type inside a moved reply is named.
-        let _inside: Option<(Place, Owner, Status, Refusal, Serial, SubId, WorkerId)> = None;
         match self.machine.step(asked) {
             Said::Run(t) => match self.bodies.take(t) {
                 Some(body) => {
                     hand.push(t, body);
-                    Chosen::Run(t)
+                    Told::Run(t)
                 }
                 None => unreachable!(),
             },
@@ -35,15 +32,15 @@ impl<B: Body> Store<B> {
                 Some(body) => {
                     self.due = after(self.due, t);
                     self.release_due();
-                    Chosen::Skip(t, body)
+                    Told::Skip(t, body)
                 }
                 None => unreachable!(),
             },
-            Said::None => Chosen::Idle,
-            Said::Normal => Chosen::Normal,
-            Said::Exceptional(code) => Chosen::Exceptional(code),
-            Said::Cancelled => Chosen::Cancelled,
-            Said::Refused(refusal) => Chosen::Refused(refusal),
+            Said::None => Told::None,
+            Said::Normal => Told::Hear(Heard::Bare),
+            Said::Exceptional(code) => Told::Hear(Heard::Failed(code)),
+            Said::Cancelled => Told::Hear(Heard::Cancelled),
+            Said::Refused(refusal) => Told::Hear(Heard::Refused(refusal)),
             _ => unreachable!(),
         }
     }
@@ -65,38 +62,25 @@ impl<B: Body> Store<B> {
             r,
         };
         match self.choose(hand, &asked) {
-            Chosen::Run(t) => Told::Run(t),
-            Chosen::Skip(t, body) => Told::Skip(t, body),
-            Chosen::Idle => Told::None,
-            Chosen::Refused(_) => {
-                self.stuck = true;
-                Told::Stuck(None)
-            }
-            _ => unreachable!(),
+            // Only a full history refuses a poll of an empty hand.
+            Told::Hear(_) => self.refused(Refusal::LogFull),
+            told => told,
         }
     }
 
     /// The running task helps: `ForkJoinTask.helpQuiesce` for one task. Precondition: the hand fits.
-    pub fn help(&mut self, hand: &mut Hand<B>) -> Told<B>
+    pub(crate) fn help(&mut self, hand: &mut Hand<B>) -> Told<B>
+        requires free { self.old.stuck ≡ false }
         requires fits { Fits self.old.past hand.old }
         ensures helps { Helps self.old hand.old result self.new hand.new }
         ensures fits { Fits self.new.past hand.new }
     {
-        if self.stuck {
-            return Told::Stuck(None);
-        }
         let r = hand.take_word();
         let asked = Step::Help {
             w: hand.worker(),
             r,
         };
-        match self.choose(hand, &asked) {
-            Chosen::Run(t) => Told::Run(t),
-            Chosen::Skip(t, body) => Told::Skip(t, body),
-            Chosen::Idle => Told::None,
-            Chosen::Refused(refusal) => Told::Hear(Heard::Refused(refusal)),
-            _ => unreachable!(),
-        }
+        self.choose(hand, &asked)
     }
 
     /// One try of the running task to join another one: `ForkJoinTask.join`. Precondition: the hand fits.
@@ -104,15 +88,13 @@ impl<B: Body> Store<B> {
     /// If that task is done, it hears how; a result is taken out, and the task released as soon as it can be. If not, the worker takes its
     /// choice of another task.
     #[inline(always)]
-    pub fn join(&mut self, hand: &mut Hand<B>, t: Serial) -> Told<B>
+    pub(crate) fn join(&mut self, hand: &mut Hand<B>, t: Serial) -> Told<B>
+        requires free { self.old.stuck ≡ false }
         requires fits { Fits self.old.past hand.old }
         ensures joins { Joins self.old hand.old t result self.new hand.new }
         ensures right { ToldRight B.right result }
         ensures fits { Fits self.new.past hand.new }
     {
-        if self.stuck {
-            return Told::Stuck(None);
-        }
         let r = hand.take_word();
         let asked = Step::Join {
             w: hand.worker(),
@@ -120,19 +102,17 @@ impl<B: Body> Store<B> {
             r,
         };
         match self.choose(hand, &asked) {
-            Chosen::Run(u) => Told::Run(u),
-            Chosen::Skip(u, body) => Told::Skip(u, body),
-            Chosen::Idle => Told::None,
-            Chosen::Normal => match self.take_and_release(t) {
-                Some(kept) => {
-                    let (key, out) = kept.into_parts();
-                    Told::Hear(Heard::Got(key, out))
-                }
-                None => Told::Hear(Heard::Bare),
+            Told::Hear(heard) => match heard {
+                Heard::Bare => match self.take_and_release(t) {
+                    Some(kept) => {
+                        let (key, out) = kept.into_parts();
+                        Told::Hear(Heard::Got(key, out))
+                    }
+                    None => Told::Hear(Heard::Bare),
+                },
+                heard => Told::Hear(heard),
             },
-            Chosen::Exceptional(code) => Told::Hear(Heard::Failed(code)),
-            Chosen::Cancelled => Told::Hear(Heard::Cancelled),
-            Chosen::Refused(refusal) => Told::Hear(Heard::Refused(refusal)),
+            told => told,
         }
     }
 }

@@ -1,4 +1,4 @@
-ghost use Rattle.std.specs.Prelude.{◌≡◌, true, None};
+ghost use Rattle.std.specs.Prelude.{◌≡◌, true, false, None};
 ghost use Rattle.fj_rules.specs.Tasks.{is_kept};
 ghost use Rattle.fj_bodies.specs.Stores.{GivesNoMore};
 ghost use Rattle.fj_bodies.specs.Turns.{ToldRight};
@@ -46,13 +46,11 @@ impl<B: Body> Store<B> {
     /// A body takes the result of a gone task. `Unknown` if the task is not kept, `NotDone` if it is not gone or has no result.
     ///
     /// The task is released as soon as it can be.
-    pub fn take(&mut self, t: Serial) -> Told<B>
+    pub(crate) fn take(&mut self, t: Serial) -> Told<B>
+        requires free { self.old.stuck ≡ false }
         ensures takes { TakesResult self.old t result self.new }
         ensures right { ToldRight B.right result }
     {
-        if self.stuck {
-            return Told::Stuck(None);
-        }
         match self.machine.place(t) {
             Some(place) => {
                 if !is_gone(place) {
@@ -72,12 +70,10 @@ impl<B: Body> Store<B> {
 
     /// A body gives up a task's result and outcome, for all callers: the task is released as soon as it can be, now or later, and its result
     /// is dropped. `Unknown` if its outcome or result was taken before, or it is not kept.
-    pub fn release(&mut self, t: Serial) -> Told<B>
+    pub(crate) fn release(&mut self, t: Serial) -> Told<B>
+        requires { self.old.stuck ≡ false }
         ensures { LetsGo self.old t result self.new }
     {
-        if self.stuck {
-            return Told::Stuck(None);
-        }
         if self.taken.has(t) {
             return Told::Hear(Heard::Refused(Refusal::Unknown));
         }

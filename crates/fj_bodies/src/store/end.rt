@@ -1,16 +1,16 @@
-ghost use Rattle.std.specs.Prelude.{◌≡◌, IfSome};
+ghost use Rattle.std.specs.Prelude.{◌≡◌, IfSome, false};
 ghost use Rattle.fj_slots.specs.Hands.{asker};
 ghost use Rattle.fj_bodies.specs.Fitting.{Fits};
 ghost use Rattle.fj_bodies.specs.Endings.{EndsBody, EndsOk};
 ghost use Rattle.fj_bodies.specs.HookEndings.{EndsHook};
 
-use crate::body::{Body, Heard, Told};
+use crate::body::{Body, Told};
 use crate::due::after;
 use crate::kept_result::KeptResult;
 use crate::moves::{make, sweep_since};
 use crate::places::is_gone_now;
 use crate::store::Store;
-use fj_rules::{Ending, Owner, Place, Refusal, Said, Serial, Status, Step, SubId, WorkerId};
+use fj_rules::{Ending, Said, Step};
 use fj_slots::Hand;
 
 impl<B: Body> Store<B> {
@@ -18,17 +18,13 @@ impl<B: Body> Store<B> {
     ///
     /// The body of a completer hears `NotCompleter`. If the history has no room the store gets stuck, here and in the next two.
     #[inline(always)]
-    pub fn ok(&mut self, hand: &mut Hand<B>, out: B::Out) -> Told<B>
+    pub(crate) fn ok(&mut self, hand: &mut Hand<B>, out: B::Out) -> Told<B>
+        requires free { self.old.stuck ≡ false }
         requires fits { Fits self.old.past hand.old }
         requires right { IfSome (asker hand.old) (λ b. ∥ B.right (B.key_of b.1) out ∥₁) }
         ensures ends { EndsOk B.key_of self.old hand.old out result self.new hand.new }
         ensures fits { Fits self.new.past hand.new }
     {
-        // For the proof: each type inside a moved reply is named.
-        let _inside: Option<(Place, Owner, Status, Refusal, Serial, SubId, WorkerId)> = None;
-        if self.stuck {
-            return Told::Stuck(None);
-        }
         match self.machine.step(&Step::End {
             w: hand.worker(),
             ending: Ending::Ok,
@@ -40,30 +36,21 @@ impl<B: Body> Store<B> {
                 self.release_due();
                 Told::Over(None)
             }
-            Said::Refused(refusal) => match refusal {
-                Refusal::LogFull => {
-                    self.stuck = true;
-                    Told::Stuck(None)
-                }
-                other => Told::Hear(Heard::Refused(other)),
-            },
+            Said::Refused(refusal) => self.refused(refusal),
             _ => unreachable!(),
         }
     }
+
     /// The running body ends without a result: `Quiet`, `Try`, `Pass`, `Complete` or `Fail`. Precondition: the hand fits.
     ///
     /// If the hook of its own task begins, the body stays in the hand to run it. If not, the body is returned if its task is gone, and stored
     /// if that is open. The body of a plain task hears `NotCompleter`, except for `Fail`.
-    pub fn end(&mut self, hand: &mut Hand<B>, ending: Ending) -> Told<B>
+    pub(crate) fn end(&mut self, hand: &mut Hand<B>, ending: Ending) -> Told<B>
+        requires free { self.old.stuck ≡ false }
         requires fits { Fits self.old.past hand.old }
         ensures ends { EndsBody self.old hand.old ending result self.new hand.new }
         ensures fits { Fits self.new.past hand.new }
     {
-        // For the proof: each type inside a moved reply is named.
-        let _inside: Option<(Place, Owner, Status, Refusal, Serial, SubId, WorkerId)> = None;
-        if self.stuck {
-            return Told::Stuck(None);
-        }
         let asked = Step::End {
             w: hand.worker(),
             ending,
@@ -76,13 +63,7 @@ impl<B: Body> Store<B> {
                 self.release_due();
                 Told::Hook(c, c)
             }
-            Said::Refused(refusal) => match refusal {
-                Refusal::LogFull => {
-                    self.stuck = true;
-                    Told::Stuck(None)
-                }
-                other => Told::Hear(Heard::Refused(other)),
-            },
+            Said::Refused(refusal) => self.refused(refusal),
             _ => {
                 let (t, body) = hand.pop();
                 self.due = after(self.due, t);
@@ -101,17 +82,13 @@ impl<B: Body> Store<B> {
     /// is right for the key of the hook's body.
     ///
     /// If the hook of its parent begins, the parent's body moves into the hand to run it. A hand without a hook hears `NotRunning`.
-    pub fn hook_done(&mut self, hand: &mut Hand<B>, out: B::Out) -> Told<B>
+    pub(crate) fn hook_done(&mut self, hand: &mut Hand<B>, out: B::Out) -> Told<B>
+        requires free { self.old.stuck ≡ false }
         requires fits { Fits self.old.past hand.old }
         requires right { IfSome hand.old.hook (λ b. ∥ B.right (B.key_of b.1) out ∥₁) }
         ensures ends { EndsHook B.key_of self.old hand.old out result self.new hand.new }
         ensures fits { Fits self.new.past hand.new }
     {
-        // For the proof: each type inside a moved reply is named.
-        let _inside: Option<(Place, Owner, Status, Refusal, Serial, SubId, WorkerId)> = None;
-        if self.stuck {
-            return Told::Stuck(None);
-        }
         let w = hand.worker();
         // For the proof: no hand has two hooks.
         let _hook = self.machine.hook(w);
@@ -129,13 +106,7 @@ impl<B: Body> Store<B> {
                 }
                 None => unreachable!(),
             },
-            Said::Refused(refusal) => match refusal {
-                Refusal::LogFull => {
-                    self.stuck = true;
-                    Told::Stuck(None)
-                }
-                other => Told::Hear(Heard::Refused(other)),
-            },
+            Said::Refused(refusal) => self.refused(refusal),
             _ => {
                 let (c, body) = hand.take_hook();
                 sweep_since(&mut self.bodies, &self.machine, before);

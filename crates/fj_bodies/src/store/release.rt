@@ -11,7 +11,7 @@ use crate::hooked::is_hooked;
 use crate::plain::release_plain;
 use crate::store::Store;
 use crate::tries::{HistoryFull, Tried};
-use fj_rules::{Owner, Place, Refusal, Said, Serial, Status, Step, SubId, WorkerId};
+use fj_rules::{Refusal, Said, Serial, Step};
 
 impl<B: Body> Store<B> {
     /// Releases a task whose outcome or result was just taken: a plain one mostly at once, without a mark, others as soon as they can be.
@@ -129,8 +129,6 @@ impl<B: Body> Store<B> {
         requires { is_in t self.old.taken ≡ true }
         ensures { Tries self.old t result self.new }
     {
-        // For the proof: each type inside a moved reply is named.
-        let _inside: Option<(Place, Owner, Status, Refusal, Serial, SubId, WorkerId)> = None;
         if is_hooked(&self.machine, t) {
             return Tried::Needed;
         }

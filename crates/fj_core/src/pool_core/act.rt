@@ -1,14 +1,14 @@
 //! Requests of a running body or a hook.
-ghost use Rattle.std.specs.Prelude.{◌≡◌, ◌↔◌, IfSome, IsSome, IsTrue, None};
+ghost use Rattle.std.specs.Prelude.{◌↔◌, IfSome, IsSome, IsTrue};
 ghost use Rattle.fj_slots.specs.Hands.{asker};
+ghost use Rattle.fj_bodies.specs.Acting.{Acts};
 ghost use Rattle.fj_bodies.specs.Fitting.{Fits};
+ghost use Rattle.fj_bodies.specs.Stores.{StaysInside};
 ghost use Rattle.fj_bodies.specs.Turns.{AskRight, ToldRight};
-ghost use Rattle.fj_core.specs.Acting.{Acts, ActsInBody, ActsInHook, body_with, handed_back, unserved};
-ghost use Rattle.fj_core.specs.Cores.{ChangesStore, StaysInside};
+ghost use Rattle.fj_core.specs.Cores.{ChangesStore};
 
 use crate::pool_core::Core;
-use fj_bodies::{Ask, Body, Heard, Store, Told};
-use fj_rules::{Ending, Refusal};
+use fj_bodies::{Ask, Body, Told};
 use fj_slots::Hand;
 
 impl<B: Body> Core<B> {
@@ -28,11 +28,7 @@ impl<B: Body> Core<B> {
         ensures right { ToldRight B.right result }
         ensures fits { Fits self.new.store.past hand.new }
     {
-        if hand.hooked().is_some() {
-            serve_hook(&mut self.store, hand, ask)
-        } else {
-            serve_body(&mut self.store, hand, ask)
-        }
+        self.store.act(hand, ask)
     }
 
     /// Whether the bodies and the hook of a hand have the task numbers that the machine has for its worker.
@@ -40,69 +36,5 @@ impl<B: Body> Core<B> {
         ensures { IsTrue result ↔ Fits self.now.store.past hand.now }
     {
         self.store.fits(hand)
-    }
-}
-
-/// Serves what a hook asks.
-fn serve_hook<B: Body>(store: &mut Store<B>, hand: &mut Hand<B>, ask: Ask<B>) -> Told<B>
-    requires fits { Fits store.old.past hand.old }
-    requires right { IfSome hand.old.hook (λ b. AskRight B.right (B.key_of b.1) ask) }
-    ensures acts { ActsInHook B.key_of store.old hand.old ask result store.new hand.new }
-    ensures right { ToldRight B.right result }
-    ensures fits { Fits store.new.past hand.new }
-{
-    match ask {
-        Ask::Take(t) => store.take(t),
-        Ask::HookDone(out) => store.hook_done(hand, out),
-        Ask::Fork(body, _) => hand_back(store.is_stuck(), Some(body)),
-        Ask::Trigger(body, _) => hand_back(store.is_stuck(), Some(body)),
-        _ => hand_back(store.is_stuck(), None),
-    }
-}
-
-/// The answer to an ask that is not served, with the body that came.
-fn hand_back<B: Body>(stuck: bool, body: Option<B>) -> Told<B>
-    ensures is { result ≡ unserved stuck body }
-    ensures right { ToldRight B.right result }
-{
-    if stuck {
-        return Told::Stuck(body);
-    }
-    match body {
-        Some(body) => Told::Hear(Heard::Handed(body, Refusal::NotIdle)),
-        None => Told::Hear(Heard::Refused(Refusal::NotIdle)),
-    }
-}
-
-/// Serves what a running body asks.
-#[inline(always)]
-fn serve_body<B: Body>(store: &mut Store<B>, hand: &mut Hand<B>, ask: Ask<B>) -> Told<B>
-    requires fits { Fits store.old.past hand.old }
-    requires bare { hand.old.hook ≡ None }
-    requires right { IfSome (asker hand.old) (λ b. AskRight B.right (B.key_of b.1) ask) }
-    ensures acts { ActsInBody B.key_of store.old hand.old ask result store.new hand.new }
-    ensures right { ToldRight B.right result }
-    ensures fits { Fits store.new.past hand.new }
-{
-    let w = hand.worker();
-    match ask {
-        Ask::Fork(body, kind) => store.fork(w, &kind, body),
-        Ask::Trigger(body, count) => store.trigger(w, count, body),
-        Ask::Join(t) => store.join(hand, t),
-        Ask::Help => store.help(hand),
-        Ask::Take(t) => store.take(t),
-        Ask::Release(t) => store.release(t),
-        Ask::Add(c, n) => store.add(w, c, n),
-        Ask::QuietRoot(t) => store.quiet_root(w, t),
-        Ask::Cancel(t) => store.cancel(t),
-        Ask::Fault(t, code) => store.fault(t, code),
-        Ask::State(t) => store.state(t),
-        Ask::Ok(out) => store.ok(hand, out),
-        Ask::Quiet => store.end(hand, Ending::Quiet),
-        Ask::Try => store.end(hand, Ending::Try),
-        Ask::Pass => store.end(hand, Ending::Pass),
-        Ask::Complete => store.end(hand, Ending::Complete),
-        Ask::Fail(code) => store.end(hand, Ending::Fail(code)),
-        Ask::HookDone(out) => store.hook_done(hand, out),
     }
 }

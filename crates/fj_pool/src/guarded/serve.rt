@@ -4,7 +4,7 @@ ghost use Rattle.fj_slots.specs.Hands.{asker};
 ghost use Rattle.fj_bodies.specs.Choosing.{Polls};
 ghost use Rattle.fj_bodies.specs.Fitting.{Fits};
 ghost use Rattle.fj_bodies.specs.Turns.{AskRight, ToldRight};
-ghost use Rattle.fj_core.specs.Acting.{Acts};
+ghost use Rattle.fj_bodies.specs.Acting.{Acts};
 ghost use Rattle.fj_core.specs.Closes.{is_finished};
 ghost use Rattle.fj_core.specs.Cores.{ChangesStore};
 ghost use Rattle.fj_pool.specs.Holdings.{KeepsOthers};

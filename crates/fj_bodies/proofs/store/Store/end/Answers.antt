@@ -1,11 +1,13 @@
-use Rattle.std.proofs.Common.{refl, sym, ap, subst, ◌∙◌}
+use Rattle.std.proofs.Common.{inr, refl, sym, ap, subst, ◌∙◌}
 use Rattle.fj_rules.specs.declared.step.Step.TheVariants.{End}
+use Rattle.fj_bodies.specs.Choosing.{TellsRefusal}
+use Rattle.fj_bodies.specs.Endings.{EndsBody}
 use Rattle.fj_bodies.specs.Fitting.{Fits}
-use Rattle.fj_rules.proofs.Steps.RunsGrow.{history_more}
 use Rattle.fj_bodies.proofs.Completing.{end_fired, end_unfired, not_over, popped, popped_runs, popped_ends, filled_hand, fired_fits, unfired_fits, fired_stored, out_stored, in_stored, end_kept, end_free, end_room, ends_in_hook, ends_over_out, ends_over_in}
 use Rattle.fj_rules.proofs.Steps.AboutTasks.{end_about}
 use Rattle.fj_bodies.proofs.Calms.{refused_steps}
 use Rattle.fj_bodies.proofs.DueTasks.{step_due}
+use Rattle.fj_bodies.proofs.Polling.{tells_refusal}
 use Rattle.fj_bodies.proofs.Refused.{end_refused}
 use Rattle.fj_bodies.proofs.store.Store.end.Goals as goal
 
@@ -41,7 +43,7 @@ returns-in-Hook-clause-ends g c =
     let fired = end_fired past c.worker.result c.in-Hook.c c.args.ending c.make.result c.make.ensures.step.0 c.in-Hook.is in
     let one = popped past hand c.pop-t.new.self c.worker.result c.in-Hook.c c.pop-t.result.0 c.pop-t.result.1 fits c.worker.ensures c.pop-t.ensures.popped fired.runs in
     rw (← c.self.view_is) (
-      c.if-self.false,
+      ap (λ s. s.stuck) c.self.view_is ∙ c.requires.free,
       refl,
       ends_in_hook _ (record { past = c.make.new.machine; bodies = c.make.new.bodies; results = c.self.inside.results; taken = c.self.inside.taken.items; stuck = c.self.inside.stuck }) _ hand c.pop-t.new.self c.give_hook.new.self
           c.worker.result c.pop-t.result.0 c.in-Hook.c c.args.ending c.pop-t.result.1 c.worker.ensures one (sym c.in-Hook.is ∙ c.make.ensures.step.0, c.make.ensures.step.1) c.pop-t.ensures.popped c.give_hook.ensures refl c.make.ensures.bodies c.release_due.ensures,
@@ -58,15 +60,19 @@ returns-in-Hook-clause-fits g c =
 
 -- ---- it is refused
 
-pub returns-in_default-refusal-clause-ends : goal.returns-in_default-refusal-clause-ends
-returns-in_default-refusal-clause-ends g c =
+pub returns-in-Refused-clause-ends : goal.returns-in-Refused-clause-ends
+returns-in-Refused-clause-ends g c =
     let past = c.self.inside.machine in
     let hand = c.args.hand.now in
+    let r = c.in-Refused.refusal in
     let fits : Fits past hand = subst (λ p. Fits p hand) (ap (λ s. s.past) (sym c.self.view_is)) c.requires.fits in
-    let why = end_refused past hand c.worker.result c.args.ending c.make.result c.in-Refused.refusal fits c.worker.ensures c.make.ensures.step.0 c.in-Refused.is c.in_default-refusal.not-LogFull in
     let same = c.make.ensures.refused _ c.in-Refused.is in
-    rw (← c.self.view_is, same.0, same.1, ← c.worker.ensures)
-    (c.if-self.false, (refused_steps past c.make.new.machine (End c.worker.result c.args.ending) c.make.result _ c.make.ensures.step c.in-Refused.is same.0, refl), refl, why)
+    let steps = refused_steps past c.make.new.machine (End c.worker.result c.args.ending) c.make.result _ c.make.ensures.step c.in-Refused.is same.0 in
+    tells_refusal (λ answer new. EndsBody c.args.self.now hand c.args.ending answer new hand) c.args.self.now _ (End hand.worker c.args.ending) r _ c.requires.free
+    (rw (← c.self.view_is, ← c.worker.ensures) steps, refl)
+    (subst (λ s. TellsRefusal s r c.refused.result c.refused.new.self) c.self.view_is (rw (same.0, same.1) at c.refused.ensures))
+    (λ stuck. (inr stuck, refl))
+    (λ refuses other. (c.requires.free, refuses, refl, end_refused past hand c.worker.result c.args.ending c.make.result r fits c.worker.ensures c.make.ensures.step.0 c.in-Refused.is other))
 
 -- ---- no hook came
 
@@ -112,7 +118,7 @@ returns-then-is_gone_now g c =
     let ends = popped_ends past hand c.pop-t-in_default.new.self c.worker.result c.pop-t-in_default.result.0 c.pop-t-in_default.result.1 _ fits c.worker.ensures c.pop-t-in_default.ensures.popped over in
     record {
       ends = rw (← c.self.view_is) (
-        c.if-self.false,
+        ap (λ s. s.stuck) c.self.view_is ∙ c.requires.free,
         ends_over_out _ (record { past = c.make.new.machine; bodies = c.make.new.bodies; results = c.self.inside.results; taken = c.self.inside.taken.items; stuck = c.self.inside.stuck }) _ hand c.pop-t-in_default.new.self
             c.worker.result c.pop-t-in_default.result.0 c.args.ending c.pop-t-in_default.result.1 c.make.result c.worker.ensures c.make.ensures.step (not_over c.make.result c.in_default.not-Hook c.in_default.not-Refused)
             c.pop-t-in_default.ensures.popped (sym c.is_gone_now.ensures ∙ c.if-is_gone_now.true) refl c.make.ensures.bodies c.release_due-then-is_gone_now.ensures,
@@ -160,7 +166,7 @@ returns-else-is_gone_now g c =
     let ends = popped_ends past hand c.pop-t-in_default.new.self c.worker.result c.pop-t-in_default.result.0 c.pop-t-in_default.result.1 _ fits c.worker.ensures c.pop-t-in_default.ensures.popped over in
     record {
       ends = rw (← c.self.view_is) (
-        c.if-self.false,
+        ap (λ s. s.stuck) c.self.view_is ∙ c.requires.free,
         ends_over_in _ (record { past = c.make.new.machine; bodies = c.put.new.self; results = c.self.inside.results; taken = c.self.inside.taken.items; stuck = c.self.inside.stuck }) _ hand c.pop-t-in_default.new.self
             c.worker.result c.pop-t-in_default.result.0 c.args.ending c.pop-t-in_default.result.1 c.make.result _ c.worker.ensures c.make.ensures.step (not_over c.make.result c.in_default.not-Hook c.in_default.not-Refused)
             c.pop-t-in_default.ensures.popped (sym c.is_gone_now.ensures ∙ c.if-is_gone_now.false) refl c.make.ensures.bodies c.put.ensures.entries c.release_due-in_default.ensures,

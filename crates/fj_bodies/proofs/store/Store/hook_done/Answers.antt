@@ -1,16 +1,19 @@
-use Rattle.std.proofs.Common.{ℕ, List, length, map, refl, sym, ap, subst, ◌∙◌}
+use Rattle.std.proofs.Common.{ℕ, List, length, map, inr, refl, sym, ap, subst, ◌∙◌}
 use Rattle.fj_rules.specs.declared.event.Event.TheVariants.{Rel}
 use Rattle.fj_rules.specs.declared.step.Step.TheVariants.{HookDone}
 use Rattle.fj_rules.specs.Pasts.{grown}
 use Rattle.fj_slots.specs.Shelves.{entries}
 use Rattle.fj_slots.specs.Hands.{with_hook}
+use Rattle.fj_bodies.specs.Choosing.{TellsRefusal}
 use Rattle.fj_bodies.specs.Fitting.{Fits}
+use Rattle.fj_bodies.specs.HookEndings.{EndsHook}
 use Rattle.fj_bodies.proofs.Completing.{not_over}
 use Rattle.fj_bodies.proofs.Sweeps.{gone_longer}
 use Rattle.fj_bodies.proofs.HookEndings.{hook_fired, hook_unfired, hook_in, hook_swept, parent_there, hook_fired_stored, hook_over_stored}
 use Rattle.fj_bodies.proofs.HookEndings.{own_hook_about, hook_first, hook_last, hook_kept_fired, hook_kept_over, hook_fired_fits, hook_over_fits, hook_ends_in_hook, hook_ends_over}
 use Rattle.fj_bodies.proofs.Calms.{refused_steps}
 use Rattle.fj_bodies.proofs.DueTasks.{step_due}
+use Rattle.fj_bodies.proofs.Polling.{tells_refusal}
 use Rattle.fj_bodies.proofs.Refused.{hook_refused}
 use Rattle.fj_bodies.proofs.store.Store.hook_done.Goals as goal
 
@@ -81,7 +84,7 @@ returns-in-Some-clause-ends g c =
     let swept = hook_swept past c.step.new.self w _ (entries c.take.new.self) _ c.self.invariant.0.run c.step.ensures.step.1
     (ap (λ (ts : List ℕ). length ts) c.gone-before.ensures) c.sweep_since.ensures.entries in
     rw (← c.self.view_is) (
-      c.if-self.false,
+      ap (λ s. s.stuck) c.self.view_is ∙ c.requires.free,
       hook_ends_in_hook _ _
           (record { past = c.step.new.self; bodies = c.sweep_since.new.bodies; results = c.self.inside.results; taken = c.self.inside.taken.items; stuck = c.self.inside.stuck })
           c.keep.new.self _ c.args.hand.now
@@ -116,11 +119,15 @@ returns-in-Refused-clause-ends g c =
     let past = c.self.inside.machine in
     let hand = c.args.hand.now in
     let w = c.worker-w.result in
+    let r = c.in-Refused.refusal in
     let fits : Fits past hand = subst (λ p. Fits p hand) (ap (λ s. s.past) (sym c.self.view_is)) c.requires.fits in
-    let why = hook_refused past hand w c.step.result c.in-Refused.refusal fits c.worker-w.ensures c.step.ensures.step.0 c.in-Refused.is c.in_default-refusal.not-LogFull in
     let same = c.step.ensures.refused _ c.in-Refused.is in
-    rw (← c.self.view_is, same, ← c.worker-w.ensures)
-    (c.if-self.false, (refused_steps past c.step.new.self (HookDone w) c.step.result _ c.step.ensures.step c.in-Refused.is same, refl), refl, why)
+    let steps = refused_steps past c.step.new.self (HookDone w) c.step.result _ c.step.ensures.step c.in-Refused.is same in
+    tells_refusal (λ answer new. EndsHook g.B.Body.key_of c.args.self.now hand c.args.out answer new hand) c.args.self.now _ (HookDone hand.worker) r _ c.requires.free
+    (rw (← c.self.view_is, ← c.worker-w.ensures) steps, refl)
+    (subst (λ s. TellsRefusal s r c.refused.result c.refused.new.self) c.self.view_is (rw same at c.refused.ensures))
+    (λ stuck. (inr stuck, refl))
+    (λ refuses other. (c.requires.free, refuses, refl, hook_refused past hand w c.step.result r fits c.worker-w.ensures c.step.ensures.step.0 c.in-Refused.is other))
 
 -- ---- no hook came
 
@@ -183,8 +190,8 @@ keep-requires-in_default-clause-kept g c =
     hook_kept_over past c.step.new.self hand w c.take_hook-c-in_default.result.0 c.take_hook-c-in_default.result.1 _ _ _ c.self.invariant.0 fits c.worker-w.ensures
     c.take_hook-c-in_default.ensures.hook over c.step.ensures.step.1
 
-pub returns : goal.returns
-returns g c =
+pub returns-in_default : goal.returns-in_default
+returns-in_default g c =
     let past = c.self.inside.machine in
     let hand = c.args.hand.now in
     let w = c.worker-w.result in
@@ -194,7 +201,7 @@ returns g c =
     (ap (λ (ts : List ℕ). length ts) c.gone-before.ensures) c.sweep_since-in_default.ensures.entries in
     record {
       ends = rw (← c.self.view_is) (
-        c.if-self.false,
+        ap (λ s. s.stuck) c.self.view_is ∙ c.requires.free,
         hook_ends_over _ _
             (record { past = c.step.new.self; bodies = c.sweep_since-in_default.new.bodies; results = c.self.inside.results; taken = c.self.inside.taken.items; stuck = c.self.inside.stuck })
             c.keep-in_default.new.self _ hand

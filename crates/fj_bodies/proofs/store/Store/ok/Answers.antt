@@ -1,13 +1,16 @@
-use Rattle.std.proofs.Common.{map, refl, sym, ap, subst, ◌∙◌}
+use Rattle.std.proofs.Common.{map, inr, refl, sym, ap, subst, ◌∙◌}
 use Rattle.fj_rules.specs.declared.event.Event.TheVariants.{Rel}
 use Rattle.fj_rules.specs.declared.step.Step.TheVariants.{End}
 use Rattle.fj_rules.specs.declared.step.Ending.TheVariants.{Ok as EndOk}
 use Rattle.fj_rules.specs.Runs.{grown}
+use Rattle.fj_bodies.specs.Choosing.{TellsRefusal}
+use Rattle.fj_bodies.specs.Endings.{EndsOk}
 use Rattle.fj_bodies.specs.Fitting.{Fits}
 use Rattle.fj_rules.proofs.Steps.Answered.{ok_done, ok_replies, end_free}
 use Rattle.fj_bodies.proofs.Endings.{ok_stored, filled, newest_kept, ok_fits, asker_is}
 use Rattle.fj_bodies.proofs.Calms.{refused_steps}
 use Rattle.fj_bodies.proofs.Completing.{popped_runs, ok_first, ok_last}
+use Rattle.fj_bodies.proofs.Polling.{tells_refusal}
 use Rattle.fj_bodies.proofs.Refused.{end_refused}
 use Rattle.fj_rules.proofs.Steps.AboutTasks.{end_about}
 use Rattle.fj_bodies.proofs.DueTasks.{step_due}
@@ -81,8 +84,12 @@ pub returns-in-Refused-clause-ends : goal.returns-in-Refused-clause-ends
 returns-in-Refused-clause-ends g c =
     let past = c.self.inside.machine in
     let hand = c.args.hand.now in
+    let r = c.in-Refused.refusal in
     let fits : Fits past hand = subst (λ p. Fits p hand) (ap (λ s. s.past) (sym c.self.view_is)) c.requires.fits in
-    let why = end_refused past hand c.worker.result EndOk c.step.result c.in-Refused.refusal fits c.worker.ensures c.step.ensures.step.0 c.in-Refused.is c.in_default-refusal.not-LogFull in
     let same = c.step.ensures.refused _ c.in-Refused.is in
-    rw (← c.self.view_is, same, ← c.worker.ensures)
-    (c.if-self.false, (refused_steps past c.step.new.self (End c.worker.result EndOk) c.step.result _ c.step.ensures.step c.in-Refused.is same, refl), refl, why)
+    let steps = refused_steps past c.step.new.self (End c.worker.result EndOk) c.step.result _ c.step.ensures.step c.in-Refused.is same in
+    tells_refusal (λ answer new. EndsOk g.B.Body.key_of c.args.self.now hand c.args.out answer new hand) c.args.self.now _ (End hand.worker EndOk) r _ c.requires.free
+    (rw (← c.self.view_is, ← c.worker.ensures) steps, refl)
+    (subst (λ s. TellsRefusal s r c.refused.result c.refused.new.self) c.self.view_is (rw same at c.refused.ensures))
+    (λ stuck. (inr stuck, refl))
+    (λ refuses other. (c.requires.free, refuses, refl, end_refused past hand c.worker.result EndOk c.step.result r fits c.worker.ensures c.step.ensures.step.0 c.in-Refused.is other))

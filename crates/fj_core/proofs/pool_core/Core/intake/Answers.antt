@@ -10,7 +10,8 @@ use Rattle.fj_core.specs.Cores.{CoreState}
 use Rattle.fj_core.specs.Intakes.{Submits, kind_rooted, with_drained}
 use Rattle.fj_core.specs.Closes.{Dues}
 use Rattle.fj_core.specs.Closings.{is_due}
-use Rattle.fj_core.proofs.Frames.{core_stays, same_stays}
+use Rattle.fj_bodies.proofs.Frames.{same_stays}
+use Rattle.fj_core.proofs.Frames.{core_stays}
 use Rattle.fj_core.proofs.Lanes.{same_capacity, booking_room}
 use Rattle.fj_core.proofs.Parts.{parts_stay, parts_taken}
 use Rattle.fj_core.proofs.TakingIn.{readies_stay, missed_core, intake_core, one_more, taken_pool}

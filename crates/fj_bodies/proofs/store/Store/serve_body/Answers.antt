@@ -1,7 +1,7 @@
 use Rattle.std.proofs.Common.{refl}
-use Rattle.fj_core.proofs.Acts.{accepts_leave, lets_leave, takes_leave, adds_leave, quiets_leave, settles_leave, shows_leave}
-use Rattle.fj_core.proofs.Bare.{still_fits}
-use Rattle.fj_core.proofs.pool_core.act.serve_body.Goals as goal
+use Rattle.fj_bodies.proofs.Acts.{accepts_leave, lets_leave, takes_leave, adds_leave, quiets_leave, settles_leave, shows_leave}
+use Rattle.fj_bodies.proofs.Bare.{still_fits}
+use Rattle.fj_bodies.proofs.store.Store.serve_body.Goals as goal
 
 pub returns-in-Fork-clause-fits : goal.returns-in-Fork-clause-fits
 returns-in-Fork-clause-fits g c = still_fits _ _ _ (accepts_leave _ _ _ _ _ refl refl c.fork.ensures).hands c.requires.fits
@@ -13,7 +13,7 @@ pub returns-in-Take-clause-fits : goal.returns-in-Take-clause-fits
 returns-in-Take-clause-fits g c = still_fits _ _ _ (takes_leave _ _ _ _ c.take.ensures.takes).hands c.requires.fits
 
 pub returns-in-Release-clause-fits : goal.returns-in-Release-clause-fits
-returns-in-Release-clause-fits g c = still_fits _ _ _ (lets_leave c.args.store.now c.release.new.self c.in-Release.t c.release.result c.release.ensures).hands c.requires.fits
+returns-in-Release-clause-fits g c = still_fits _ _ _ (lets_leave c.args.self.now c.release.new.self c.in-Release.t c.release.result c.release.ensures).hands c.requires.fits
 
 pub returns-in-Add-clause-fits : goal.returns-in-Add-clause-fits
 returns-in-Add-clause-fits g c = still_fits _ _ _ (adds_leave _ _ _ _ refl refl c.add.ensures).hands c.requires.fits

@@ -1,6 +1,6 @@
-use Rattle.fj_core.proofs.Acts.{takes_leave}
-use Rattle.fj_core.proofs.Bare.{still_fits}
-use Rattle.fj_core.proofs.pool_core.act.serve_hook.Goals as goal
+use Rattle.fj_bodies.proofs.Acts.{takes_leave}
+use Rattle.fj_bodies.proofs.Bare.{still_fits}
+use Rattle.fj_bodies.proofs.store.Store.serve_hook.Goals as goal
 
 pub returns-in-Take-clause-fits : goal.returns-in-Take-clause-fits
 returns-in-Take-clause-fits g c = still_fits _ _ _ (takes_leave _ _ _ _ c.take.ensures.takes).hands c.requires.fits

@@ -1,4 +1,4 @@
--- What a running body or a hook asks of the core.
+-- What a running body or a hook asks.
 use Rattle.std.specs.Prelude.{◌≡◌, Bool, true, false, Option, Some, None, is_some}
 use Rattle.fj_rules.specs.declared.refusal.Refusal.TheVariants.{NotIdle}
 use Rattle.fj_rules.specs.declared.step.Ending.TheVariants as ending

@@ -1,7 +1,6 @@
--- What each action of a body leaves of the core, and of the hand.
+-- What each action of a body leaves of the store and of the hands, and what a stuck store answers.
 use Rattle.std.proofs.Common.{ℕ, ◌≡◌, Bool, true, false, inl, inr, Option, Some, None, refl, ap, sym, ◌∙◌, subst}
-use Rattle.std.specs.Prelude.{◌⊎◌, Result, Ok, Err, is_some}
-use Rattle.fj_rules.specs.declared.refusal.Refusal.{Refusal}
+use Rattle.std.specs.Prelude.{◌⊎◌, is_some}
 use Rattle.fj_rules.specs.declared.refusal.Refusal.TheVariants.{Unknown, NotDone}
 use Rattle.fj_rules.specs.declared.step.Ending.{Ending}
 use Rattle.fj_rules.specs.declared.step.Ending.TheVariants as ending
@@ -16,7 +15,7 @@ use Rattle.fj_bodies.specs.declared.body.Ask.TheVariants as asks
 use Rattle.fj_bodies.specs.declared.body.Heard.TheVariants as hears
 use Rattle.fj_bodies.specs.declared.body.Told.{Told}
 use Rattle.fj_bodies.specs.declared.body.Told.TheVariants as told
-use Rattle.fj_bodies.specs.Stores.{StoreState}
+use Rattle.fj_bodies.specs.Stores.{StoreState, StaysInside}
 use Rattle.fj_bodies.specs.Releases.{Releases}
 use Rattle.fj_bodies.specs.Accepting.{Accepts}
 use Rattle.fj_bodies.specs.Choosing.{WasStuck, GetsStuck, Helps, Joins}
@@ -24,12 +23,10 @@ use Rattle.fj_bodies.specs.Results.{Keeps, KeepsUnless, LetsGo, TakesOut, TakesR
 use Rattle.fj_bodies.specs.Asking.{Drops, Adds, QuietsRoot, Settles, Shows}
 use Rattle.fj_bodies.specs.Endings.{EndsOk, EndsBody, LeftOver}
 use Rattle.fj_bodies.specs.HookEndings.{EndsHook}
+use Rattle.fj_bodies.specs.Acting.{ActsInBody, ActsInHook, ActsWhere, Acts, body_with}
 use Rattle.fj_rules.specs.Inside.{IsInside, is_outside_step}
-use Rattle.fj_core.specs.Cancels.{CancelsTask}
-use Rattle.fj_core.specs.Cores.{StaysInside}
-use Rattle.fj_core.specs.Acting.{ActsInBody, ActsInHook, ActsWhere, Acts}
 use Rattle.fj_rules.proofs.Steps.Inside.{same_inside}
-use Rattle.fj_core.proofs.Frames.{same_stays, then_stays, step_stays, sticks_stay, releases_stay, hands_out_stays, skips_stay, moves_stay}
+use Rattle.fj_bodies.proofs.Frames.{same_stays, then_stays, step_stays, sticks_stay, releases_stay, hands_out_stays, skips_stay, moves_stay}
 use Rattle.fj_rules.proofs.Steps.KeepsHands.{KeepsHands, is_bare, step_keeps, releases_keep, same_keeps, then_keeps}
 
 -- a hook is there where its number is
@@ -50,7 +47,7 @@ module _ {B K O : Type 0} where
     hands = subst (KeepsHands old.past) (sym same) (same_keeps old.past);
   }
 
-  same_leaves : (old new : StoreState B K O) → new ≡ old → Leaves old new
+  pub same_leaves : (old new : StoreState B K O) → new ≡ old → Leaves old new
   same_leaves old new same = aside_stays old new (ap (λ s. s.past) same) (ap (λ s. s.stuck) same)
 
   then_leaves : (a b c : StoreState B K O) → Leaves a b → Leaves b c → Leaves a c
@@ -69,7 +66,7 @@ module _ {B K O : Type 0} where
     hands = step_keeps old.past new.past asked reply bare made;
   }
 
-  drops_stay : (old new : StoreState B K O) (asked : Step) (reply : Said) → is_outside_step asked ≡ false → is_bare asked ≡ true → Drops old asked reply new → Leaves old new
+  pub drops_stay : (old new : StoreState B K O) (asked : Step) (reply : Said) → is_outside_step asked ≡ false → is_bare asked ≡ true → Drops old asked reply new → Leaves old new
   drops_stay old new asked reply inside bare is =
       then_leaves old is.mid new (step_leaves old is.mid asked reply inside bare is.step (ap (λ s. s.stuck) is.others)) (releases_leave is.mid new is.releases)
 
@@ -103,12 +100,6 @@ module _ {B K O : Type 0} where
   settles_leave old new asked (told.Hear (hears.Refused r)) inside bare is = same_leaves old new is.1.1
   settles_leave old new asked (told.Stuck None) inside bare is = same_leaves old new is.1
   settles_leave old new asked _ inside bare is = absurd is
-
-  -- from outside
-  pub cancels_leave : (old new : StoreState B K O) (t : ℕ) (answer : Result Bool Refusal) → CancelsTask old t answer new → Leaves old new
-  cancels_leave old new t (Ok true) is = drops_stay old new (step.Cancel t) says.Yes refl refl is
-  cancels_leave old new t (Ok false) is = drops_stay old new (step.Cancel t) says.No refl refl is
-  cancels_leave old new t (Err r) is = same_leaves old new is.1
 
   pub shows_leave : (old new : StoreState B K O) (asked : Step) (answer : Told B K O) → is_outside_step asked ≡ false → is_bare asked ≡ true
       → Shows old asked answer new → Leaves old new
@@ -241,7 +232,41 @@ module _ {B K O : Type 0} where
   hook_acts_stay key_of old new hand hand' (asks.HookDone out) answer is = hook_ends_stay key_of old new hand hand' out answer is
   hook_acts_stay key_of old new hand hand' _ answer is = same_stays old new is.1
 
-  -- an action in a hook, or of a running body
+  -- ---- an action in a hook, or of a running body
+
   pub acts_as : (hooked : Bool) (key_of : B → K) (old new : StoreState B K O) (hand hand' : HandState B) (ask : Ask B K O) (answer : Told B K O) → is_some hand.hook ≡ hooked
       → ActsWhere hooked key_of old hand ask answer new hand' → Acts key_of old hand ask answer new hand'
   acts_as hooked key_of old new hand hand' ask answer at is = subst (λ b. ActsWhere b key_of old hand ask answer new hand') (sym at) is
+
+  where_acts_stay : (hooked : Bool) (key_of : B → K) (old new : StoreState B K O) (hand hand' : HandState B) (ask : Ask B K O) (answer : Told B K O)
+      → ActsWhere hooked key_of old hand ask answer new hand' → StaysInside old new
+  where_acts_stay true key_of old new hand hand' ask answer is = hook_acts_stay key_of old new hand hand' ask answer is
+  where_acts_stay false key_of old new hand hand' ask answer is = body_acts_stay key_of old new hand hand' ask answer is
+
+  pub acts_stay : (key_of : B → K) (old new : StoreState B K O) (hand hand' : HandState B) (ask : Ask B K O) (answer : Told B K O) → Acts key_of old hand ask answer new hand' → StaysInside old new
+  acts_stay key_of old new hand hand' ask answer is = where_acts_stay (is_some hand.hook) key_of old new hand hand' ask answer is
+
+  -- ---- a stuck store
+
+  stuck_in_body : (key_of : B → K) (old : StoreState B K O) (hand : HandState B) (ask : Ask B K O) → old.stuck ≡ true → ActsInBody key_of old hand ask (told.Stuck (body_with ask)) old hand
+  stuck_in_body key_of old hand (asks.Fork body kind) is = ((is, refl, refl), refl)
+  stuck_in_body key_of old hand (asks.Trigger body count) is = ((is, refl, refl), refl)
+  stuck_in_body key_of old hand (asks.Join t) is = ((is, refl), refl)
+  stuck_in_body key_of old hand asks.Help is = ((is, refl), refl)
+  stuck_in_body key_of old hand (asks.Take t) is = ((is, refl), refl)
+  stuck_in_body key_of old hand (asks.Release t) is = ((is, refl), refl)
+  stuck_in_body key_of old hand (asks.Add c n) is = ((is, refl), refl)
+  stuck_in_body key_of old hand (asks.QuietRoot t) is = ((is, refl), refl)
+  stuck_in_body key_of old hand (asks.Cancel t) is = ((is, refl), refl)
+  stuck_in_body key_of old hand (asks.Fault t code) is = ((is, refl), refl)
+  stuck_in_body key_of old hand (asks.State t) is = ((is, refl), refl)
+  stuck_in_body key_of old hand _ is = (inl (is, refl), refl)
+
+  stuck_in_hook : (key_of : B → K) (old : StoreState B K O) (hand : HandState B) (ask : Ask B K O) → old.stuck ≡ true → ActsInHook key_of old hand ask (told.Stuck (body_with ask)) old hand
+  stuck_in_hook key_of old hand (asks.Take t) is = ((is, refl), refl)
+  stuck_in_hook key_of old hand (asks.HookDone out) is = (inl (is, refl), refl)
+  stuck_in_hook key_of old hand _ is = (rw is refl, refl, refl)
+
+  pub stuck_acts : (hooked : Bool) (key_of : B → K) (old : StoreState B K O) (hand : HandState B) (ask : Ask B K O) → old.stuck ≡ true → ActsWhere hooked key_of old hand ask (told.Stuck (body_with ask)) old hand
+  stuck_acts true key_of old hand ask is = stuck_in_hook key_of old hand ask is
+  stuck_acts false key_of old hand ask is = stuck_in_body key_of old hand ask is

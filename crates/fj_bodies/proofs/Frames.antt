@@ -1,0 +1,72 @@
+-- What a call leaves of the store: nothing is submitted, closed, stopped or sealed, and a stuck store stays stuck.
+use Rattle.std.proofs.Common.{ℕ, ◌≡◌, Bool, true, false, inl, inr, Option, Some, None, refl, ap, sym, ◌∙◌, subst}
+use Rattle.std.specs.Prelude.{Result, Ok, Err}
+use Rattle.fj_rules.specs.declared.refusal.Refusal.{Refusal}
+use Rattle.fj_rules.specs.declared.said.Said.{Said}
+use Rattle.fj_rules.specs.declared.step.Step.{Step}
+use Rattle.fj_rules.specs.declared.step.Step.TheVariants as ask
+use Rattle.fj_rules.specs.Runs.{Steps}
+use Rattle.fj_slots.specs.Hands.{HandState, with_next_word}
+use Rattle.fj_bodies.specs.declared.body.Told.{Told}
+use Rattle.fj_bodies.specs.declared.body.Told.TheVariants as told
+use Rattle.fj_bodies.specs.declared.outcomes.Outcome.{Outcome}
+use Rattle.fj_bodies.specs.Stores.{StoreState, StaysInside}
+use Rattle.fj_bodies.specs.Releases.{Releases, Rests}
+use Rattle.fj_bodies.specs.Choosing.{Polls, HandsOut, Skips, Moves}
+use Rattle.fj_bodies.specs.Results.{Collects}
+use Rattle.fj_rules.specs.Inside.{IsInside, is_outside_step}
+use Rattle.fj_rules.proofs.Steps.Inside.{step_inside, releases_inside, same_inside, then_inside}
+
+module _ {B K O : Type 0} where
+  pub same_stays : (old new : StoreState B K O) → new ≡ old → StaysInside old new
+  same_stays old new same = subst (StaysInside old) (sym same) (record { past = same_inside old.past; stuck = λ is. is })
+
+  pub then_stays : (a b c : StoreState B K O) → StaysInside a b → StaysInside b c → StaysInside a c
+  then_stays a b c ab bc = record { past = then_inside a.past b.past c.past ab.past bc.past; stuck = λ is. ab.stuck (bc.stuck is) }
+
+  rests_stuck : (stuck : Bool) (s : StoreState B K O) → Rests stuck s → s.stuck ≡ false → stuck ≡ false
+  rests_stuck stuck s (inl rests) is = sym rests.0 ∙ is
+  rests_stuck stuck s (inr full) is = absurd (let same : true ≡ false = sym full.0 ∙ is in cc)
+
+  pub releases_stay : (old new : StoreState B K O) → Releases old new → StaysInside old new
+  releases_stay old new r =
+      record {
+        past = subst (IsInside old.past) (sym (ap (λ s. s.past) r.were)) (releases_inside old.past r.tasks);
+        stuck = rests_stuck old.stuck new r.rests;
+      }
+
+  -- a step of a worker, with nothing stuck by it
+  pub step_stays : (old new : StoreState B K O) (asked : Step) (reply : Said) → is_outside_step asked ≡ false → Steps old.past asked reply new.past → new.stuck ≡ old.stuck → StaysInside old new
+  step_stays old new asked reply inside step same = record { past = step_inside old.past new.past asked reply inside step; stuck = λ is. sym same ∙ is }
+
+  -- it gets stuck
+  pub sticks_stay : (old new : StoreState B K O) → (old.stuck ≡ false) → new.past ≡ old.past → StaysInside old new
+  sticks_stay old new free same = record { past = subst (IsInside old.past) (sym same) (same_inside old.past); stuck = λ is. free }
+
+  pub hands_out_stays : (old new : StoreState B K O) (hand hand' : HandState B) (asked : Step) (t : ℕ) → is_outside_step asked ≡ false → HandsOut old hand asked t new hand' → StaysInside old new
+  hands_out_stays old new hand hand' asked t inside is = step_stays old new asked _ inside is.step (ap (λ s. s.stuck) is.others)
+
+  pub skips_stay : (old new : StoreState B K O) (asked : Step) (t : ℕ) (body : B) → is_outside_step asked ≡ false → Skips old asked t body new → StaysInside old new
+  skips_stay old new asked t body inside is = then_stays old is.mid new (step_stays old is.mid asked _ inside is.step (ap (λ s. s.stuck) is.others)) (releases_stay is.mid new is.releases)
+
+  pub moves_stay : (old new : StoreState B K O) (asked : Step) (reply : Said) → is_outside_step asked ≡ false → Moves old asked reply new → StaysInside old new
+  moves_stay old new asked reply inside is = step_stays old new asked reply inside is.0 (ap (λ s. s.stuck) is.1)
+
+  -- ---- each call
+
+  pub polls_stay : (old new : StoreState B K O) (hand hand' : HandState B) (answer : Told B K O) → Polls old hand answer new hand' → StaysInside old new
+  polls_stay old new hand hand' (told.Run t) is = hands_out_stays old new (with_next_word hand) hand' (ask.Poll hand.worker hand.word) t refl is.1
+  polls_stay old new hand hand' (told.Skip t body) is = skips_stay old new (ask.Poll hand.worker hand.word) t body refl is.1
+  polls_stay old new hand hand' told.None is = moves_stay old new (ask.Poll hand.worker hand.word) _ refl is.1
+  polls_stay old new hand hand' (told.Stuck None) (inl was) = same_stays old new was.0.1
+  polls_stay old new hand hand' (told.Stuck None) (inr now) = sticks_stay old new now.0.0 (ap (λ s. s.past) now.0.2)
+  polls_stay old new hand hand' (told.Stuck (Some b)) is = absurd is
+  polls_stay old new hand hand' (told.Hear heard) is = absurd is
+  polls_stay old new hand hand' (told.Hook a b) is = absurd is
+  polls_stay old new hand hand' (told.Over b) is = absurd is
+
+  pub collects_stay : (old new : StoreState B K O) (t : ℕ) (answer : Option (Result (Outcome B K O) Refusal)) → Collects old t answer new → StaysInside old new
+  collects_stay old new t None is = same_stays old new is.3
+  collects_stay old new t (Some (Err r)) is = same_stays old new is.2
+  collects_stay old new t (Some (Ok outcome)) is =
+      then_stays old is.mid new (subst (StaysInside old) (sym is.marks.1) (record { past = same_inside old.past; stuck = λ is. is })) (releases_stay is.mid new is.releases)
