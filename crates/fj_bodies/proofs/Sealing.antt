@@ -1,5 +1,5 @@
 -- What has happened is handed out in parts.
-use Rattle.std.proofs.Common.{ℕ, ◌≡◌, ◌≤◌, List, None, sym, subst}
+use Rattle.std.proofs.Common.{ℕ, ◌≡◌, List, None, ap, sym, subst}
 use Rattle.std.specs.Prelude.{Result, Ok, Err, OnOk, OnErr}
 use Rattle.fj_rules.specs.declared.refusal.Refusal.{Refusal}
 use Rattle.fj_rules.specs.Pasts.{Past, sealed_now}
@@ -24,10 +24,9 @@ seal_stored {B} {R} {T} (Ok part) past new bodies results ts is may sealed stays
 })
 seal_stored {B} {R} {T} (Err r) past new bodies results ts is may sealed stays = subst (λ (p : Past). IsStored p bodies results ts) (sym stays) is
 
-pub seal_tasks : {T : Type 0} (r : Result T Refusal) (past new : Past) (room : ℕ) → OnOk r (new ≡ sealed_now past) → OnErr r (new ≡ past) → past.pool.limits.tasks ≤ room
-    → new.pool.limits.tasks ≤ room
-seal_tasks (Ok part) past new room sealed stays within = rw sealed within
-seal_tasks (Err r) past new room sealed stays within = rw stays within
+pub seal_pool : {T : Type 0} (r : Result T Refusal) (past new : Past) → OnOk r (new ≡ sealed_now past) → OnErr r (new ≡ past) → new.pool ≡ past.pool
+seal_pool (Ok part) past new sealed stays = ap (λ p. p.pool) sealed
+seal_pool (Err r) past new sealed stays = ap (λ p. p.pool) stays
 
 pub seal_due : {T : Type 0} (r : Result T Refusal) (past new : Past) (ts : List ℕ) (before : Due) → OnOk r (new ≡ sealed_now past) → OnErr r (new ≡ past) → AreDue past.events ts before
     → AreDue new.events ts before

@@ -1,12 +1,15 @@
 -- Which of the tasks whose outcome or result was taken may be releasable.
-use Rattle.std.specs.Prelude.{ℕ, ◌≡◌, Bool, true, false, drop, List, [], ◌∷◌, Option, Some, None, Result, Ok, Err, ⊤}
+use Rattle.std.specs.Prelude.{ℕ, ◌≡◌, ◌≤◌, Bool, true, false, drop, List, [], ◌∷◌, Option, Some, None, Result, Ok, Err, ⊤}
 use Rattle.fj_rules.specs.declared.event.Event.{Event}
 use Rattle.fj_rules.specs.declared.step.Step.{Step}
 use Rattle.fj_rules.specs.declared.step.Step.TheVariants as ask
 use Rattle.fj_rules.specs.Lists.{is_in}
+use Rattle.fj_rules.specs.Pasts.{Past}
+use Rattle.fj_slots.specs.Marked.{SerialList}
+use Rattle.fj_slots.specs.Shelves.{Shelved, entries}
 use Rattle.fj_bodies.specs.declared.due.Due.{Due}
 use Rattle.fj_bodies.specs.declared.due.Due.TheVariants as due
-use Rattle.fj_bodies.specs.Stores.{StoreState}
+use Rattle.fj_bodies.specs.Stores.{StoreState, IsStored}
 use Rattle.fj_bodies.specs.declared.tries.HistoryFull.{HistoryFull}
 use Rattle.fj_bodies.specs.Releases.{NoneGoesFrom, Releases, ReleasesSome, released_of}
 use Rattle.fj_rules.specs.Releasable.{can_go}
@@ -20,6 +23,20 @@ abbrev pub AreDue : List Event → List ℕ → Due → Type 0
 AreDue h ts due.Nothing = (u : ℕ) → is_in u ts ≡ true → can_go h u ≡ false
 AreDue h ts (due.One t) = OnlyGoes h ts t
 AreDue h ts due.All = ⊤
+
+-- there is room for as many bodies, results and marks of taken tasks as there may be kept tasks, at most 4096
+pub record HasRoom (tasks for_bodies for_results for_marks : ℕ) : Type 0 where
+  pub bodies : tasks ≤ for_bodies
+  pub results : tasks ≤ for_results
+  pub taken : tasks ≤ for_marks
+  pub few : tasks ≤ 4096
+
+-- what holds of every store, with what is due in it
+pub record HoldsStore {B R : Type 0} (past : Past) (bodies : Shelved B) (results : Shelved R) (taken : SerialList) (which : Due) (stuck : Bool) : Type 0 where
+  pub stored : IsStored past (entries bodies) (entries results) taken.items
+  pub room : HasRoom past.pool.limits.tasks bodies.room results.room taken.room
+  -- after each call only due tasks can be released, unless the history is full
+  pub due : stuck ≡ false → AreDue past.events taken.items which
 
 -- the only task that is due, if there is exactly one
 abbrev pub only : Due → Option ℕ

@@ -43,10 +43,8 @@ pub struct Store<B: Body> {
 }
 
 impl<B: Body> Model for Store<B> {
-    ghost use Rattle.std.specs.Prelude.{◌≡◌, ◌≤◌, false};
-    ghost use Rattle.fj_slots.specs.Shelves.{entries};
-    ghost use Rattle.fj_bodies.specs.Stores.{StoreState, IsStored};
-    ghost use Rattle.fj_bodies.specs.DueTasks.{AreDue};
+    ghost use Rattle.fj_bodies.specs.DueTasks.{HoldsStore};
+    ghost use Rattle.fj_bodies.specs.Stores.{StoreState};
 
     ghost Value = { StoreState B B.Key B.Out };
 
@@ -58,13 +56,7 @@ impl<B: Body> Model for Store<B> {
       stuck = s.stuck;
     } };
 
-    ghost invariant = { λ s.
-        IsStored s.machine (entries s.bodies) (entries s.results) s.taken.items
-        × (s.machine.pool.limits.tasks ≤ s.bodies.room)
-        × (s.machine.pool.limits.tasks ≤ s.results.room)
-        × (s.machine.pool.limits.tasks ≤ s.taken.room)
-        × (s.machine.pool.limits.tasks ≤ 4096)
-        × (s.stuck ≡ false → AreDue s.machine.events s.taken.items s.due) };
+    ghost invariant = { λ s. HoldsStore s.machine s.bodies s.results s.taken s.due s.stuck };
 }
 
 impl<B: Body> Store<B> {

@@ -1,6 +1,6 @@
 -- What contracts see of a core.
-use Rattle.std.specs.Prelude.{ℕ, ◌≡◌, ◌+◌, ◌%◌, ◌^◌, ◌&&◌, Bool, true, false, not, List, [], length, map, Option, Some, None, Result, Err}
-use Rattle.std.specs.List.{range_with_len}
+use Rattle.std.specs.Prelude.{ℕ, ◌≡◌, ◌≤◌, ◌+◌, ◌%◌, ◌^◌, ◌&&◌, Bool, true, false, not, List, [], ◌++◌, length, map, Option, Some, None, Result, Err}
+use Rattle.std.specs.List.{range_with_len, sum_by}
 use Rattle.fj_rules.specs.declared.epoch.Sealed.{Sealed}
 use Rattle.fj_rules.specs.declared.mode.Mode.{Mode}
 use Rattle.fj_rules.specs.declared.refusal.Refusal.{Refusal}
@@ -18,7 +18,8 @@ use Rattle.fj_bodies.specs.Results.{Collects}
 use Rattle.fj_bodies.specs.Stores.{StoreState}
 use Rattle.fj_core.specs.declared.booking.Booking.{Booking}
 use Rattle.fj_core.specs.declared.cutoff.Cutoff.{Cutoff}
-use Rattle.fj_core.specs.Booked.{AreBooked, booked_under}
+use Rattle.fj_core.specs.Archives.{Archived}
+use Rattle.fj_core.specs.Booked.{AreBooked, Booked, booked_under}
 use Rattle.fj_core.specs.Closings.{IsClosing, is_due}
 
 -- these are the parts of the history that were sealed
@@ -44,6 +45,12 @@ module _ {B K O : Type 0} where
   pub record IsCore (store : StoreState B K O) (lanes : List (DrainState B)) (bookings : List Booking) (closing : Cutoff) : Type 0 where
     pub booked : AreBooked store.past lanes bookings
     pub closes : IsClosing store.past.events (length bookings) closing store.stuck
+
+  -- the same, with what its parts keep: there is room for a booking of all that the lanes admit, and the archive has the sealed history
+  pub record HoldsCore (store : StoreState B K O) (lanes : List (DrainState B)) (bookings : Booked) (closing : Cutoff) (archive : Archived) : Type 0 where
+    pub core : IsCore store lanes bookings.bookings closing
+    pub room : sum_by (λ d. d.capacity) lanes ≤ bookings.room
+    pub parts : AreParts (archive.handed ++ archive.kept) store.past
 
   -- nothing has happened, and nothing was taken in
   pub record IsNew (mode : Mode) (limits : Bounds) (lanes : List (DrainState B)) (core : CoreState B K O) : Type 0 where

@@ -44,18 +44,13 @@ pub struct Core<B: Body> {
 }
 
 impl<B: Body> Model for Core<B> {
-    ghost use Rattle.std.specs.Prelude.{◌≤◌, ◌++◌};
-    ghost use Rattle.std.specs.List.{sum_by};
-    ghost use Rattle.fj_core.specs.Cores.{AreParts, CoreState, IsCore};
+    ghost use Rattle.fj_core.specs.Cores.{CoreState, HoldsCore};
 
     ghost Value = { CoreState B B.Key B.Out };
 
     ghost view = { λ c. record { store = c.store; lanes = c.drains.items; bookings = c.bookings.bookings; closing = c.closing; handed = c.archive.handed; parts = c.archive.kept } };
 
-    ghost invariant = { λ c.
-        IsCore c.store c.drains.items c.bookings.bookings c.closing
-        × (sum_by (λ d. d.capacity) c.drains.items ≤ c.bookings.room)
-        × AreParts (c.archive.handed ++ c.archive.kept) c.store.past };
+    ghost invariant = { λ c. HoldsCore c.store c.drains.items c.bookings c.closing c.archive };
 }
 
 impl<B: Body> Core<B> {

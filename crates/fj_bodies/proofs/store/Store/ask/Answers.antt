@@ -4,29 +4,25 @@ use Rattle.fj_bodies.proofs.DueTasks.{calm_due}
 use Rattle.fj_bodies.proofs.store.Store.ask.Goals as goal
 
 pub make-requires : goal.make-requires
-make-requires g c = c.self.invariant.0.run
+make-requires g c = c.self.invariant.stored.run
 
 pub invariant_of-self : goal.invariant_of-self
 invariant_of-self g c =
-    let past = c.self.inside.machine in (
-      swept_stored past c.make.new.machine c.args.asked.now _ _ _ _ c.self.invariant.0 c.requires c.make.ensures.step.1 c.make.ensures.bodies,
-      rw (c.make.ensures.room, c.make.ensures.step.1) c.self.invariant.1,
-      rw c.make.ensures.step.1 c.self.invariant.2,
-      rw c.make.ensures.step.1 c.self.invariant.3,
-      rw c.make.ensures.step.1 c.self.invariant.4,
-      λ free. rw (c.make.ensures.refused _ c.in-Refused.is).0 (c.self.invariant.5 free),
-    )
+    let past = c.self.inside.machine in
+    record {
+      stored = swept_stored past c.make.new.machine c.args.asked.now _ _ _ _ c.self.invariant.stored c.requires c.make.ensures.step.1 c.make.ensures.bodies;
+      room = rw (c.make.ensures.room, c.make.ensures.step.1) c.self.invariant.room;
+      due = λ free. rw (c.make.ensures.refused _ c.in-Refused.is).0 (c.self.invariant.due free);
+    }
 
 pub invariant_of-self-in_default : goal.invariant_of-self-in_default
 invariant_of-self-in_default g c =
-    let past = c.self.inside.machine in (
-      swept_stored past c.make.new.machine c.args.asked.now _ _ _ _ c.self.invariant.0 c.requires c.make.ensures.step.1 c.make.ensures.bodies,
-      rw (c.make.ensures.room, c.make.ensures.step.1) c.self.invariant.1,
-      rw c.make.ensures.step.1 c.self.invariant.2,
-      rw c.make.ensures.step.1 c.self.invariant.3,
-      rw c.make.ensures.step.1 c.self.invariant.4,
-      λ free. rw c.after_step-self-inside.ensures (calm_due past c.make.new.machine c.args.asked.now _ _ _ c.self.inside.due c.self.invariant.0 c.requires c.make.ensures.step.1 (c.self.invariant.5 free)),
-    )
+    let past = c.self.inside.machine in
+    record {
+      stored = swept_stored past c.make.new.machine c.args.asked.now _ _ _ _ c.self.invariant.stored c.requires c.make.ensures.step.1 c.make.ensures.bodies;
+      room = rw (c.make.ensures.room, c.make.ensures.step.1) c.self.invariant.room;
+      due = λ free. rw c.after_step-self-inside.ensures (calm_due past c.make.new.machine c.args.asked.now _ _ _ c.self.inside.due c.self.invariant.stored c.requires c.make.ensures.step.1 (c.self.invariant.due free));
+    }
 
 pub returns-in-Refused : goal.returns-in-Refused
 returns-in-Refused g c =

@@ -18,7 +18,7 @@ unreachable-requires g c =
     let takes : TakesChoice w (answer past c.args.asked.now).0 (answer past c.args.asked.now).1 =
     subst (λ (p : Past). TakesChoice w (answer p c.args.asked.now).0 (answer p c.args.asked.now).1) (ap (λ s. s.past) (sym c.self.view_is)) c.requires.takes in
     let made = choice_ran w c.in-Run.t c.step.result _ _ takes c.step.ensures.step.0 c.in-Run.is in
-    taken_there past c.args.asked.now (Out c.in-Run.t w) c.in-Run.t _ _ _ c.self.invariant.0 made refl (sym c.in-None-take.ensures.taken)
+    taken_there past c.args.asked.now (Out c.in-Run.t w) c.in-Run.t _ _ _ c.self.invariant.stored made refl (sym c.in-None-take.ensures.taken)
 
 pub push-requires : goal.push-requires
 push-requires g c =
@@ -28,7 +28,7 @@ push-requires g c =
     subst (λ (p : Past). TakesChoice w (answer p c.args.asked.now).0 (answer p c.args.asked.now).1) (ap (λ s. s.past) (sym c.self.view_is)) c.requires.takes in
     let fits : Fits past c.args.hand.now = subst (λ p. Fits p c.args.hand.now) (ap (λ s. s.past) (sym c.self.view_is)) c.requires.fits in
     let made = choice_ran w c.in-Run.t c.step.result _ _ takes c.step.ensures.step.0 c.in-Run.is in
-    out_room past c.args.asked.now c.args.hand.now c.in-Run.t c.self.invariant.0.run c.self.invariant.4 fits made
+    out_room past c.args.asked.now c.args.hand.now c.in-Run.t c.self.invariant.stored.run c.self.invariant.room.few fits made
 
 pub unreachable-requires-in-None-take-2 : goal.unreachable-requires-in-None-take-2
 unreachable-requires-in-None-take-2 g c =
@@ -37,7 +37,7 @@ unreachable-requires-in-None-take-2 g c =
     let takes : TakesChoice w (answer past c.args.asked.now).0 (answer past c.args.asked.now).1 =
     subst (λ (p : Past). TakesChoice w (answer p c.args.asked.now).0 (answer p c.args.asked.now).1) (ap (λ s. s.past) (sym c.self.view_is)) c.requires.takes in
     let made = choice_skipped w c.in-Skip.t c.step.result _ _ takes c.step.ensures.step.0 c.in-Skip.is in
-    taken_there past c.args.asked.now (Skip c.in-Skip.t w) c.in-Skip.t _ _ _ c.self.invariant.0 made refl (sym c.in-None-take-2.ensures.taken)
+    taken_there past c.args.asked.now (Skip c.in-Skip.t w) c.in-Skip.t _ _ _ c.self.invariant.stored made refl (sym c.in-None-take-2.ensures.taken)
 
 pub unreachable-requires-in_default : goal.unreachable-requires-in_default
 unreachable-requires-in_default g c =
@@ -53,14 +53,12 @@ invariant_of-self g c =
     let w = c.args.hand.now.worker in
     let takes : TakesChoice w (answer past c.args.asked.now).0 (answer past c.args.asked.now).1 =
     subst (λ (p : Past). TakesChoice w (answer p c.args.asked.now).0 (answer p c.args.asked.now).1) (ap (λ s. s.past) (sym c.self.view_is)) c.requires.takes in
-    let made = choice_ran w c.in-Run.t c.step.result _ _ takes c.step.ensures.step.0 c.in-Run.is in (
-      out_stored past c.step.new.self c.args.asked.now c.in-Run.t w _ _ _ _ c.self.invariant.0 c.step.ensures.step.1 made c.take.ensures.entries,
-      rw (c.take.ensures.room, c.step.ensures.step.1) c.self.invariant.1,
-      rw c.step.ensures.step.1 c.self.invariant.2,
-      rw c.step.ensures.step.1 c.self.invariant.3,
-      rw c.step.ensures.step.1 c.self.invariant.4,
-      λ free. still_due past c.step.new.self c.args.asked.now (Out c.in-Run.t w ∷ []) _ _ _ c.self.inside.due c.self.invariant.0 c.step.ensures.step.1 made refl (c.self.invariant.5 free),
-    )
+    let made = choice_ran w c.in-Run.t c.step.result _ _ takes c.step.ensures.step.0 c.in-Run.is in
+    record {
+      stored = out_stored past c.step.new.self c.args.asked.now c.in-Run.t w _ _ _ _ c.self.invariant.stored c.step.ensures.step.1 made c.take.ensures.entries;
+      room = rw (c.take.ensures.room, c.step.ensures.step.1) c.self.invariant.room;
+      due = λ free. still_due past c.step.new.self c.args.asked.now (Out c.in-Run.t w ∷ []) _ _ _ c.self.inside.due c.self.invariant.stored c.step.ensures.step.1 made refl (c.self.invariant.due free);
+    }
 
 pub invariant_of-self-in-Some-take : goal.invariant_of-self-in-Some-take
 invariant_of-self-in-Some-take g c =
@@ -68,14 +66,12 @@ invariant_of-self-in-Some-take g c =
     let w = c.args.hand.now.worker in
     let takes : TakesChoice w (answer past c.args.asked.now).0 (answer past c.args.asked.now).1 =
     subst (λ (p : Past). TakesChoice w (answer p c.args.asked.now).0 (answer p c.args.asked.now).1) (ap (λ s. s.past) (sym c.self.view_is)) c.requires.takes in
-    let made = choice_skipped w c.in-Skip.t c.step.result _ _ takes c.step.ensures.step.0 c.in-Skip.is in (
-      skip_stored past c.step.new.self c.args.asked.now c.in-Skip.t w _ _ _ _ c.self.invariant.0 c.step.ensures.step.1 made c.take-in-Skip.ensures.entries,
-      rw (c.take-in-Skip.ensures.room, c.step.ensures.step.1) c.self.invariant.1,
-      rw c.step.ensures.step.1 c.self.invariant.2,
-      rw c.step.ensures.step.1 c.self.invariant.3,
-      rw c.step.ensures.step.1 c.self.invariant.4,
-      λ free. rw c.after-self-inside.ensures (step_due past c.step.new.self c.args.asked.now _ _ _ c.in-Skip.t c.self.inside.due c.self.invariant.0 c.step.ensures.step.1 (rw made (skip_about past.events c.in-Skip.t w)) (c.self.invariant.5 free)),
-    )
+    let made = choice_skipped w c.in-Skip.t c.step.result _ _ takes c.step.ensures.step.0 c.in-Skip.is in
+    record {
+      stored = skip_stored past c.step.new.self c.args.asked.now c.in-Skip.t w _ _ _ _ c.self.invariant.stored c.step.ensures.step.1 made c.take-in-Skip.ensures.entries;
+      room = rw (c.take-in-Skip.ensures.room, c.step.ensures.step.1) c.self.invariant.room;
+      due = λ free. rw c.after-self-inside.ensures (step_due past c.step.new.self c.args.asked.now _ _ _ c.in-Skip.t c.self.inside.due c.self.invariant.stored c.step.ensures.step.1 (rw made (skip_about past.events c.in-Skip.t w)) (c.self.invariant.due free));
+    }
 
 pub returns-in-Some-clause-fits : goal.returns-in-Some-clause-fits
 returns-in-Some-clause-fits g c =
@@ -103,14 +99,12 @@ invariant_of-self-in-None g c =
     let w = c.args.hand.now.worker in
     let takes : TakesChoice w (answer past c.args.asked.now).0 (answer past c.args.asked.now).1 =
     subst (λ (p : Past). TakesChoice w (answer p c.args.asked.now).0 (answer p c.args.asked.now).1) (ap (λ s. s.past) (sym c.self.view_is)) c.requires.takes in
-    let none = choice_idle w c.step.result _ _ takes c.step.ensures.step.0 c.in-None.is in (
-      same_stored past c.step.new.self c.args.asked.now _ _ _ c.self.invariant.0 c.step.ensures.step.1 none,
-      rw c.step.ensures.step.1 c.self.invariant.1,
-      rw c.step.ensures.step.1 c.self.invariant.2,
-      rw c.step.ensures.step.1 c.self.invariant.3,
-      rw c.step.ensures.step.1 c.self.invariant.4,
-      λ free. still_due past c.step.new.self c.args.asked.now [] _ _ _ c.self.inside.due c.self.invariant.0 c.step.ensures.step.1 none refl (c.self.invariant.5 free),
-    )
+    let none = choice_idle w c.step.result _ _ takes c.step.ensures.step.0 c.in-None.is in
+    record {
+      stored = same_stored past c.step.new.self c.args.asked.now _ _ _ c.self.invariant.stored c.step.ensures.step.1 none;
+      room = rw c.step.ensures.step.1 c.self.invariant.room;
+      due = λ free. still_due past c.step.new.self c.args.asked.now [] _ _ _ c.self.inside.due c.self.invariant.stored c.step.ensures.step.1 none refl (c.self.invariant.due free);
+    }
 
 pub returns-in-None-clause-fits : goal.returns-in-None-clause-fits
 returns-in-None-clause-fits g c =
@@ -128,14 +122,12 @@ invariant_of-self-in-Normal g c =
     let w = c.args.hand.now.worker in
     let takes : TakesChoice w (answer past c.args.asked.now).0 (answer past c.args.asked.now).1 =
     subst (λ (p : Past). TakesChoice w (answer p c.args.asked.now).0 (answer p c.args.asked.now).1) (ap (λ s. s.past) (sym c.self.view_is)) c.requires.takes in
-    let none = choice_normal w c.step.result _ _ takes c.step.ensures.step.0 c.in-Normal.is in (
-      same_stored past c.step.new.self c.args.asked.now _ _ _ c.self.invariant.0 c.step.ensures.step.1 none,
-      rw c.step.ensures.step.1 c.self.invariant.1,
-      rw c.step.ensures.step.1 c.self.invariant.2,
-      rw c.step.ensures.step.1 c.self.invariant.3,
-      rw c.step.ensures.step.1 c.self.invariant.4,
-      λ free. still_due past c.step.new.self c.args.asked.now [] _ _ _ c.self.inside.due c.self.invariant.0 c.step.ensures.step.1 none refl (c.self.invariant.5 free),
-    )
+    let none = choice_normal w c.step.result _ _ takes c.step.ensures.step.0 c.in-Normal.is in
+    record {
+      stored = same_stored past c.step.new.self c.args.asked.now _ _ _ c.self.invariant.stored c.step.ensures.step.1 none;
+      room = rw c.step.ensures.step.1 c.self.invariant.room;
+      due = λ free. still_due past c.step.new.self c.args.asked.now [] _ _ _ c.self.inside.due c.self.invariant.stored c.step.ensures.step.1 none refl (c.self.invariant.due free);
+    }
 
 pub returns-in-Normal-clause-fits : goal.returns-in-Normal-clause-fits
 returns-in-Normal-clause-fits g c =
@@ -153,14 +145,12 @@ invariant_of-self-in-Exceptional g c =
     let w = c.args.hand.now.worker in
     let takes : TakesChoice w (answer past c.args.asked.now).0 (answer past c.args.asked.now).1 =
     subst (λ (p : Past). TakesChoice w (answer p c.args.asked.now).0 (answer p c.args.asked.now).1) (ap (λ s. s.past) (sym c.self.view_is)) c.requires.takes in
-    let none = choice_failed w c.in-Exceptional.code c.step.result _ _ takes c.step.ensures.step.0 c.in-Exceptional.is in (
-      same_stored past c.step.new.self c.args.asked.now _ _ _ c.self.invariant.0 c.step.ensures.step.1 none,
-      rw c.step.ensures.step.1 c.self.invariant.1,
-      rw c.step.ensures.step.1 c.self.invariant.2,
-      rw c.step.ensures.step.1 c.self.invariant.3,
-      rw c.step.ensures.step.1 c.self.invariant.4,
-      λ free. still_due past c.step.new.self c.args.asked.now [] _ _ _ c.self.inside.due c.self.invariant.0 c.step.ensures.step.1 none refl (c.self.invariant.5 free),
-    )
+    let none = choice_failed w c.in-Exceptional.code c.step.result _ _ takes c.step.ensures.step.0 c.in-Exceptional.is in
+    record {
+      stored = same_stored past c.step.new.self c.args.asked.now _ _ _ c.self.invariant.stored c.step.ensures.step.1 none;
+      room = rw c.step.ensures.step.1 c.self.invariant.room;
+      due = λ free. still_due past c.step.new.self c.args.asked.now [] _ _ _ c.self.inside.due c.self.invariant.stored c.step.ensures.step.1 none refl (c.self.invariant.due free);
+    }
 
 pub returns-in-Exceptional-clause-fits : goal.returns-in-Exceptional-clause-fits
 returns-in-Exceptional-clause-fits g c =
@@ -178,14 +168,12 @@ invariant_of-self-in-Cancelled g c =
     let w = c.args.hand.now.worker in
     let takes : TakesChoice w (answer past c.args.asked.now).0 (answer past c.args.asked.now).1 =
     subst (λ (p : Past). TakesChoice w (answer p c.args.asked.now).0 (answer p c.args.asked.now).1) (ap (λ s. s.past) (sym c.self.view_is)) c.requires.takes in
-    let none = choice_cancelled w c.step.result _ _ takes c.step.ensures.step.0 c.in-Cancelled.is in (
-      same_stored past c.step.new.self c.args.asked.now _ _ _ c.self.invariant.0 c.step.ensures.step.1 none,
-      rw c.step.ensures.step.1 c.self.invariant.1,
-      rw c.step.ensures.step.1 c.self.invariant.2,
-      rw c.step.ensures.step.1 c.self.invariant.3,
-      rw c.step.ensures.step.1 c.self.invariant.4,
-      λ free. still_due past c.step.new.self c.args.asked.now [] _ _ _ c.self.inside.due c.self.invariant.0 c.step.ensures.step.1 none refl (c.self.invariant.5 free),
-    )
+    let none = choice_cancelled w c.step.result _ _ takes c.step.ensures.step.0 c.in-Cancelled.is in
+    record {
+      stored = same_stored past c.step.new.self c.args.asked.now _ _ _ c.self.invariant.stored c.step.ensures.step.1 none;
+      room = rw c.step.ensures.step.1 c.self.invariant.room;
+      due = λ free. still_due past c.step.new.self c.args.asked.now [] _ _ _ c.self.inside.due c.self.invariant.stored c.step.ensures.step.1 none refl (c.self.invariant.due free);
+    }
 
 pub returns-in-Cancelled-clause-fits : goal.returns-in-Cancelled-clause-fits
 returns-in-Cancelled-clause-fits g c =

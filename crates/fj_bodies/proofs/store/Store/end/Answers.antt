@@ -24,16 +24,14 @@ pub invariant_of-self : goal.invariant_of-self
 invariant_of-self g c =
     let past = c.self.inside.machine in
     let fits : Fits past c.args.hand.now = subst (λ p. Fits p c.args.hand.now) (ap (λ s. s.past) (sym c.self.view_is)) c.requires.fits in
-    let fired = end_fired past c.worker.result c.in-Hook.c c.args.ending c.make.result c.make.ensures.step.0 c.in-Hook.is in (
-      fired_stored past c.make.new.machine c.worker.result c.in-Hook.c c.args.ending _ _ _ _ c.self.invariant.0 fired c.make.ensures.step.1 c.make.ensures.bodies,
-      rw (c.make.ensures.room, c.make.ensures.step.1) c.self.invariant.1,
-      rw c.make.ensures.step.1 c.self.invariant.2,
-      rw c.make.ensures.step.1 c.self.invariant.3,
-      rw c.make.ensures.step.1 c.self.invariant.4,
-      λ free. rw c.after-self-inside.ensures (step_due past c.make.new.machine (End c.worker.result c.args.ending) _ _ _ c.pop-t.result.0 c.self.inside.due c.self.invariant.0 c.make.ensures.step.1
-          (end_about past c.worker.result c.pop-t.result.0 c.args.ending c.self.invariant.0.run (popped_runs past c.args.hand.now c.pop-t.new.self c.worker.result c.pop-t.result.0 c.pop-t.result.1 fits c.worker.ensures c.pop-t.ensures.popped))
-          (c.self.invariant.5 free)),
-    )
+    let fired = end_fired past c.worker.result c.in-Hook.c c.args.ending c.make.result c.make.ensures.step.0 c.in-Hook.is in
+    record {
+      stored = fired_stored past c.make.new.machine c.worker.result c.in-Hook.c c.args.ending _ _ _ _ c.self.invariant.stored fired c.make.ensures.step.1 c.make.ensures.bodies;
+      room = rw (c.make.ensures.room, c.make.ensures.step.1) c.self.invariant.room;
+      due = λ free. rw c.after-self-inside.ensures (step_due past c.make.new.machine (End c.worker.result c.args.ending) _ _ _ c.pop-t.result.0 c.self.inside.due c.self.invariant.stored c.make.ensures.step.1
+          (end_about past c.worker.result c.pop-t.result.0 c.args.ending c.self.invariant.stored.run (popped_runs past c.args.hand.now c.pop-t.new.self c.worker.result c.pop-t.result.0 c.pop-t.result.1 fits c.worker.ensures c.pop-t.ensures.popped))
+          (c.self.invariant.due free));
+    }
 
 pub returns-in-Hook-clause-ends : goal.returns-in-Hook-clause-ends
 returns-in-Hook-clause-ends g c =
@@ -55,7 +53,7 @@ returns-in-Hook-clause-fits g c =
     let hand = c.args.hand.now in
     let fits : Fits past hand = subst (λ p. Fits p hand) (ap (λ s. s.past) (sym c.self.view_is)) c.requires.fits in
     let fired = end_fired past c.worker.result c.in-Hook.c c.args.ending c.make.result c.make.ensures.step.0 c.in-Hook.is in
-    fired_fits past c.make.new.machine _ hand c.pop-t.new.self c.give_hook.new.self c.worker.result c.in-Hook.c c.pop-t.result.0 c.pop-t.result.1 _ c.release_due.ensures.tasks c.self.invariant.0.run fits c.worker.ensures c.pop-t.ensures.popped
+    fired_fits past c.make.new.machine _ hand c.pop-t.new.self c.give_hook.new.self c.worker.result c.in-Hook.c c.pop-t.result.0 c.pop-t.result.1 _ c.release_due.ensures.tasks c.self.invariant.stored.run fits c.worker.ensures c.pop-t.ensures.popped
     c.give_hook.ensures c.make.ensures.step.1 fired (ap (λ s. s.past) c.release_due.ensures.were)
 
 -- ---- it is refused
@@ -90,7 +88,7 @@ is_gone_now-requires g c =
     let fits : Fits past hand = subst (λ p. Fits p hand) (ap (λ s. s.past) (sym c.self.view_is)) c.requires.fits in
     let over = end_unfired past c.worker.result c.args.ending c.make.result c.make.ensures.step.0 c.in_default.not-Hook c.in_default.not-Refused in
     let ends = popped_ends past hand c.pop-t-in_default.new.self c.worker.result c.pop-t-in_default.result.0 c.pop-t-in_default.result.1 _ fits c.worker.ensures c.pop-t-in_default.ensures.popped over in
-    end_kept past c.make.new.machine c.worker.result c.pop-t-in_default.result.0 c.args.ending _ _ _ c.self.invariant.0 ends c.make.ensures.step.1
+    end_kept past c.make.new.machine c.worker.result c.pop-t-in_default.result.0 c.args.ending _ _ _ c.self.invariant.stored ends c.make.ensures.step.1
 
 pub invariant_of-self-then-is_gone_now : goal.invariant_of-self-then-is_gone_now
 invariant_of-self-then-is_gone_now g c =
@@ -98,16 +96,14 @@ invariant_of-self-then-is_gone_now g c =
     let hand = c.args.hand.now in
     let fits : Fits past hand = subst (λ p. Fits p hand) (ap (λ s. s.past) (sym c.self.view_is)) c.requires.fits in
     let over = end_unfired past c.worker.result c.args.ending c.make.result c.make.ensures.step.0 c.in_default.not-Hook c.in_default.not-Refused in
-    let ends = popped_ends past hand c.pop-t-in_default.new.self c.worker.result c.pop-t-in_default.result.0 c.pop-t-in_default.result.1 _ fits c.worker.ensures c.pop-t-in_default.ensures.popped over in (
-      out_stored past c.make.new.machine c.worker.result c.pop-t-in_default.result.0 c.args.ending _ _ _ _ c.self.invariant.0 ends c.make.ensures.step.1 c.make.ensures.bodies (sym c.is_gone_now.ensures ∙ c.if-is_gone_now.true),
-      rw (c.make.ensures.room, c.make.ensures.step.1) c.self.invariant.1,
-      rw c.make.ensures.step.1 c.self.invariant.2,
-      rw c.make.ensures.step.1 c.self.invariant.3,
-      rw c.make.ensures.step.1 c.self.invariant.4,
-      λ free. rw c.after-self-inside-in_default.ensures (step_due past c.make.new.machine (End c.worker.result c.args.ending) _ _ _ c.pop-t-in_default.result.0 c.self.inside.due c.self.invariant.0 c.make.ensures.step.1
-          (end_about past c.worker.result c.pop-t-in_default.result.0 c.args.ending c.self.invariant.0.run (popped_runs past c.args.hand.now c.pop-t-in_default.new.self c.worker.result c.pop-t-in_default.result.0 c.pop-t-in_default.result.1 fits c.worker.ensures c.pop-t-in_default.ensures.popped))
-          (c.self.invariant.5 free)),
-    )
+    let ends = popped_ends past hand c.pop-t-in_default.new.self c.worker.result c.pop-t-in_default.result.0 c.pop-t-in_default.result.1 _ fits c.worker.ensures c.pop-t-in_default.ensures.popped over in
+    record {
+      stored = out_stored past c.make.new.machine c.worker.result c.pop-t-in_default.result.0 c.args.ending _ _ _ _ c.self.invariant.stored ends c.make.ensures.step.1 c.make.ensures.bodies (sym c.is_gone_now.ensures ∙ c.if-is_gone_now.true);
+      room = rw (c.make.ensures.room, c.make.ensures.step.1) c.self.invariant.room;
+      due = λ free. rw c.after-self-inside-in_default.ensures (step_due past c.make.new.machine (End c.worker.result c.args.ending) _ _ _ c.pop-t-in_default.result.0 c.self.inside.due c.self.invariant.stored c.make.ensures.step.1
+          (end_about past c.worker.result c.pop-t-in_default.result.0 c.args.ending c.self.invariant.stored.run (popped_runs past c.args.hand.now c.pop-t-in_default.new.self c.worker.result c.pop-t-in_default.result.0 c.pop-t-in_default.result.1 fits c.worker.ensures c.pop-t-in_default.ensures.popped))
+          (c.self.invariant.due free));
+    }
 
 pub returns-then-is_gone_now : goal.returns-then-is_gone_now
 returns-then-is_gone_now g c =
@@ -123,7 +119,7 @@ returns-then-is_gone_now g c =
             c.worker.result c.pop-t-in_default.result.0 c.args.ending c.pop-t-in_default.result.1 c.make.result c.worker.ensures c.make.ensures.step (not_over c.make.result c.in_default.not-Hook c.in_default.not-Refused)
             c.pop-t-in_default.ensures.popped (sym c.is_gone_now.ensures ∙ c.if-is_gone_now.true) refl c.make.ensures.bodies c.release_due-then-is_gone_now.ensures,
       );
-      fits = unfired_fits past c.make.new.machine _ hand c.pop-t-in_default.new.self c.worker.result c.pop-t-in_default.result.0 c.pop-t-in_default.result.1 _ c.release_due-then-is_gone_now.ensures.tasks c.self.invariant.0.run fits c.worker.ensures
+      fits = unfired_fits past c.make.new.machine _ hand c.pop-t-in_default.new.self c.worker.result c.pop-t-in_default.result.0 c.pop-t-in_default.result.1 _ c.release_due-then-is_gone_now.ensures.tasks c.self.invariant.stored.run fits c.worker.ensures
           c.pop-t-in_default.ensures.popped c.make.ensures.step.1 ends (ap (λ s. s.past) c.release_due-then-is_gone_now.ensures.were);
     }
 
@@ -135,8 +131,8 @@ put-requires g c =
     let over = end_unfired past c.worker.result c.args.ending c.make.result c.make.ensures.step.0 c.in_default.not-Hook c.in_default.not-Refused in
     let ends = popped_ends past hand c.pop-t-in_default.new.self c.worker.result c.pop-t-in_default.result.0 c.pop-t-in_default.result.1 _ fits c.worker.ensures c.pop-t-in_default.ensures.popped over in
     record {
-      free = end_free past c.make.new.machine c.worker.result c.pop-t-in_default.result.0 c.args.ending _ _ _ _ c.self.invariant.0 ends c.make.ensures.bodies;
-      room = end_room past c.make.new.machine c.worker.result c.pop-t-in_default.result.0 c.make.new.bodies.room c.args.ending _ _ _ _ c.self.invariant.0 ends c.make.ensures.step.1 c.make.ensures.bodies (rw c.make.ensures.room c.self.invariant.1);
+      free = end_free past c.make.new.machine c.worker.result c.pop-t-in_default.result.0 c.args.ending _ _ _ _ c.self.invariant.stored ends c.make.ensures.bodies;
+      room = end_room past c.make.new.machine c.worker.result c.pop-t-in_default.result.0 c.make.new.bodies.room c.args.ending _ _ _ _ c.self.invariant.stored ends c.make.ensures.step.1 c.make.ensures.bodies (rw c.make.ensures.room c.self.invariant.room.bodies);
     }
 
 pub invariant_of-self-in_default : goal.invariant_of-self-in_default
@@ -145,17 +141,15 @@ invariant_of-self-in_default g c =
     let hand = c.args.hand.now in
     let fits : Fits past hand = subst (λ p. Fits p hand) (ap (λ s. s.past) (sym c.self.view_is)) c.requires.fits in
     let over = end_unfired past c.worker.result c.args.ending c.make.result c.make.ensures.step.0 c.in_default.not-Hook c.in_default.not-Refused in
-    let ends = popped_ends past hand c.pop-t-in_default.new.self c.worker.result c.pop-t-in_default.result.0 c.pop-t-in_default.result.1 _ fits c.worker.ensures c.pop-t-in_default.ensures.popped over in (
-      in_stored past c.make.new.machine c.worker.result c.pop-t-in_default.result.0 c.args.ending _ _ _ c.pop-t-in_default.result.1 _ _ c.self.invariant.0 ends c.make.ensures.step.1 c.make.ensures.bodies (sym c.is_gone_now.ensures ∙ c.if-is_gone_now.false)
-          c.put.ensures.entries,
-      rw (c.put.ensures.room, c.make.ensures.room, c.make.ensures.step.1) c.self.invariant.1,
-      rw c.make.ensures.step.1 c.self.invariant.2,
-      rw c.make.ensures.step.1 c.self.invariant.3,
-      rw c.make.ensures.step.1 c.self.invariant.4,
-      λ free. rw c.after-self-inside-in_default.ensures (step_due past c.make.new.machine (End c.worker.result c.args.ending) _ _ _ c.pop-t-in_default.result.0 c.self.inside.due c.self.invariant.0 c.make.ensures.step.1
-          (end_about past c.worker.result c.pop-t-in_default.result.0 c.args.ending c.self.invariant.0.run (popped_runs past c.args.hand.now c.pop-t-in_default.new.self c.worker.result c.pop-t-in_default.result.0 c.pop-t-in_default.result.1 fits c.worker.ensures c.pop-t-in_default.ensures.popped))
-          (c.self.invariant.5 free)),
-    )
+    let ends = popped_ends past hand c.pop-t-in_default.new.self c.worker.result c.pop-t-in_default.result.0 c.pop-t-in_default.result.1 _ fits c.worker.ensures c.pop-t-in_default.ensures.popped over in
+    record {
+      stored = in_stored past c.make.new.machine c.worker.result c.pop-t-in_default.result.0 c.args.ending _ _ _ c.pop-t-in_default.result.1 _ _ c.self.invariant.stored ends c.make.ensures.step.1 c.make.ensures.bodies (sym c.is_gone_now.ensures ∙ c.if-is_gone_now.false)
+          c.put.ensures.entries;
+      room = rw (c.put.ensures.room, c.make.ensures.room, c.make.ensures.step.1) c.self.invariant.room;
+      due = λ free. rw c.after-self-inside-in_default.ensures (step_due past c.make.new.machine (End c.worker.result c.args.ending) _ _ _ c.pop-t-in_default.result.0 c.self.inside.due c.self.invariant.stored c.make.ensures.step.1
+          (end_about past c.worker.result c.pop-t-in_default.result.0 c.args.ending c.self.invariant.stored.run (popped_runs past c.args.hand.now c.pop-t-in_default.new.self c.worker.result c.pop-t-in_default.result.0 c.pop-t-in_default.result.1 fits c.worker.ensures c.pop-t-in_default.ensures.popped))
+          (c.self.invariant.due free));
+    }
 
 pub returns-else-is_gone_now : goal.returns-else-is_gone_now
 returns-else-is_gone_now g c =
@@ -171,6 +165,6 @@ returns-else-is_gone_now g c =
             c.worker.result c.pop-t-in_default.result.0 c.args.ending c.pop-t-in_default.result.1 c.make.result _ c.worker.ensures c.make.ensures.step (not_over c.make.result c.in_default.not-Hook c.in_default.not-Refused)
             c.pop-t-in_default.ensures.popped (sym c.is_gone_now.ensures ∙ c.if-is_gone_now.false) refl c.make.ensures.bodies c.put.ensures.entries c.release_due-in_default.ensures,
       );
-      fits = unfired_fits past c.make.new.machine _ hand c.pop-t-in_default.new.self c.worker.result c.pop-t-in_default.result.0 c.pop-t-in_default.result.1 _ c.release_due-in_default.ensures.tasks c.self.invariant.0.run fits c.worker.ensures
+      fits = unfired_fits past c.make.new.machine _ hand c.pop-t-in_default.new.self c.worker.result c.pop-t-in_default.result.0 c.pop-t-in_default.result.1 _ c.release_due-in_default.ensures.tasks c.self.invariant.stored.run fits c.worker.ensures
           c.pop-t-in_default.ensures.popped c.make.ensures.step.1 ends (ap (λ s. s.past) c.release_due-in_default.ensures.were);
     }

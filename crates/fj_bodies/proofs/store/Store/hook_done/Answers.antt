@@ -31,7 +31,7 @@ take_hook-c-requires g c =
 pub sweep_since-requires : goal.sweep_since-requires
 sweep_since-requires g c =
     let past = c.self.inside.machine in
-    rw c.gone-before.ensures (gone_longer past c.step.new.self _ c.step.ensures.step.1 c.self.invariant.0.run)
+    rw c.gone-before.ensures (gone_longer past c.step.new.self _ c.step.ensures.step.1 c.self.invariant.stored.run)
 
 pub invariant_of-self : goal.invariant_of-self
 invariant_of-self g c =
@@ -39,24 +39,22 @@ invariant_of-self g c =
     let w = c.worker-w.result in
     let fits : Fits past c.args.hand.now = subst (λ p. Fits p c.args.hand.now) (ap (λ s. s.past) (sym c.self.view_is)) c.requires.fits in
     let fired = hook_fired past w c.in-Hook.p c.step.result c.step.ensures.step.0 c.in-Hook.is in
-    let swept = hook_swept past c.step.new.self w _ (entries c.take.new.self) _ c.self.invariant.0.run c.step.ensures.step.1
-    (ap (λ (ts : List ℕ). length ts) c.gone-before.ensures) c.sweep_since.ensures.entries in (
-      hook_fired_stored past c.step.new.self w c.in-Hook.p _ _ _ _ _ c.self.invariant.0 fired c.step.ensures.step.1 c.take.ensures.entries swept,
-      rw (c.sweep_since.ensures.room, c.take.ensures.room, c.step.ensures.step.1) c.self.invariant.1,
-      rw c.step.ensures.step.1 c.self.invariant.2,
-      rw c.step.ensures.step.1 c.self.invariant.3,
-      rw c.step.ensures.step.1 c.self.invariant.4,
-      λ free. rw c.after-self-inside.ensures (step_due past c.step.new.self (HookDone w) _ _ _ c.take_hook-c.result.0 c.self.inside.due c.self.invariant.0 c.step.ensures.step.1
-          (own_hook_about past c.args.hand.now w c.take_hook-c.result.0 c.take_hook-c.result.1 _ _ _ c.self.invariant.0 fits c.worker-w.ensures c.take_hook-c.ensures.hook)
-          (c.self.invariant.5 free)),
-    )
+    let swept = hook_swept past c.step.new.self w _ (entries c.take.new.self) _ c.self.invariant.stored.run c.step.ensures.step.1
+    (ap (λ (ts : List ℕ). length ts) c.gone-before.ensures) c.sweep_since.ensures.entries in
+    record {
+      stored = hook_fired_stored past c.step.new.self w c.in-Hook.p _ _ _ _ _ c.self.invariant.stored fired c.step.ensures.step.1 c.take.ensures.entries swept;
+      room = rw (c.sweep_since.ensures.room, c.take.ensures.room, c.step.ensures.step.1) c.self.invariant.room;
+      due = λ free. rw c.after-self-inside.ensures (step_due past c.step.new.self (HookDone w) _ _ _ c.take_hook-c.result.0 c.self.inside.due c.self.invariant.stored c.step.ensures.step.1
+          (own_hook_about past c.args.hand.now w c.take_hook-c.result.0 c.take_hook-c.result.1 _ _ _ c.self.invariant.stored fits c.worker-w.ensures c.take_hook-c.ensures.hook)
+          (c.self.invariant.due free));
+    }
 
 pub keep-requires-clause-first : goal.keep-requires-clause-first
 keep-requires-clause-first g c =
     let past = c.self.inside.machine in
     let hand = c.args.hand.now in
     let fits : Fits past hand = subst (λ p. Fits p hand) (ap (λ s. s.past) (sym c.self.view_is)) c.requires.fits in
-    hook_first past hand c.worker-w.result c.take_hook-c.result.0 c.take_hook-c.result.1 _ _ _ c.self.invariant.0 fits c.worker-w.ensures c.take_hook-c.ensures.hook
+    hook_first past hand c.worker-w.result c.take_hook-c.result.0 c.take_hook-c.result.1 _ _ _ c.self.invariant.stored fits c.worker-w.ensures c.take_hook-c.ensures.hook
 
 pub keep-requires-clause-last : goal.keep-requires-clause-last
 keep-requires-clause-last g c =
@@ -65,7 +63,7 @@ keep-requires-clause-last g c =
     let w = c.worker-w.result in
     let fits : Fits past hand = subst (λ p. Fits p hand) (ap (λ s. s.past) (sym c.self.view_is)) c.requires.fits in
     let fired = hook_fired past w c.in-Hook.p c.step.result c.step.ensures.step.0 c.in-Hook.is in
-    hook_last past c.step.new.self hand w c.take_hook-c.result.0 fired.task c.take_hook-c.result.1 _ c.self.invariant.0.run fits c.worker-w.ensures c.take_hook-c.ensures.hook fired.hooked fired.made c.step.ensures.step.1
+    hook_last past c.step.new.self hand w c.take_hook-c.result.0 fired.task c.take_hook-c.result.1 _ c.self.invariant.stored.run fits c.worker-w.ensures c.take_hook-c.ensures.hook fired.hooked fired.made c.step.ensures.step.1
 
 pub keep-requires-clause-kept : goal.keep-requires-clause-kept
 keep-requires-clause-kept g c =
@@ -74,14 +72,14 @@ keep-requires-clause-kept g c =
     let w = c.worker-w.result in
     let fits : Fits past hand = subst (λ p. Fits p hand) (ap (λ s. s.past) (sym c.self.view_is)) c.requires.fits in
     let fired = hook_fired past w c.in-Hook.p c.step.result c.step.ensures.step.0 c.in-Hook.is in
-    hook_kept_fired past c.step.new.self hand w c.in-Hook.p c.take_hook-c.result.0 c.take_hook-c.result.1 _ _ _ c.self.invariant.0 fits c.worker-w.ensures
+    hook_kept_fired past c.step.new.self hand w c.in-Hook.p c.take_hook-c.result.0 c.take_hook-c.result.1 _ _ _ c.self.invariant.stored fits c.worker-w.ensures
     c.take_hook-c.ensures.hook fired c.step.ensures.step.1
 
 pub returns-in-Some-clause-ends : goal.returns-in-Some-clause-ends
 returns-in-Some-clause-ends g c =
     let past = c.self.inside.machine in
     let w = c.worker-w.result in
-    let swept = hook_swept past c.step.new.self w _ (entries c.take.new.self) _ c.self.invariant.0.run c.step.ensures.step.1
+    let swept = hook_swept past c.step.new.self w _ (entries c.take.new.self) _ c.self.invariant.stored.run c.step.ensures.step.1
     (ap (λ (ts : List ℕ). length ts) c.gone-before.ensures) c.sweep_since.ensures.entries in
     rw (← c.self.view_is) (
       ap (λ s. s.stuck) c.self.view_is ∙ c.requires.free,
@@ -110,7 +108,7 @@ unreachable-requires g c =
     let past = c.self.inside.machine in
     let w = c.worker-w.result in
     let fired = hook_fired past w c.in-Hook.p c.step.result c.step.ensures.step.0 c.in-Hook.is in
-    parent_there past w c.in-Hook.p _ _ _ c.self.invariant.0 fired (sym c.take.ensures.taken ∙ c.in-None.is)
+    parent_there past w c.in-Hook.p _ _ _ c.self.invariant.stored fired (sym c.take.ensures.taken ∙ c.in-None.is)
 
 -- ---- it is refused
 
@@ -143,7 +141,7 @@ take_hook-c-requires-in_default g c =
 pub sweep_since-requires-in_default : goal.sweep_since-requires-in_default
 sweep_since-requires-in_default g c =
     let past = c.self.inside.machine in
-    rw c.gone-before.ensures (gone_longer past c.step.new.self _ c.step.ensures.step.1 c.self.invariant.0.run)
+    rw c.gone-before.ensures (gone_longer past c.step.new.self _ c.step.ensures.step.1 c.self.invariant.stored.run)
 
 pub invariant_of-self-in_default : goal.invariant_of-self-in_default
 invariant_of-self-in_default g c =
@@ -151,24 +149,22 @@ invariant_of-self-in_default g c =
     let w = c.worker-w.result in
     let fits : Fits past c.args.hand.now = subst (λ p. Fits p c.args.hand.now) (ap (λ s. s.past) (sym c.self.view_is)) c.requires.fits in
     let over = hook_unfired past w c.step.result c.step.ensures.step.0 c.in_default.not-Hook c.in_default.not-Refused in
-    let swept = hook_swept past c.step.new.self w _ (entries c.self.inside.bodies) _ c.self.invariant.0.run c.step.ensures.step.1
-    (ap (λ (ts : List ℕ). length ts) c.gone-before.ensures) c.sweep_since-in_default.ensures.entries in (
-      hook_over_stored past c.step.new.self w _ _ _ _ c.self.invariant.0 over c.step.ensures.step.1 swept,
-      rw (c.sweep_since-in_default.ensures.room, c.step.ensures.step.1) c.self.invariant.1,
-      rw c.step.ensures.step.1 c.self.invariant.2,
-      rw c.step.ensures.step.1 c.self.invariant.3,
-      rw c.step.ensures.step.1 c.self.invariant.4,
-      λ free. rw c.after-self-inside-in_default.ensures (step_due past c.step.new.self (HookDone w) _ _ _ c.take_hook-c-in_default.result.0 c.self.inside.due c.self.invariant.0 c.step.ensures.step.1
-          (own_hook_about past c.args.hand.now w c.take_hook-c-in_default.result.0 c.take_hook-c-in_default.result.1 _ _ _ c.self.invariant.0 fits c.worker-w.ensures c.take_hook-c-in_default.ensures.hook)
-          (c.self.invariant.5 free)),
-    )
+    let swept = hook_swept past c.step.new.self w _ (entries c.self.inside.bodies) _ c.self.invariant.stored.run c.step.ensures.step.1
+    (ap (λ (ts : List ℕ). length ts) c.gone-before.ensures) c.sweep_since-in_default.ensures.entries in
+    record {
+      stored = hook_over_stored past c.step.new.self w _ _ _ _ c.self.invariant.stored over c.step.ensures.step.1 swept;
+      room = rw (c.sweep_since-in_default.ensures.room, c.step.ensures.step.1) c.self.invariant.room;
+      due = λ free. rw c.after-self-inside-in_default.ensures (step_due past c.step.new.self (HookDone w) _ _ _ c.take_hook-c-in_default.result.0 c.self.inside.due c.self.invariant.stored c.step.ensures.step.1
+          (own_hook_about past c.args.hand.now w c.take_hook-c-in_default.result.0 c.take_hook-c-in_default.result.1 _ _ _ c.self.invariant.stored fits c.worker-w.ensures c.take_hook-c-in_default.ensures.hook)
+          (c.self.invariant.due free));
+    }
 
 pub keep-requires-in_default-clause-first : goal.keep-requires-in_default-clause-first
 keep-requires-in_default-clause-first g c =
     let past = c.self.inside.machine in
     let hand = c.args.hand.now in
     let fits : Fits past hand = subst (λ p. Fits p hand) (ap (λ s. s.past) (sym c.self.view_is)) c.requires.fits in
-    hook_first past hand c.worker-w.result c.take_hook-c-in_default.result.0 c.take_hook-c-in_default.result.1 _ _ _ c.self.invariant.0 fits c.worker-w.ensures c.take_hook-c-in_default.ensures.hook
+    hook_first past hand c.worker-w.result c.take_hook-c-in_default.result.0 c.take_hook-c-in_default.result.1 _ _ _ c.self.invariant.stored fits c.worker-w.ensures c.take_hook-c-in_default.ensures.hook
 
 pub keep-requires-in_default-clause-last : goal.keep-requires-in_default-clause-last
 keep-requires-in_default-clause-last g c =
@@ -177,7 +173,7 @@ keep-requires-in_default-clause-last g c =
     let w = c.worker-w.result in
     let fits : Fits past hand = subst (λ p. Fits p hand) (ap (λ s. s.past) (sym c.self.view_is)) c.requires.fits in
     let over = hook_unfired past w c.step.result c.step.ensures.step.0 c.in_default.not-Hook c.in_default.not-Refused in
-    hook_last past c.step.new.self hand w c.take_hook-c-in_default.result.0 over.task c.take_hook-c-in_default.result.1 over.rest c.self.invariant.0.run fits c.worker-w.ensures c.take_hook-c-in_default.ensures.hook
+    hook_last past c.step.new.self hand w c.take_hook-c-in_default.result.0 over.task c.take_hook-c-in_default.result.1 over.rest c.self.invariant.stored.run fits c.worker-w.ensures c.take_hook-c-in_default.ensures.hook
     over.hooked over.made c.step.ensures.step.1
 
 pub keep-requires-in_default-clause-kept : goal.keep-requires-in_default-clause-kept
@@ -187,7 +183,7 @@ keep-requires-in_default-clause-kept g c =
     let w = c.worker-w.result in
     let fits : Fits past hand = subst (λ p. Fits p hand) (ap (λ s. s.past) (sym c.self.view_is)) c.requires.fits in
     let over = hook_unfired past w c.step.result c.step.ensures.step.0 c.in_default.not-Hook c.in_default.not-Refused in
-    hook_kept_over past c.step.new.self hand w c.take_hook-c-in_default.result.0 c.take_hook-c-in_default.result.1 _ _ _ c.self.invariant.0 fits c.worker-w.ensures
+    hook_kept_over past c.step.new.self hand w c.take_hook-c-in_default.result.0 c.take_hook-c-in_default.result.1 _ _ _ c.self.invariant.stored fits c.worker-w.ensures
     c.take_hook-c-in_default.ensures.hook over c.step.ensures.step.1
 
 pub returns-in_default : goal.returns-in_default
@@ -197,7 +193,7 @@ returns-in_default g c =
     let w = c.worker-w.result in
     let fits : Fits past hand = subst (λ p. Fits p hand) (ap (λ s. s.past) (sym c.self.view_is)) c.requires.fits in
     let over = hook_unfired past w c.step.result c.step.ensures.step.0 c.in_default.not-Hook c.in_default.not-Refused in
-    let swept = hook_swept past c.step.new.self w _ (entries c.self.inside.bodies) _ c.self.invariant.0.run c.step.ensures.step.1
+    let swept = hook_swept past c.step.new.self w _ (entries c.self.inside.bodies) _ c.self.invariant.stored.run c.step.ensures.step.1
     (ap (λ (ts : List ℕ). length ts) c.gone-before.ensures) c.sweep_since-in_default.ensures.entries in
     record {
       ends = rw (← c.self.view_is) (

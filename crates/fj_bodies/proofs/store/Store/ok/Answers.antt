@@ -25,16 +25,14 @@ pop-t-requires g c =
 pub invariant_of-self : goal.invariant_of-self
 invariant_of-self g c =
     let past = c.self.inside.machine in
-    let fits : Fits past c.args.hand.now = subst (λ p. Fits p c.args.hand.now) (ap (λ s. s.past) (sym c.self.view_is)) c.requires.fits in (
-      ok_stored past c.step.new.self c.worker.result _ _ _ c.self.invariant.0 c.step.ensures.step.1 (ok_done past c.worker.result c.step.result c.step.ensures.step.0 c.in-Done.is),
-      rw c.step.ensures.step.1 c.self.invariant.1,
-      rw c.step.ensures.step.1 c.self.invariant.2,
-      rw c.step.ensures.step.1 c.self.invariant.3,
-      rw c.step.ensures.step.1 c.self.invariant.4,
-      λ free. rw c.after-self-inside.ensures (step_due past c.step.new.self (End c.worker.result EndOk) _ _ _ c.pop-t.result.0 c.self.inside.due c.self.invariant.0 c.step.ensures.step.1
-          (end_about past c.worker.result c.pop-t.result.0 EndOk c.self.invariant.0.run (popped_runs past c.args.hand.now c.pop-t.new.self c.worker.result c.pop-t.result.0 c.pop-t.result.1 fits c.worker.ensures c.pop-t.ensures.popped))
-          (c.self.invariant.5 free)),
-    )
+    let fits : Fits past c.args.hand.now = subst (λ p. Fits p c.args.hand.now) (ap (λ s. s.past) (sym c.self.view_is)) c.requires.fits in
+    record {
+      stored = ok_stored past c.step.new.self c.worker.result _ _ _ c.self.invariant.stored c.step.ensures.step.1 (ok_done past c.worker.result c.step.result c.step.ensures.step.0 c.in-Done.is);
+      room = rw c.step.ensures.step.1 c.self.invariant.room;
+      due = λ free. rw c.after-self-inside.ensures (step_due past c.step.new.self (End c.worker.result EndOk) _ _ _ c.pop-t.result.0 c.self.inside.due c.self.invariant.stored c.step.ensures.step.1
+          (end_about past c.worker.result c.pop-t.result.0 EndOk c.self.invariant.stored.run (popped_runs past c.args.hand.now c.pop-t.new.self c.worker.result c.pop-t.result.0 c.pop-t.result.1 fits c.worker.ensures c.pop-t.ensures.popped))
+          (c.self.invariant.due free));
+    }
 
 pub new-requires : goal.new-requires
 new-requires g c =
@@ -49,28 +47,28 @@ keep-requires-clause-kept g c =
     let past = c.self.inside.machine in
     let fits : Fits past c.args.hand.now = subst (λ p. Fits p c.args.hand.now) (ap (λ s. s.past) (sym c.self.view_is)) c.requires.fits in
     rw c.step.ensures.step.1
-    (newest_kept past c.args.hand.now c.pop-t.new.self c.worker.result c.pop-t.result.0 c.pop-t.result.1 c.self.invariant.0.run fits c.worker.ensures c.pop-t.ensures.popped
+    (newest_kept past c.args.hand.now c.pop-t.new.self c.worker.result c.pop-t.result.0 c.pop-t.result.1 c.self.invariant.stored.run fits c.worker.ensures c.pop-t.ensures.popped
     (ok_done past c.worker.result c.step.result c.step.ensures.step.0 c.in-Done.is))
 
 pub keep-requires-clause-first : goal.keep-requires-clause-first
 keep-requires-clause-first g c =
     let past = c.self.inside.machine in
     let fits : Fits past c.args.hand.now = subst (λ p. Fits p c.args.hand.now) (ap (λ s. s.past) (sym c.self.view_is)) c.requires.fits in
-    ok_first past c.args.hand.now c.pop-t.new.self c.worker.result c.pop-t.result.0 c.pop-t.result.1 _ _ _ c.self.invariant.0 fits c.worker.ensures c.pop-t.ensures.popped
+    ok_first past c.args.hand.now c.pop-t.new.self c.worker.result c.pop-t.result.0 c.pop-t.result.1 _ _ _ c.self.invariant.stored fits c.worker.ensures c.pop-t.ensures.popped
     (ok_done past c.worker.result c.step.result c.step.ensures.step.0 c.in-Done.is)
 
 pub keep-requires-clause-last : goal.keep-requires-clause-last
 keep-requires-clause-last g c =
     let past = c.self.inside.machine in
     let fits : Fits past c.args.hand.now = subst (λ p. Fits p c.args.hand.now) (ap (λ s. s.past) (sym c.self.view_is)) c.requires.fits in
-    ok_last past c.step.new.self c.args.hand.now c.pop-t.new.self c.worker.result c.pop-t.result.0 c.pop-t.result.1 c.self.invariant.0.run fits c.worker.ensures c.pop-t.ensures.popped
+    ok_last past c.step.new.self c.args.hand.now c.pop-t.new.self c.worker.result c.pop-t.result.0 c.pop-t.result.1 c.self.invariant.stored.run fits c.worker.ensures c.pop-t.ensures.popped
     (ok_done past c.worker.result c.step.result c.step.ensures.step.0 c.in-Done.is) c.step.ensures.step.1
 
 pub returns-in-Done-clause-fits : goal.returns-in-Done-clause-fits
 returns-in-Done-clause-fits g c =
     let past = c.self.inside.machine in
     let fits : Fits past c.args.hand.now = subst (λ p. Fits p c.args.hand.now) (ap (λ s. s.past) (sym c.self.view_is)) c.requires.fits in
-    ok_fits past c.step.new.self _ c.args.hand.now c.pop-t.new.self c.worker.result c.pop-t.result.0 c.pop-t.result.1 _ c.release_due.ensures.tasks c.self.invariant.0.run fits
+    ok_fits past c.step.new.self _ c.args.hand.now c.pop-t.new.self c.worker.result c.pop-t.result.0 c.pop-t.result.1 _ c.release_due.ensures.tasks c.self.invariant.stored.run fits
     c.worker.ensures c.pop-t.ensures.popped c.step.ensures.step.1
     (ok_done past c.worker.result c.step.result c.step.ensures.step.0 c.in-Done.is)
     (ap (λ s. s.past) c.release_due.ensures.were ∙ ap (λ p. grown p (map Rel c.release_due.ensures.tasks)) c.keep.ensures.past)

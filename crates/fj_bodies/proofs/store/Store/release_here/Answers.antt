@@ -13,9 +13,9 @@ returns-then-not-has g c =
 pub returns-in-Released : goal.returns-in-Released
 returns-in-Released g c =
     let there : is_in c.args.t c.self.inside.taken.items ≡ true = sym c.has.ensures ∙ c.if-not-has.false in
-    released_here c.args.self.now c.try_release.new.self c.args.t c.parent-parent.result (subst IsPast (ap (λ s. s.past) c.self.view_is) c.self.invariant.0.run) (ap (λ s. is_in c.args.t s.taken) (sym c.self.view_is) ∙ there)
+    released_here c.args.self.now c.try_release.new.self c.args.t c.parent-parent.result (subst IsPast (ap (λ s. s.past) c.self.view_is) c.self.invariant.stored.run) (ap (λ s. is_in c.args.t s.taken) (sym c.self.view_is) ∙ there)
     (rw c.in-Released.is at c.try_release.ensures)
-    (c.parent-parent.ensures (c.self.invariant.0.taken_kept.kept c.args.t there) ∙ ap (λ s. parent s.past.events c.args.t) c.self.view_is)
+    (c.parent-parent.ensures (c.self.invariant.stored.taken_kept.kept c.args.t there) ∙ ap (λ s. parent s.past.events c.args.t) c.self.view_is)
 
 pub returns-in-Needed : goal.returns-in-Needed
 returns-in-Needed g c = needed_rests c.args.self.now c.try_release.new.self c.args.t (rw c.in-Needed.is at c.try_release.ensures)

@@ -14,7 +14,7 @@ push-requires-clause-room g c =
     let past = c.self.inside.machine in
     let kept : is_kept past.events c.args.t ≡ true = ap (λ s. is_kept s.past.events c.args.t) c.self.view_is ∙ c.requires.kept in
     let free : is_in c.args.t c.self.inside.taken.items ≡ false = ap (λ s. is_in c.args.t s.taken) c.self.view_is ∙ c.requires.free in
-    omega (arith, marked_room past _ (entries c.self.inside.results) _ c.args.t c.self.invariant.0 kept free, c.self.invariant.3)
+    omega (arith, marked_room past _ (entries c.self.inside.results) _ c.args.t c.self.invariant.stored kept free, c.self.invariant.room.taken)
 
 pub invariant_of-self : goal.invariant_of-self
 invariant_of-self g c =
@@ -22,11 +22,8 @@ invariant_of-self g c =
     let kept : is_kept past.events c.args.t ≡ true = ap (λ s. is_kept s.past.events c.args.t) c.self.view_is ∙ c.requires.kept in
     let free : is_in c.args.t c.self.inside.taken.items ≡ false = ap (λ s. is_in c.args.t s.taken) c.self.view_is ∙ c.requires.free in
     let none : entries c.self.inside.results c.args.t ≡ None = ap (λ s. entries s.results c.args.t) c.self.view_is ∙ c.requires.none in
-    rw c.push.ensures (
-      marked_stored past _ (entries c.self.inside.results) _ c.args.t c.self.invariant.0 kept free none,
-      c.self.invariant.1,
-      c.self.invariant.2,
-      c.self.invariant.3,
-      c.self.invariant.4,
-      λ free. rw c.after-self-inside.ensures (marked_due c.self.inside.machine.events c.self.inside.taken.items c.args.t c.self.inside.due (c.self.invariant.5 free)),
-    )
+    rw c.push.ensures (record {
+      stored = marked_stored past _ (entries c.self.inside.results) _ c.args.t c.self.invariant.stored kept free none;
+      room = c.self.invariant.room;
+      due = λ free. rw c.after-self-inside.ensures (marked_due c.self.inside.machine.events c.self.inside.taken.items c.args.t c.self.inside.due (c.self.invariant.due free));
+    })

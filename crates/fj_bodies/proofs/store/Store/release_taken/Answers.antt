@@ -18,14 +18,12 @@ invariant_of-self g c =
     let none : entries c.self.inside.results c.args.t ≡ None = ap (λ s. entries s.results c.args.t) c.self.view_is ∙ c.requires.none in
     let step : ReleasesPlain past c.args.t true new = rw c.if-release_plain.true at c.release_plain.ensures in
     let is : is_nothing c.self.inside.due ≡ true = sym c.is_nothing.ensures ∙ c.if-is_nothing.true in
-    let rests = nothing_due past.events ts c.self.inside.due (c.self.invariant.5 c.if-not-self.true) is in (
-      plain_stored past new (entries c.self.inside.bodies) (entries c.self.inside.results) ts c.args.t c.self.invariant.0 kept free none step,
-      rw step.1.1 c.self.invariant.1,
-      rw step.1.1 c.self.invariant.2,
-      rw step.1.1 c.self.invariant.3,
-      rw step.1.1 c.self.invariant.4,
-      λ still. none_is_due new.events ts c.self.inside.due is (plain_due past new ts c.args.t c.self.invariant.0.run free rests step),
-    )
+    let rests = nothing_due past.events ts c.self.inside.due (c.self.invariant.due c.if-not-self.true) is in
+    record {
+      stored = plain_stored past new (entries c.self.inside.bodies) (entries c.self.inside.results) ts c.args.t c.self.invariant.stored kept free none step;
+      room = rw step.1.1 c.self.invariant.room;
+      due = λ still. none_is_due new.events ts c.self.inside.due is (plain_due past new ts c.args.t c.self.invariant.stored.run free rests step);
+    }
 
 pub returns-then-release_plain : goal.returns-then-release_plain
 returns-then-release_plain g c =
@@ -34,11 +32,11 @@ returns-then-release_plain g c =
     let ts = c.self.inside.taken.items in
     let free : is_in c.args.t ts ≡ false = ap (λ s. is_in c.args.t s.taken) c.self.view_is ∙ c.requires.free in
     let step : ReleasesPlain past c.args.t true new = rw c.if-release_plain.true at c.release_plain.ensures in
-    let rests = nothing_due past.events ts c.self.inside.due (c.self.invariant.5 c.if-not-self.true) (sym c.is_nothing.ensures ∙ c.if-is_nothing.true) in
+    let rests = nothing_due past.events ts c.self.inside.due (c.self.invariant.due c.if-not-self.true) (sym c.is_nothing.ensures ∙ c.if-is_nothing.true) in
     rw (← c.self.view_is) (plain_releases (record {
       past = past;
       bodies = c.self.inside.bodies;
       results = c.self.inside.results;
       taken = ts;
       stuck = c.self.inside.stuck;
-    }) new c.args.t c.self.invariant.0.run c.self.invariant.0.taken_kept.once free rests step)
+    }) new c.args.t c.self.invariant.stored.run c.self.invariant.stored.taken_kept.once free rests step)

@@ -5,7 +5,7 @@ use Rattle.fj_bodies.proofs.Releases.{hooked_stays, went, finds_full, stays, rel
 use Rattle.fj_bodies.proofs.store.Store.try_release.Goals as goal
 
 pub is_hooked-requires : goal.is_hooked-requires
-is_hooked-requires g c = c.self.invariant.0.run
+is_hooked-requires g c = c.self.invariant.stored.run
 
 pub returns-then-is_hooked : goal.returns-then-is_hooked
 returns-then-is_hooked g c = rw (← c.self.view_is) (hooked_stays c.self.inside.machine.events c.args.t (sym c.if-is_hooked.true ∙ c.is_hooked.ensures), refl)
@@ -17,7 +17,11 @@ invariant_of-self g c =
     let made = (went past c.args.t c.step.result free c.step.ensures.step.0 c.in-Done.is).1 in
     let taken : is_in c.args.t c.self.inside.taken.items ≡ true = ap (λ s. is_in c.args.t s.taken) c.self.view_is ∙ c.requires in
     rw (c.take_out.ensures, c.step.ensures.step.1)
-    (release_stored past c.args.t _ _ _ c.self.invariant.0 taken free made, c.self.invariant.1, c.self.invariant.2, c.self.invariant.3, c.self.invariant.4, λ free. tt)
+    (record {
+      stored = release_stored past c.args.t _ _ _ c.self.invariant.stored taken free made;
+      room = c.self.invariant.room;
+      due = λ free. tt;
+    })
 
 pub unreachable-requires : goal.unreachable-requires
 unreachable-requires g c = release_replies c.self.inside.machine c.args.t c.step.result c.step.ensures.step.0 c.in_default.not-Done c.in_default.not-Refused

@@ -8,7 +8,11 @@ use Rattle.fj_core.proofs.pool_core.Core.act.Goals as goal
 pub invariant_of-self : goal.invariant_of-self
 invariant_of-self g c =
     let stays = acts_stay _ _ _ _ _ _ _ c.act.ensures.acts in
-    (core_stays _ _ _ _ _ stays c.self.invariant.0, c.self.invariant.1, parts_stay _ _ _ stays c.self.invariant.2)
+    record {
+      core = core_stays _ _ _ _ _ stays c.self.invariant.core;
+      room = c.self.invariant.room;
+      parts = parts_stay _ _ _ stays c.self.invariant.parts;
+    }
 
 pub returns-clause-stays : goal.returns-clause-stays
 returns-clause-stays g c = subst (λ s. StaysInside s.store c.act.new.self) c.self.view_is (acts_stay _ _ _ _ _ _ _ c.act.ensures.acts)

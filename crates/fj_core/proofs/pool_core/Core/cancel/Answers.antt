@@ -8,12 +8,20 @@ use Rattle.fj_core.proofs.pool_core.Core.cancel.Goals as goal
 pub invariant_of-self : goal.invariant_of-self
 invariant_of-self g c =
     let stays = (settles_leave _ _ _ _ refl refl c.cancel.ensures).inside in
-    (core_stays _ _ _ _ _ stays c.self.invariant.0, c.self.invariant.1, parts_stay _ _ _ stays c.self.invariant.2)
+    record {
+      core = core_stays _ _ _ _ _ stays c.self.invariant.core;
+      room = c.self.invariant.room;
+      parts = parts_stay _ _ _ stays c.self.invariant.parts;
+    }
 
 pub invariant_of-self-in-Hear-No : goal.invariant_of-self-in-Hear-No
 invariant_of-self-in-Hear-No g c =
     let stays = (settles_leave _ _ _ _ refl refl c.cancel.ensures).inside in
-    (core_stays _ _ _ _ _ stays c.self.invariant.0, c.self.invariant.1, parts_stay _ _ _ stays c.self.invariant.2)
+    record {
+      core = core_stays _ _ _ _ _ stays c.self.invariant.core;
+      room = c.self.invariant.room;
+      parts = parts_stay _ _ _ stays c.self.invariant.parts;
+    }
 
 pub returns-in-Hear-Yes-clause-stays : goal.returns-in-Hear-Yes-clause-stays
 returns-in-Hear-Yes-clause-stays g c = subst (λ s. StaysInside s.store c.cancel.new.self) c.self.view_is (settles_leave _ _ _ _ refl refl c.cancel.ensures).inside

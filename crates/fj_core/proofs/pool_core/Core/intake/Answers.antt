@@ -20,51 +20,60 @@ use Rattle.fj_core.proofs.pool_core.Core.intake.Goals as goal
 pub invariant_of-self : goal.invariant_of-self
 invariant_of-self g c =
     let stays = readies_stay _ _ c.args.s c.in-Some.answer c.in-Some.ensures in
-    (core_stays _ _ _ _ _ stays c.self.invariant.0, c.self.invariant.1, parts_stay _ _ _ stays c.self.invariant.2)
+    record {
+      core = core_stays _ _ _ _ _ stays c.self.invariant.core;
+      room = c.self.invariant.room;
+      parts = parts_stay _ _ _ stays c.self.invariant.parts;
+    }
 
 pub invariant_of-self-in-None : goal.invariant_of-self-in-None
 invariant_of-self-in-None g c =
     let self = c.self.inside in
     let lanes : List (DrainState g.row.B.Denot) = self.drains.items in
     let d : DrainState g.row.B.Denot = c.index_mut.result.now in
-    let within : c.s.inside.0 < length lanes = omega (arith, c.requires, ap (λ (x : CoreState g.row.B.Denot g.row.B-Key.Denot g.row.B-Out.Denot). x.store.past.pool.limits.submitters) c.self.view_is, c.self.invariant.0.booked.lane_each, c.s.view_is) in
+    let within : c.s.inside.0 < length lanes = omega (arith, c.requires, ap (λ (x : CoreState g.row.B.Denot g.row.B-Key.Denot g.row.B-Out.Denot). x.store.past.pool.limits.submitters) c.self.view_is, c.self.invariant.core.booked.lane_each, c.s.view_is) in
     let at : slice_get lanes c.s.inside.0 ≡ Some d = slice_get_read lanes (length lanes) c.s.inside.0 d refl within c.index_mut.ensures.value in
     let stays = same_stays self.store c.ready.new.store c.in_default.ensures.3 in
-    let was = core_stays self.store c.ready.new.store lanes _ _ stays c.self.invariant.0 in
+    let was = core_stays self.store c.ready.new.store lanes _ _ stays c.self.invariant.core in
     let capacity = ap (λ (x : DrainState g.row.B.Denot). x.capacity) c.in-None.ensures.taken in
-    (missed_core _ lanes _ _ c.s.inside.0 d c.take.new.self at (ap (λ (x : DrainState g.row.B.Denot). x.drained) c.in-None.ensures.taken) capacity was, same_capacity lanes c.s.inside.0 _ d c.take.new.self at capacity c.self.invariant.1, parts_stay _ _ _ stays c.self.invariant.2)
+    record {
+      core = missed_core _ lanes _ _ c.s.inside.0 d c.take.new.self at (ap (λ (x : DrainState g.row.B.Denot). x.drained) c.in-None.ensures.taken) capacity was;
+      room = same_capacity lanes c.s.inside.0 _ d c.take.new.self at capacity c.self.invariant.room;
+      parts = parts_stay _ _ _ stays c.self.invariant.parts;
+    }
 
 pub push-requires : goal.push-requires
 push-requires g c =
     let self = c.self.inside in
     let lanes : List (DrainState g.row.B.Denot) = self.drains.items in
     let d : DrainState g.row.B.Denot = c.index_mut.result.now in
-    let within : c.s.inside.0 < length lanes = omega (arith, c.requires, ap (λ (x : CoreState g.row.B.Denot g.row.B-Key.Denot g.row.B-Out.Denot). x.store.past.pool.limits.submitters) c.self.view_is, c.self.invariant.0.booked.lane_each, c.s.view_is) in
+    let within : c.s.inside.0 < length lanes = omega (arith, c.requires, ap (λ (x : CoreState g.row.B.Denot g.row.B-Key.Denot g.row.B-Out.Denot). x.store.past.pool.limits.submitters) c.self.view_is, c.self.invariant.core.booked.lane_each, c.s.view_is) in
     let at : slice_get lanes c.s.inside.0 ≡ Some d = slice_get_read lanes (length lanes) c.s.inside.0 d refl within c.index_mut.ensures.value in
     booking_room self.store.past lanes _ c.s.inside.0 _ d c.take.new.self c.in-Some-take.parcel at (ap (λ (x : DrainState g.row.B.Denot). x.drained) c.in-Some-take.ensures.taken)
-    (ap (λ (x : DrainState g.row.B.Denot). x.capacity) c.in-Some-take.ensures.taken) c.take.ensures.within c.self.invariant.1 c.self.invariant.0.booked
+    (ap (λ (x : DrainState g.row.B.Denot). x.capacity) c.in-Some-take.ensures.taken) c.take.ensures.within c.self.invariant.room c.self.invariant.core.booked
 
 pub invariant_of-self-in-Some-take : goal.invariant_of-self-in-Some-take
 invariant_of-self-in-Some-take g c =
     let self = c.self.inside in
     let lanes : List (DrainState g.row.B.Denot) = self.drains.items in
     let d : DrainState g.row.B.Denot = c.index_mut.result.now in
-    let within : c.s.inside.0 < length lanes = omega (arith, c.requires, ap (λ (x : CoreState g.row.B.Denot g.row.B-Key.Denot g.row.B-Out.Denot). x.store.past.pool.limits.submitters) c.self.view_is, c.self.invariant.0.booked.lane_each, c.s.view_is) in
+    let within : c.s.inside.0 < length lanes = omega (arith, c.requires, ap (λ (x : CoreState g.row.B.Denot g.row.B-Key.Denot g.row.B-Out.Denot). x.store.past.pool.limits.submitters) c.self.view_is, c.self.invariant.core.booked.lane_each, c.s.view_is) in
     let at : slice_get lanes c.s.inside.0 ≡ Some d = slice_get_read lanes (length lanes) c.s.inside.0 d refl within c.index_mut.ensures.value in
-    let p = c.in-Some-take.parcel in (
-      intake_core self.store c.ready.new.store c.hand_in-serial.new.store c.make_due.new.store lanes self.bookings c.push.new.self self.closing c.args.s c.s.inside.0 c.hand_in-serial.result c.len.result
+    let p = c.in-Some-take.parcel in
+    record {
+      core = intake_core self.store c.ready.new.store c.hand_in-serial.new.store c.make_due.new.store lanes self.bookings c.push.new.self self.closing c.args.s c.s.inside.0 c.hand_in-serial.result c.len.result
           (submitted_kind (kind_rooted (g.B.Body.rooted_as p.body))) d c.take.new.self p c.s.view_is c.in_default.ensures.3 c.hand_in-serial.ensures.event at c.in-Some-take.ensures.taken c.take.ensures.within c.push.ensures c.len.ensures
-          c.make_due.ensures c.self.invariant.0,
-      rw c.push.ensures (same_capacity lanes c.s.inside.0 _ d c.take.new.self at (ap (λ (x : DrainState g.row.B.Denot). x.capacity) c.in-Some-take.ensures.taken) c.self.invariant.1),
-      parts_taken (self.archive.handed ++ self.archive.kept) _ _ self.store c.ready.new.store c.hand_in-serial.new.store c.make_due.new.store _ c.in_default.ensures.3 c.hand_in-serial.ensures.event c.make_due.ensures c.self.invariant.2,
-    )
+          c.make_due.ensures c.self.invariant.core;
+      room = rw c.push.ensures (same_capacity lanes c.s.inside.0 _ d c.take.new.self at (ap (λ (x : DrainState g.row.B.Denot). x.capacity) c.in-Some-take.ensures.taken) c.self.invariant.room);
+      parts = parts_taken (self.archive.handed ++ self.archive.kept) _ _ self.store c.ready.new.store c.hand_in-serial.new.store c.make_due.new.store _ c.in_default.ensures.3 c.hand_in-serial.ensures.event c.make_due.ensures c.self.invariant.parts;
+    }
 
 pub returns-in-None-clause-intakes : goal.returns-in-None-clause-intakes
 returns-in-None-clause-intakes g c =
     let self = c.self.inside in
     let lanes : List (DrainState g.row.B.Denot) = self.drains.items in
     let d : DrainState g.row.B.Denot = c.index_mut.result.now in
-    let within : c.s.inside.0 < length lanes = omega (arith, c.requires, ap (λ (x : CoreState g.row.B.Denot g.row.B-Key.Denot g.row.B-Out.Denot). x.store.past.pool.limits.submitters) c.self.view_is, c.self.invariant.0.booked.lane_each, c.s.view_is) in
+    let within : c.s.inside.0 < length lanes = omega (arith, c.requires, ap (λ (x : CoreState g.row.B.Denot g.row.B-Key.Denot g.row.B-Out.Denot). x.store.past.pool.limits.submitters) c.self.view_is, c.self.invariant.core.booked.lane_each, c.s.view_is) in
     let at : slice_get lanes c.s.inside.0 ≡ Some d = slice_get_read lanes (length lanes) c.s.inside.0 d refl within c.index_mut.ensures.value in
     let with_store : StoreState g.row.B.Denot g.row.B-Key.Denot g.row.B-Out.Denot → CoreState g.row.B.Denot g.row.B-Key.Denot g.row.B-Out.Denot =
     λ st. record { store = st; lanes = slice_set lanes c.s.inside.0 c.take.new.self; bookings = self.bookings.bookings; closing = self.closing; handed = self.archive.handed; parts = self.archive.kept } in
@@ -85,7 +94,7 @@ returns-in-Some-take-clause-intakes g c =
     let self = c.self.inside in
     let lanes : List (DrainState g.row.B.Denot) = self.drains.items in
     let d : DrainState g.row.B.Denot = c.index_mut.result.now in
-    let within : c.s.inside.0 < length lanes = omega (arith, c.requires, ap (λ (x : CoreState g.row.B.Denot g.row.B-Key.Denot g.row.B-Out.Denot). x.store.past.pool.limits.submitters) c.self.view_is, c.self.invariant.0.booked.lane_each, c.s.view_is) in
+    let within : c.s.inside.0 < length lanes = omega (arith, c.requires, ap (λ (x : CoreState g.row.B.Denot g.row.B-Key.Denot g.row.B-Out.Denot). x.store.past.pool.limits.submitters) c.self.view_is, c.self.invariant.core.booked.lane_each, c.s.view_is) in
     let at : slice_get lanes c.s.inside.0 ≡ Some d = slice_get_read lanes (length lanes) c.s.inside.0 d refl within c.index_mut.ensures.value in
     let p = c.in-Some-take.parcel in
     let b : Booking = record { ticket = p.ticket; serial = c.hand_in-serial.result; by = c.args.s } in

@@ -10,15 +10,16 @@ use Rattle.fj_core.proofs.pool_core.Core.new.Goals as goal
 pub invariant_of-core : goal.invariant_of-core
 invariant_of-core g c =
     let past = c.in_ok-store.ensures.past in
-    let none : c.in_ok-bookings.bookings.bookings ≡ [] = ap (λ (b : Booked). b.bookings) c.in_ok-bookings.ensures in (
-      record {
+    let none : c.in_ok-bookings.bookings.bookings ≡ [] = ap (λ (b : Booked). b.bookings) c.in_ok-bookings.ensures in
+    record {
+      core = record {
         booked = subst (λ bs. AreBooked c.in_ok-store.store.past c.args.drains.items bs) (sym none)
             (new_booked _ _ (ap (λ p. p.events) past) (sym c.args.drains.ok.0 ∙ c.requires.lanes ∙ sym (ap (λ p. p.pool.limits.submitters) past)) c.requires.untouched);
         closes = new_closing _ _ _ _ (ap (λ p. p.events) past) (ap (λ k. k.number) c.new-3.ensures);
-      },
-      enough_room _ c.args.lane_capacity c.args.limits.submitters _ c.requires.capacities (sym c.args.drains.ok.0 ∙ c.requires.lanes) (search rules),
-      subst (λ (a : Archived). AreParts (a.handed ++ a.kept) c.in_ok-store.store.past) (sym c.new-4.ensures) (subst (AreParts []) (sym past) (fits_none _ _)),
-    )
+      };
+      room = enough_room _ c.args.lane_capacity c.args.limits.submitters _ c.requires.capacities (sym c.args.drains.ok.0 ∙ c.requires.lanes) (search rules);
+      parts = subst (λ (a : Archived). AreParts (a.handed ++ a.kept) c.in_ok-store.store.past) (sym c.new-4.ensures) (subst (AreParts []) (sym past) (fits_none _ _));
+    }
 
 pub returns-clause-core : goal.returns-clause-core
 returns-clause-core g c = record {

@@ -8,11 +8,12 @@ pub invariant_of-self-2 : goal.invariant_of-self-2
 invariant_of-self-2 g c =
     let self = c.self.inside in
     let part = c.in_ok-part.part in
-    let hands = c.in_ok-part.ensures in (
-      sealed_core _ _ _ _ _ part hands c.self.invariant.0,
-      c.self.invariant.1,
-      parts_kept self.archive c.reserve.new.self c.push.new.self part _ c.reserve.ensures.same c.push.ensures (hands.joins (self.archive.handed ++ self.archive.kept) c.self.invariant.2),
-    )
+    let hands = c.in_ok-part.ensures in
+    record {
+      core = sealed_core _ _ _ _ _ part hands c.self.invariant.core;
+      room = c.self.invariant.room;
+      parts = parts_kept self.archive c.reserve.new.self c.push.new.self part _ c.reserve.ensures.same c.push.ensures (hands.joins (self.archive.handed ++ self.archive.kept) c.self.invariant.parts);
+    }
 
 pub returns-clause-seals : goal.returns-clause-seals
 returns-clause-seals g c =

@@ -7,7 +7,11 @@ use Rattle.fj_core.proofs.pool_core.Core.stop_at.Goals as goal
 pub invariant_of-self : goal.invariant_of-self
 invariant_of-self g c =
     let closing : Cutoff = record { number = c.at.result.number; stopping = true } in
-    (shut_core _ _ _ _ _ closing c.args.number c.len.result (number_of _ _ c.at.ensures) c.len.ensures c.make_due.ensures c.self.invariant.0, c.self.invariant.1, parts_due _ _ _ _ _ c.make_due.ensures c.self.invariant.2)
+    record {
+      core = shut_core _ _ _ _ _ closing c.args.number c.len.result (number_of _ _ c.at.ensures) c.len.ensures c.make_due.ensures c.self.invariant.core;
+      room = c.self.invariant.room;
+      parts = parts_due _ _ _ _ _ c.make_due.ensures c.self.invariant.parts;
+    }
 
 pub returns-clause-pool : goal.returns-clause-pool
 returns-clause-pool g c = subst (λ s. c.make_due.new.store.past.pool ≡ s.store.past.pool) c.self.view_is (due_pushes_none _ _ _ _ c.make_due.ensures).pool
