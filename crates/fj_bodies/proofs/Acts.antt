@@ -24,9 +24,8 @@ use Rattle.fj_bodies.specs.Asking.{Drops, Adds, QuietsRoot, Settles, Shows}
 use Rattle.fj_bodies.specs.Endings.{EndsOk, EndsBody, LeftOver}
 use Rattle.fj_bodies.specs.HookEndings.{EndsHook}
 use Rattle.fj_bodies.specs.Acting.{ActsInBody, ActsInHook, ActsWhere, Acts, body_with}
-use Rattle.fj_rules.specs.Inside.{IsInside, is_outside_step}
-use Rattle.fj_rules.proofs.Steps.Inside.{same_inside}
-use Rattle.fj_bodies.proofs.Frames.{same_stays, then_stays, step_stays, sticks_stay, releases_stay, hands_out_stays, skips_stay, moves_stay}
+use Rattle.fj_rules.specs.Inside.{is_outside_step}
+use Rattle.fj_bodies.proofs.Frames.{same_past_stays, same_stays, then_stays, step_stays, sticks_stay, releases_stay, hands_out_stays, skips_stay, moves_stay}
 use Rattle.fj_rules.proofs.Steps.KeepsHands.{KeepsHands, is_bare, step_keeps, releases_keep, same_keeps, then_keeps}
 
 -- a hook is there where its number is
@@ -43,7 +42,7 @@ module _ {B K O : Type 0} where
   -- a store with the same past, stuck as it was
   aside_stays : (old new : StoreState B K O) → new.past ≡ old.past → new.stuck ≡ old.stuck → Leaves old new
   aside_stays old new same stuck = record {
-    inside = record { past = subst (IsInside old.past) (sym same) (same_inside old.past); stuck = λ is. sym stuck ∙ is };
+    inside = same_past_stays old new same (λ is. sym stuck ∙ is);
     hands = subst (KeepsHands old.past) (sym same) (same_keeps old.past);
   }
 

@@ -1,5 +1,5 @@
 -- The machine with the bodies that no worker holds, and the results.
-use Rattle.std.specs.Prelude.{ℕ, ◌≡◌, ◌≤◌, Bool, true, false, ◌&&◌, length, drop, None, List}
+use Rattle.std.specs.Prelude.{ℕ, ◌≡◌, ◌≤◌, Bool, true, false, ◌&&◌, ◌++◌, length, drop, None, List}
 use Rattle.fj_rules.specs.declared.event.Event.{Event}
 use Rattle.fj_rules.specs.declared.place.Place.{Place}
 use Rattle.fj_rules.specs.declared.place.Place.TheVariants.{Queued, Held, Open, Gone}
@@ -79,7 +79,8 @@ module _ {B K O : Type 0} where
   abbrev pub still_held : StoreState B K O → Past → Entries B
   still_held old past = without_entries (entries old.bodies) (went old.past past)
 
-  -- nothing was submitted, closed, stopped or sealed, and a store that was stuck is stuck
+  -- events were appended; nothing was submitted, closed, stopped or sealed, and a store that was stuck is stuck
   pub record StaysInside (old new : StoreState B K O) : Type 0 where
     pub past : IsInside old.past new.past
+    pub grows : (es : List Event) × (new.past.events ≡ old.past.events ++ es)
     pub stuck : new.stuck ≡ false → old.stuck ≡ false

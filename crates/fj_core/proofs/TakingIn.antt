@@ -19,7 +19,7 @@ use Rattle.fj_rules.proofs.Events.Closing.{closed_more, stopped_more}
 use Rattle.fj_lane.specs.declared.parcel.Parcel.{Parcel}
 use Rattle.fj_lane.specs.Ends.{DrainState}
 use Rattle.fj_bodies.specs.Stores.{StoreState, StaysInside}
-use Rattle.fj_bodies.proofs.Frames.{same_stays}
+use Rattle.fj_bodies.proofs.Frames.{same_past_stays, same_stays}
 use Rattle.fj_rules.proofs.Steps.Answered.{submit_made}
 use Rattle.fj_core.specs.declared.booking.Booking.{Booking}
 use Rattle.fj_core.specs.declared.cutoff.Cutoff.{Cutoff}
@@ -29,9 +29,7 @@ use Rattle.fj_core.specs.Booked.{AreBooked, Booked}
 use Rattle.fj_core.specs.Closings.{IsClosing, is_due}
 use Rattle.fj_core.specs.Closes.{Dues}
 use Rattle.fj_core.specs.Cores.{IsCore}
-use Rattle.fj_rules.specs.Inside.{IsInside}
 use Rattle.fj_core.specs.Intakes.{Readies, is_log_full, with_drained}
-use Rattle.fj_rules.proofs.Steps.Inside.{same_inside}
 use Rattle.fj_core.proofs.Lanes.{PushesNone, took_booked, missed_booked}
 use Rattle.fj_core.proofs.Reached.{OnlyReached, only_same, only_more}
 use Rattle.fj_core.proofs.Shutting.{due_pushes_none, due_closes}
@@ -71,7 +69,7 @@ still_only h t s k kind number only =
 module _ {B K O : Type 0} where
   pub readies_stay : (old new : StoreState B K O) (s : ℕ) (answer : Intake) → Readies old s (Some answer) new → StaysInside old new
   readies_stay old new s (intake.Full r) (inl was) = same_stays old new was.2
-  readies_stay old new s (intake.Full r) (inr now) = record { past = subst (λ st. IsInside old.past st.past) (sym now.sticks) (same_inside old.past); stuck = λ is. now.free }
+  readies_stay old new s (intake.Full r) (inr now) = same_past_stays old new (ap (λ (st : StoreState B K O). st.past) now.sticks) (λ is. now.free)
   readies_stay old new s intake.Empty is = same_stays old new is.2
   readies_stay old new s (intake.Took t) is = absurd is
 

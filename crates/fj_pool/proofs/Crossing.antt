@@ -10,10 +10,9 @@ use Rattle.fj_lane.proofs.rest.Rest.TheSendSync.{the_send as rest_send}
 use Rattle.fj_lane.specs.contracts.rest.Rest as Rest
 use Rattle.fj_agreement.proofs.end.End.TheSendSync.{the_send as end_send}
 use Rattle.fj_bodies.specs.declared.body.Body as Body
-use Rattle.fj_core.proofs.Crossing.{core_send}
-use Rattle.fj_core.specs.contracts.pool_core.Core as Core
+use Rattle.fj_wake.proofs.Crossing.{waking_core_send}
+use Rattle.fj_wake.specs.contracts.waking_core.WakingCore as WakingCore
 use Rattle.fj_pool.proofs.condvars.Condvars.TheSendSync.{the_sync as condvars_sync}
-use Rattle.fj_pool.proofs.waits.Waits.TheSendSync.{the_send as waits_send}
 use Rattle.fj_pool.specs.declared.naming.Naming as Naming
 use Rattle.fj_pool.specs.contracts.guarded.Guarded as Guarded
 use Rattle.fj_pool.specs.contracts.guarded.Guarded.TheInside as GuardedInside
@@ -27,13 +26,10 @@ module _ (B N K O : RattleType) (g : Body.Ghosts B.Denot K.Denot O.Denot) (e : P
 
   guarded_inner : IsSend (GuardedInside.the_row B N K O g e n)
   guarded_inner = declared_send (GuardedInside.the_type B N K O g e n) (
-    as_row_send (Core.the_field B K O g e) (core_send B K O g e b k o),
+    as_row_send (WakingCore.the_field B K O g e) (waking_core_send B K O g e b k o),
     (
-      search (sendable, crosses, as_row_send, waits_send),
-      (
-        search (sendable, crosses, as_row_send, entrant_send),
-        (search (sendable, crosses, as_row_send, rest_row), (search (sendable, crosses, as_row_send, submitter_send), (search (sendable, crosses, as_row_send, named), tt))),
-      ),
+      search (sendable, crosses, as_row_send, entrant_send),
+      (search (sendable, crosses, as_row_send, rest_row), (search (sendable, crosses, as_row_send, submitter_send), (search (sendable, crosses, as_row_send, named), tt))),
     ),
   )
 

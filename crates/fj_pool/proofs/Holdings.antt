@@ -34,7 +34,7 @@ use Rattle.fj_pool.specs.Holdings.{AreKept, AreTied, HaveEnds, IsTied, KeepsHand
 use Rattle.fj_pool.specs.declared.next.Next.{Next}
 use Rattle.fj_pool.specs.Asked.{CancelsBehind, CollectsAny}
 use Rattle.fj_pool.specs.Looking.{IsQuietBehind, LooksAtLanes, SealsWhere, TakesEach, TakesFrom, TakesUnless, so_far_behind}
-use Rattle.fj_pool.specs.Working.{MayLook, Then, Waits}
+use Rattle.fj_pool.specs.Working.{MayLook, Waits, WithoutTask}
 use Rattle.fj_pool.proofs.Looking.{dues_same, pool_of, takes_same}
 
 -- ---- one call after another
@@ -113,14 +113,13 @@ module _ {B K O : Type 0} where
   may_look_keep rooted_as old new None is = core_keeps old new is
 
   -- a worker waits
-  pub waits_keep : (rooted_as : B → Option ℕ) (old new : CoreState B K O) (next : Next B K O) → Waits rooted_as old next new → KeepsHands old.store.past new.store.past
-  waits_keep rooted_as old new next is = may_look_keep rooted_as old new is.looked is.looks
+  pub waits_keep : (rooted_as : B → Option ℕ) (t : ℕ) (old new : CoreState B K O) (next : Next B K O) → Waits rooted_as t old next new → KeepsHands old.store.past new.store.past
+  waits_keep rooted_as t old new next is = may_look_keep rooted_as old new is.looked is.looks
 
   -- no task was queued for a body that asked for one
-  pub none_keeps : (helps : Bool) (rooted_as : B → Option ℕ) (expected : Next B K O) (old new : CoreState B K O) (next : Next B K O) → (helps ≡ true → Then expected old next new)
-      → (helps ≡ false → Waits rooted_as old next new) → KeepsHands old.store.past new.store.past
-  none_keeps true rooted_as expected old new next helped waits = core_keeps old new (helped refl).1
-  none_keeps false rooted_as expected old new next helped waits = waits_keep rooted_as old new next (waits refl)
+  pub none_keeps : (rooted_as : B → Option ℕ) (joined : Option ℕ) (old new : CoreState B K O) (next : Next B K O) → WithoutTask rooted_as joined old next new → KeepsHands old.store.past new.store.past
+  none_keeps rooted_as (Some t) old new next waits = waits_keep rooted_as t old new next waits
+  none_keeps rooted_as None old new next helped = core_keeps old new helped.1
 
   -- it is asked whether all is quiet
   pub quiet_keeps : (rooted_as : B → Option ℕ) (old new : CoreState B K O) (quiet : Bool) → IsQuietBehind rooted_as old quiet new → KeepsHands old.store.past new.store.past

@@ -16,28 +16,34 @@ use Rattle.fj_pool.specs.declared.guarded.outside.TakenIn.{TakenIn}
 use Rattle.fj_pool.specs.declared.guarded.outside.TakenIn.TheVariants.{Nothing, One, Several}
 use Rattle.fj_pool.specs.declared.next.Next.{Next}
 use Rattle.fj_pool.specs.declared.next.Next.TheVariants.{Again, Begin, Leave, Rest, Turn, Wait}
+use Rattle.fj_wake.specs.Waiting.{is_joinable}
 use Rattle.fj_pool.specs.Looking.{LooksAtLanes}
 
 module _ {B K O : Type 0} where
   -- ---- a worker waits
 
-  -- what comes next after a look at the lanes, if there was one
-  abbrev pub next_behind : Option TakenIn → Next B K O
-  next_behind None = Wait
-  next_behind (Some Nothing) = Wait
-  next_behind (Some One) = Again
-  next_behind (Some Several) = Again
+  -- what comes next where the task may still be waited for, or not
+  abbrev pub next_asleep : Bool → Next B K O
+  next_asleep true = Wait
+  next_asleep false = Again
+
+  -- the same after a look at the lanes, if there was one
+  abbrev pub next_behind : Option TakenIn → Bool → Next B K O
+  next_behind None joinable = next_asleep joinable
+  next_behind (Some Nothing) joinable = next_asleep joinable
+  next_behind (Some One) joinable = Again
+  next_behind (Some Several) joinable = Again
 
   -- the lanes were looked at, or nothing has changed
   abbrev pub MayLook : (B → Option ℕ) → CoreState B K O → Option TakenIn → CoreState B K O → Type 0
   MayLook rooted_as old (Some taken) new = LooksAtLanes rooted_as old taken new
   MayLook rooted_as old None new = new ≡ old
 
-  -- it waits, perhaps after a look at the lanes, and looks again if that took something in
-  pub record Waits (rooted_as : B → Option ℕ) (old : CoreState B K O) (next : Next B K O) (new : CoreState B K O) : Type 0 where
+  -- it waits for a task, perhaps after a look at the lanes, and looks again if that took something in, or if the task has ended
+  pub record Waits (rooted_as : B → Option ℕ) (t : ℕ) (old : CoreState B K O) (next : Next B K O) (new : CoreState B K O) : Type 0 where
     pub looked : Option TakenIn
     pub looks : MayLook rooted_as old looked new
-    pub next_is : next ≡ next_behind looked
+    pub next_is : next ≡ next_behind looked (is_joinable new t)
 
   -- ---- an idle worker
 
@@ -103,13 +109,13 @@ module _ {B K O : Type 0} where
   Then expected old next new = (next ≡ expected) × (new ≡ old)
 
   -- what comes next, by the answer to a join
-  abbrev pub NextOfJoin : (B → Option ℕ) → Told B K O → CoreState B K O → Next B K O → CoreState B K O → Type 0
-  NextOfJoin rooted_as (told.Hear heard) old next new = Then (Turn heard) old next new
-  NextOfJoin rooted_as (told.Run t) old next new = Then (Begin t) old next new
-  NextOfJoin rooted_as (told.Skip t body) old next new = Then Again old next new
-  NextOfJoin rooted_as told.None old next new = Waits rooted_as old next new
-  NextOfJoin rooted_as (told.Stuck body) old next new = Then (Leave (Err LogFull)) old next new
-  NextOfJoin rooted_as _ old next new = ⊥
+  abbrev pub NextOfJoin : (B → Option ℕ) → ℕ → Told B K O → CoreState B K O → Next B K O → CoreState B K O → Type 0
+  NextOfJoin rooted_as t (told.Hear heard) old next new = Then (Turn heard) old next new
+  NextOfJoin rooted_as t (told.Run u) old next new = Then (Begin u) old next new
+  NextOfJoin rooted_as t (told.Skip u body) old next new = Then Again old next new
+  NextOfJoin rooted_as t told.None old next new = Waits rooted_as t old next new
+  NextOfJoin rooted_as t (told.Stuck body) old next new = Then (Leave (Err LogFull)) old next new
+  NextOfJoin rooted_as t _ old next new = ⊥
 
   -- the body that joined the task retries
   pub record JoinsOnce (key_of : B → K) (rooted_as : B → Option ℕ) (old : CoreState B K O) (hand : HandState B) (t : ℕ) (next : Next B K O) (new : CoreState B K O) (hand' : HandState B) : Type 0 where
@@ -117,7 +123,7 @@ module _ {B K O : Type 0} where
     pub mid : CoreState B K O
     pub acts : Acts key_of old.store hand (asks.Join t) told mid.store hand'
     pub others : ChangesStore old mid
-    pub goes_on : NextOfJoin rooted_as told mid next new
+    pub goes_on : NextOfJoin rooted_as t told mid next new
 
   -- it had joined this task, and retries; or it helped, and hears so
   abbrev pub GoesOn : (B → K) → (B → Option ℕ) → Option ℕ → CoreState B K O → HandState B → Next B K O → CoreState B K O → HandState B → Type 0
@@ -145,17 +151,22 @@ module _ {B K O : Type 0} where
   abbrev pub noted : HandState B → Ask B K O → HandState B
   noted hand ask = noted_where (is_some hand.hook) hand ask
 
+  -- the task that this joins
+  abbrev pub joined_of : Ask B K O → Option ℕ
+  joined_of (asks.Join t) = Some t
+  joined_of _ = None
+
   -- what comes next if no task was queued: a body that helped hears so, and one that joined waits
-  abbrev pub NextOfNone : (B → Option ℕ) → Ask B K O → CoreState B K O → Next B K O → CoreState B K O → Type 0
-  NextOfNone rooted_as asks.Help old next new = Then (Turn (hears.Helped false)) old next new
-  NextOfNone rooted_as ask old next new = Waits rooted_as old next new
+  abbrev pub WithoutTask : (B → Option ℕ) → Option ℕ → CoreState B K O → Next B K O → CoreState B K O → Type 0
+  WithoutTask rooted_as (Some t) old next new = Waits rooted_as t old next new
+  WithoutTask rooted_as None old next new = Then (Turn (hears.Helped false)) old next new
 
   -- what comes next, by the answer; if the body has ended, the worker goes on with another one or looks for work
   abbrev pub NextOf : (B → K) → (B → Option ℕ) → Ask B K O → Told B K O → CoreState B K O → HandState B → Next B K O → CoreState B K O → HandState B → Type 0
   NextOf key_of rooted_as ask (told.Hear heard) old hand next new hand' = Then (Turn heard) old next new × (hand' ≡ hand)
   NextOf key_of rooted_as ask (told.Run t) old hand next new hand' = Then (Begin t) old next new × (hand' ≡ hand)
   NextOf key_of rooted_as ask (told.Skip t body) old hand next new hand' = Then Again old next new × (hand' ≡ hand)
-  NextOf key_of rooted_as ask told.None old hand next new hand' = NextOfNone rooted_as ask old next new × (hand' ≡ hand)
+  NextOf key_of rooted_as ask told.None old hand next new hand' = WithoutTask rooted_as (joined_of ask) old next new × (hand' ≡ hand)
   NextOf key_of rooted_as ask (told.Hook c caller) old hand next new hand' = Then (Turn (hears.Hook caller)) old next new × (hand' ≡ hand)
   NextOf key_of rooted_as ask (told.Over body) old hand next new hand' = Resumes key_of rooted_as old hand next new hand'
   NextOf key_of rooted_as ask (told.Stuck body) old hand next new hand' = Then (Leave (Err LogFull)) old next new × (hand' ≡ hand)

@@ -1,7 +1,7 @@
 ghost use Rattle.std.specs.Prelude.{◌≡◌, IfOk, vec_len};
 
-use crate::waits::ToWake;
 use fj_sleep::{MAX_PLACES, Places};
+use fj_wake::ToWake;
 use std::alloc::{AllocError, Global};
 use std::sync::Condvar;
 

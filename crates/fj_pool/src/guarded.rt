@@ -1,26 +1,26 @@
 ghost use Rattle.std.specs.Prelude.{◌≡◌, ◌≤◌, [], IfOk, length, vec_capacity};
 ghost use Rattle.fj_sleep.specs.declared.places.TheConstants.{MAX_PLACES};
+ghost use Rattle.fj_wake.specs.Waiting.{NobodyWaits};
 ghost use Rattle.fj_pool.specs.Lanes.{lanes_of};
 
 mod outside;
 mod serve;
-mod waiting;
+mod sleeping;
 
 use crate::naming::Naming;
-use crate::waits::Waits;
 use fj_bodies::Body;
 use fj_core::Core;
 use fj_gate::Entrant;
 use fj_lane::Rest;
 use fj_rules::SubId;
+use fj_wake::{Waits, WakingCore};
 use std::alloc::{AllocError, Global};
 use std::marker::{Model, PhantomData};
 
-/// What the lock of a pool guards: its core, what sleeping threads wait for, and room for the rests of the lanes when the pool is wound up.
+/// What the lock of a pool guards: its core, with the account of who sleeps, and room for the rests of the lanes when the pool is wound up.
 #[derive(Drop)]
 pub struct Guarded<B: Body, N: Naming> {
-    pub(crate) core: Core<B>,
-    pub(crate) waits: Waits,
+    pub(crate) core: WakingCore<B>,
     pub(crate) entrants: Vec<Entrant>,
     pub(crate) rests: Vec<Rest<B>>,
     /// The submitter at which the next look at the lanes begins: the first for which the last look found no room.
@@ -48,8 +48,9 @@ impl<B: Body, N: Naming> Model for Guarded<B, N> {
 }
 
 impl<B: Body, N: Naming> Guarded<B, N> {
-    /// A new pool's state. Preconditions: the name is that of the core, and there is room for its lanes.
+    /// A new pool's state. Preconditions: the name is that of the core, there is room for its lanes, and nobody waits.
     pub fn new(core: Core<B>, room: Room<B>) -> Guarded<B, N>
+        requires waits { NobodyWaits room.waits }
         requires lanes { lanes_of core.lanes ≡ N.lanes }
         requires pool { core.store.past.pool ≡ N.pool }
         requires entrants { (room.entrants.items ≡ []) × (length N.lanes ≤ vec_capacity room.entrants) }
@@ -57,8 +58,7 @@ impl<B: Body, N: Naming> Guarded<B, N> {
         ensures { result ≡ core }
     {
         Guarded {
-            core,
-            waits: room.waits,
+            core: WakingCore::new(core, room.waits),
             entrants: room.entrants,
             rests: room.rests,
             first: SubId(0),
@@ -79,6 +79,7 @@ impl<B> Room<B> {
     /// For this many workers, at most `MAX_PLACES`, and lanes. An error only if out of memory.
     pub fn new(alloc: Global, workers: usize, lanes: usize) -> Result<Room<B>, AllocError>
         requires { workers ≤ MAX_PLACES }
+        ensures waits { IfOk result (λ r. NobodyWaits r.waits) }
         ensures entrants { IfOk result (λ r. (r.entrants.items ≡ []) × (lanes ≤ vec_capacity r.entrants)) }
         ensures rests { IfOk result (λ r. (r.rests.items ≡ []) × (lanes ≤ vec_capacity r.rests)) }
     {

@@ -13,7 +13,6 @@
 
 mod closer;
 mod condvars;
-mod effect;
 mod glance;
 mod guarded;
 mod hand;
@@ -29,7 +28,6 @@ mod submitter;
 mod tied;
 mod turns;
 mod turnstile;
-mod waits;
 
 pub use closer::Closer;
 pub use fj_bodies::{Ask, Body, Heard, KeptResult, Outcome, Told};

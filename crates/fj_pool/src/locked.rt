@@ -1,7 +1,7 @@
 //! What the lock of a pool guards.
-ghost use Rattle.std.specs.Prelude.{◌≡◌, ◌++◌, [], IfNone, IfSome};
+ghost use Rattle.std.specs.Prelude.{◌≡◌, ◌++◌, [], true, IfNone, IfSome};
 ghost use Rattle.fj_core.specs.Closes.{ShutsAt, closed_at, is_finished, stopped_at};
-ghost use Rattle.fj_core.specs.Cores.{CollectsTicket};
+ghost use Rattle.fj_core.specs.Cores.{CollectsTicket, is_awaited};
 ghost use Rattle.fj_bodies.specs.Fitting.{Fits};
 ghost use Rattle.fj_pool.specs.Asked.{CancelsBehind, CollectsAny};
 ghost use Rattle.fj_pool.specs.Glances.{IsGlance};
@@ -16,11 +16,11 @@ use crate::hand::Hand;
 use crate::holding::Holding;
 use crate::naming::Naming;
 use crate::next::Next;
-use crate::waits::{ToWake, place_of};
 use fj_agreement::End;
 use fj_bodies::{Ask, Body, Outcome};
 use fj_gate::Ticket;
 use fj_rules::{Refusal, Sealed, WorkerId};
+use fj_wake::ToWake;
 use std::alloc::Global;
 use std::marker::Model;
 
@@ -95,11 +95,12 @@ impl<B: Body, N: Naming> Locked<B, N> {
 
     /// Whether this worker is the lookout.
     pub fn is_lookout(&self, worker: WorkerId) -> bool {
-        self.guarded.waits.workers.is_lookout(place_of(worker))
+        self.guarded.is_lookout(worker)
     }
 
-    /// A caller awaits this outcome from now on. Returns its seat; none if it joins the crowd.
+    /// A caller awaits this outcome from now on. Returns its seat; none if it joins the crowd. Precondition: it is still to come.
     pub fn sit(&mut self, ticket: Ticket) -> Option<usize>
+        requires { is_awaited self.old ticket ≡ true }
         ensures { self.new ≡ self.old }
     {
         self.guarded.sit(ticket)
@@ -121,7 +122,8 @@ impl<B: Body, N: Naming> Locked<B, N> {
 
     /// The outcome under a ticket, if there is one to return.
     pub fn collect(&mut self, ticket: Ticket) -> Option<Result<Outcome<B>, Refusal>>
-        ensures { CollectsTicket self.old ticket result self.new }
+        ensures collects { CollectsTicket self.old ticket result self.new }
+        ensures awaited { IfNone result (is_awaited self.new ticket ≡ true) }
     {
         self.guarded.collect(ticket)
     }

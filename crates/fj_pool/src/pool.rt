@@ -1,5 +1,6 @@
 ghost use Rattle.std.specs.Prelude.{◌≡◌, ◌≤◌, [], All, IfOk, length, vec_capacity, vec_len};
 ghost use Rattle.fj_sleep.specs.declared.places.TheConstants.{MAX_PLACES};
+ghost use Rattle.fj_wake.specs.Waiting.{NobodyWaits};
 ghost use Rattle.fj_pool.specs.Holdings.{IsTied, hands_of};
 ghost use Rattle.fj_pool.specs.Lanes.{lanes_of};
 ghost use Rattle.fj_pool.specs.Seats.{IsNamed};
@@ -20,9 +21,9 @@ use crate::parts::Parts;
 use crate::seat::Seat;
 use crate::submitter::Submitter;
 use crate::tied::Tied;
-use crate::waits::ToWake;
 use fj_bodies::Body;
 use fj_rules::OutOfMemory;
+use fj_wake::ToWake;
 use std::alloc::{AllocError, Global};
 use std::marker::PhantomData;
 use std::sync::Mutex;
@@ -115,6 +116,7 @@ impl<B: Drop, N: Naming> Beside<B, N> {
         requires hands { All (λ h. IsTied N.hands h) hands.items }
         requires named { All (λ s. IsNamed N.gate N.lanes s) seats.items }
         ensures condvars { IfOk result (λ r. vec_len r.condvars.workers ≡ workers) }
+        ensures waits { IfOk result (λ r. NobodyWaits r.room.waits) }
         ensures entrants { IfOk result (λ r. (r.room.entrants.items ≡ []) × (vec_len seats ≤ vec_capacity r.room.entrants)) }
         ensures rests { IfOk result (λ r. (r.room.rests.items ≡ []) × (vec_len seats ≤ vec_capacity r.room.rests)) }
         ensures hands { IfOk result (λ r. r.hands.items ≡ hands_of hands.items) }

@@ -84,7 +84,6 @@ impl<B: Body, N: Naming> Pool<B, N> {
     {
         let Guarded {
             core,
-            waits: _,
             entrants,
             rests,
             first: _,

@@ -6,7 +6,7 @@ use Rattle.std.proofs.lemmas.Bool.{or_parts}
 use Rattle.std.proofs.lemmas.List.Elements.{All-map, All-weaker, AllWithin-more, at_read}
 use Rattle.fj_sleep.specs.declared.sleeper.Sleeper.{Sleeper}
 use Rattle.fj_sleep.specs.declared.sleeper.Sleeper.TheVariants.{Awake, Resting, Waiting, Due, Woken}
-use Rattle.fj_sleep.specs.Places.{is_asleep, is_due, is_resting, is_waiting, roused_if, taken, waits_for}
+use Rattle.fj_sleep.specs.Places.{is_asleep, is_due, is_resting, is_waiting, roused_if, taken}
 use Rattle.fj_sleep.specs.Sleeping.{NobodyIs}
 use Rattle.fj_sleep.proofs.Mapping.{map_nothing}
 
@@ -38,13 +38,6 @@ module _ {T : Type 0} where
   taken_other Resting due = refl
   taken_other (Waiting t) due = refl
   taken_other Woken due = refl
-
-  not_for : (eq : T → T → Bool) (t : T) (s : Sleeper T) → is_waiting s ≡ false → waits_for eq t s ≡ false
-  not_for eq t Awake not = refl
-  not_for eq t Resting not = refl
-  not_for eq t (Waiting u) not = absurd cc
-  not_for eq t Due not = refl
-  not_for eq t Woken not = refl
 
   rouse_resting : (test : Sleeper T → Bool) (s : Sleeper T) → is_resting s ≡ false → is_resting (roused_if test s) ≡ false
   rouse_resting test s not = go (test s)
@@ -79,9 +72,6 @@ module _ {T : Type 0} where
   -- where nobody passes the test, nobody is roused by it
   pub rouses_nobody : (test : Sleeper T → Bool) (places : List (Sleeper T)) → NobodyIs test places → map (roused_if test) places ≡ places
   rouses_nobody test places none = map_nothing (roused_if test) places (All-weaker (λ s. test s ≡ false) (λ s. roused_if test s ≡ s) (kept test) places none)
-
-  pub nobody_for : (eq : T → T → Bool) (t : T) (places : List (Sleeper T)) → NobodyIs is_waiting places → NobodyIs (waits_for eq t) places
-  nobody_for eq t places none = All-weaker (λ s. is_waiting s ≡ false) (λ s. waits_for eq t s ≡ false) (not_for eq t) places none
 
   pub nobody_asleep : (places : List (Sleeper T)) → NobodyIs is_resting places → NobodyIs is_waiting places → NobodyIs is_asleep places
   nobody_asleep places resting waiting k d within = awake_from (get_or places k d) (resting k d within) (waiting k d within)

@@ -33,11 +33,6 @@ module _ {T : Type 0} where
   aim (Waiting t) = Some t
   aim _ = None
 
-  -- whether somebody waits for this
-  abbrev pub waits_for : (T → T → Bool) → T → Sleeper T → Bool
-  waits_for eq t (Waiting u) = eq u t
-  waits_for eq t _ = false
-
   -- if the test is passed, the thread is to be woken
   abbrev pub roused_if : (Sleeper T → Bool) → Sleeper T → Sleeper T
   roused_if test s = if test s then Due else s

@@ -4,16 +4,15 @@ use Rattle.std.specs.Option.{option_or}
 use Rattle.fj_sleep.specs.declared.sleeper.Sleeper.{Sleeper}
 use Rattle.fj_sleep.specs.declared.sleeper.Sleeper.TheVariants.{Awake, Due, Resting}
 use Rattle.fj_sleep.specs.declared.whom.Whom.{Whom}
-use Rattle.fj_sleep.specs.declared.whom.Whom.TheVariants.{All, Waiting, WaitingFor}
-use Rattle.fj_sleep.specs.Places.{is_asleep, is_due, is_resting, is_waiting, roused_if, waits_for}
+use Rattle.fj_sleep.specs.declared.whom.Whom.TheVariants.{All, Waiting}
+use Rattle.fj_sleep.specs.Places.{is_asleep, is_due, is_resting, is_waiting, roused_if}
 use Rattle.fj_sleep.specs.Sleeping.{IsAt, NobodyIs, SleepState}
 
 module _ {T : Type 0} where
   -- whether a thread is one of these
-  abbrev pub includes : (T → T → Bool) → Whom T → Sleeper T → Bool
-  includes eq All = is_asleep
-  includes eq Waiting = is_waiting
-  includes eq (WaitingFor t) = waits_for eq t
+  abbrev pub includes : Whom → Sleeper T → Bool
+  includes All = is_asleep
+  includes Waiting = is_waiting
 
   -- the thread at this place rests, and is the lookout if there was none
   abbrev pub with_resting : SleepState T → ℕ → SleepState T

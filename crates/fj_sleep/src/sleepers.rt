@@ -1,4 +1,5 @@
-ghost use Rattle.std.specs.Prelude.{◌≡◌, ◌≢◌, ◌≤◌, ◌<◌, ◌↔◌, IsTrue, IfOk, MatchOption, Some, None, false, length, replicate, slice_index_or, slice_set};
+ghost use Rattle.std.specs.Prelude.{◌≡◌, ◌≢◌, ◌≤◌, ◌<◌, ◌↔◌, IsTrue, IfOk, IfSome, MatchOption, Some, None, false, length, replicate, slice_index_or, slice_set};
+ghost use Rattle.fj_sleep.specs.declared.places.TheConstants.{MAX_PLACES};
 ghost use Rattle.fj_sleep.specs.Places.{aim, is_awake, is_due, is_waiting};
 ghost use Rattle.fj_sleep.specs.Sleeping.{IsAt, NobodyIs};
 ghost use Rattle.fj_sleep.specs.Waking.{PassesOn, with_resting};
@@ -55,9 +56,18 @@ impl<T: Copy> Sleepers<T> {
         })
     }
 
+    /// How many places there are.
+    #[inline(always)]
+    pub fn len(&self) -> usize
+        ensures { result ≡ length self.now.places }
+    {
+        self.places.len()
+    }
+
     /// A place that is `Awake`; none only if no place is.
     pub fn free_place(&self) -> Option<usize>
-        ensures { MatchOption result (NobodyIs is_awake self.now.places) (λ p. IsAt is_awake self.now.places p) }
+        ensures free { MatchOption result (NobodyIs is_awake self.now.places) (λ p. IsAt is_awake self.now.places p) }
+        ensures few { IfSome result (λ p. p < MAX_PLACES) }
     {
         choice::any_awake(&self.places)
     }

@@ -5,28 +5,22 @@ use crate::sleeper::Sleeper;
 
 /// A selection of the threads that sleep.
 #[derive(Clone, Copy)]
-pub enum Whom<T> {
+pub enum Whom {
     /// All that rest or wait.
     All,
     /// Those that wait.
     Waiting,
-    /// Those that wait for this.
-    WaitingFor(T),
 }
 
-impl<T: Copy + PartialEq> Whom<T> {
+impl Whom {
     /// Whether a thread in this state is selected.
     #[inline(always)]
-    pub fn includes(&self, sleeper: &Sleeper<T>) -> bool
-        ensures { result ≡ includes T.eq self.now sleeper.now }
+    pub fn includes<T: Copy>(&self, sleeper: &Sleeper<T>) -> bool
+        ensures { result ≡ includes self.now sleeper.now }
     {
         match self {
             Whom::All => sleeper.is_asleep(),
             Whom::Waiting => sleeper.waits(),
-            Whom::WaitingFor(t) => match sleeper {
-                Sleeper::Waiting(other) => *other == *t,
-                _ => false,
-            },
         }
     }
 }

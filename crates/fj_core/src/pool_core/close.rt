@@ -1,4 +1,4 @@
-ghost use Rattle.std.specs.Prelude.{◌≡◌};
+ghost use Rattle.std.specs.Prelude.{◌≡◌, is_some};
 ghost use Rattle.fj_rules.specs.Answers.{is_quiet};
 ghost use Rattle.fj_core.specs.Closes.{ShutsAt, closed_at, is_finished, stopped_at};
 ghost use Rattle.fj_core.specs.Closings.{is_over};
@@ -32,6 +32,13 @@ impl<B: Body> Core<B> {
             ..self.closing.at(number)
         };
         make_due(&mut self.store, self.closing, self.bookings.len());
+    }
+
+    /// Whether the closing number is known: a Shutdown or a Stop is to be made, or was.
+    pub fn is_closing(&self) -> bool
+        ensures { result ≡ is_some self.now.closing.number }
+    {
+        self.closing.number.is_some()
     }
 
     /// Whether all queues, stacks and hands of the machine are empty: `ForkJoinPool.isQuiescent`. Parcels in the lanes do not count.

@@ -1,7 +1,7 @@
 //! Calls from outside, and the intake of submissions.
-ghost use Rattle.std.specs.Prelude.{◌≡◌, ◌<◌, ◌++◌, [], IfSome};
+ghost use Rattle.std.specs.Prelude.{◌≡◌, ◌<◌, ◌++◌, [], true, IfNone, IfSome};
 ghost use Rattle.fj_core.specs.Closes.{ShutsAt, closed_at, is_finished, stopped_at};
-ghost use Rattle.fj_core.specs.Cores.{CollectsTicket};
+ghost use Rattle.fj_core.specs.Cores.{CollectsTicket, is_awaited};
 ghost use Rattle.fj_core.specs.Sealing.{may_be_sealed};
 ghost use Rattle.fj_pool.specs.Lanes.{KeepsLanes};
 ghost use Rattle.fj_pool.specs.Asked.{CancelsBehind, CollectsAny};
@@ -10,9 +10,10 @@ ghost use Rattle.fj_pool.specs.Looking.{IsQuietBehind, LooksAtLanes, SealsWhere,
 use crate::guarded::Guarded;
 use crate::naming::Naming;
 use fj_bodies::{Body, Outcome};
-use fj_core::{Core, Intake};
+use fj_core::Intake;
 use fj_gate::Ticket;
 use fj_rules::{Refusal, Sealed, SubId};
+use fj_wake::WakingCore;
 use std::alloc::Global;
 
 /// How many tasks a look at the lanes queued.
@@ -42,15 +43,8 @@ impl<B: Body, N: Naming> Guarded<B, N> {
     {
         let (taken, first) = take_each(&mut self.core, self.first);
         self.first = first;
-        match taken {
-            // An intake that found no room for an event may have made the core stuck.
-            TakenIn::Nothing => self.tell_if_stuck(),
-            // The last submission may have made a stop.
-            TakenIn::One => self.tasks_ended(),
-            TakenIn::Several => {
-                self.tasks_queued();
-                self.tasks_ended();
-            }
+        if let TakenIn::Several = taken {
+            self.core.wake_workers();
         }
         taken
     }
@@ -66,13 +60,10 @@ impl<B: Body, N: Naming> Guarded<B, N> {
 
     /// The outcome under a ticket, as `Core::collect` returns it.
     pub fn collect(&mut self, ticket: Ticket) -> Option<Result<Outcome<B>, Refusal>>
-        ensures { CollectsTicket self.old ticket result self.new }
+        ensures collects { CollectsTicket self.old ticket result self.new }
+        ensures awaited { IfNone result (is_awaited self.new ticket ≡ true) }
     {
-        let answer = self.core.collect(ticket);
-        if answer.is_some() {
-            self.outcome_told();
-        }
-        answer
+        self.core.collect(ticket)
     }
 
     /// The outcome under the first of these tickets for which `Core::collect` returns one, with the index of that ticket.
@@ -97,9 +88,7 @@ impl<B: Body, N: Naming> Guarded<B, N> {
         if let TakenIn::One = self.look_at_lanes(alloc) {
             self.task_queued();
         }
-        let answer = self.core.cancel(ticket);
-        self.tasks_ended();
-        answer
+        self.core.cancel(ticket)
     }
 
     /// Hands out the sealed parts that are kept.
@@ -115,8 +104,6 @@ impl<B: Body, N: Naming> Guarded<B, N> {
         ensures { ShutsAt self.old (closed_at self.old.closing number) self.new }
     {
         self.core.close_at(number);
-        self.waits.closing = true;
-        self.all_ended();
     }
 
     /// Sets the closing number, at which the Stop is made.
@@ -124,8 +111,6 @@ impl<B: Body, N: Naming> Guarded<B, N> {
         ensures { ShutsAt self.old (stopped_at self.old.closing number) self.new }
     {
         self.core.stop_at(number);
-        self.waits.closing = true;
-        self.all_ended();
     }
 
     /// Whether all queues, stacks and hands are empty, after the history is sealed, if that is due, and submissions are taken in.
@@ -148,7 +133,7 @@ impl<B: Body, N: Naming> Guarded<B, N> {
 }
 
 /// One intake for each submitter, from this one on. Also returns the first for which there was no room, or else this one.
-fn take_each<B: Body>(core: &mut Core<B>, first: SubId) -> (TakenIn, SubId)
+fn take_each<B: Body>(core: &mut WakingCore<B>, first: SubId) -> (TakenIn, SubId)
     requires { first < core.old.store.past.pool.limits.submitters }
     ensures takes { TakesFrom B.rooted_as core.old.store.past.pool.limits.submitters first core.old.store.past.pool.limits.submitters core.old result.0 core.new }
     ensures next { result.1 < core.old.store.past.pool.limits.submitters }

@@ -9,9 +9,9 @@ ghost use Rattle.fj_core.specs.Closes.{is_finished};
 ghost use Rattle.fj_core.specs.Cores.{ChangesStore};
 ghost use Rattle.fj_pool.specs.Holdings.{KeepsOthers};
 ghost use Rattle.fj_pool.specs.Turning.{LeavesWell, MayAsk, NextRight};
-ghost use Rattle.fj_pool.specs.Working.{JoinsOnce, IsPolled, LooksForWork, NextOfPoll, PollsOn, Resumes, Serves, Then, Waits, next_idle, noted};
+ghost use Rattle.fj_pool.specs.Working.{JoinsOnce, IsPolled, LooksForWork, NextOfPoll, PollsOn, Resumes, Serves, Then, Waits, WithoutTask, joined_of, next_asleep, next_idle, noted};
+ghost use Rattle.fj_wake.specs.Waiting.{is_joinable};
 
-use crate::effect::{Effect, effect_of, is_taken};
 use crate::guarded::Guarded;
 use crate::guarded::outside::TakenIn;
 use crate::naming::Naming;
@@ -64,15 +64,13 @@ impl<B: Body, N: Naming> Guarded<B, N> {
         ensures others { KeepsOthers hand.old.worker self.old.store.past self.new.store.past }
         ensures worker { hand.new.worker ≡ hand.old.worker }
     {
-        let helps = matches!(ask, Ask::Help);
-        let effect = effect_of(hand, &ask);
+        let joined = joined_by(&ask);
         let told = self.note_and_act(hand, ask);
-        self.tell_waiting(effect, is_taken(&told));
         match told {
             Told::Hear(heard) => Next::Turn(heard),
             Told::Run(t) => Next::Begin(t),
             Told::Skip(_, body) => skip(body, unneeded),
-            Told::None => self.after_none(alloc, hand, helps),
+            Told::None => self.after_none(alloc, hand.worker(), joined),
             Told::Hook(_, caller) => Next::Turn(Heard::Hook(caller)),
             Told::Over(body) => {
                 unneeded.add_ended(body);
@@ -169,12 +167,7 @@ impl<B: Body, N: Naming> Guarded<B, N> {
         ensures worker { hand.new.worker ≡ hand.old.worker }
     {
         match self.act(hand, Ask::Join(t)) {
-            Told::Hear(heard) => {
-                if matches!(heard, Heard::Got(_, _)) {
-                    self.result_taken(t);
-                }
-                Next::Turn(heard)
-            }
+            Told::Hear(answer) => Next::Turn(answer),
             Told::Run(u) => Next::Begin(u),
             Told::Skip(_, body) => skip(body, unneeded),
             Told::None => self.wait_for(alloc, hand.worker(), t),
@@ -283,29 +276,25 @@ impl<B: Body, N: Naming> Guarded<B, N> {
     }
 
     /// No task was there for a body that helps or joins: one that helps hears so, one that joins waits.
-    fn after_none(&mut self, alloc: Global, hand: &Hand<B>, helps: bool) -> Next<B>
-        ensures helped { helps ≡ true → Then (Next.Turn (Heard.Helped false)) self.old result self.new }
-        ensures waits { helps ≡ false → Waits B.rooted_as self.old result self.new }
+    fn after_none(&mut self, alloc: Global, worker: WorkerId, joined: Option<Serial>) -> Next<B>
+        ensures goes_on { WithoutTask B.rooted_as joined self.old result self.new }
         ensures right { NextRight B.right result }
         ensures leaves { LeavesWell self.new result }
     {
-        if helps {
-            return Next::Turn(Heard::Helped(false));
-        }
-        match hand.joined() {
-            Some(t) => self.wait_for(alloc, hand.worker(), t),
-            None => Next::Wait,
+        match joined {
+            Some(t) => self.wait_for(alloc, worker, t),
+            None => Next::Turn(Heard::Helped(false)),
         }
     }
 
     /// The worker waits for a task. While a shutdown or a stop is pending it looks at the lanes first, as an idle worker does: the step is made
     /// with the last submission, and all workers may be waiting for tasks that only a stop ends.
     fn wait_for(&mut self, alloc: Global, worker: WorkerId, t: Serial) -> Next<B>
-        ensures waits { Waits B.rooted_as self.old result self.new }
+        ensures waits { Waits B.rooted_as t self.old result self.new }
         ensures right { NextRight B.right result }
         ensures leaves { LeavesWell self.new result }
     {
-        if self.waits.closing && !self.core.is_shut() {
+        if self.core.is_closing() && !self.core.is_shut() {
             return self.look_and_wait(alloc, worker, t);
         }
         self.sleep_until(worker, t)
@@ -313,7 +302,7 @@ impl<B: Body, N: Naming> Guarded<B, N> {
 
     /// The worker looks at the lanes, and waits if nothing was taken in.
     fn look_and_wait(&mut self, alloc: Global, worker: WorkerId, t: Serial) -> Next<B>
-        ensures waits { Waits B.rooted_as self.old result self.new }
+        ensures waits { Waits B.rooted_as t self.old result self.new }
         ensures right { NextRight B.right result }
         ensures leaves { LeavesWell self.new result }
     {
@@ -327,36 +316,23 @@ impl<B: Body, N: Naming> Guarded<B, N> {
         }
     }
 
-    /// The worker sleeps until this task is done, or another one is queued.
+    /// The worker sleeps until this task is done, or another one is queued. If it is done, or the core is stuck, it goes on at once.
     fn sleep_until(&mut self, worker: WorkerId, t: Serial) -> Next<B>
-        ensures { Then Next.Wait self.old result self.new }
+        ensures { Then (next_asleep (is_joinable self.old t)) self.old result self.new }
     {
-        self.sleep_for(worker, t);
-        Next::Wait
-    }
-
-    /// Marks the threads that wait for what this may have changed. `taken` says whether a result was taken.
-    #[inline(always)]
-    fn tell_waiting(&mut self, effect: Effect, taken: bool)
-        ensures { self.new ≡ self.old }
-    {
-        match effect {
-            Effect::Takes(t) if taken => self.result_taken(t),
-            // A release that followed may have made the core stuck.
-            Effect::Nothing | Effect::Takes(_) => self.tell_if_stuck(),
-            Effect::Queues => self.task_queued(),
-            Effect::Ends(t) => self.task_ended(t),
-            Effect::EndsSeveral => self.tasks_ended(),
+        if self.core.is_joinable(t) {
+            self.core.wait_for(worker, t);
+            Next::Wait
+        } else {
+            Next::Again
         }
     }
 
-    /// The worker leaves, and all others are woken for that. Precondition: the core is stuck.
-    fn leave_stuck(&mut self, body: Option<B>, unneeded: &mut Unneeded<B>) -> Next<B>
-        requires { self.old.store.stuck ≡ true }
-        ensures leaves { result ≡ Next.Leave (Err Refusal.LogFull) }
-        ensures same { self.new ≡ self.old }
+    /// The worker leaves; the call by which the core got stuck has woken all others. Precondition: the core is stuck.
+    fn leave_stuck(&self, body: Option<B>, unneeded: &mut Unneeded<B>) -> Next<B>
+        requires { self.now.store.stuck ≡ true }
+        ensures { result ≡ Next.Leave (Err Refusal.LogFull) }
     {
-        self.all_ended();
         unneeded.add_ended(body);
         Next::Leave(Err(Refusal::LogFull))
     }
@@ -368,6 +344,16 @@ fn skip<B: Body>(body: B, unneeded: &mut Unneeded<B>) -> Next<B>
 {
     unneeded.add_skipped(body);
     Next::Again
+}
+
+/// The task that this joins.
+fn joined_by<B: Body>(ask: &Ask<B>) -> Option<Serial>
+    ensures { result ≡ joined_of ask.now }
+{
+    match ask {
+        Ask::Join(t) => Some(*t),
+        _ => None,
+    }
 }
 
 /// Notes which task the running body joins, or that it helps, if it asks that. A hook does neither.

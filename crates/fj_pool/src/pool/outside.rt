@@ -6,10 +6,10 @@ use crate::glance::Glance;
 use crate::naming::Naming;
 use crate::pool::Pool;
 use crate::pool::work::LONGEST_WAIT;
-use crate::waits::ToWake;
 use fj_bodies::{Body, Outcome};
 use fj_gate::{Closing, Ticket};
 use fj_rules::{Refusal, Sealed};
+use fj_wake::ToWake;
 use std::sync::Wait;
 use std::time::Duration;
 

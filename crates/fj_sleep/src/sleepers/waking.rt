@@ -1,6 +1,6 @@
 //! Which threads are woken.
 ghost use Rattle.std.specs.Prelude.{◌≡◌, ◌≤◌, ◌↔◌, false, map, IfNone, IfSome, IsNone, OnSome, length, slice_index_or, slice_set};
-ghost use Rattle.fj_sleep.specs.Places.{is_asleep, is_due, is_resting, is_waiting, roused_if, taken, waits_for};
+ghost use Rattle.fj_sleep.specs.Places.{is_asleep, is_due, is_resting, is_waiting, roused_if, taken};
 ghost use Rattle.fj_sleep.specs.Sleeping.{NobodyIs};
 ghost use Rattle.fj_sleep.specs.Waking.{AreDue, WakesOne, includes, with_roused};
 
@@ -85,18 +85,6 @@ impl<T: Copy> Sleepers<T> {
             None
         }
     }
-}
-
-impl<T: Copy + PartialEq> Sleepers<T> {
-    /// Marks exactly those threads that wait for `t`.
-    #[inline(always)]
-    pub fn wake_for(&mut self, t: T)
-        ensures { self.new ≡ record self.old { places = map (roused_if (waits_for T.eq t)) self.old.places } }
-    {
-        if self.waiting {
-            self.rouse(Whom::WaitingFor(t));
-        }
-    }
 
     /// Marks all threads that wait.
     #[inline(always)]
@@ -120,8 +108,8 @@ impl<T: Copy + PartialEq> Sleepers<T> {
 
     /// Marks these.
     #[inline(never)]
-    fn rouse(&mut self, whom: Whom<T>)
-        ensures { self.new ≡ record self.old { places = map (roused_if (includes T.eq whom)) self.old.places } }
+    fn rouse(&mut self, whom: Whom)
+        ensures { self.new ≡ record self.old { places = map (roused_if (includes whom)) self.old.places } }
     {
         let kinds = rouse_each(&mut self.places, whom);
         self.waiting = kinds.waiting;
@@ -131,8 +119,8 @@ impl<T: Copy + PartialEq> Sleepers<T> {
 }
 
 /// Marks these. Returns which states occur afterwards.
-fn rouse_each<T: Copy + PartialEq>(places: &mut [Sleeper<T>], whom: Whom<T>) -> Kinds
-    ensures places { places.new ≡ map (roused_if (includes T.eq whom)) places.old }
+fn rouse_each<T: Copy>(places: &mut [Sleeper<T>], whom: Whom) -> Kinds
+    ensures places { places.new ≡ map (roused_if (includes whom)) places.old }
     ensures waiting { result.waiting ≡ false → NobodyIs is_waiting places.new }
     ensures resting { result.resting ≡ false → NobodyIs is_resting places.new }
     ensures due { result.due ≡ false → NobodyIs is_due places.new }

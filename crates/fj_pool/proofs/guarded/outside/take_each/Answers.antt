@@ -1,4 +1,4 @@
-use Rattle.std.proofs.Common.{ℕ, ◌≡◌, ◌<◌, refl, sym, ap, ◌∙◌, subst, arith}
+use Rattle.std.proofs.Common.{◌≡◌, ◌<◌, refl, sym, ap, ◌∙◌, subst, arith}
 use Rattle.fj_rules.specs.Bounds.{Bounds, Pool}
 use Rattle.fj_pool.specs.Looking.{TakesFrom, behind}
 use Rattle.fj_pool.proofs.Looking.{one_behind, takes_keep, takes_next, takes_none, takes_same, waits_or, waits_or_first}

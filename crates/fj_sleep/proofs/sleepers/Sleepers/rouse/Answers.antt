@@ -9,7 +9,7 @@ pub invariant_of-self : goal.invariant_of-self
 invariant_of-self g c =
     let old = c.self.inside.places in
     let new = c.rouse_each-kinds.new.places in
-    let test = includes g.T.PartialEq.eq c.args.whom in
+    let test = includes c.args.whom in
     let is : new ≡ map (roused_if test) old.items = rw (← c.deref_mut.ensures.value) c.rouse_each-kinds.ensures.places in
     let long : length new ≡ length old.items = ap length is ∙ length-map old.items (roused_if test) in
     let whole : take old.len (new ++ drop (length new) old.items) ≡ new = take_at new (drop (length new) old.items) old.len (omega (arith, long, old.ok.0)) in

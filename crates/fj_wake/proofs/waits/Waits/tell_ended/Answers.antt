@@ -1,0 +1,9 @@
+use Rattle.fj_core.specs.Cores.{is_awaited}
+use Rattle.fj_wake.specs.Waiting.{is_joinable}
+use Rattle.fj_wake.proofs.waits.Waits.tell_ended.Goals as goal
+
+pub returns-then-is_stuck : goal.returns-then-is_stuck
+returns-then-is_stuck g c = λ joinable awaited only still. c.wake_all.ensures (is_joinable c.args.core.now) (is_awaited c.args.core.now)
+
+pub returns-then-ends_any : goal.returns-then-ends_any
+returns-then-ends_any g c = λ joinable awaited only still. c.tell_several.ensures (is_joinable c.args.core.now) (is_awaited c.args.core.now) c.look_up.ensures

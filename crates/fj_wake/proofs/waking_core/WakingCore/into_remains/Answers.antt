@@ -1,0 +1,7 @@
+use Rattle.std.proofs.Common.{ap, ◌∙◌}
+use Rattle.fj_core.specs.Cores.{CoreState}
+use Rattle.fj_slots.specs.Shelves.{entries}
+use Rattle.fj_wake.proofs.waking_core.WakingCore.into_remains.Goals as goal
+
+pub returns-clause-results : goal.returns-clause-results
+returns-clause-results g c = c.into_remains.ensures.results ∙ ap (λ (s : CoreState g.row.B.Denot g.row.B-Key.Denot g.row.B-Out.Denot). entries s.store.results) c.self.view_is
