@@ -40,7 +40,7 @@ impl Waits {
         })
     }
 
-    /// Puts into `due` who is to be woken, where anybody is. From then on nobody is.
+    /// Puts into `due` who is marked, if anybody is. From then on nobody is.
     #[inline(always)]
     pub(crate) fn take_due(&mut self, due: &mut ToWake)
         ensures { WaitForNothingNew self.old self.new }
@@ -128,7 +128,7 @@ impl Waits {
         }
     }
 
-    /// A task was queued: one worker is to be woken, one that rests where any does.
+    /// Marks one worker, since a task was queued: one that rests, if any does.
     #[inline(always)]
     pub(crate) fn wake_one(&mut self)
         ensures { WaitForNothingNew self.old self.new }
@@ -136,21 +136,21 @@ impl Waits {
         self.workers.wake_one();
     }
 
-    /// Several tasks were queued: all workers are to be woken.
+    /// Marks all workers, since several tasks were queued.
     pub(crate) fn wake_workers(&mut self)
         ensures { WaitForNothingNew self.old self.new }
     {
         self.workers.wake_all();
     }
 
-    /// All workers that wait for a task are to be woken.
+    /// Marks all workers that wait for a task.
     fn wake_joining(&mut self)
         ensures { WaitForNothingNew self.old self.new }
     {
         self.workers.wake_waiting();
     }
 
-    /// The same where that is wanted.
+    /// The same, if that is wanted.
     pub(crate) fn wake_joining_if(&mut self, wanted: bool)
         ensures { WaitForNothingNew self.old self.new }
     {
@@ -159,7 +159,7 @@ impl Waits {
         }
     }
 
-    /// Everybody is to be woken.
+    /// Marks everybody.
     pub(crate) fn wake_all(&mut self)
         ensures { NobodyWaits self.new }
     {
@@ -168,7 +168,7 @@ impl Waits {
         self.wake_crowd();
     }
 
-    /// All callers without a seat are to be woken.
+    /// Marks all callers without a seat.
     fn wake_crowd(&mut self)
         ensures { self.new ≡ record self.old { crowd = Wanted.Nothing; crowd_due = true } }
     {

@@ -13,8 +13,8 @@ use fj_rules::{Event, Serial};
 use fj_sleep::{Sleepers, Wanted};
 
 impl Waits {
-    /// By the events from this place of the present history on: one worker is to be woken where a task was queued, and each thread whose wait
-    /// has ended. All are where the core is stuck. Precondition: nobody waits at a seat that was never used.
+    /// Reads the events of the present history from this place on, and marks who is to be woken: one worker if a task was queued, and each
+    /// thread whose wait has ended; all if the core is stuck. Precondition: nobody waits at a seat that was never used.
     #[inline(always)]
     pub(crate) fn tell<B: Body>(&mut self, core: &Core<B>, place: usize)
         requires { WaitBelow self.old.seats_used self.old.seats.places }
@@ -28,7 +28,7 @@ impl Waits {
         self.tell_ended(core, place);
     }
 
-    /// The same, but for tasks that were queued.
+    /// The same, except that a queued task wakes nobody.
     #[inline(always)]
     pub(crate) fn tell_ended<B: Body>(&mut self, core: &Core<B>, place: usize)
         requires { WaitBelow self.old.seats_used self.old.seats.places }
@@ -46,8 +46,8 @@ impl Waits {
         }
     }
 
-    /// Each thread whose wait an intake has ended is to be woken: that of a parcel may have made a stop, and so ended any task. All are
-    /// where the core is stuck. Precondition: nobody waits at a seat that was never used.
+    /// Marks each thread whose wait an intake has ended: one that took a parcel may have made a stop, and so ended any task. Marks all if the
+    /// core is stuck. Precondition: nobody waits at a seat that was never used.
     pub(crate) fn tell_intake<B: Body>(&mut self, core: &Core<B>, took: bool)
         requires { WaitBelow self.old.seats_used self.old.seats.places }
         ensures { (joinable awaited : ℕ → Bool) → WaitOnlyFor joinable awaited self.old
@@ -63,8 +63,8 @@ impl Waits {
         }
     }
 
-    /// Each thread whose wait has ended is to be woken, but for callers without a seat that may await any outcome. Preconditions: the core is not
-    /// stuck, and nobody waits at a seat that was never used.
+    /// Marks each thread whose wait has ended, except callers without a seat that may await any outcome. Preconditions: the core is not stuck,
+    /// and nobody waits at a seat that was never used.
     fn look_up<B: Body>(&mut self, core: &Core<B>)
         requires free { core.now.store.stuck ≡ false }
         requires used { WaitBelow self.old.seats_used self.old.seats.places }
@@ -75,7 +75,7 @@ impl Waits {
         self.look_at_crowd(core);
     }
 
-    /// Each worker is to be woken that waits for a task which has ended.
+    /// Marks each worker that waits for a task which has ended.
     fn look_at_workers<B: Body>(&mut self, core: &Core<B>)
         requires { core.now.store.stuck ≡ false }
         ensures workers { AllWaitFor (is_joinable core.now) self.new.workers.places }
@@ -86,7 +86,7 @@ impl Waits {
         }
     }
 
-    /// Each caller at a seat is to be woken that awaits an outcome which can be told.
+    /// Marks each caller at a seat whose outcome can be told.
     fn look_at_seats<B: Body>(&mut self, core: &Core<B>)
         requires { WaitBelow self.old.seats_used self.old.seats.places }
         ensures seats { AllWaitFor (is_awaited core.now) self.new.seats.places }
@@ -98,7 +98,7 @@ impl Waits {
         }
     }
 
-    /// Callers without a seat that all await one outcome are to be woken where that can be told.
+    /// Marks the callers without a seat, if they all await one outcome and that can be told.
     fn look_at_crowd<B: Body>(&mut self, core: &Core<B>)
         ensures crowd { (k : ℕ) → self.new.crowd ≡ Wanted.One k → is_awaited core.now k ≡ true }
         ensures others { self.new ≡ record self.old { crowd = self.new.crowd; crowd_due = self.new.crowd_due } }
@@ -110,7 +110,7 @@ impl Waits {
         }
     }
 
-    /// Callers without a seat that may await any outcome are to be woken where a task ended that was taken in from a lane.
+    /// Marks the callers without a seat that may await any outcome, if a task ended that was taken in from a lane.
     fn tell_several<B: Body>(&mut self, core: &Core<B>, news: &[Event])
         ensures { WaitForNothingNew self.old self.new }
     {
@@ -119,7 +119,7 @@ impl Waits {
         }
     }
 
-    /// They are to be woken where that is wanted.
+    /// Marks them, if that is wanted.
     fn wake_several(&mut self, wanted: bool)
         ensures { WaitForNothingNew self.old self.new }
     {
@@ -138,7 +138,7 @@ fn is_outcome<B: Body>(core: &Core<B>, event: &Event) -> bool {
     }
 }
 
-/// Each worker is to be woken that waits for a task which is done, or released. Precondition: the core is not stuck.
+/// Marks each worker that waits for a task which is done, or released. Precondition: the core is not stuck.
 fn wake_joining<B: Body>(core: &Core<B>, workers: &mut Sleepers<Serial>)
     requires { core.now.store.stuck ≡ false }
     ensures { AllWaitFor (is_joinable core.now) workers.new.places }
@@ -160,8 +160,7 @@ fn look_at_worker<B: Body>(core: &Core<B>, workers: &mut Sleepers<Serial>, place
     }
 }
 
-/// Each caller is to be woken that awaits an outcome at one of the first seats, so many, where that can be told. Precondition: nobody waits at
-/// another seat.
+/// Marks each caller at one of the first `used` seats whose outcome can be told. Precondition: nobody waits at another seat.
 fn wake_awaiting<B: Body>(core: &Core<B>, seats: &mut Sleepers<Ticket>, used: usize)
     requires { WaitBelow used seats.old.places }
     ensures seats { AllWaitFor (is_awaited core.now) seats.new.places }
