@@ -31,7 +31,7 @@ use Rattle.fj_rules.proofs.Places.KeptPlaces.{held_kept}
 use Rattle.fj_rules.proofs.Steps.Standing.{stands, some_or_none}
 use Rattle.fj_rules.proofs.Steps.AnswersAllowed.{history_allowed, answer_allowed}
 use Rattle.fj_rules.proofs.Events.Hands.{hand_same}
-use Rattle.fj_ledger.proofs.Lists.HookLists.{hand_after}
+use Rattle.fj_rules.proofs.Completers.HookLists.{hand_after}
 use Rattle.fj_slots.specs.Aside.{numbers}
 use Rattle.fj_slots.specs.Shelves.{Entries, is_there, with_entry, without_entries, entries, AreFewer}
 use Rattle.fj_slots.specs.Hands.{HandState, HasOnTop, with_begun, with_hook}

@@ -31,7 +31,7 @@ use Rattle.fj_rules.proofs.Events.Spending.{spent_now}
 use Rattle.fj_rules.proofs.Places.GoneList.{held_here}
 use Rattle.fj_rules.proofs.Places.GoneTasks.{gone_stays, spent_stays}
 use Rattle.fj_rules.proofs.Steps.AnswersAllowed.{answer_allowed, climbed_completer, history_allowed}
-use Rattle.fj_ledger.proofs.Lists.HookLists.{but_unlisted}
+use Rattle.fj_rules.proofs.Completers.HookLists.{but_unlisted}
 use Rattle.fj_slots.specs.Shelves.{Entries}
 use Rattle.fj_bodies.specs.Stores.{IsGiven, GivesNoMore, IsStored}
 use Rattle.fj_bodies.proofs.InHands.{after_one, in_hand_hooked}

@@ -37,8 +37,8 @@ use Rattle.fj_rules.proofs.Completers.ArrivalPlaces.{arrival_at}
 use Rattle.fj_rules.proofs.Completers.Climbed.{hand_climbed}
 use Rattle.fj_rules.proofs.Steps.Standing.{stands, allowed_append}
 use Rattle.fj_rules.proofs.Steps.AnswersAllowed.{history_allowed, answer_allowed, climbed_completer}
-use Rattle.fj_ledger.proofs.Lists.HookLists.{but, hand_after, hand_emptied, worker_found}
-use Rattle.fj_machine.specs.InHands.{HooksApart}
+use Rattle.fj_rules.proofs.Completers.HookLists.{but, hand_after, hand_emptied, worker_found}
+use Rattle.fj_rules.specs.Hooks.{HooksApart}
 use Rattle.fj_slots.specs.Shelves.{Entries, without_entry, without_entries, entries}
 use Rattle.fj_slots.specs.Hands.{HandState, with_hook, without_hook, hook_number}
 use Rattle.fj_slots.proofs.Standing.{same_everywhere}

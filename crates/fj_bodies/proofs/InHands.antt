@@ -24,7 +24,7 @@ use Rattle.fj_rules.proofs.Events.Lawful.{known_more, not_new}
 use Rattle.fj_rules.proofs.Events.KindsKept.{completer_still}
 use Rattle.fj_rules.proofs.Completers.Climbed.{climbed_append}
 use Rattle.fj_rules.proofs.Completers.Hands.{hand_there}
-use Rattle.fj_machine.specs.InHands.{HooksApart}
+use Rattle.fj_rules.specs.Hooks.{HooksApart}
 use Rattle.std.specs.List.{filter_map, cons_option}
 use Rattle.fj_rules.specs.Releasable.{hooked, is_hooked}
 use Rattle.fj_bodies.specs.Stores.{NoneReleased}

@@ -34,7 +34,7 @@ use Rattle.fj_rules.proofs.Events.Lawful.{by_events}
 use Rattle.fj_rules.proofs.Completers.Firings.{fired_once}
 use Rattle.fj_rules.proofs.Steps.Answered.{Answered, Refuses, Makes, answered}
 use Rattle.fj_rules.proofs.Steps.AnswersAllowed.{history_allowed}
-use Rattle.fj_ledger.proofs.Lists.HookLists.{completers, but, hand_before, hand_stays, fewer_times, worker_found}
+use Rattle.fj_rules.proofs.Completers.HookLists.{completers, but, hand_before, hand_stays, fewer_times, worker_found}
 use Rattle.fj_bodies.proofs.Following.{is_rest, settling_rest, failing_rest, AfterEnd, Fired, Unfired, after_ended}
 use Rattle.fj_bodies.proofs.HookEndings.{still_hooks, HookGives, HookFires, HookIsOver, HookRefused, hook_gives}
 

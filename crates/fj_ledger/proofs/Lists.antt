@@ -4,7 +4,5 @@
 pub mod Choosing
 -- a number that stands in a list at most once is taken out
 pub mod TakenOut
--- one completion action more in the hands, and one fewer
-pub mod HookLists
 -- the completion actions in hands, after one event more
 pub mod HandParts

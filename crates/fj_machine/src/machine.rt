@@ -14,7 +14,7 @@ ghost use Rattle.fj_rules.specs.Epochs.{IsPast, seal_refusal, RefusesSeal};
 ghost use Rattle.fj_rules.specs.Parts.{Fits};
 ghost use Rattle.fj_rules.specs.Headline.{Headline, RepliesTell};
 ghost use Rattle.fj_ledger.specs.Counts.{queued};
-ghost use Rattle.fj_machine.specs.InHands.{HooksApart};
+ghost use Rattle.fj_rules.specs.Hooks.{HooksApart};
 ghost use Rattle.fj_machine.specs.Outcomes.{Makes, said_by};
 ghost use Rattle.fj_rules.specs.declared.step.Step.TheVariants.{Submit};
 ghost use Rattle.fj_rules.specs.declared.epoch.Sealed.{Sealed as Part};

@@ -16,6 +16,8 @@ pub mod Climbed
 pub mod Firings
 -- a completion action is in the hand of a worker that is there
 pub mod Hands
+-- lists of hooks in hands: one more at the end, and one taken out
+pub mod HookLists
 -- who is fired by `complete`
 pub mod OwnFirings
 -- nothing fires before it is accepted

@@ -42,3 +42,7 @@ pub mod AboutTasks
 pub mod Inside
 -- steps that hand nothing out and end nothing leave each hand as it was
 pub mod KeepsHands
+-- a hook that a step hands out goes to its worker, whose hand is empty
+pub mod HandsFree
+-- the events of each step follow, and so those of every run
+pub mod Following

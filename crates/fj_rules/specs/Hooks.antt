@@ -1,8 +1,9 @@
 -- Which completion action is in which worker's hand.
-use Rattle.std.specs.Prelude.{ℕ, not, ◌==◌, if◌then◌else◌, List, [], ◌∷◌, ◌++◌, Option, Some, None}
+use Rattle.std.specs.Prelude.{ℕ, ◌≤◌, not, ◌==◌, if◌then◌else◌, List, [], ◌∷◌, ◌++◌, map, Option, Some, None}
 use Rattle.std.specs.List.{filter, fold}
 use Rattle.fj_rules.specs.declared.event.Event.{Event}
 use Rattle.fj_rules.specs.declared.event.Event.TheVariants.{End, Fire, Hooked}
+use Rattle.fj_rules.specs.Lists.{times_in}
 
 -- a hook that was handed out: its completer, and the worker in whose hand it is
 pub record Hook : Type 0 where
@@ -60,3 +61,12 @@ completer_in w (hook ∷ others) = if hook.worker == w then Some hook.completer 
 -- the completer whose hook is in the worker's hand, if any
 unfoldable pub hand : List Event → ℕ → Option ℕ
 hand h w = completer_in w (hooks h).in_hands
+
+-- the worker into whose hand the hook of c goes if it is handed out now
+abbrev pub goes_to : List Event → ℕ → Option ℕ
+goes_to h c = receiver c (hooks h).just_ended (hooks h).last_worker
+
+-- no hand has two hooks, and no hook is in two hands
+pub record HooksApart (h : List Event) : Type 0 where
+  pub workers : (w : ℕ) → times_in w (map (λ hook. hook.worker) (hooks h).in_hands) ≤ 1
+  pub completers : (c : ℕ) → times_in c (map (λ hook. hook.completer) (hooks h).in_hands) ≤ 1

@@ -12,6 +12,7 @@ pub mod Climbs
 pub mod Choices
 pub mod Pasts
 pub mod Allowed
+pub mod Follows
 pub mod Releasable
 pub mod Inside
 pub mod ChoiceTaken

@@ -28,7 +28,7 @@ use Rattle.fj_rules.proofs.Completers.KeptParents.{kept_before}
 use Rattle.fj_rules.proofs.Events.Spending.{settled_by, status_kept}
 use Rattle.fj_ledger.specs.InHands.{InHand}
 use Rattle.fj_ledger.specs.Holds.{KeepsHands, TellsHook, TellsReleased, hook_completers, is_complete}
-use Rattle.fj_ledger.proofs.Lists.HookLists.{completers, workers_of, but, hand_after, hand_before, hand_listed, no_worker, hand_emptied, hand_stays, fewer_times, fewer_listed}
+use Rattle.fj_rules.proofs.Completers.HookLists.{completers, workers_of, but, hand_after, hand_before, hand_listed, no_worker, hand_emptied, hand_stays, fewer_times, fewer_listed}
 use Rattle.fj_ledger.proofs.Recorded.Telling.{is_of_one, no_stop, kept_more}
 use Rattle.fj_rules.proofs.Events.KindsKept.{parent_still, kept_known}
 

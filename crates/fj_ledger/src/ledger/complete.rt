@@ -6,7 +6,7 @@ ghost use Rattle.fj_rules.specs.Tasks.{is_kept, is_completer};
 ghost use Rattle.fj_rules.specs.Allowed.{Allowed};
 ghost use Rattle.fj_rules.specs.Pasts.{limit};
 ghost use Rattle.fj_rules.specs.Runs.{grown};
-ghost use Rattle.fj_ledger.specs.InHands.{goes_to};
+ghost use Rattle.fj_rules.specs.Hooks.{goes_to};
 
 use crate::ledger::Ledger;
 use crate::ledger::close::close;

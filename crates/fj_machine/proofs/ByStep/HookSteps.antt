@@ -31,7 +31,7 @@ use Rattle.fj_rules.proofs.Completers.Parents.{parent_smaller, parent_completer}
 use Rattle.fj_rules.proofs.Completers.Arrivals.{arrival_untouched}
 use Rattle.fj_ledger.specs.Holds.{IsLawful, hook_completers}
 use Rattle.fj_rules.proofs.Events.Hands.{hand_same}
-use Rattle.fj_ledger.proofs.Lists.HookLists.{completers, hand_emptied, worker_found, but_unlisted}
+use Rattle.fj_rules.proofs.Completers.HookLists.{completers, hand_emptied, worker_found, but_unlisted}
 use Rattle.fj_machine.proofs.Outcomes.RoomTests.{grown_twice}
 use Rattle.fj_machine.proofs.Outcomes.Stepping.{steps_full, steps_made, may_step}
 

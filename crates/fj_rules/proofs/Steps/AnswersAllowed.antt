@@ -53,7 +53,7 @@ sound_more past asked sound = record {
 }
 
 -- a move leaves a sound history sound
-move_sound : (old : Past) (asked : Move) (told : Answer) (new : Past) → IsSound old.pool old.events → Moves old asked told new → IsSound new.pool new.events
+pub move_sound : (old : Past) (asked : Move) (told : Answer) (new : Past) → IsSound old.pool old.events → Moves old asked told new → IsSound new.pool new.events
 move_sound old (move.Step asked) (gives.Said reply) new sound made = subst (λ (p : Past). IsSound p.pool p.events) (sym made.1) (sound_more old asked sound)
 move_sound old (move.Step asked) gives.Sealed new sound made = absurd made
 move_sound old (move.Step asked) (gives.Refused refusal) new sound made = absurd made

@@ -30,7 +30,7 @@ all_fail (test ∷ tests) none = go test.0 refl none (all_fail tests)
     go true is none rest = absurd cc
     go false is none rest = (is, rest none)
 
-neither : (a b : Option Refusal) → or_else a b ≡ None → (a ≡ None) × (b ≡ None)
+pub neither : (a b : Option Refusal) → or_else a b ≡ None → (a ≡ None) × (b ≡ None)
 neither (Some x) b none = absurd cc
 neither None b none = (refl, none)
 

@@ -31,10 +31,10 @@ pub record Tells (reply : Said) (events : List Event) : Type 0 where
   pub stands : (r : Refusal) → reply ≡ says.Refused r → ⊥
 
 -- events that accept nothing, hand nothing out and fire nothing
-record AreSilent (events : List Event) : Type 0 where
-  accepts : tasks events ≡ []
-  runs : handed_out events ≡ []
-  fires : fired events ≡ []
+pub record AreSilent (events : List Event) : Type 0 where
+  pub accepts : tasks events ≡ []
+  pub runs : handed_out events ≡ []
+  pub fires : fired events ≡ []
 
 silent_none : AreSilent []
 unfolding tasks handed_out fired
@@ -99,7 +99,7 @@ arriving_tells c Counted = record { same = record { accepts = refl; runs = refl;
 arriving_tells c Early = record { same = record { accepts = refl; runs = refl; hooks = refl }; stands = λ r is. cc }
 arriving_tells c Fires = record { same = record { accepts = refl; runs = refl; hooks = refl }; stands = λ r is. cc }
 
-settled_silent : (b : Bool) (t : ℕ) (s : Status) → AreSilent (if b then event.Settle t s ∷ [] else [])
+pub settled_silent : (b : Bool) (t : ℕ) (s : Status) → AreSilent (if b then event.Settle t s ∷ [] else [])
 unfolding tasks handed_out fired
 settled_silent true t s = record { accepts = refl; runs = refl; fires = refl }
 settled_silent false t s = record { accepts = refl; runs = refl; fires = refl }
@@ -109,14 +109,14 @@ unfolding tasks handed_out fired
 settles_silent [] s = record { accepts = refl; runs = refl; fires = refl }
 settles_silent (u ∷ us) s = let rest = settles_silent us s in record { accepts = rest.accepts; runs = rest.runs; fires = rest.fires }
 
-failing_silent : (h : List Event) (t code : ℕ) → AreSilent (failing h t code)
+pub failing_silent : (h : List Event) (t code : ℕ) → AreSilent (failing h t code)
 failing_silent h t code = go (is_undone (status h t))
   where
     go : (b : Bool) → AreSilent (if b then map (λ u. event.Settle u (status_is.Exceptional code)) (relayed h t) else [])
     go true = settles_silent (relayed h t) (status_is.Exceptional code)
     go false = silent_none
 
-passes_silent : (ds : List ℕ) → AreSilent (map event.Pass ds)
+pub passes_silent : (ds : List ℕ) → AreSilent (map event.Pass ds)
 unfolding tasks handed_out fired
 passes_silent [] = record { accepts = refl; runs = refl; fires = refl }
 passes_silent (d ∷ ds) = let rest = passes_silent ds in record { accepts = rest.accepts; runs = rest.runs; fires = rest.fires }
@@ -129,7 +129,7 @@ hooked_silent : (c : ℕ) → AreSilent (event.Hooked c ∷ [])
 unfolding tasks handed_out fired
 hooked_silent c = record { accepts = refl; runs = refl; fires = refl }
 
-settle_silent : (c : ℕ) (s : Status) → AreSilent (event.Settle c s ∷ [])
+pub settle_silent : (c : ℕ) (s : Status) → AreSilent (event.Settle c s ∷ [])
 unfolding tasks handed_out fired
 settle_silent c s = record { accepts = refl; runs = refl; fires = refl }
 
@@ -164,7 +164,7 @@ end_tells h w ending (Some t) =
 
 -- ---- the end of a hook
 
-own_silent : (h : List Event) (c : ℕ) → AreSilent (settling_own h c)
+pub own_silent : (h : List Event) (c : ℕ) → AreSilent (settling_own h c)
 own_silent h c = go (is_fired_by_complete h c)
   where
     go : (b : Bool) → AreSilent (if b then settling h c status_is.Normal else [])

@@ -1,6 +1,6 @@
 -- Why a submission is refused.
-use Rattle.std.proofs.Common.{ℕ, ◌≡◌, ◌≤◌, ◌<◌, Bool, true, false, ◌∷◌, [], Option, Some, None, refl, ap, sym, ◌∙◌, arith}
-use Rattle.std.specs.Prelude.{if◌then◌else◌, nat_lt, nat_le, ◌==◌, ◌||◌}
+use Rattle.std.proofs.Common.{ℕ, ◌≡◌, ◌≤◌, ◌<◌, Bool, true, false, ◌∷◌, [], Option, Some, None, refl, sym, ◌∙◌}
+use Rattle.std.specs.Prelude.{if◌then◌else◌, nat_lt, nat_le, ◌==◌}
 use Rattle.std.proofs.lemmas.Bool.{le-ltb, lt-leb}
 use Rattle.fj_rules.specs.declared.owner.Owner.TheVariants.{Sub}
 use Rattle.fj_rules.specs.declared.kind.SubmittedKind.{SubmittedKind}
@@ -8,10 +8,9 @@ use Rattle.fj_rules.specs.declared.kind.SubmittedKind.TheVariants.{Plain}
 use Rattle.fj_rules.specs.declared.step.Step.TheVariants.{Submit}
 use Rattle.fj_rules.specs.declared.refusal.Refusal.{Refusal}
 use Rattle.fj_rules.specs.declared.refusal.Refusal.TheVariants.{LogFull, Closed, TooManyTasks, NoSuch, CountTooLarge}
-use Rattle.fj_rules.specs.Bounds.{Bounds, IsWithin}
 use Rattle.fj_rules.specs.Lists.{or_else}
 use Rattle.fj_rules.specs.Tasks.{live, count_in, submitted_kind}
-use Rattle.fj_rules.specs.Allowed.{is_shut, is_closed, is_stopped}
+use Rattle.fj_rules.specs.Allowed.{is_shut}
 use Rattle.fj_rules.specs.Answers.{refusal_of, first_that_stands, does_not_fit, events_of}
 use Rattle.fj_rules.specs.Pasts.{Past}
 

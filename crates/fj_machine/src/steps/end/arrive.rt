@@ -9,7 +9,7 @@ ghost use Rattle.fj_rules.specs.Pasts.{limit};
 ghost use Rattle.fj_rules.specs.Runs.{grown};
 ghost use Rattle.fj_ledger.specs.Arriving.{as_arrival};
 ghost use Rattle.fj_ledger.specs.Holds.{IsLawful};
-ghost use Rattle.fj_ledger.specs.InHands.{goes_to};
+ghost use Rattle.fj_rules.specs.Hooks.{goes_to};
 
 use fj_ledger::Ledger;
 use fj_rules::{How, Said, WorkerId};
