@@ -20,6 +20,8 @@ pub mod Counted
 pub mod Settled
 -- a task was settled, fired or passed
 pub mod Spent
+-- a released task was settled
+pub mod SettledInHand
 -- a task was released
 pub mod Released
 -- the pool was shut

@@ -12,3 +12,5 @@ pub mod TableSteps
 pub mod Counts
 -- the scan for the first queue that is not empty
 pub mod Scans
+-- the numbers at the ends of a queue
+pub mod EndsSeen

@@ -111,6 +111,24 @@ impl Queues {
         }
     }
 
+    /// The oldest number of an owner's queue, which stays there. None if the queue is empty.
+    pub fn oldest(&self, o: usize) -> Option<Serial>
+        requires { o < length self.now.lists }
+        ensures { result ≡ first_of (queue_at self.now o) }
+    {
+        let cell = self.ends[o].oldest?;
+        Some(self.cells.table[cell].serial)
+    }
+
+    /// The newest number of an owner's queue, which stays there. None if the queue is empty.
+    pub fn newest(&self, o: usize) -> Option<Serial>
+        requires { o < length self.now.lists }
+        ensures { result ≡ last_of (queue_at self.now o) }
+    {
+        let cell = self.ends[o].newest?;
+        Some(self.cells.table[cell].serial)
+    }
+
     /// Puts a number at the new end of an owner's queue. Precondition: there is room. Allocates nothing.
     pub fn push(&mut self, o: usize, serial: Serial)
         requires owner { o < length self.old.lists }

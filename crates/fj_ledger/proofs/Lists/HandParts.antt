@@ -56,7 +56,7 @@ left_more pool h e c None so may one settles known tells = kept_more h e c one t
 left_more pool h e c (Some s) so may one settles known tells =
     (left_out pool h e c so may known tells.0, status_kept h e c (no_stop e one) (λ said. true≢false (sym (settles said) ∙ tells.0)) ∙ tells.1)
 
-tells_hook : (pool : Pool) (h : List Event) (e : Event) (hook : InHand) → AllowedFrom pool [] h → Allowed pool h e → is_of_one e ≡ true → fires_by_complete hook.completer e ≡ false
+pub tells_hook : (pool : Pool) (h : List Event) (e : Event) (hook : InHand) → AllowedFrom pool [] h → Allowed pool h e → is_of_one e ≡ true → fires_by_complete hook.completer e ≡ false
     → (settled_by e ≡ Some hook.completer → is_kept h hook.completer ≡ true) → TellsHook h hook → TellsHook (h ++ e ∷ []) hook
 unfolding is_fired_by_complete
 tells_hook pool h e hook so may one other settles tells = record {

@@ -21,10 +21,9 @@ use Rattle.fj_rules.specs.Places.{place, is_open}
 use Rattle.fj_rules.specs.Allowed.{Allowed, AllowedFrom}
 use Rattle.fj_rules.proofs.Completers.Firings.{fires_unspent}
 use Rattle.fj_rules.proofs.Events.Ends.{status_settle}
-use Rattle.fj_rules.proofs.Places.PlaceLaws.{unmoved_queue, unmoved_stack}
 use Rattle.fj_rules.proofs.Places.KeptPlaces.{open_kept}
 use Rattle.fj_rules.proofs.Places.OnePlace.{never}
-use Rattle.fj_rules.proofs.Events.Spending.{status_kept, spending_open, spending_gone}
+use Rattle.fj_rules.proofs.Events.Spending.{status_kept}
 use Rattle.fj_queues.specs.Queues.{Lists as Waiting}
 use Rattle.fj_tree.specs.declared.record.Record.{Record}
 use Rattle.fj_tree.specs.Handles.{Handle}
@@ -33,13 +32,10 @@ use Rattle.fj_tree.proofs.Index.Numbers.{written}
 use Rattle.fj_ledger.specs.Stacks.{Lists}
 use Rattle.fj_ledger.specs.InHands.{InHand}
 use Rattle.fj_ledger.specs.Closing.{is_open_at, closed}
-use Rattle.fj_ledger.specs.Holds.{Holds, Tells, hook_completers}
-use Rattle.fj_ledger.proofs.Updates.Growing.{grown_holds}
+use Rattle.fj_ledger.specs.Holds.{Holds, Tells}
 use Rattle.fj_ledger.proofs.Lists.HandParts.{hands_same, hands_fired}
 use Rattle.fj_ledger.proofs.Recorded.Located.{IsLocated}
-use Rattle.fj_ledger.proofs.Updates.Parts.{queues_same, stacks_same}
-use Rattle.fj_ledger.proofs.Recorded.Records.{tree_other}
-use Rattle.fj_ledger.proofs.Updates.Spent.{Respent, spent_holds, open_after, gone_after}
+use Rattle.fj_ledger.proofs.Updates.Spent.{Respent, spent_holds}
 use Rattle.fj_ledger.proofs.Recorded.Telling.{pending_same, fired_same}
 use Rattle.fj_rules.proofs.Events.KindsKept.{kind_still}
 
@@ -81,7 +77,7 @@ passed_says h r tells = let e = Pass r.serial in record {
 -- ---- all that is kept
 
 -- a released task is not open
-left_shut : (pool : Pool) (h : List Event) (t : ℕ) → AllowedFrom pool [] h → is_in t (tasks h) ≡ true → is_kept h t ≡ false → is_open (place h t) ≡ false
+pub left_shut : (pool : Pool) (h : List Event) (t : ℕ) → AllowedFrom pool [] h → is_in t (tasks h) ≡ true → is_kept h t ≡ false → is_open (place h t) ≡ false
 left_shut pool h t so known none = never (is_open (place h t)) (λ open_now. true≢false (sym (open_kept pool h t so open_now) ∙ none))
 
 pub settle_holds : {sealed : List Event} (pool : Pool) (h : List Event) (t : ℕ) (s : Status) (queues : Waiting) (stacks : Lists) (hands : List (Option InHand)) (tree : Records) (opens gones : List ℕ) (at : Handle)
@@ -99,23 +95,6 @@ settle_holds {sealed = sealed} pool h t s queues stacks hands tree opens gones a
     (spent_holds pool h e queues stacks hands hands tree mid opens gones at r (with_status s r) holds may_r fits (ap Some l.serial) (λ d is. absurd cc) sound (written tree at.key r (with_status s) l.at) l.serial
     (settled_says pool h s r holds.lawful may_r tells)
     (hands_same pool h e hands holds.lawful may_r refl refl (λ c said there. ap (is_kept h) (same_Some c r.serial (sym said)) ∙ tells.kept) holds.hands_kept))
-
--- a task that was released is settled, and no record tells it
-pub settle_left_holds : {sealed : List Event} (pool : Pool) (h : List Event) (t : ℕ) (s : Status) (queues : Waiting) (stacks : Lists) (hands : List (Option InHand)) (tree : Records) (opens gones : List ℕ)
-    → Holds pool sealed h queues stacks hands tree opens gones → Allowed pool h (Settle t s) → length h < length sealed + pool.limits.events → is_kept h t ≡ false → is_in t (hook_completers h) ≡ false
-    → Holds pool sealed (h ++ Settle t s ∷ []) queues stacks hands tree opens gones
-settle_left_holds pool h t s queues stacks hands tree opens gones holds may fits none unlisted =
-    let e = Settle t s in
-    let so = holds.lawful in
-    let shut : is_open (place h t) ≡ false = left_shut pool h t so may.0 none in
-    grown_holds pool h e queues queues stacks stacks hands hands tree tree opens opens gones gones holds may fits (λ d said. absurd cc) (record {
-      queues_kept = queues_same pool.limits h (h ++ e ∷ []) queues (λ o. unmoved_queue h e o refl) holds.queues_kept;
-      stacks_kept = stacks_same pool.limits h (h ++ e ∷ []) stacks (λ w. unmoved_stack h e w refl) holds.stacks_kept;
-      hands_kept = hands_same pool h e hands so may refl refl (λ c said there. absurd (true≢false (sym there ∙ ap (λ u. is_in u (hook_completers h)) (same_Some c t (sym said)) ∙ unlisted))) holds.hands_kept;
-      tree_kept = tree_other pool h e tree so may refl refl (λ r tells said. true≢false (sym tells.kept ∙ ap (is_kept h) (same_Some r.serial t (sym said)) ∙ none)) holds.tree_kept;
-      open_kept = open_after h opens t false holds.open_kept shut ∙ sym (spending_open pool h e t so may refl);
-      gone_kept = gone_after _ h gones t false holds.gone_kept shut ∙ sym (spending_gone pool h e t so may refl may.0);
-    })
 
 pub pass_holds : {sealed : List Event} (pool : Pool) (h : List Event) (c : ℕ) (queues : Waiting) (stacks : Lists) (hands : List (Option InHand)) (tree : Records) (opens gones : List ℕ) (at : Handle)
     → Holds pool sealed h queues stacks hands tree opens gones → IsSound tree → IsLocated tree c at → Allowed pool h (Pass c) → is_completer h c ≡ true → length h < length sealed + pool.limits.events

@@ -1,5 +1,5 @@
 //! Tasks are accepted.
-ghost use Rattle.std.specs.Prelude.{◌≡◌, ◌<◌, ◌∷◌, [], None, Some, IfSome, IsSome, true, length, option_map};
+ghost use Rattle.std.specs.Prelude.{◌≡◌, ◌<◌, ◌∷◌, [], None, Some, IfSome, IsSome, length, option_map};
 ghost use Rattle.fj_rules.specs.declared.event.Event.TheVariants.{Acc, Make};
 ghost use Rattle.fj_rules.specs.declared.kind.Kind.TheVariants.{Completer};
 ghost use Rattle.fj_rules.specs.Tasks.{accepted, parent_in};
@@ -37,14 +37,14 @@ impl Ledger {
     /// Makes a trigger, with the next number, which is open at once: the event `Make`.
     ///
     /// Precondition: the event may follow the history, and there is room for it.
-    pub fn make_trigger(&mut self, count: u32) -> Serial
-        requires may { Allowed self.old.pool self.old.events (Make (accepted self.old.events) (Completer true count None)) }
+    pub fn make_trigger(&mut self, relay: bool, count: u32) -> Serial
+        requires may { Allowed self.old.pool self.old.events (Make (accepted self.old.events) (Completer relay count None)) }
         requires fits { length self.old.events < limit self.old }
         ensures number { result ≡ accepted self.old.events }
-        ensures events { self.new ≡ grown self.old (Make (accepted self.old.events) (Completer true count None) ∷ []) }
+        ensures events { self.new ≡ grown self.old (Make (accepted self.old.events) (Completer relay count None) ∷ []) }
     {
-        let h = self.tree.insert(trigger(count), Place::Open, None);
-        self.log.push(Event::Make(h.serial, trigger(count)));
+        let h = self.tree.insert(trigger(relay, count), Place::Open, None);
+        self.log.push(Event::Make(h.serial, trigger(relay, count)));
         self.open_tasks.push(h.serial, h.key);
         h.serial
     }
@@ -64,11 +64,11 @@ fn renewed(tree: &Tree, parent: Option<Handle>) -> Option<Handle>
 }
 
 /// The kind of a trigger.
-fn trigger(count: u32) -> Kind
-    ensures { result ≡ Completer true count None }
+fn trigger(relay: bool, count: u32) -> Kind
+    ensures { result ≡ Completer relay count None }
 {
     Kind::Completer {
-        relay: true,
+        relay,
         count,
         parent: None,
     }

@@ -1,25 +1,23 @@
 //! Tasks get their status.
-ghost use Rattle.std.specs.Prelude.{◌≡◌, ◌<◌, ◌∷◌, [], true, length};
+ghost use Rattle.std.specs.Prelude.{◌≡◌, ◌<◌, ◌∷◌, [], length};
 ghost use Rattle.fj_rules.specs.declared.event.Event.TheVariants.{Settle};
-ghost use Rattle.fj_rules.specs.Lists.{is_in};
-ghost use Rattle.fj_rules.specs.Tasks.{is_kept};
 ghost use Rattle.fj_rules.specs.Allowed.{Allowed};
 ghost use Rattle.fj_rules.specs.Pasts.{limit};
 ghost use Rattle.fj_rules.specs.Runs.{grown};
-ghost use Rattle.fj_ledger.specs.Holds.{hook_completers};
 
 use crate::ledger::Ledger;
 use crate::ledger::close::close;
+use crate::ledger::hook::keep_status;
 use fj_rules::{Event, Status};
 use fj_tree::Handle;
 
 impl Ledger {
-    /// An undone task gets its status: the event `Settle`. If the task is kept, its record has the status now.
+    /// An undone task gets its status: the event `Settle`. If the task is kept, its record has the status now. If it was released while
+    /// its completion action is in a hand, the status is kept with the action.
     ///
-    /// Precondition: a task whose completion action is in a hand is kept, the event may follow the history, and there is room for it.
+    /// Precondition: the event may follow the history, and there is room for it.
     #[inline(always)]
     pub fn settle(&mut self, t: Handle, status: Status)
-        requires kept { is_in t.serial (hook_completers self.old.events) ≡ true → is_kept self.old.events t.serial ≡ true }
         requires may { Allowed self.old.pool self.old.events (Settle t.serial status) }
         requires fits { length self.old.events < limit self.old }
         ensures { self.new ≡ grown self.old (Settle t.serial status ∷ []) }
@@ -28,6 +26,8 @@ impl Ledger {
         if let Some(h) = self.tree.renew(t) {
             self.tree.set_status(h, status);
             close(&mut self.tree, &mut self.open_tasks, &mut self.gone, h);
+        } else {
+            keep_status(self.hands.as_mut_slice(), t.serial, status);
         }
     }
 }

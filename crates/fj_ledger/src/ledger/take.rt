@@ -10,7 +10,7 @@ ghost use Rattle.fj_ledger.specs.Sources.{IsChosenFrom, queue_of, task_at, tasks
 
 use crate::ledger::Ledger;
 use crate::queue_end::{QueueEnd, take_from};
-use fj_rules::{Event, Mode, Owner, Place, Said, WorkerId};
+use fj_rules::{Event, Mode, Owner, Place, Said, Serial, WorkerId};
 
 impl Ledger {
     /// Where the worker's next task is: at the mode's end of its own queue, or at the old end of the first queue with a task in the scan
@@ -30,6 +30,17 @@ impl Ledger {
         match self.queues.first_from(r as usize) {
             None => None,
             Some(q) => Some(QueueEnd::Oldest(q)),
+        }
+    }
+
+    /// The task there, which stays in its queue. None if the queue is empty. Precondition: there is such a queue.
+    pub fn task_at(&self, source: QueueEnd) -> Option<Serial>
+        requires { queue_of source < queues_in self.now.pool.limits }
+        ensures { result ≡ task_at self.now source }
+    {
+        match source {
+            QueueEnd::Oldest(q) => self.queues.oldest(q),
+            QueueEnd::Newest(q) => self.queues.newest(q),
         }
     }
 

@@ -1,4 +1,4 @@
-use Rattle.std.proofs.Common.{◌+◌, ℕ, List, ◌≡◌, ◌<◌, length, true, None, sym, ◌∙◌, ap, subst, arith}
+use Rattle.std.proofs.Common.{◌+◌, ℕ, List, ◌≡◌, ◌<◌, length, None, sym, ◌∙◌, ap, subst, arith}
 use Rattle.fj_rules.specs.Pasts.{limit}
 use Rattle.fj_rules.specs.declared.event.Event.TheVariants.{Make}
 use Rattle.fj_rules.specs.declared.kind.Kind.TheVariants.{Completer}
@@ -18,8 +18,8 @@ use Rattle.fj_ledger.proofs.ledger.Ledger.make_trigger.Goals.{After-self, After-
 fits : (c : After-self) → length c.self.inside.log.events < length c.self.inside.log.sealed + c.self.inside.limits.events
 fits c = subst (λ (p : Past). length p.events < limit p) (sym c.self.view_is) c.requires.fits
 
-may : (c : After-self) → Allowed (record { mode = c.self.inside.mode; limits = c.self.inside.limits }) c.self.inside.log.events (Make (accepted c.self.inside.log.events) (Completer true c.args.count None))
-may c = subst (λ (p : Past). Allowed p.pool p.events (Make (accepted p.events) (Completer true c.args.count None))) (sym c.self.view_is) c.requires.may
+may : (c : After-self) → Allowed (record { mode = c.self.inside.mode; limits = c.self.inside.limits }) c.self.inside.log.events (Make (accepted c.self.inside.log.events) (Completer c.args.relay c.args.count None))
+may c = subst (λ (p : Past). Allowed p.pool p.events (Make (accepted p.events) (Completer c.args.relay c.args.count None))) (sym c.self.view_is) c.requires.may
 
 pub insert-h-requires-clause-made : goal.insert-h-requires-clause-made
 insert-h-requires-clause-made c =
@@ -59,7 +59,7 @@ invariant_of-self c =
     let number : c.insert-h.result.serial ≡ accepted h = c.insert-h.ensures.number ∙ holds.tree_kept.made in
     let read : c.h.inside.serial ≡ c.insert-h.result.serial = ap (λ (x : Handle). x.serial) c.h.view_is in record {
       holds = rw (c.push.ensures, c.push-2.ensures, c.trigger-2.ensures, read, number)
-          (trigger_holds pool h (accepted h) (Completer true c.args.count None) _ _ _ _ _ _ _ c.insert-h.result.key holds (may at.After-self) (fits at.After-self) (rw (number, c.trigger.ensures) at (made at.After-insert-h)));
+          (trigger_holds pool h (accepted h) (Completer c.args.relay c.args.count None) _ _ _ _ _ _ _ c.insert-h.result.key holds (may at.After-self) (fits at.After-self) (rw (number, c.trigger.ensures) at (made at.After-insert-h)));
       log_room = rw c.push.ensures (c.self.invariant.log_room);
       open_room = rw c.push-2.ensures (c.self.invariant.open_room);
       gone_room = c.self.invariant.gone_room;

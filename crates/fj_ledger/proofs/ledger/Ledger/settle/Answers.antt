@@ -1,17 +1,18 @@
-use Rattle.std.proofs.Common.{◌+◌, ◌≡◌, ◌<◌, true, false, length, ap, sym, ◌∙◌, subst, arith}
-use Rattle.std.specs.Prelude.{Option, None, IsSome}
-use Rattle.std.proofs.lemmas.Bool.{true≢false}
+use Rattle.std.proofs.Common.{◌+◌, ◌≡◌, ◌<◌, false, length, map, ap, sym, ◌∙◌, subst, arith}
+use Rattle.std.specs.Prelude.{Option, None, IsSome, option_map}
+use Rattle.std.proofs.lemmas.List.{length-map}
 use Rattle.fj_rules.specs.Pasts.{limit}
 use Rattle.fj_rules.specs.declared.event.Event.TheVariants.{Settle}
 use Rattle.fj_rules.specs.Bounds.{Pool}
-use Rattle.fj_rules.specs.Lists.{is_in}
 use Rattle.fj_rules.specs.Tasks.{is_kept}
 use Rattle.fj_rules.specs.Allowed.{Allowed}
 use Rattle.fj_rules.specs.Runs.{Past}
 use Rattle.fj_rules.proofs.Places.OnePlace.{never}
-use Rattle.fj_ledger.specs.Holds.{hook_completers}
 use Rattle.fj_ledger.proofs.Recorded.Located.{located}
-use Rattle.fj_ledger.proofs.Updates.Settled.{settle_holds, settle_left_holds}
+use Rattle.fj_ledger.specs.InHands.{released_with}
+use Rattle.fj_ledger.proofs.Lists.HandParts.{written_back}
+use Rattle.fj_ledger.proofs.Updates.Settled.{settle_holds}
+use Rattle.fj_ledger.proofs.Updates.SettledInHand.{settle_hand_holds}
 use Rattle.fj_ledger.proofs.Updates.Spent.{gone_room, open_once}
 use Rattle.fj_tree.specs.Handles.{Handle}
 use Rattle.fj_ledger.proofs.ledger.Ledger.settle.Goals as goal
@@ -53,9 +54,11 @@ invariant_of-self-in_default c =
     let h = c.self.inside.log.events in
     let holds = c.self.invariant.holds in
     let none : is_kept h c.args.t.serial ≡ false = never (is_kept h c.args.t.serial) (λ kept. none_there (sym c.renew.ensures.found ∙ c.in_default.is) (holds.tree_kept.all c.args.t.serial kept)) in
-    let kept : is_in c.args.t.serial (hook_completers h) ≡ true → is_kept h c.args.t.serial ≡ true = subst (λ (p : Past). is_in c.args.t.serial (hook_completers p.events) ≡ true → is_kept p.events c.args.t.serial ≡ true) (sym c.self.view_is) c.requires.kept in
-    let unlisted : is_in c.args.t.serial (hook_completers h) ≡ false = never (is_in c.args.t.serial (hook_completers h)) (λ there. true≢false (sym (kept there) ∙ none)) in record {
-      holds = rw (c.push.ensures, ap (λ (x : Handle). x.serial) c.t.view_is) (settle_left_holds pool h c.args.t.serial c.args.status _ _ _ _ _ _ holds (may at) (fits at) none unlisted);
+    let f = option_map (released_with c.args.t.serial c.args.status) in
+    let put = rw (ap (λ (x : Handle). x.serial) c.t-2.view_is) at c.keep_status.ensures in
+    let left = put ∙ ap (map f) c.as_mut_slice.ensures.value in
+    let back = written_back c.self.inside.hands.len c.keep_status.new.hands c.self.inside.hands.items (ap (λ ks. length ks) put ∙ length-map c.as_mut_slice.result.now f ∙ c.as_mut_slice.ensures.len) ∙ left in record {
+      holds = rw (c.push.ensures, back, ap (λ (x : Handle). x.serial) c.t.view_is) (settle_hand_holds pool h c.args.t.serial c.args.status _ _ _ _ _ _ holds (may at) (fits at) none);
       log_room = rw c.push.ensures (c.self.invariant.log_room);
       open_room = c.self.invariant.open_room;
       gone_room = c.self.invariant.gone_room;
