@@ -7,6 +7,7 @@ ghost use Rattle.fj_rules.specs.Tasks.{is_kept, is_completer, live, parent};
 ghost use Rattle.fj_rules.specs.Places.{open_tasks, place};
 ghost use Rattle.fj_rules.specs.Statuses.{status};
 ghost use Rattle.fj_rules.specs.Allowed.{AllowedFrom, is_closed, is_stopped};
+ghost use Rattle.fj_rules.specs.Follows.{AllFollow};
 ghost use Rattle.fj_rules.specs.Answers.{answer, is_quiet, refusal_of};
 ghost use Rattle.fj_rules.specs.Pasts.{fresh, present, gone_since, sealed_now};
 ghost use Rattle.fj_rules.specs.Runs.{Steps};
@@ -247,6 +248,8 @@ impl Machine {
         ensures step { Steps self.old asked.now result self.new }
         // Each event may follow those before it.
         ensures allowed { AllowedFrom self.old.pool self.old.events (answer self.old asked.now).1 }
+        // It follows them, as `Follows` of `fj_rules` defines.
+        ensures follows { AllFollow self.old (answer self.old asked.now).1 }
         // The reply is `task`, `run` or `hook` exactly where a task is accepted, a task or a hook is handed out.
         ensures tells { RepliesTell (answer self.old asked.now).1 (result ∷ []) }
         // The reply is `none` only where every queue is empty.

@@ -14,7 +14,6 @@ use Rattle.fj_rules.specs.declared.said.Said.{Said}
 use Rattle.fj_rules.specs.declared.said.Said.TheVariants as says
 use Rattle.fj_rules.specs.declared.step.Step.TheVariants.{HookDone}
 use Rattle.fj_rules.specs.Bounds.{Pool}
-use Rattle.fj_rules.specs.Lists.{is_in}
 use Rattle.fj_rules.specs.Tasks.{is_completer, parent}
 use Rattle.fj_rules.specs.Hooks.{hooks, hand, receiver, completer_in}
 use Rattle.fj_rules.specs.Statuses.{status, is_undone}
@@ -29,9 +28,9 @@ use Rattle.fj_rules.proofs.Events.Statuses.{status_same}
 use Rattle.fj_rules.proofs.Events.KindsKept.{completer_same}
 use Rattle.fj_rules.proofs.Completers.Parents.{parent_smaller, parent_completer}
 use Rattle.fj_rules.proofs.Completers.Arrivals.{arrival_untouched}
-use Rattle.fj_ledger.specs.Holds.{IsLawful, hook_completers}
+use Rattle.fj_ledger.specs.Holds.{IsLawful}
 use Rattle.fj_rules.proofs.Events.Hands.{hand_same}
-use Rattle.fj_rules.proofs.Completers.HookLists.{completers, hand_emptied, worker_found, but_unlisted}
+use Rattle.fj_rules.proofs.Completers.HookLists.{hand_emptied, worker_found}
 use Rattle.fj_machine.proofs.Outcomes.RoomTests.{grown_twice}
 use Rattle.fj_machine.proofs.Outcomes.Stepping.{steps_full, steps_made, may_step}
 
@@ -73,10 +72,6 @@ may_hook pool h w c events law within is after =
     (may_step pool h (HookDone w) law (hook_stands pool h w c within is))).1
 
 -- ---- its completer
-
--- once the action has ended it is in no hand any more
-pub hooked_unlisted : (h : List Event) (c : ℕ) → is_in c (hook_completers (h ++ Hooked c ∷ [])) ≡ false
-hooked_unlisted h c = ap (λ s. is_in c (completers s.in_hands)) (hooks_more h (Hooked c)) ∙ but_unlisted c (hooks h).in_hands
 
 hooked_undone : (h : List Event) (c : ℕ) → is_undone (status (h ++ Hooked c ∷ []) c) ≡ is_undone (status h c)
 hooked_undone h c = ap is_undone (status_same h (Hooked c) c (λ before. refl))

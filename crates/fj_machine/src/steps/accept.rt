@@ -45,7 +45,7 @@ pub fn trigger(ledger: &mut Ledger, w: WorkerId, count: u32) -> Result<Said, Ref
 {
     may_trigger(ledger, w, count)?;
     room_for(ledger, 1)?;
-    Ok(Said::Task(ledger.make_trigger(count)))
+    Ok(Said::Task(ledger.make_trigger(true, count)))
 }
 
 fn may_submit(ledger: &Ledger, s: SubId, kind: &SubmittedKind) -> Result<(), Refusal>

@@ -41,9 +41,6 @@ returns-in_err-room_for c =
     let is = settles_root now c.args.w c.args.t c.root-root.result.serial (sym c.in_ok-h.ensures.refusal) (rooted at) (read at ∙ c.if-not-is_undone.false) in
     full_of_one now (QuietRoot c.args.w c.args.t) _ c.from_residual-in_err-room_for.result _ c.from_residual-in_err-room_for.ensures.1 is c.in_err-room_for.ensures.room
 
-pub settle-requires-clause-kept : goal.settle-requires-clause-kept
-settle-requires-clause-kept c there = c.root-root.ensures.kept
-
 pub settle-requires-clause-may : goal.settle-requires-clause-may
 settle-requires-clause-may c =
     let now = c.args.ledger.now in

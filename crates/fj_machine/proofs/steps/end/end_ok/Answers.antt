@@ -3,12 +3,11 @@ use Rattle.std.proofs.Common.{◌≡◌, ◌+◌, ◌∷◌, ◌++◌, [], lengt
 use Rattle.fj_rules.specs.declared.event.Event.TheVariants.{End, Settle}
 use Rattle.fj_rules.specs.declared.step.Ending.TheVariants.{Ok}
 use Rattle.fj_rules.specs.declared.status.Status.TheVariants.{Normal}
-use Rattle.fj_rules.specs.Tasks.{is_kept}
 use Rattle.fj_rules.specs.Statuses.{status, is_undone}
 use Rattle.fj_rules.specs.Allowed.{Allowed}
 use Rattle.fj_rules.specs.Answers.{after_end}
 use Rattle.fj_rules.specs.Runs.{Past}
-use Rattle.fj_machine.proofs.ByStep.EndSteps.{running_kept, end_full, end_made, may_end, ended_kept, ok_events, ok_count}
+use Rattle.fj_machine.proofs.ByStep.EndSteps.{running_kept, end_full, end_made, may_end, ok_events, ok_count}
 use Rattle.fj_machine.proofs.Outcomes.RoomTests.{either_way, grown_none}
 use Rattle.fj_machine.proofs.Outcomes.Results.{exits_full}
 use Rattle.fj_machine.proofs.steps.end.end_ok.Goals as goal
@@ -35,10 +34,6 @@ returns-in_err-room_for c =
     let at = (goal.at.returns-in_err-room_for c).After-room_for in
     exits_full c.args.ledger.now (step.End c.args.w Ok) c.from_residual.result _ c.from_residual.ensures.1 c.in_err-room_for.ensures.room.0
     (end_full c.args.ledger.now c.args.w c.args.t.serial Ok _ c.requires.stands c.requires.running (count at) c.in_err-room_for.ensures.room.1)
-
-pub settle-requires-clause-kept : goal.settle-requires-clause-kept
-settle-requires-clause-kept c there =
-    subst (λ (p : Past). is_kept p.events c.args.t.serial ≡ true) (sym c.end_body.ensures) (ended_kept c.args.ledger.now.pool c.args.ledger.now.events c.args.w c.args.t.serial c.requires.lawful c.requires.running)
 
 pub settle-requires-clause-may : goal.settle-requires-clause-may
 settle-requires-clause-may c =

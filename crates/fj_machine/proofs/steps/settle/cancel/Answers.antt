@@ -40,9 +40,6 @@ returns-in_err-room_for c =
     let is = cancels c.args.ledger.now c.args.t (kept at) (ap is_undone (read at ∙ c.in-Undone.is)) in
     full_of_one c.args.ledger.now (Cancel c.args.t) _ c.from_residual-in_err-room_for.result _ c.from_residual-in_err-room_for.ensures.1 is c.in_err-room_for.ensures.room
 
-pub settle-requires-clause-kept : goal.settle-requires-clause-kept
-settle-requires-clause-kept c there = rw c.in_ok-h.ensures.number (kept (goal.at.settle-requires-clause-kept c).After-record)
-
 pub settle-requires-clause-may : goal.settle-requires-clause-may
 settle-requires-clause-may c =
     let at = (goal.at.settle-requires-clause-may c).After-record in

@@ -56,11 +56,6 @@ kept c is =
     let was = relayed_kept c.args.ledger.now.pool h t c.unwrap-c.result.serial so c.requires.kept (get_is_in c.unwrap-c.result.serial (relayed h t) c.loop.counter is) in
     subst (λ (p : Past). is_kept p.events c.unwrap-c.result.serial ≡ true) (sym c.loop.invariant.past) (settles_kept h c.args.code us c.unwrap-c.result.serial ∙ was)
 
-pub settle-requires-clause-kept : goal.settle-requires-clause-kept
-settle-requires-clause-kept c there =
-    let at = goal.at.settle-requires-clause-kept c in
-    kept at.After-parent-at (member at.After-unwrap-c (place at.In-loop))
-
 pub settle-requires-clause-may : goal.settle-requires-clause-may
 settle-requires-clause-may c =
     let at = goal.at.settle-requires-clause-may c in

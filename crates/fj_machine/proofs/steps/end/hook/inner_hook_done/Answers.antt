@@ -1,9 +1,7 @@
 use Rattle.fj_rules.specs.declared.step.Step.TheVariants as step
 use Rattle.std.proofs.Common.{◌≡◌, ◌+◌, ◌≤◌, ◌∷◌, ◌++◌, [], length, Bool, true, None, Some, ap, sym, ◌∙◌, subst, inl, inr}
-use Rattle.std.proofs.lemmas.Bool.{true≢false}
 use Rattle.fj_rules.specs.Pasts.{limit}
 use Rattle.fj_rules.specs.declared.event.Event.TheVariants.{Hooked, Settle}
-use Rattle.fj_rules.specs.Lists.{is_in}
 use Rattle.fj_rules.specs.declared.status.Status.TheVariants.{Normal}
 use Rattle.fj_rules.specs.Tasks.{is_completer}
 use Rattle.fj_rules.specs.Hooks.{hooks, hand, receiver}
@@ -11,8 +9,7 @@ use Rattle.fj_rules.specs.Climbs.{arrival}
 use Rattle.fj_rules.specs.Allowed.{Allowed}
 use Rattle.fj_rules.specs.Answers.{hook_events, arriving, arriving_says}
 use Rattle.fj_rules.specs.Runs.{Past, grown}
-use Rattle.fj_ledger.specs.Holds.{hook_completers}
-use Rattle.fj_machine.proofs.ByStep.HookSteps.{own, own_count, hook_full, hook_made, may_hook, hooked_unlisted, parent_is_completer, parent_still_completer, past_free, past_given, parent_arrival, inner_events, inner_says, arriving_count, inner_count, past_fits}
+use Rattle.fj_machine.proofs.ByStep.HookSteps.{own, own_count, hook_full, hook_made, may_hook, parent_is_completer, parent_still_completer, past_free, past_given, parent_arrival, inner_events, inner_says, arriving_count, inner_count, past_fits}
 use Rattle.fj_machine.proofs.Outcomes.RoomTests.{either_way, grown_none, grown_twice}
 use Rattle.fj_machine.proofs.Outcomes.Results.{exits_full}
 use Rattle.fj_machine.proofs.steps.end.hook.inner_hook_done.Goals as goal
@@ -51,10 +48,6 @@ returns-in_err-room_for c =
     let at = (goal.at.returns-in_err-room_for c).After-room_for in
     exits_full c.args.ledger.now (step.HookDone c.args.w) c.from_residual.result _ c.from_residual.ensures.1 c.in_err-room_for.ensures.room.0
     (hook_full c.args.ledger.now c.args.w c.args.c.serial _ _ c.requires.worker c.requires.hand (events at) (count at) c.in_err-room_for.ensures.room.1)
-
-pub settle-requires-clause-kept : goal.settle-requires-clause-kept
-settle-requires-clause-kept c there =
-    absurd (true≢false (sym there ∙ ap (λ (p : Past). is_in c.args.c.serial (hook_completers p.events)) c.end_hook.ensures ∙ hooked_unlisted c.args.ledger.now.events c.args.c.serial))
 
 pub settle-requires-clause-may : goal.settle-requires-clause-may
 settle-requires-clause-may c =

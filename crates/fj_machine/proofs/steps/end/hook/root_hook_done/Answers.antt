@@ -1,14 +1,11 @@
 use Rattle.fj_rules.specs.declared.step.Step.TheVariants as step
 use Rattle.std.proofs.Common.{◌≡◌, ◌+◌, ◌∷◌, [], length, true, false, Some, refl, ap, sym, ◌∙◌, subst, inl, inr}
-use Rattle.std.proofs.lemmas.Bool.{true≢false}
 use Rattle.fj_rules.specs.declared.event.Event.TheVariants.{Hooked, Settle}
 use Rattle.fj_rules.specs.declared.status.Status.TheVariants.{Normal}
-use Rattle.fj_rules.specs.Lists.{is_in}
 use Rattle.fj_rules.specs.Allowed.{Allowed}
 use Rattle.fj_rules.specs.Answers.{hook_events}
 use Rattle.fj_rules.specs.Runs.{Past}
-use Rattle.fj_ledger.specs.Holds.{hook_completers}
-use Rattle.fj_machine.proofs.ByStep.HookSteps.{own, own_count, hook_full, hook_made, may_hook, hooked_unlisted, root_events, root_says}
+use Rattle.fj_machine.proofs.ByStep.HookSteps.{own, own_count, hook_full, hook_made, may_hook, root_events, root_says}
 use Rattle.fj_machine.proofs.Outcomes.RoomTests.{either_way, grown_none}
 use Rattle.fj_machine.proofs.Outcomes.Results.{exits_full}
 use Rattle.fj_tree.specs.Handles.{Handle}
@@ -37,10 +34,6 @@ returns-then-not-undone c =
     let done = c.if-not-undone.true in
     rw (ap (λ (x : Handle). x.serial) c.c.view_is) (hook_made c.args.ledger.now c.end_hook.new.self c.args.w c.args.c.serial [] _ _ c.requires.worker c.requires.hand (rw done at (events at)) (root_says h c.args.c.serial false c.requires.root (c.requires.undone ∙ done))
     (rw done at (count at)) c.in_ok-room_for.ensures.room (c.end_hook.ensures ∙ grown_none _))
-
-pub settle-requires-clause-kept : goal.settle-requires-clause-kept
-settle-requires-clause-kept c there =
-    absurd (true≢false (sym there ∙ ap (λ (p : Past). is_in c.args.c.serial (hook_completers p.events)) c.end_hook.ensures ∙ hooked_unlisted c.args.ledger.now.events c.args.c.serial))
 
 pub settle-requires-clause-may : goal.settle-requires-clause-may
 settle-requires-clause-may c =
