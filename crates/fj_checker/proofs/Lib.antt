@@ -4,3 +4,7 @@ mod Told
 mod Held
 -- a scan that begins at a task's queue decides whether any scan chooses it
 mod AnyScan
+-- when a task may become normal, by what is known of it
+mod Normal
+-- what a checker keeps beside its ledger, after each event
+mod Remembering

@@ -4,10 +4,10 @@
 //! fact that is missing, which displays as a sentence; [`Checker::append`] goes on by it.
 #![tactic(auto)]
 
-
+mod checker;
 mod known;
 mod objection;
 mod rules;
 
-
+pub use checker::Checker;
 pub use objection::Objection;
