@@ -7,8 +7,7 @@ use Rattle.std.proofs.lemmas.Bool.{eq-eqb}
 use Rattle.fj_rules.specs.declared.event.Event.{Event}
 use Rattle.fj_rules.specs.declared.owner.Owner.{Owner}
 use Rattle.fj_rules.specs.declared.owner.Owner.TheVariants.{Work}
-use Rattle.fj_rules.specs.declared.place.Place.{Place}
-use Rattle.fj_rules.specs.declared.place.Place.TheVariants.{Queued, Held, Open, Gone}
+use Rattle.fj_rules.specs.declared.place.Place.TheVariants.{Queued}
 use Rattle.fj_rules.specs.Bounds.{Bounds, Pool, queues_in, owner_at}
 use Rattle.fj_rules.specs.Lists.{is_in, first_of, or_else}
 use Rattle.fj_rules.specs.Queues.{queue}
@@ -16,7 +15,7 @@ use Rattle.fj_rules.specs.Places.{place, place_of, queued_in, held_by}
 use Rattle.fj_rules.specs.Choices.{own_choice, scan_order, first_queued, choice}
 use Rattle.fj_rules.specs.declared.event.Event.TheVariants.{Out, Skip}
 use Rattle.fj_rules.specs.Statuses.{status, is_undone}
-use Rattle.fj_rules.specs.Allowed.{AllowedFrom, Allowed, MayTake}
+use Rattle.fj_rules.specs.Allowed.{AllowedFrom, MayTake}
 use Rattle.fj_rules.proofs.Events.Taking.{taken_queued}
 use Rattle.fj_rules.proofs.Places.OnePlace.{queued_there}
 use Rattle.fj_rules.proofs.Places.PlacesKept.{place_queued}

@@ -1,6 +1,6 @@
 -- Whose hand has a completion action.
-use Rattle.std.proofs.Common.{ℕ, ◌≡◌, ◌<◌, ◌≤◌, ◌+◌, suc, List, [], Option, Some, arith, ⊎_elim, inl, inr, subst, sym}
-use Rattle.std.proofs.lemmas.Bool.{cases_lt, cases_eq}
+use Rattle.std.proofs.Common.{ℕ, ◌≡◌, ◌<◌, ◌≤◌, ◌+◌, List, [], Some, arith, ⊎_elim, subst}
+use Rattle.std.proofs.lemmas.Bool.{cases_eq}
 use Rattle.fj_rules.specs.declared.event.Event.{Event}
 use Rattle.fj_rules.specs.Bounds.{Pool}
 use Rattle.fj_rules.specs.Hooks.{hand}

@@ -1,9 +1,8 @@
 -- When a task may become normal, by what is known of it.
-use Rattle.std.proofs.Common.{ℕ, ◌≡◌, Bool, true, false, ◌&&◌, List, Option, Some, None, refl, ap, sym, ◌∙◌, inl, inr, ⊎_elim}
+use Rattle.std.proofs.Common.{ℕ, ◌≡◌, Bool, true, false, ◌&&◌, List, Option, Some, None, refl, ap, sym, ◌∙◌, inr, ⊎_elim}
 use Rattle.std.specs.Prelude.{is_some}
 use Rattle.std.proofs.lemmas.Bool.{and_parts, true≢false}
 use Rattle.fj_rules.specs.declared.event.Event.{Event}
-use Rattle.fj_rules.specs.declared.kind.Kind.{Kind}
 use Rattle.fj_rules.specs.declared.status.Status.TheVariants.{Normal}
 use Rattle.fj_rules.specs.Tasks.{is_completer, is_completer_kind, parent, parent_in}
 use Rattle.fj_rules.specs.Allowed.{MayBeNormal, newest, ends_task, ends_hook, is_fired_by_complete}

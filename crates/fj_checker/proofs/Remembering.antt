@@ -1,9 +1,9 @@
 -- What a checker keeps beside its ledger, after each event.
-use Rattle.std.proofs.Common.{ℕ, ◌≡◌, ◌≢◌, ◌+◌, ◌<◌, ◌≤◌, Bool, true, false, not, ◌&&◌, ◌||◌, List, [], ◌∷◌, ◌++◌, length, Option, Some, None, refl, sym, ap, ◌∙◌, subst, arith, get_or, set, ⊎_elim, length-append}
-use Rattle.std.specs.Prelude.{◌==◌, if◌then◌else◌, is_none, nat_lt}
+use Rattle.std.proofs.Common.{ℕ, ◌≡◌, ◌≢◌, ◌+◌, ◌<◌, ◌≤◌, Bool, true, false, not, ◌&&◌, ◌||◌, List, [], ◌∷◌, ◌++◌, length, Option, Some, None, refl, sym, ap, ◌∙◌, subst, arith, set, ⊎_elim, length-append}
+use Rattle.std.specs.Prelude.{is_none, IfSome, MatchOption}
 use Rattle.std.specs.List.{list_any, cons_option}
-use Rattle.std.proofs.lemmas.Bool.{eqb-true, eq-eqb, ne_eqb, lt-ltb, le-ltb, ltb-true, cases_eq, or_parts, true≢false}
-use Rattle.std.proofs.lemmas.List.{append-nil, get_or-set_same, get_or-set_other, length-set}
+use Rattle.std.proofs.lemmas.Bool.{eq-eqb, ne_eqb, lt-ltb, le-ltb, ltb-true, cases_eq, or_parts}
+use Rattle.std.proofs.lemmas.List.{get_or-set_same, get_or-set_other, length-set}
 use Rattle.std.proofs.Math.ListN.{get_or-append}
 use Rattle.std.proofs.Math.Seq.{get_or-append_seam}
 use Rattle.std.proofs.lemmas.List.Folds.{list_any-append}
@@ -16,14 +16,15 @@ use Rattle.fj_rules.specs.declared.owner.Owner.{Owner}
 use Rattle.fj_rules.specs.declared.owner.Owner.TheVariants.{Sub, Work}
 use Rattle.fj_rules.specs.declared.status.Status.{Status}
 use Rattle.fj_rules.specs.Bounds.{Pool}
-use Rattle.fj_rules.specs.Lists.{is_in, or_else}
-use Rattle.fj_rules.specs.Tasks.{tasks, accepted, accepted_by, kind, kind_by}
-use Rattle.fj_rules.specs.Hooks.{hooks, hooks_after, Hooks}
-use Rattle.fj_rules.specs.Statuses.{status, status_by, is_undone}
+use Rattle.fj_rules.specs.Lists.{is_in, times_in}
+use Rattle.fj_rules.specs.Tasks.{tasks, accepted, accepted_by, kind_by}
+use Rattle.fj_rules.specs.Hooks.{hooks, hooks_after, hand, Hooks}
+use Rattle.fj_rules.proofs.Completers.HookLists.{completers, worker_found}
+use Rattle.fj_rules.specs.Statuses.{status_by, is_undone}
 use Rattle.fj_rules.specs.Completers.{fires_or_passes}
 use Rattle.fj_rules.specs.Climbs.{ClimbsCompleters}
 use Rattle.fj_rules.specs.Follows.{NamesCompleter}
-use Rattle.fj_rules.specs.Allowed.{Allowed, AllowedFrom, newest, is_closed, is_shut, is_stop, is_stopped, fires_by_complete, is_fired_by_complete}
+use Rattle.fj_rules.specs.Allowed.{Allowed, AllowedFrom, is_closed, is_shut, is_stop, is_stopped, fires_by_complete, is_fired_by_complete}
 use Rattle.fj_rules.proofs.Events.Closing.{stopped_more}
 use Rattle.fj_rules.proofs.Events.Ends.{status_settle}
 use Rattle.fj_rules.proofs.Events.Growth.{hooks_more, kind_more, accepted_more, or_false}
@@ -205,3 +206,31 @@ remembers_more pool h e known newest_event last last_after so climbs may names k
   ended = ap (λ s. s.just_ended) (hooks_more h e) ∙ ended_after (hooks h) e;
   last = is;
 }
+
+-- the task of which a following event tells more is known
+pub told_known : (pool : Pool) (h : List Event) (e : Event) (known : List Known) → AllowedFrom pool [] h → length known ≡ accepted h → Allowed pool h e → NamesCompleter h e
+    → IfSome (told_by e) (λ t. t < length known)
+told_known pool h (event.Settle u s) known so count may names = there_known pool h known u so count may.0
+told_known pool h (event.Fire u how.Complete) known so count may names = there_known pool h known u so count (completer_known h u names)
+told_known pool h (event.Fire u how.Zero) known so count may names = tt
+told_known pool h _ known so count may names = tt
+
+-- ---- the worker whose hook ended last
+
+pub last_same : (h : List Event) (e : Event) → ((c : ℕ) → e ≡ event.Hooked c → ⊥) → (hooks h).last_worker ≡ (hooks (h ++ e ∷ [])).last_worker
+last_same h e other = go e other ∙ sym (ap (λ s. s.last_worker) (hooks_more h e))
+  where
+    go : (e : Event) → ((c : ℕ) → e ≡ event.Hooked c → ⊥) → (hooks h).last_worker ≡ (hooks_after (hooks h) e).last_worker
+    go (event.Hooked c) other = absurd (other c refl)
+    go (event.Fire c k) other = refl
+    go (event.End t w) other = refl
+    go _ other = refl
+
+pub last_hooked : (h : List Event) (c w : ℕ) → hand h w ≡ Some c → times_in c (completers (hooks h).in_hands) ≤ 1 → Some w ≡ (hooks (h ++ event.Hooked c ∷ [])).last_worker
+unfolding hand
+last_hooked h c w is once = sym (ap (λ s. s.last_worker) (hooks_more h (event.Hooked c)) ∙ worker_found w c (hooks h).in_hands is once)
+
+pub last_of_hook : (pool : Pool) (h : List Event) (c : ℕ) (from : Option ℕ) → Allowed pool h (event.Hooked c) → times_in c (completers (hooks h).in_hands) ≤ 1
+    → MatchOption from ((v : ℕ) → hand h v ≡ Some c → ⊥) (λ w. (w < pool.limits.workers) × (hand h w ≡ Some c)) → from ≡ (hooks (h ++ event.Hooked c ∷ [])).last_worker
+last_of_hook pool h c None may once found = absurd (found may.0 may.1)
+last_of_hook pool h c (Some w) may once found = last_hooked h c w found.1 once

@@ -1,14 +1,17 @@
 -- What the record of a task tells of the rules of events.
-use Rattle.std.proofs.Common.{ℕ, ◌≡◌, ◌+◌, ◌≤◌, ◌<◌, Bool, true, false, List, [], Option, Some, None, refl, sym, ap, ◌∙◌, arith}
+use Rattle.std.proofs.Common.{ℕ, ◌≡◌, ◌+◌, ◌-◌, length, ◌≤◌, ◌<◌, Bool, true, false, List, [], Option, Some, None, refl, sym, ap, ◌∙◌, arith}
 use Rattle.std.proofs.Common.{Bor}
 use Rattle.std.specs.Prelude.{MatchOption, option_copied, ◌||◌, if◌then◌else◌, nat_lt, is_some}
 use Rattle.std.proofs.lemmas.Bool.{true≢false}
 use Rattle.std.proofs.lemmas.Option.{MatchOption-at_some}
 use Rattle.fj_rules.specs.declared.limits.TheConstants.{MAX_PENDING}
 use Rattle.fj_rules.specs.declared.event.Event.{Event}
-use Rattle.fj_rules.specs.declared.event.Event.TheVariants.{Add, Dec, Pass, Rel}
-use Rattle.fj_rules.specs.declared.place.Place.{Place}
-use Rattle.fj_rules.specs.declared.place.Place.TheVariants.{Gone}
+use Rattle.fj_rules.specs.declared.event.Event.TheVariants.{Add, End, Fire}
+use Rattle.fj_rules.specs.declared.event.How.{How}
+use Rattle.fj_rules.specs.declared.event.How.TheVariants.{Zero, Complete}
+use Rattle.fj_rules.specs.Stacks.{stack}
+use Rattle.fj_rules.proofs.Lists.Members.{get_is_in}
+use Rattle.fj_rules.proofs.Places.OnePlace.{stack_apart}
 use Rattle.fj_rules.specs.Bounds.{Pool}
 use Rattle.fj_rules.specs.Tasks.{is_kept, is_completer, is_completer_kind}
 use Rattle.fj_rules.specs.Completers.{pending, is_spent}
@@ -19,7 +22,7 @@ use Rattle.fj_rules.specs.Allowed.{Allowed, AllowedFrom}
 use Rattle.fj_tree.specs.declared.record.Record.{Record}
 use Rattle.fj_tree.specs.Arrivals.{arrival_at}
 use Rattle.fj_ledger.specs.Arriving.{as_arrival}
-use Rattle.fj_ledger.specs.Holds.{Tells, TellsOf}
+use Rattle.fj_ledger.specs.Holds.{TellsOf}
 use Rattle.fj_ledger.proofs.Recorded.ArrivalsTold.{released_told, arrival_told, spent_told}
 
 -- a task without a record is not kept
@@ -98,3 +101,27 @@ left_spent pool h c so none completer fresh =
     go true e is = absurd cc
     go false true is = absurd cc
     go false false is = absurd cc
+
+-- ---- completers that are kept
+
+pub kept_by_arrival : (pool : Pool) (h : List Event) (c : ℕ) (a : Arrival) → AllowedFrom pool [] h → arrival h c ≡ a → is_completer h c ≡ true → (Spent ≡ a → ⊥) → is_kept h c ≡ true
+kept_by_arrival pool h c a so is completer other = go (is_kept h c) refl
+  where
+    go : (b : Bool) → is_kept h c ≡ b → b ≡ true
+    go true kept = refl
+    go false none = absurd (other (arrival_none pool h c a so none is completer))
+
+pub kept_by_firing : (pool : Pool) (h : List Event) (c : ℕ) (k : How) → AllowedFrom pool [] h → Allowed pool h (Fire c k) → is_completer h c ≡ true → is_kept h c ≡ true
+kept_by_firing pool h c Zero so may completer = kept_by_arrival pool h c Fires so may completer (λ same. absurd cc)
+kept_by_firing pool h c Complete so may completer = go (is_kept h c) refl
+  where
+    go : (b : Bool) → is_kept h c ≡ b → b ≡ true
+    go true kept = refl
+    go false none = absurd (left_spent pool h c so none completer may.0)
+
+-- ---- ends of bodies
+
+pub end_worker : (pool : Pool) (h : List Event) (t w : ℕ) → AllowedFrom pool [] h → Allowed pool h (End t w) → w < pool.limits.workers
+end_worker pool h t w so may =
+    let there = get_is_in t (stack h w) (length (stack h w) - 1) may.0 in
+    let apart = stack_apart pool h so t w w there there in omega (arith, apart.1)

@@ -1,12 +1,13 @@
 -- What a checker keeps beside its ledger, which keeps nothing of released tasks, and not which event was the newest.
-use Rattle.std.specs.Prelude.{ℕ, ◌≡◌, ◌<◌, ◌&&◌, not, true, false, List, [], ◌∷◌, ◌++◌, length, Option, Some, None, get_or, set, is_none}
+use Rattle.std.specs.Prelude.{ℕ, ◌≡◌, ◌<◌, ◌&&◌, not, true, false, List, [], ◌∷◌, ◌++◌, length, Option, Some, None, MatchOption, get_or, set, is_none}
 use Rattle.fj_rules.specs.declared.event.Event.{Event}
-use Rattle.fj_rules.specs.declared.event.Event.TheVariants.{Acc, Make, End, Fire, Settle}
+use Rattle.fj_rules.specs.declared.event.Event.TheVariants.{Acc, Make, End, Fire, Hooked, Settle}
 use Rattle.fj_rules.specs.declared.event.How.TheVariants.{Complete}
 use Rattle.fj_rules.specs.declared.kind.Kind.{Kind}
 use Rattle.fj_rules.specs.declared.kind.Kind.TheVariants.{Plain}
 use Rattle.fj_rules.specs.Tasks.{accepted, kind}
-use Rattle.fj_rules.specs.Hooks.{hooks}
+use Rattle.fj_rules.specs.Bounds.{Pool}
+use Rattle.fj_rules.specs.Hooks.{hooks, hand, goes_to}
 use Rattle.fj_rules.specs.Statuses.{status, is_undone}
 use Rattle.fj_rules.specs.Allowed.{newest, is_stopped, is_fired_by_complete}
 use Rattle.fj_checker.specs.declared.known.Known.{Known}
@@ -52,3 +53,9 @@ pub record Remembers (h : List Event) (known : List Known) (newest_event : Optio
   pub newest : newest_event ≡ newest h
   pub ended : (hooks h).just_ended ≡ ended_in newest_event
   pub last : last_worker ≡ (hooks h).last_worker
+
+-- the worker into whose hand the event puts a hook, or out of whose hand it takes one
+abbrev pub IsHandOf : Pool → List Event → Event → Option ℕ → Type 0
+IsHandOf pool h (Fire c how) to = to ≡ goes_to h c
+IsHandOf pool h (Hooked c) from = MatchOption from ((v : ℕ) → hand h v ≡ Some c → ⊥) (λ w. (w < pool.limits.workers) × (hand h w ≡ Some c))
+IsHandOf pool h _ w = Unit {0}

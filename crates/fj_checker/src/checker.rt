@@ -1,4 +1,4 @@
-ghost use Rattle.std.specs.Prelude.{◌≡◌, ◌↔◌, ◌<◌, ◌∷◌, [], IsOk, IfOk, IfErr, OnOk, OnErr, None, Some, MatchOption, true, false};
+ghost use Rattle.std.specs.Prelude.{◌≡◌, ◌↔◌, ◌<◌, ◌∷◌, ◌++◌, [], IsOk, IfOk, IfErr, OnOk, OnErr, None, Some, MatchOption, true, false};
 ghost use Rattle.fj_rules.specs.Lists.{is_in};
 ghost use Rattle.fj_rules.specs.Tasks.{tasks, accepted, is_completer};
 ghost use Rattle.fj_rules.specs.Hooks.{goes_to, hand, hooks};
@@ -6,10 +6,11 @@ ghost use Rattle.fj_rules.specs.Allowed.{Allowed};
 ghost use Rattle.fj_rules.specs.Follows.{Follows, NamesCompleter, HasHand};
 ghost use Rattle.fj_rules.specs.Pasts.{fresh, grown, limit, sealed_now};
 ghost use Rattle.fj_rules.specs.Epochs.{seal_refusal, RefusesSeal};
-ghost use Rattle.fj_checker.specs.Remembered.{Knows, ended_in};
+ghost use Rattle.fj_checker.specs.Remembered.{IsHandOf, Knows, ended_in};
 ghost use Rattle.fj_rules.specs.declared.event.Event.TheVariants.{Fire, Hooked};
 
-use crate::known::Known;
+use crate::going::go_on;
+use crate::known::{Known, know};
 use crate::objection::Objection;
 use crate::rules::accepts::{may_accept, may_make};
 use crate::rules::climbs::{may_add, may_complete, may_count, may_fire};
@@ -20,7 +21,7 @@ use crate::rules::shuts::{may_close, may_release, may_stop};
 use crate::rules::takes::{may_hand_out, may_skip};
 use fj_ledger::Ledger;
 use fj_rules::{Event, How, Limits, Mode, OutOfMemory, Refusal, Serial, WorkerId};
-use std::alloc::{AllocError, Global};
+use std::alloc::Global;
 use std::marker::Model;
 
 /// A history, with all that tells which events follow it. Contracts see the history.
@@ -62,11 +63,27 @@ impl Checker {
     pub fn may_follow(&self, event: &Event) -> Result<(), Objection>
         ensures { IsOk result ↔ Follows self.now event.now }
     {
-        self.rule(event)?;
+        if let Err(objection) = self.rule(event) {
+            return Err(self.precise(objection));
+        }
         if !self.ledger.has_room(1) {
             return Err(Objection::Full(self.ledger.limits().events()));
         }
         Ok(())
+    }
+
+    /// The objection to a task that the ledger does not have: it was never accepted, if it was not released.
+    fn precise(&self, objection: Objection) -> Objection {
+        match objection {
+            Objection::Released(t) | Objection::NotQueued(t) => {
+                if t >= self.accepted() {
+                    Objection::Unknown(t)
+                } else {
+                    objection
+                }
+            }
+            other => other,
+        }
     }
 
     /// The same, but for the room.
@@ -169,6 +186,72 @@ impl Checker {
             return Err(Objection::HookInHand(w.0, hook.completer.0));
         }
         Ok(())
+    }
+
+    /// Goes on by the event. An error only if out of memory; then nothing has changed. Precondition: the event follows.
+    pub fn append(&mut self, event: &Event) -> Result<(), OutOfMemory>
+        requires { Follows self.old event.now }
+        ensures ok { OnOk result (self.new ≡ grown self.old (event.now ∷ [])) }
+        ensures stays { OnErr result (self.new ≡ self.old) }
+    {
+        // For the proof: the history of a ledger is lawful.
+        let _lawful = self.ledger.is_stopped();
+        let hand = self.hand_of(event);
+        let last_worker = self.last_after(event, &hand);
+        know(&mut self.known, event)?;
+        go_on(&mut self.ledger, event, hand);
+        self.newest = Some(*event);
+        self.last_worker = last_worker;
+        Ok(())
+    }
+
+    /// The worker into whose hand the event puts a hook, or out of whose hand it takes one.
+    fn hand_of(&self, event: &Event) -> Option<WorkerId>
+        ensures { IsHandOf self.now.pool self.now.events event.now result }
+    {
+        match event {
+            Event::Fire(c, _) => self.receiver(*c),
+            Event::Hooked(c) => holder(&self.ledger, *c),
+            _ => None,
+        }
+    }
+
+    /// The worker whose hook ended last after the event, where this is the worker of its hook.
+    fn last_after(&self, event: &Event, hand: &Option<WorkerId>) -> Option<WorkerId>
+        requires follows { Follows self.now event.now }
+        requires hand { IsHandOf self.now.pool self.now.events event.now hand.now }
+        ensures { result ≡ (hooks (self.now.events ++ event.now ∷ [])).last_worker }
+    {
+        // For the proof: no hook is in two hands.
+        let _lawful = self.ledger.is_stopped();
+        match event {
+            Event::Hooked(_) => *hand,
+            _ => self.last_worker,
+        }
+    }
+
+    /// Whether a part may be sealed here; otherwise why not.
+    pub fn may_seal(&self) -> Result<(), Objection>
+        ensures { IsOk result ↔ (seal_refusal self.now ≡ None) }
+    {
+        match self.ledger.seal_refusal() {
+            None => Ok(()),
+            Some(Refusal::NotIdle) => Err(Objection::NotQuiescent),
+            Some(Refusal::Closed) => Err(Objection::Closed),
+            Some(_) => Err(Objection::TooManySeals),
+        }
+    }
+
+    /// A part is sealed here. An error only if out of memory; then nothing has changed. Precondition: it may be sealed.
+    pub fn seal(&mut self, alloc: Global) -> Result<(), OutOfMemory>
+        requires { seal_refusal self.old ≡ None }
+        ensures ok { OnOk result (self.new ≡ sealed_now self.old) }
+        ensures stays { OnErr result (self.new ≡ self.old) }
+    {
+        match self.ledger.seal(alloc) {
+            Ok(_) => Ok(()),
+            Err(_) => Err(OutOfMemory),
+        }
     }
 
     /// The end of a hook: it is in a hand.

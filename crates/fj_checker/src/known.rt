@@ -1,6 +1,7 @@
-ghost use Rattle.std.specs.Prelude.{◌≡◌, None, false};
+ghost use Rattle.std.specs.Prelude.{◌≡◌, ◌<◌, OnOk, OnErr, IfSome, length};
+ghost use Rattle.fj_checker.specs.Remembered.{first_known, known_after, told_by};
 
-use fj_rules::{Kind, Status};
+use fj_rules::{Event, How, Kind, OutOfMemory, Status};
 
 /// What is known of a task for good, be it kept or released.
 #[derive(Clone, Copy, Debug)]
@@ -11,4 +12,41 @@ pub struct Known {
     pub settled: Option<Status>,
     /// Whether the end of its body fired it.
     pub completed: bool,
+}
+
+impl Known {
+    /// A task that is accepted now.
+    fn new(kind: Kind) -> Known
+        ensures { result ≡ first_known kind }
+    {
+        Known {
+            kind,
+            settled: None,
+            completed: false,
+        }
+    }
+}
+
+/// What is known after this event. An error only if out of memory; then nothing has changed. Precondition: the task of which the event
+/// tells more is known.
+pub fn know(known: &mut Vec<Known>, event: &Event) -> Result<(), OutOfMemory>
+    requires { IfSome (told_by event.now) (λ t. t < length known.old.items) }
+    ensures ok { OnOk result (known.new.items ≡ known_after known.old.items event.now) }
+    ensures stays { OnErr result (known.new.items ≡ known.old.items) }
+{
+    match event {
+        Event::Acc(_, _, kind) | Event::Make(_, kind) => known.push(Known::new(*kind))?,
+        Event::Settle(t, status) => {
+            let mut of_task = known[t.0 as usize];
+            of_task.settled = Some(*status);
+            known[t.0 as usize] = of_task;
+        }
+        Event::Fire(c, How::Complete) => {
+            let mut of_task = known[c.0 as usize];
+            of_task.completed = true;
+            known[c.0 as usize] = of_task;
+        }
+        _ => {}
+    }
+    Ok(())
 }

@@ -5,6 +5,7 @@
 #![tactic(auto)]
 
 mod checker;
+mod going;
 mod known;
 mod objection;
 mod rules;

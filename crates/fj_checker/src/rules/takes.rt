@@ -14,7 +14,7 @@ use fj_ledger::Ledger;
 use fj_rules::{Place, Serial, Status, WorkerId};
 
 /// The number of the queue in which a task stands, and the status of the task. None if it stands in none.
-fn queue_with(ledger: &Ledger, t: Serial) -> Option<(u32, Status)>
+pub fn queue_with(ledger: &Ledger, t: Serial) -> Option<(u32, Status)>
     ensures { MatchOption result ((o : OwnerCase) → is_in t (queue ledger.now.events o) ≡ false) (λ found. (found.0 < queues_in ledger.now.pool.limits) × (is_in t (queue ledger.now.events (owner_at ledger.now.pool.limits found.0)) ≡ true) × (status ledger.now.events t ≡ found.1)) }
 {
     let Some(record) = ledger.find(t) else {

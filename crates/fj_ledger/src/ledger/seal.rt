@@ -38,7 +38,7 @@ impl Ledger {
     }
 
     /// Why a seal is refused before anything is allocated, if it is: not quiescent, shut, or too many events.
-    fn seal_refusal(&self) -> Option<Refusal>
+    pub fn seal_refusal(&self) -> Option<Refusal>
         ensures { result ≡ seal_refusal self.now }
     {
         if !self.is_quiet() {

@@ -1,8 +1,6 @@
-use Rattle.std.proofs.Common.{◌≡◌, ◌<◌, ◌≤◌, true, length, sym, ap, ◌∙◌, subst, arith}
+use Rattle.std.proofs.Common.{◌<◌, ◌≤◌, length, sym, subst, arith}
 use Rattle.std.proofs.lemmas.List.{get_or_read}
 use Rattle.fj_rules.specs.Pasts.{Past}
-use Rattle.fj_rules.specs.Lists.{is_in}
-use Rattle.fj_rules.specs.Tasks.{tasks}
 use Rattle.fj_rules.specs.declared.kind.Kind.TheVariants.{Plain}
 use Rattle.fj_checker.specs.declared.known.Known.{Known}
 use Rattle.fj_checker.specs.Remembered.{Knows, first_known}

@@ -1,4 +1,3 @@
-use Rattle.std.proofs.Common.{[], ap}
 use Rattle.fj_checker.proofs.Remembering.{nothing_known}
 use Rattle.fj_checker.proofs.checker.Checker.new.Goals as goal
 

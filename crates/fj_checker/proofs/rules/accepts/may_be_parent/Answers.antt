@@ -1,4 +1,4 @@
-use Rattle.std.proofs.Common.{◌≡◌, refl, sym, ap, ◌∙◌}
+use Rattle.std.proofs.Common.{refl, sym, ◌∙◌}
 use Rattle.std.proofs.lemmas.Bool.{true≢false}
 use Rattle.fj_checker.proofs.Told.{told_of, kept_is, completer_is}
 use Rattle.fj_checker.proofs.rules.accepts.may_be_parent.Goals as goal

@@ -1,4 +1,4 @@
-use Rattle.std.proofs.Common.{◌≡◌, refl, sym, ap, ◌∙◌}
+use Rattle.std.proofs.Common.{refl, sym, ◌∙◌}
 use Rattle.std.proofs.lemmas.Bool.{true≢false}
 use Rattle.fj_checker.proofs.Told.{unkept, told_of, completer_is, plain_arrives, spent_is, left_spent}
 use Rattle.fj_checker.proofs.rules.climbs.may_complete.Goals as goal

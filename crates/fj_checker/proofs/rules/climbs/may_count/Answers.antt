@@ -1,5 +1,5 @@
 use Rattle.std.proofs.Common.{◌≡◌, refl, sym, ap, ◌∙◌}
-use Rattle.fj_rules.specs.Climbs.{Arrival, Spent, Counted, Fires}
+use Rattle.fj_rules.specs.Climbs.{Counted}
 use Rattle.fj_tree.specs.declared.arrive.Arrived.{Arrived}
 use Rattle.fj_tree.specs.declared.arrive.Arrived.TheVariants as arrive
 use Rattle.fj_ledger.specs.Arriving.{as_arrival}

@@ -1,4 +1,4 @@
-use Rattle.std.proofs.Common.{◌≡◌, ◌≤◌, ap, arith}
+use Rattle.std.proofs.Common.{◌≤◌, ap, arith}
 use Rattle.fj_rules.specs.Bounds.{Bounds}
 use Rattle.fj_checker.proofs.Held.{none_at_all}
 use Rattle.fj_checker.proofs.rules.hands.holder.Goals as goal
