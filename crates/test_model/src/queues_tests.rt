@@ -27,6 +27,10 @@ fn ends() -> &'static str {
 2 3; owners > 2; room > 3; push 1 10 > done; push 1 11 > done; push 1 12 > done; len 0 > 0; len 1 > 3; total > 3;
 list 1 > 10 11 12; old 1 > 10; new 1 > 12; old 0 > none; new 0 > none; len 0 > 0; len 1 > 1; total > 1; list 1 > 11; list 0 >
 
+the numbers at both ends stay
+2 3; oldest 1 > none; newest 1 > none; push 1 10 > done; oldest 1 > 10; newest 1 > 10; push 1 11 > done; push 0 12 > done;
+oldest 1 > 10; newest 1 > 11; oldest 0 > 12; list 1 > 10 11; total > 3; old 1 > 10; oldest 1 > 11; new 1 > 11; newest 1 > none
+
 a cell that one owner gives back is another's next, so that the cells of a queue lie in any order
 3 4; push 0 0 > done; push 1 1 > done; push 0 2 > done; push 1 3 > done; old 1 > 1; new 0 > 2; push 1 4 > done;
 push 2 5 > done; list 0 > 0; list 1 > 3 4; list 2 > 5; total > 4

@@ -6,7 +6,7 @@ use std::test::Fail;
 // Tables of tests. Rows are separated by an empty line. A row is a name and a line feed; then the number of owners and the room; and then
 // calls, each after `;`. After a call and ` > ` comes its answer.
 //
-// - `push O N`, `old O`, `new O`, `len O`, `list O` at the queue of an owner
+// - `push O N`, `old O`, `new O`, `len O`, `list O` at the queue of an owner; `oldest O`, `newest O`: the number there, which stays
 // - `first R`, `owners`, `room`, `total`
 
 /// The mismatches of the rows: the name, the call and its actual answer, a line a row. Empty where there is none.
@@ -71,6 +71,8 @@ fn at_owner(alloc: Global, queues: &mut Queues, verb: &str, o: usize) -> Result<
     match verb {
         "old" => shown(alloc, queues.take_old(o).map(|t| t.0)),
         "new" => shown(alloc, queues.take_new(o).map(|t| t.0)),
+        "oldest" => shown(alloc, queues.oldest(o).map(|t| t.0)),
+        "newest" => shown(alloc, queues.newest(o).map(|t| t.0)),
         "len" => Ok(queues.len(o).to_string(alloc)?),
         "list" => listed(alloc, queues.numbers(o)),
         _ => Ok("no call".to_string(alloc)?),
