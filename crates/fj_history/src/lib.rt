@@ -10,3 +10,6 @@ mod write;
 pub use entry::Entry;
 pub use read::{MAX_ENTRY, read_entry};
 pub use write::push_entries;
+
+#[cfg(test)]
+mod tests;
