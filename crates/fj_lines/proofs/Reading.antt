@@ -26,5 +26,7 @@ pub mod LineLaws
 pub mod StepLaws
 -- the line in which tasks have names, both ways
 pub mod NamedLaws
+-- lines without a line feed
+pub mod FeedLaws
 -- the line of a heading, both ways
 pub mod HeadLaws

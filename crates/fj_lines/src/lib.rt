@@ -10,6 +10,7 @@ mod write;
 pub use line::{ForkedKind, Line, Line2, NamedKind};
 pub use name::{MAX_NAME, Name};
 pub use read::{
-    LINE_FEED, LineFault, MAX_LINE, MAX_LINE2, read_head, read_line2, read_number, read_step,
+    LINE_FEED, LineFault, MAX_LINE, MAX_LINE2, count_and_relay, first_word, next_number, next_word,
+    no_more, one_number, read_head, read_line2, read_number, read_step, two_numbers,
 };
 pub use reply::Reply;

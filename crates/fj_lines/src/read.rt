@@ -16,11 +16,14 @@ mod take;
 mod task;
 mod words;
 
+pub use accept::count_and_relay;
 pub use fault::LineFault;
 pub use head::read_head;
 pub use line2::{MAX_LINE2, read_line2};
 pub use number::read_number;
+pub use numbers::{one_number, two_numbers};
 pub use step::read_step;
+pub use words::{first_word, next_number, next_word, no_more};
 
 /// The byte that ends a line.
 pub const LINE_FEED: u8 = b'\n';

@@ -5,7 +5,7 @@ use Rattle.std.specs.Fmt.{decimal}
 use Rattle.std.specs.Str.{bytes_eq}
 use Rattle.fj_lines.specs.declared.read.TheConstants.{MAX_LINE}
 use Rattle.fj_lines.specs.declared.read.fault.LineFault.{LineFault}
-use Rattle.std.specs.List.{AllByRecursion}
+use Rattle.std.specs.List.{AllByRecursion, list_all}
 use Rattle.fj_rules.specs.declared.mode.Mode.{Mode}
 use Rattle.fj_rules.specs.declared.mode.Mode.TheVariants as mode
 use Rattle.fj_lines.specs.Words.{joined, words, ◌>>=◌, number_first, if_last, Reads}
@@ -14,6 +14,7 @@ use Rattle.fj_lines.specs.Readings.{mode_in, head_said}
 use Rattle.fj_lines.proofs.Reading.NumberLaws.{number_again}
 use Rattle.fj_lines.proofs.Reading.WordLaws.{is_word, lengths, length-joined-le, words_again, joined_words, number_is_word}
 use Rattle.fj_lines.proofs.Reading.LineLaws.{number_len}
+use Rattle.fj_lines.proofs.Reading.FeedLaws.{is_free, joined_free, number_free}
 use Rattle.fj_lines.proofs.Reading.PartLaws.{some_is, number_then, word_then, last_then, some_then, chosen, is_text, told}
 
 mode_found : (word : List ℕ) (m : Mode) → mode_in word ≡ Some m → word ≡ mode_word m
@@ -95,6 +96,19 @@ head_short line head e =
     let mode = mode_len head.0 in
     let four = found.0.four in
     omega (arith, same, length-joined-le (mode_word head.0 ∷ map decimal head.1), numbers_short head.1 found.0.small)
+
+-- ---- a heading has no line feed
+
+numbers_free : (ns : List ℕ) → AllByRecursion (λ n. n < 2 ^ 32) ns → list_all is_free (map decimal ns) ≡ true
+numbers_free [] small = refl
+numbers_free (n ∷ ns) small = rw (number_free n small.0, numbers_free ns small.1) refl
+
+mode_free : (m : Mode) → is_free (mode_word m) ≡ true
+mode_free mode.Async = refl
+mode_free mode.Joining = refl
+
+pub head_free : (head : Mode × List ℕ) → HasHeadLine head → is_free (head_line head) ≡ true
+head_free head fits = joined_free (head_words head) (rw (mode_free head.0, numbers_free head.1 fits.small) refl)
 
 -- ---- what a reader of headings answers
 

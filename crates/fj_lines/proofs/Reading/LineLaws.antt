@@ -24,7 +24,7 @@ number_len n small = (number_text n small).short
 
 -- the words behind a submitter, a worker that forks and a worker whose task ends are short
 
-relay_len : (relay : Bool) → length (relay_word relay) ≤ 5
+pub relay_len : (relay : Bool) → length (relay_word relay) ≤ 5
 relay_len true = omega arith
 relay_len false = omega arith
 

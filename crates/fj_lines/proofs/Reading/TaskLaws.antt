@@ -125,10 +125,10 @@ module _ {T N : Type 0} {tasks : TaskWords T N} {reader : TaskReader T N} {most 
       then w t n w_small is_task n_small all (subst (λ (q : ℕ × T × ℕ). f q ≡ Some y) (sym (some_is (w, t, n) p is)) said)))))
 
   -- the word is that of a parent
-  abbrev IsParent : Option T → List ℕ → Type 0
+  abbrev pub IsParent : Option T → List ℕ → Type 0
   IsParent parent word = IfSome parent tasks.IsTask × (word ≡ word_or_dash tasks.word parent)
 
-  parent_found : (word : List ℕ) (parent : Option T) → parent_said reader.task_in word ≡ Some parent → IsParent parent word
+  pub parent_found : (word : List ℕ) (parent : Option T) → parent_said reader.task_in word ≡ Some parent → IsParent parent word
   unfolding parent_said
   parent_found word parent e =
       chosen (bytes_eq word (codes "-")) (Some None) (reader.task_in word >>= λ t. Some (Some t)) (Some parent) e
@@ -163,14 +163,14 @@ module _ {T N : Type 0} {tasks : TaskWords T N} {reader : TaskReader T N} {most 
   unfolding worker_task_number
   triple_again w t n w_small is n_small = rw (number_again w w_small, laws.again t is, one_again n n_small) refl
 
-  parent_again : (parent : Option T) → IfSome parent tasks.IsTask → parent_said reader.task_in (word_or_dash tasks.word parent) ≡ Some parent
+  pub parent_again : (parent : Option T) → IfSome parent tasks.IsTask → parent_said reader.task_in (word_or_dash tasks.word parent) ≡ Some parent
   unfolding parent_said
   parent_again None fits = refl
   parent_again (Some t) fits =
       let other = laws.no_dash t fits in
       rw (other, laws.again t fits) refl
 
-  parent_is_word : (parent : Option T) → IfSome parent tasks.IsTask → is_word (word_or_dash tasks.word parent) ≡ true
+  pub parent_is_word : (parent : Option T) → IfSome parent tasks.IsTask → is_word (word_or_dash tasks.word parent) ≡ true
   parent_is_word None fits = refl
   parent_is_word (Some t) fits = laws.one_word t fits
 

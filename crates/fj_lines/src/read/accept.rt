@@ -83,9 +83,9 @@ fn forked_kind<W: TaskWord>(behind: &[u8]) -> Result<ForkedKind<W>, LineFault>
     })
 }
 
-/// Reads a count and a relay word, the last words of a line.
+/// Reads a completer's count and relay word up to the end of the line. `LineFault` where there is something else.
 #[tactic(auto, unfolding(crate::specs::Readings::Accept::count_and_relay))]
-fn count_and_relay(behind: &[u8]) -> Result<(u32, bool), LineFault>
+pub fn count_and_relay(behind: &[u8]) -> Result<(u32, bool), LineFault>
     ensures { Reads (count_and_relay (words_behind behind.now)) result }
 {
     let (count, behind) = next_number(behind)?;

@@ -18,7 +18,7 @@ fn word_len(line: &[u8]) -> usize
         .unwrap_or(line.len())
 }
 
-/// The first word of a line, and what follows it.
+/// The first word of a line, and what follows it: nothing, or a space and the other words. [`next_word`] goes on from there.
 pub fn first_word(line: &[u8]) -> (&[u8], &[u8])
     ensures { words line.now ≡ result.0.now ∷ words_behind result.1.now }
 {

@@ -1,16 +1,10 @@
 -- Lines without a line feed, and what is cut of them.
 use Rattle.std.proofs.Common.{ℕ, ◌≡◌, ◌^◌, ◌<◌, Bool, true, false, not, List, [], ◌∷◌, ◌++◌, Option, Some, None, refl, ap, sym, ◌∙◌, append_assoc, inl, inr}
 use Rattle.std.specs.Prelude.{◌==◌, option_map, IfSome}
-use Rattle.std.specs.Fmt.{decimal}
-use Rattle.std.specs.Int.{IsInRange}
 use Rattle.std.specs.List.{list_all}
-use Rattle.std.specs.Str.Parse.{AllDigits}
 use Rattle.std.proofs.lemmas.Bool.{and_parts}
-use Rattle.std.proofs.lemmas.Bool.Decides.{nat_tests}
-use Rattle.std.proofs.Common.{arith}
 use Rattle.std.proofs.lemmas.List.{append-nil}
 use Rattle.std.proofs.lemmas.List.Folds.{list_all-append}
-use Rattle.std.proofs.lemmas.Str.Parse.{digit_from_value}
 use Rattle.fj_rules.specs.declared.kind.Kind.{Kind}
 use Rattle.fj_rules.specs.declared.kind.Kind.TheVariants as kind
 use Rattle.fj_rules.specs.declared.kind.SubmittedKind.{SubmittedKind}
@@ -19,17 +13,12 @@ use Rattle.fj_rules.specs.declared.step.Ending.{Ending}
 use Rattle.fj_rules.specs.declared.step.Ending.TheVariants as ending
 use Rattle.fj_rules.specs.declared.step.Step.{Step}
 use Rattle.fj_rules.specs.declared.step.Step.TheVariants as step
-use Rattle.fj_lines.specs.Words.{joined}
 use Rattle.fj_lines.specs.Tasks.{IsSmall, names}
-use Rattle.fj_lines.specs.Lines.{relay_word, submitted_words, ending_words, HasLine, HasSmallSubmitted, HasSmallForked, HasSmallEnding, forked_of, word_or_dash, named_kind_words, line2_words, line2_text}
-use Rattle.fj_lines.proofs.Reading.NumberLaws.{number_text}
+use Rattle.fj_lines.specs.Lines.{submitted_words, ending_words, HasLine, HasSmallSubmitted, HasSmallForked, HasSmallEnding, forked_of, word_or_dash, named_kind_words, line2_words, line2_text}
+use Rattle.fj_lines.proofs.Reading.FeedLaws.{is_free, joined_free, number_free, relay_free}
 use Rattle.fj_replay.specs.Cuts.{cut}
 use Rattle.fj_replay.specs.TaskNames.{task_name, named_kind, named_step}
 use Rattle.fj_replay.proofs.Lines.{yes_or_no}
-
--- whether no byte is a line feed
-abbrev pub is_free : List ℕ → Bool
-is_free line = list_all (λ b. not (b == 10)) line
 
 no_feed : (b : ℕ) → not (b == 10) ≡ true → (b == 10) ≡ false
 no_feed b is = go (b == 10) is
@@ -63,29 +52,8 @@ first_free before (x ∷ b) line others free is =
 
 -- ---- words
 
-pub joined_free : (ws : List (List ℕ)) → list_all is_free ws ≡ true → is_free (joined ws) ≡ true
-joined_free [] all = refl
-joined_free (w ∷ []) all = (and_parts (is_free w) true all).0
-joined_free (w ∷ v ∷ ws) all =
-    let both = and_parts (is_free w) (list_all is_free (v ∷ ws)) all in
-    list_all-append (λ b. not (b == 10)) w (32 ∷ joined (v ∷ ws)) ∙ rw (both.0, joined_free (v ∷ ws) both.1) refl
-
-digits_free : (bs : List ℕ) → AllDigits 10 bs → is_free bs ≡ true
-digits_free [] all = refl
-digits_free (b ∷ bs) all =
-    let digit : IsInRange 48 57 b = digit_from_value b all.0 in
-    let other : (b == 10) ≡ false = grind (arith, nat_tests) in
-    rw (other, digits_free bs all.1) refl
-
-number_free : (n : ℕ) → n < 2 ^ 32 → is_free (decimal n) ≡ true
-number_free n small = digits_free (decimal n) (number_text n small).digits
-
 task_free : (t : ℕ) → t < 2 ^ 32 → is_free (task_name t) ≡ true
 task_free t small = number_free t small
-
-relay_free : (relay : Bool) → is_free (relay_word relay) ≡ true
-relay_free true = refl
-relay_free false = refl
 
 submitted_free : (k : SubmittedKind) → HasSmallSubmitted k → list_all is_free (submitted_words k) ≡ true
 submitted_free submitted.Plain fits = refl

@@ -32,6 +32,7 @@ use Rattle.fj_replay.specs.TaskNames.{task_name, named_step, named_line, titled_
 use Rattle.fj_lines.specs.Readings.{head_said}
 use Rattle.fj_lines.specs.Words.{joined as words_joined, words}
 use Rattle.fj_lines.specs.Replies.{reply_words}
+use Rattle.fj_lines.proofs.Reading.FeedLaws.{is_free}
 use Rattle.fj_replay.specs.Scripts.{stage_from, is_within, limits_of, pool_of, pool_in, start, rewriting, stage_after, line_text, text_from, text, up, before_those, steps_of, replies, joined, said, numbered_text, is_titled}
 use Rattle.fj_replay.specs.Upgrades.{named_lines, up_by, up_text, called_line, called_lines, called_by, called_text, KeepsReplies, IsNotUpgraded}
 use Rattle.fj_replay.proofs.NameTables.{numbered_line}
@@ -39,7 +40,7 @@ use Rattle.fj_replay.proofs.Stages.{text-line}
 use Rattle.fj_replay.proofs.Version1.{text_numbered}
 use Rattle.fj_replay.proofs.Version2.Accepted.{after_reply, accepted_after, accepted_small, none_accepted}
 use Rattle.fj_replay.proofs.Version2.Asked.{asks, asks_same, named_fits}
-use Rattle.fj_replay.proofs.Version2.FeedFree.{is_free, cut_one, first_free, line_free}
+use Rattle.fj_replay.proofs.Version2.FeedFree.{cut_one, first_free, line_free}
 use Rattle.fj_replay.proofs.Version2.Names.{task_names, name_free, names_after, named_said}
 use Rattle.fj_replay.proofs.Version2.Told.{is_accept, answer_told, told_below}
 

@@ -1,0 +1,2 @@
+-- Entries and their lines.
+pub mod Entries
