@@ -221,7 +221,10 @@ fn other_lines_are_faults(rt: HostRuntime) {
         too_many_words(),
     ] {
         for line in table.split('\n') {
-            assert!(rt; matches!(read_entry(line.as_bytes()), Err(LineFault)), "{line}");
+            assert!(rt;
+                matches!(read_entry(line.as_bytes()), Err(LineFault)),
+                "{line}"
+            );
         }
     }
 }
