@@ -1,18 +1,17 @@
 -- What a fault tells of the calls of the reader and of the writer.
-use Rattle.std.specs.Prelude.{◌==◌, if◌then◌else◌, true, false}
 use Rattle.std.specs.Io.KnownBytes.{Consumes}
-use Rattle.std.proofs.Common.{◌∷◌, [], ◌++◌, length-append, ℕ, ◌≡◌, ◌≢◌, subst, ◌+◌, ◌^◌, ◌≤◌, ⊎_elim, arith, List, length, Option, Some, Result, Ok, Err, OnOk}
+use Rattle.std.proofs.Common.{[], length-append, ℕ, ◌≡◌, ◌≢◌, subst, ◌+◌, ◌^◌, ◌≤◌, ⊎_elim, arith, List, length, Option, Some, Result, Ok, Err, OnOk}
 use Rattle.fj_streams.specs.Calls.{Calls, IsFine}
 use Rattle.fj_streams.proofs.CallsMade.{fine_twice, fine_failed}
 use Rattle.fj_filter.specs.declared.fault.FilterFault.{FilterFault}
 use Rattle.fj_filter.specs.declared.fault.FilterFault.TheVariants.{Stop, Line, Memory, Read, Write}
 use Rattle.fj_filter.specs.declared.fault.LineStop.{LineStop}
 use Rattle.fj_filter.specs.declared.fault.LineStop.TheVariants as fails
-use Rattle.fj_filter.specs.Cuts.{cut}
 use Rattle.fj_filter.specs.Rules.{Rules}
 use Rattle.fj_filter.specs.Kept.{Kept}
 use Rattle.fj_filter.specs.Buffers.{EndsEarly, WriterFails}
 use Rattle.fj_filter.specs.Tells.{FaultTells, WriterTells, fault_at}
+use Rattle.fj_filter.proofs.Lines.{few_cuts}
 
 -- what holds in any case
 pub if_ok : {T E : Type 0} {P : Type 0} (r : Result T E) → P → OnOk r P
@@ -47,14 +46,6 @@ module _ {S : Type 0} where
   ended_told rules fault v state b read now written after early p q = rw early.0 (p, q)
 
 -- ---- a reader of bytes in memory
-
-few_cuts : (before xs : List ℕ) → length (cut before xs) ≤ length xs
-few_cuts before [] = omega arith
-few_cuts before (x ∷ xs) =
-    elim (x == 10) as (λ t. length (if t then (before ∷ cut [] xs) else cut (before ++ x ∷ []) xs) ≤ length (x ∷ xs)) [
-      | true ↦ let few = few_cuts [] xs in omega arith
-      | false ↦ let few = few_cuts (before ++ x ∷ []) xs in omega arith
-    ]
 
 -- there are fewer bytes in memory than 64 bits count, so no reader of them is left at `Read`
 pub never_read : {S : Type 0} (fault : FilterFault S) (input rest b : List ℕ) (first again : ℕ) (written after : Option Calls) → first + length input ≤ 2 ^ 63 → again + length rest ≤ 2 ^ 63 → Consumes (Some input) (Some rest) b → FaultTells fault b (Some (record { failed = 0; again = first })) (Some (record { failed = 0; again = again })) written after → fault ≢ Read

@@ -9,13 +9,13 @@ use Rattle.fj_streams.proofs.Bytes.{appends_keeps, appends_twice}
 use Rattle.memchr.specs.Find.{NoneBefore, Passes, is_byte}
 use Rattle.fj_filter.specs.declared.line_buffer.TheConstants.{LINE_FEED}
 use Rattle.fj_filter.specs.declared.fault.FilterFault.{FilterFault}
-use Rattle.fj_filter.specs.declared.fault.FilterFault.TheVariants.{Stop, Line, Memory, Read, Write}
+use Rattle.fj_filter.specs.declared.fault.FilterFault.TheVariants.{Stop, Line}
 use Rattle.fj_filter.specs.declared.fault.LineStop.{LineStop}
 use Rattle.fj_filter.specs.declared.fault.LineStop.TheVariants as fails
 use Rattle.fj_filter.specs.Cuts.{cut, left, lines, rest}
-use Rattle.fj_filter.specs.Rules.{Rules, state_from, text_from, is_good}
+use Rattle.fj_filter.specs.Rules.{Rules, state_from, text_from}
 use Rattle.fj_filter.specs.Kept.{Kept}
-use Rattle.fj_filter.specs.Faults.{Stands, StopsAtLine, IsLong, IsUnended, LacksHeading, IsGoodSoFar, EndsFrom, FaultOf, IsFinished}
+use Rattle.fj_filter.specs.Faults.{Stands, StopsAtLine, IsLong, IsUnended, LacksHeading, IsGoodSoFar, FaultOf, IsFinished}
 use Rattle.fj_filter.specs.Tells.{fault_at}
 use Rattle.fj_filter.specs.Buffers.{IsAt, EndsEarly, StopsInLine, IsTooLong, continued}
 use Rattle.fj_filter.proofs.Lines.{before_end, cut-append, left-append, left-uncut, three_parts, uncut}

@@ -52,6 +52,15 @@ left-uncut before (x ∷ xs) e =
           rw f (left-uncut (before ++ x ∷ []) xs none ∙ append_assoc before (x ∷ []) xs)
     ]
 
+-- there are no more lines than bytes
+pub few_cuts : (before xs : List ℕ) → length (cut before xs) ≤ length xs
+few_cuts before [] = omega arith
+few_cuts before (x ∷ xs) =
+    elim (x == 10) as (λ t. length (if t then (before ∷ cut [] xs) else cut (before ++ x ∷ []) xs) ≤ length (x ∷ xs)) [
+      | true ↦ let few = few_cuts [] xs in omega arith
+      | false ↦ let few = few_cuts (before ++ x ∷ []) xs in omega arith
+    ]
+
 -- ---- the first line feed
 
 no_end : (before xs : List ℕ) → ((k : ℕ) → k < length xs → (get_or xs k 0 == 10) ≡ true → ⊥) → cut before xs ≡ []
