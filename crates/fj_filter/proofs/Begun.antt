@@ -1,0 +1,44 @@
+-- However a filter ends, a beginning of the text of the bytes read was written.
+use Rattle.std.proofs.Common.{ℕ, List, [], Option, Some, None, length, refl}
+use Rattle.std.proofs.lemmas.List.{append-nil}
+use Rattle.std.proofs.Math.Seq.{take-length}
+use Rattle.std.specs.Io.KnownBytes.{Appends, Consumes, Keeps}
+use Rattle.fj_streams.specs.Beginnings.{AppendsSome}
+use Rattle.fj_streams.specs.Calls.{Calls}
+use Rattle.fj_streams.proofs.Bytes.{appends_keeps}
+use Rattle.fj_streams.proofs.CallsMade.{fine_self}
+use Rattle.fj_filter.specs.declared.fault.FilterFault.{FilterFault}
+use Rattle.fj_filter.specs.declared.fault.FilterFault.TheVariants.{Stop, Line, Memory, Read, Write}
+use Rattle.fj_filter.specs.Cuts.{lines}
+use Rattle.fj_filter.specs.Rules.{Rules, text_from}
+use Rattle.fj_filter.specs.Faults.{EndsFrom, FaultOf}
+use Rattle.fj_filter.specs.Tells.{FaultTells}
+
+-- the whole is a beginning too
+pub all_some : (a b : Option (List ℕ)) (t : List ℕ) → Appends a b t → AppendsSome a b t
+all_some a b t p = (length t, rw (take-length t) p)
+
+pub some_keeps : (a b c : Option (List ℕ)) (t : List ℕ) → AppendsSome a b t → Keeps b c → AppendsSome a c t
+some_keeps a b c t p q = (p.0, appends_keeps a b c _ p.1 q)
+
+-- ---- nothing was read
+
+consumes_nothing : (a : Option (List ℕ)) → Consumes a a []
+consumes_nothing None = tt
+consumes_nothing (Some x) = refl
+
+pub appends_nothing : (a : Option (List ℕ)) → Appends a a []
+appends_nothing None = tt
+appends_nothing (Some x) = rw append-nil refl
+
+module _ {A S : Type 0} (rules : Rules A S) where
+  pub fault_some : (first : A) (fault : FilterFault S) (b : List ℕ) (ahead start now : Option (List ℕ)) → FaultOf rules first fault b ahead start now → AppendsSome start now (text_from rules first (lines b))
+  fault_some first (Stop n stop) b ahead start now f = all_some start now (text_from rules first (lines b)) f.1
+  fault_some first (Line n) b ahead start now f = all_some start now (text_from rules first (lines b)) f.1
+  fault_some first Memory b ahead start now f = f
+  fault_some first Read b ahead start now f = all_some start now (text_from rules first (lines b)) f.1
+  fault_some first Write b ahead start now f = f
+
+  -- out of memory before the first read
+  pub stops_at_once : (first : A) (a n : Option (List ℕ)) (p q : Option Calls) → (b : List ℕ) × EndsFrom rules first Memory b a a n n × FaultTells {S = S} Memory b p p q q
+  stops_at_once first a n p q = ([], record { read = consumes_nothing a; means = (0, appends_nothing n) }, (fine_self p, fine_self q))

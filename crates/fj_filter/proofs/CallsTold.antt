@@ -1,0 +1,56 @@
+-- What a fault tells of the calls of the reader and of the writer.
+use Rattle.std.specs.Io.KnownBytes.{Consumes}
+use Rattle.std.proofs.Common.{[], length-append, ℕ, ◌≡◌, ◌≢◌, subst, ◌+◌, ◌^◌, ◌≤◌, ⊎_elim, arith, List, length, Option, Some, Result, Ok, Err, OnOk}
+use Rattle.fj_streams.specs.Calls.{Calls, IsFine}
+use Rattle.fj_streams.proofs.CallsMade.{fine_twice, fine_failed}
+use Rattle.fj_filter.specs.declared.fault.FilterFault.{FilterFault}
+use Rattle.fj_filter.specs.declared.fault.FilterFault.TheVariants.{Stop, Line, Memory, Read, Write}
+use Rattle.fj_filter.specs.declared.fault.LineStop.{LineStop}
+use Rattle.fj_filter.specs.declared.fault.LineStop.TheVariants as fails
+use Rattle.fj_filter.specs.Rules.{Rules}
+use Rattle.fj_filter.specs.Kept.{Kept}
+use Rattle.fj_filter.specs.Buffers.{EndsEarly, WriterFails}
+use Rattle.fj_filter.specs.Tells.{FaultTells, WriterTells, fault_at}
+use Rattle.fj_filter.proofs.Lines.{few_cuts}
+
+-- what holds in any case
+pub if_ok : {T E : Type 0} {P : Type 0} (r : Result T E) → P → OnOk r P
+if_ok (Ok x) p = p
+if_ok (Err e) p = tt
+
+module _ {S : Type 0} where
+  -- the fault of a line, with its number
+  pub told_at : (n : ℕ) (why : LineStop S) (a b : Option Calls) → WriterTells why a b → WriterFails (fault_at n why) a b
+  told_at n (fails.Stop stop) a b p = p
+  told_at n fails.Memory a b p = p
+  told_at n fails.Write a b p = p
+
+  -- what a fault told of the writer, after calls of which none failed
+  pub told_later : (fault : FilterFault S) (a b c : Option Calls) → IsFine a b → WriterFails fault b c → WriterFails fault a c
+  told_later (Stop n stop) a b c p q = fine_twice a b c p q
+  told_later (Line n) a b c p q = fine_twice a b c p q
+  told_later Memory a b c p q = fine_twice a b c p q
+  told_later Read a b c p q = q
+  told_later Write a b c p q = fine_failed a b c p q
+
+  -- a fault that the writer told, where no read failed
+  pub writer_told : (fault : FilterFault S) (b : List ℕ) (read now written after : Option Calls) → IsFine read now → WriterFails fault written after → FaultTells fault b read now written after
+  writer_told (Stop n stop) b read now written after p q = (p, q)
+  writer_told (Line n) b read now written after p q = (p, q)
+  writer_told Memory b read now written after p q = (p, q)
+  writer_told Read b read now written after p q = absurd q
+  writer_told Write b read now written after p q = (p, q)
+
+  -- a fault at the end of the input, where no call failed
+  pub ended_told : {A : Type 0} (rules : Rules A S) (fault : FilterFault S) (v : Kept) (state : A) (b : List ℕ) (read now written after : Option Calls) → EndsEarly rules v state fault → IsFine read now → IsFine written after → FaultTells fault b read now written after
+  ended_told rules fault v state b read now written after early p q = rw early.0 (p, q)
+
+-- ---- a reader of bytes in memory
+
+-- there are fewer bytes in memory than 64 bits count, so no reader of them is left at `Read`
+pub never_read : {S : Type 0} (fault : FilterFault S) (input rest b : List ℕ) (first again : ℕ) (written after : Option Calls) → first + length input ≤ 2 ^ 63 → again + length rest ≤ 2 ^ 63 → Consumes (Some input) (Some rest) b → FaultTells fault b (Some (record { failed = 0; again = first })) (Some (record { failed = 0; again = again })) written after → fault ≢ Read
+never_read fault input rest b first again written after short few read told is =
+    let told' = subst (λ f. FaultTells f b (Some (record { failed = 0; again = first })) (Some (record { failed = 0; again = again })) written after) is told in
+    let all : length input ≡ length b + length rest = rw read (length-append b rest) in
+    let cuts = few_cuts [] b in
+    ⊎_elim (λ failed. ⊎_elim (λ one. absurd cc) (λ many. absurd (omega arith)) failed) (λ many. absurd (omega arith)) told'.0

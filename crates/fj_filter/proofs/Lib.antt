@@ -1,0 +1,12 @@
+-- bytes that are read in two parts, and their lines
+pub mod Lines
+-- where more lines lead, behind good ones
+pub mod States
+-- a buffer takes more bytes
+pub mod Steps
+-- what a buffer has found when it stops
+pub mod FaultsFound
+-- however a filter ends, a beginning of the text was written
+pub mod Begun
+-- what a fault tells of the calls of the reader and of the writer
+pub mod CallsTold
