@@ -1,0 +1,166 @@
+-- What a check does at a line. Whether an entry may come is a test here, which holds exactly where it may.
+use Rattle.std.proofs.Common.{ℕ, ◌≡◌, ◌+◌, ◌<◌, ◌×◌, Bool, true, false, ◌&&◌, List, [], ◌∷◌, length, Option, Some, None, refl, sym, ap, ◌∙◌, arith}
+use Rattle.std.specs.Prelude.{if◌then◌else◌, nat_lt, is_none, is_some, IfSome}
+use Rattle.std.specs.Option.{option_and_then, option_map_or}
+use Rattle.std.proofs.lemmas.Bool.{and_parts, ltb-true, lt-ltb}
+use Rattle.fj_rules.specs.declared.event.Event.{Event}
+use Rattle.fj_rules.specs.declared.event.Event.TheVariants.{Fire}
+use Rattle.fj_rules.specs.declared.refusal.Refusal.{Refusal}
+use Rattle.fj_rules.specs.Bounds.{Pool}
+use Rattle.fj_rules.specs.Tasks.{is_completer}
+use Rattle.fj_rules.specs.Hooks.{hand, goes_to}
+use Rattle.fj_rules.specs.Climbs.{climbed_by}
+use Rattle.fj_rules.specs.Allowed.{Allowed, AllowedFrom}
+use Rattle.fj_rules.specs.Follows.{Follows, NamesCompleter, HasHand}
+use Rattle.fj_rules.specs.Pasts.{Past, limit}
+use Rattle.fj_rules.specs.Epochs.{seal_refusal}
+use Rattle.fj_rules.proofs.Samples.AllowedTest.{allowed_test}
+use Rattle.fj_rules.proofs.Samples.AllowedTested.{told, tested}
+use Rattle.fj_lines.specs.Lines.{head_in}
+use Rattle.fj_history.specs.declared.entry.Entry.{Entry}
+use Rattle.fj_history.specs.declared.entry.Entry.TheVariants as entry
+use Rattle.fj_history.specs.Entries.{entry_in}
+use Rattle.fj_filter.specs.declared.fault.LineStop.{LineStop}
+use Rattle.fj_filter.specs.declared.fault.LineStop.TheVariants as fails
+use Rattle.fj_replay.specs.Scripts.{pool_in, start}
+use Rattle.fj_replay.specs.Faults.{IsOutOfLimits}
+use Rattle.fj_trace.specs.declared.history_check.HistoryCheck.{HistoryCheck}
+use Rattle.fj_trace.specs.declared.history_check.HistoryCheck.TheVariants.{Start, Going}
+use Rattle.fj_trace.specs.declared.history_stop.HistoryStop.{HistoryStop}
+use Rattle.fj_trace.specs.declared.history_stop.HistoryStop.TheVariants as stop
+use Rattle.fj_trace.specs.Entries.{MayCome, past_after}
+
+-- ---- the test
+
+names_test : List Event → Event → Bool
+names_test h e = option_map_or (λ c. is_completer h c) (climbed_by e) true
+
+hand_free : Pool → List Event → Option ℕ → Bool
+hand_free pool h None = false
+hand_free pool h (Some w) = nat_lt w pool.limits.workers && is_none (hand h w)
+
+hand_test : Pool → List Event → Event → Bool
+hand_test pool h (Fire c how) = hand_free pool h (goes_to h c)
+hand_test pool h _ = true
+
+follows_test : Past → Event → Bool
+follows_test past e = allowed_test past.pool past.events e && (names_test past.events e && (hand_test past.pool past.events e && nat_lt (length past.events) (limit past)))
+
+pub can_come : Past → Entry → Bool
+can_come past (entry.Event e) = follows_test past e
+can_come past entry.Seal = is_none (seal_refusal past)
+
+-- ---- it holds exactly where the entry may come
+
+names_told : (h : List Event) (said : Option ℕ) → option_map_or (λ c. is_completer h c) said true ≡ true → IfSome said (λ c. is_completer h c ≡ true)
+names_told h None yes = tt
+names_told h (Some c) yes = yes
+
+names_tested : (h : List Event) (said : Option ℕ) → IfSome said (λ c. is_completer h c ≡ true) → option_map_or (λ c. is_completer h c) said true ≡ true
+names_tested h None yes = refl
+names_tested h (Some c) yes = yes
+
+none_is : (o : Option ℕ) → is_none o ≡ true → o ≡ None
+none_is None yes = refl
+none_is (Some x) yes = absurd cc
+
+is_none_of : {A : Type 0} (o : Option A) → o ≡ None → is_none o ≡ true
+is_none_of o none = rw none refl
+
+free_told : (pool : Pool) (h : List Event) (c : ℕ) (to : Option ℕ) → goes_to h c ≡ to → hand_free pool h to ≡ true → (w : ℕ) × (w < pool.limits.workers) × (goes_to h c ≡ Some w) × (hand h w ≡ None)
+free_told pool h c None is yes = absurd cc
+free_told pool h c (Some w) is yes = let parts = and_parts (nat_lt w pool.limits.workers) (is_none (hand h w)) yes in (w, ltb-true w pool.limits.workers parts.0, is, none_is (hand h w) parts.1)
+
+hand_told : (pool : Pool) (h : List Event) (e : Event) → hand_test pool h e ≡ true → HasHand pool h e
+hand_told pool h (Fire c how) yes = free_told pool h c (goes_to h c) refl yes
+hand_told pool h _ yes = tt
+
+hand_tested : (pool : Pool) (h : List Event) (e : Event) → HasHand pool h e → hand_test pool h e ≡ true
+hand_tested pool h (Fire c how) has = rw (has.2, lt-ltb has.0 pool.limits.workers has.1, has.3) refl
+hand_tested pool h _ has = refl
+
+follows_told : (past : Past) (e : Event) → follows_test past e ≡ true → Follows past e
+follows_told past e yes =
+    let names = names_test past.events e in
+    let free = hand_test past.pool past.events e in
+    let room = nat_lt (length past.events) (limit past) in
+    let one = and_parts (allowed_test past.pool past.events e) (names && (free && room)) yes in
+    let two = and_parts names (free && room) one.1 in
+    let three = and_parts free room two.1 in
+    record {
+      allowed = told past.pool past.events e one.0;
+      names = names_told past.events (climbed_by e) two.0;
+      free = hand_told past.pool past.events e three.0;
+      fits = ltb-true (length past.events) (limit past) three.1;
+    }
+
+follows_tested : (past : Past) (e : Event) → AllowedFrom past.pool [] past.events → Follows past e → follows_test past e ≡ true
+follows_tested past e so follows =
+    rw (tested past.pool past.events e so follows.allowed, names_tested past.events (climbed_by e) follows.names, hand_tested past.pool past.events e follows.free, lt-ltb (length past.events) (limit past) follows.fits) refl
+
+seal_none : (o : Option Refusal) → is_none o ≡ true → o ≡ None
+seal_none None yes = refl
+seal_none (Some x) yes = absurd cc
+
+pub come_told : (past : Past) (e : Entry) → can_come past e ≡ true → MayCome past e
+come_told past (entry.Event e) yes = follows_told past e yes
+come_told past entry.Seal yes = seal_none (seal_refusal past) yes
+
+pub come_tested : (past : Past) (e : Entry) → AllowedFrom past.pool [] past.events → MayCome past e → can_come past e ≡ true
+come_tested past (entry.Event e) so may = follows_tested past e so may
+come_tested past entry.Seal so may = is_none_of (seal_refusal past) may
+
+-- where it may not come the test fails, and there alone
+pub come_barred : (past : Past) (e : Entry) → (MayCome past e → ⊥) → can_come past e ≡ false
+come_barred past e bar = go (can_come past e) refl
+  where
+    go : (b : Bool) → can_come past e ≡ b → b ≡ false
+    go true is = absurd (bar (come_told past e is))
+    go false is = refl
+
+-- ---- lines
+
+abbrev pub count_of : Entry → ℕ
+count_of (entry.Event e) = 1
+count_of entry.Seal = 0
+
+abbrev pub opened : Option Pool → Option HistoryCheck
+opened None = None
+opened (Some p) = Some (Going (start p) 0)
+
+abbrev pub came : Past → ℕ → Entry → Option HistoryCheck
+came past n e = if can_come past e then Some (Going (past_after past e) (n + count_of e)) else None
+
+-- the state after a line
+abbrev pub after : HistoryCheck → List ℕ → Option HistoryCheck
+after Start line = opened (pool_in line)
+after (Going past n) line = option_and_then (came past n) (entry_in line)
+
+abbrev pub has_heading : HistoryCheck → Bool
+has_heading Start = false
+has_heading (Going past n) = true
+
+-- why it may not stand there
+abbrev pub StopsHere : HistoryCheck → List ℕ → HistoryStop → Type 0
+StopsHere Start line (stop.Objection why) = ⊥
+StopsHere Start line stop.Line = head_in line ≡ None
+StopsHere Start line stop.Limits = IsOutOfLimits line
+StopsHere (Going past n) line (stop.Objection why) = (e : Entry) × (entry_in line ≡ Some e) × (MayCome past e → ⊥)
+StopsHere (Going past n) line stop.Line = entry_in line ≡ None
+StopsHere (Going past n) line stop.Limits = ⊥
+
+-- what a fault at the heading says
+abbrev pub IsHeadStop : List ℕ → LineStop HistoryStop → Type 0
+IsHeadStop line (fails.Stop (stop.Objection why)) = ⊥
+IsHeadStop line (fails.Stop stop.Line) = head_in line ≡ None
+IsHeadStop line (fails.Stop stop.Limits) = IsOutOfLimits line
+IsHeadStop line fails.Memory = is_some (pool_in line) ≡ true
+IsHeadStop line fails.Write = ⊥
+
+-- what a fault behind the heading says
+abbrev pub IsEntryStop : Past → List ℕ → LineStop HistoryStop → Type 0
+IsEntryStop past line (fails.Stop (stop.Objection why)) = (e : Entry) × (entry_in line ≡ Some e) × (MayCome past e → ⊥)
+IsEntryStop past line (fails.Stop stop.Line) = entry_in line ≡ None
+IsEntryStop past line (fails.Stop stop.Limits) = ⊥
+IsEntryStop past line fails.Memory = (e : Entry) × (entry_in line ≡ Some e) × (can_come past e ≡ true)
+IsEntryStop past line fails.Write = ⊥
