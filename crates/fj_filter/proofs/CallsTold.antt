@@ -19,12 +19,6 @@ if_ok (Ok x) p = p
 if_ok (Err e) p = tt
 
 module _ {S : Type 0} where
-  -- the fault of a line, with its number
-  pub told_at : (n : ℕ) (why : LineStop S) (a b : Option Calls) → WriterTells why a b → WriterFails (fault_at n why) a b
-  told_at n (fails.Stop stop) a b p = p
-  told_at n fails.Memory a b p = p
-  told_at n fails.Write a b p = p
-
   -- what a fault told of the writer, after calls of which none failed
   pub told_later : (fault : FilterFault S) (a b c : Option Calls) → IsFine a b → WriterFails fault b c → WriterFails fault a c
   told_later (Stop n stop) a b c p q = fine_twice a b c p q

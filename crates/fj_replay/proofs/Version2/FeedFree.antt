@@ -23,9 +23,9 @@ use Rattle.fj_lines.specs.Words.{joined}
 use Rattle.fj_lines.specs.Tasks.{IsSmall, names}
 use Rattle.fj_lines.specs.Lines.{relay_word, submitted_words, ending_words, HasLine, HasSmallSubmitted, HasSmallForked, HasSmallEnding, forked_of, word_or_dash, named_kind_words, line2_words, line2_text}
 use Rattle.fj_lines.proofs.Reading.NumberLaws.{number_text}
-use Rattle.fj_replay.specs.Cuts.{cut}
+use Rattle.fj_filter.specs.Cuts.{cut}
 use Rattle.fj_replay.specs.TaskNames.{task_name, named_kind, named_step}
-use Rattle.fj_replay.proofs.Lines.{yes_or_no}
+use Rattle.fj_filter.proofs.Lines.{yes_or_no}
 
 -- whether no byte is a line feed
 abbrev pub is_free : List ℕ → Bool
