@@ -7,11 +7,9 @@ use Rattle.fj_streams.specs.Beginnings.{AppendsSome}
 use Rattle.fj_streams.specs.Calls.{Calls}
 use Rattle.fj_streams.proofs.Bytes.{appends_keeps}
 use Rattle.fj_streams.proofs.CallsMade.{fine_self}
-use Rattle.fj_filter.specs.declared.fault.FilterFault.{FilterFault}
-use Rattle.fj_filter.specs.declared.fault.FilterFault.TheVariants.{Stop, Line, Memory, Read, Write}
-use Rattle.fj_filter.specs.Cuts.{lines}
-use Rattle.fj_filter.specs.Rules.{Rules, text_from}
-use Rattle.fj_filter.specs.Faults.{EndsFrom, FaultOf}
+use Rattle.fj_filter.specs.declared.fault.FilterFault.TheVariants.{Memory}
+use Rattle.fj_filter.specs.Rules.{Rules}
+use Rattle.fj_filter.specs.Faults.{EndsFrom}
 use Rattle.fj_filter.specs.Tells.{FaultTells}
 
 -- the whole is a beginning too
@@ -32,13 +30,6 @@ appends_nothing None = tt
 appends_nothing (Some x) = rw append-nil refl
 
 module _ {A S : Type 0} (rules : Rules A S) where
-  pub fault_some : (first : A) (fault : FilterFault S) (b : List ℕ) (ahead start now : Option (List ℕ)) → FaultOf rules first fault b ahead start now → AppendsSome start now (text_from rules first (lines b))
-  fault_some first (Stop n stop) b ahead start now f = all_some start now (text_from rules first (lines b)) f.1
-  fault_some first (Line n) b ahead start now f = all_some start now (text_from rules first (lines b)) f.1
-  fault_some first Memory b ahead start now f = f
-  fault_some first Read b ahead start now f = all_some start now (text_from rules first (lines b)) f.1
-  fault_some first Write b ahead start now f = f
-
   -- out of memory before the first read
   pub stops_at_once : (first : A) (a n : Option (List ℕ)) (p q : Option Calls) → (b : List ℕ) × EndsFrom rules first Memory b a a n n × FaultTells {S = S} Memory b p p q q
   stops_at_once first a n p q = ([], record { read = consumes_nothing a; means = (0, appends_nothing n) }, (fine_self p, fine_self q))

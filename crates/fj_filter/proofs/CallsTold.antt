@@ -1,16 +1,16 @@
 -- What a fault tells of the calls of the reader and of the writer.
 use Rattle.std.specs.Io.KnownBytes.{Consumes}
-use Rattle.std.proofs.Common.{[], length-append, ℕ, ◌≡◌, ◌≢◌, subst, ◌+◌, ◌^◌, ◌≤◌, ⊎_elim, arith, List, length, Option, Some, Result, Ok, Err, OnOk}
-use Rattle.fj_streams.specs.Calls.{Calls, IsFine}
+use Rattle.std.proofs.Common.{[], length-append, ℕ, ◌≡◌, ◌+◌, ◌-◌, ◌^◌, ◌≤◌, ◌⊎◌, ⊎_elim, arith, List, length, Option, Some, Result, Ok, Err, OnOk}
+use Rattle.fj_streams.specs.Calls.{Calls, HasFailed, IsFine}
 use Rattle.fj_streams.proofs.CallsMade.{fine_twice, fine_failed}
 use Rattle.fj_filter.specs.declared.fault.FilterFault.{FilterFault}
 use Rattle.fj_filter.specs.declared.fault.FilterFault.TheVariants.{Stop, Line, Memory, Read, Write}
-use Rattle.fj_filter.specs.declared.fault.LineStop.{LineStop}
-use Rattle.fj_filter.specs.declared.fault.LineStop.TheVariants as fails
+use Rattle.fj_filter.specs.declared.read_loop.TheConstants.{CHUNK}
+use Rattle.fj_filter.specs.Cuts.{lines}
 use Rattle.fj_filter.specs.Rules.{Rules}
 use Rattle.fj_filter.specs.Kept.{Kept}
 use Rattle.fj_filter.specs.Buffers.{EndsEarly, WriterFails}
-use Rattle.fj_filter.specs.Tells.{FaultTells, WriterTells, fault_at}
+use Rattle.fj_filter.specs.Tells.{FaultTells}
 use Rattle.fj_filter.proofs.Lines.{few_cuts}
 
 -- what holds in any case
@@ -19,12 +19,6 @@ if_ok (Ok x) p = p
 if_ok (Err e) p = tt
 
 module _ {S : Type 0} where
-  -- the fault of a line, with its number
-  pub told_at : (n : ℕ) (why : LineStop S) (a b : Option Calls) → WriterTells why a b → WriterFails (fault_at n why) a b
-  told_at n (fails.Stop stop) a b p = p
-  told_at n fails.Memory a b p = p
-  told_at n fails.Write a b p = p
-
   -- what a fault told of the writer, after calls of which none failed
   pub told_later : (fault : FilterFault S) (a b c : Option Calls) → IsFine a b → WriterFails fault b c → WriterFails fault a c
   told_later (Stop n stop) a b c p q = fine_twice a b c p q
@@ -47,10 +41,9 @@ module _ {S : Type 0} where
 
 -- ---- a reader of bytes in memory
 
--- there are fewer bytes in memory than 64 bits count, so no reader of them is left at `Read`
-pub never_read : {S : Type 0} (fault : FilterFault S) (input rest b : List ℕ) (first again : ℕ) (written after : Option Calls) → first + length input ≤ 2 ^ 63 → again + length rest ≤ 2 ^ 63 → Consumes (Some input) (Some rest) b → FaultTells fault b (Some (record { failed = 0; again = first })) (Some (record { failed = 0; again = again })) written after → fault ≢ Read
-never_read fault input rest b first again written after short few read told is =
-    let told' = subst (λ f. FaultTells f b (Some (record { failed = 0; again = first })) (Some (record { failed = 0; again = again })) written after) is told in
+-- there are fewer bytes in memory than 64 bits count, so no reader of them fails or has too many lines
+pub never_failed : (input rest b : List ℕ) (first again : ℕ) → first + length input ≤ 2 ^ 63 → again + length rest ≤ 2 ^ 63 → Consumes (Some input) (Some rest) b → HasFailed (Some (record { failed = 0; again = first })) (Some (record { failed = 0; again = again })) ⊎ (2 ^ 64 - 1 - CHUNK ≤ length (lines b)) → ⊥
+never_failed input rest b first again short few read failed =
     let all : length input ≡ length b + length rest = rw read (length-append b rest) in
     let cuts = few_cuts [] b in
-    ⊎_elim (λ failed. ⊎_elim (λ one. absurd cc) (λ many. absurd (omega arith)) failed) (λ many. absurd (omega arith)) told'.0
+    ⊎_elim (λ call. ⊎_elim (λ one. absurd cc) (λ many. absurd (omega arith)) call) (λ many. absurd (omega arith)) failed

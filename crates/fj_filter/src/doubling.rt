@@ -1,6 +1,5 @@
 //! A filter that writes each line twice.
-ghost use Rattle.std.specs.Prelude.{ℕ, ◌≡◌, ◌&&◌, ◌++◌, ◌∷◌, [], if◌then◌else◌, nat_le, true, false, Some, None, length, IfOk};
-
+ghost use Rattle.std.specs.Prelude.{◌≡◌, ◌&&◌, ◌++◌, ◌∷◌, [], if◌then◌else◌, nat_le, true, false, Some, None, length, IfOk};
 ghost use Rattle.std.proofs.Common.{rules};
 
 use crate::fault::LineStop;

@@ -19,12 +19,7 @@ fn ended(end: Result<(), FilterFault<Unfit>>) -> (&'static str, u64) {
 /// Inputs, what is written of them, how they end, and how they end where the reader fails at its end.
 const ROWS: [(&[u8], &[u8], (&str, u64), (&str, u64)); 11] = [
     (b"a\nbc\n", b"aa\nbcbc\n", ("ok", 0), ("read", 0)),
-    (
-        b"12345678\n",
-        b"1234567812345678\n",
-        ("ok", 0),
-        ("read", 0),
-    ),
+    (b"12345678\n", b"1234567812345678\n", ("ok", 0), ("read", 0)),
     (b"", b"", ("line", 1), ("read", 0)),
     (b"a", b"", ("line", 1), ("read", 0)),
     (b"a\nb", b"aa\n", ("line", 2), ("read", 0)),

@@ -1,27 +1,15 @@
 -- However a replay or an upgrade ends, a beginning of what it writes of the bytes read was written.
-use Rattle.std.proofs.Common.{ℕ, List, [], Option, Some, None, length, refl}
-use Rattle.std.proofs.lemmas.List.{append-nil}
-use Rattle.std.proofs.Math.Seq.{take-length}
-use Rattle.std.specs.Io.KnownBytes.{Appends, Consumes, Keeps}
+use Rattle.std.proofs.Common.{ℕ, List, Option}
+use Rattle.std.specs.Io.KnownBytes.{Keeps}
 use Rattle.fj_replay.specs.declared.fault.ReplayFault.{ReplayFault}
 use Rattle.fj_replay.specs.declared.fault.ReplayFault.TheVariants.{Line, Limits, Memory, Read, Write}
 use Rattle.fj_streams.specs.Beginnings.{AppendsSome}
 use Rattle.fj_replay.specs.declared.script_stage.ScriptStage.{ScriptStage}
 use Rattle.fj_replay.specs.declared.script_stage.ScriptStage.TheVariants.{Start, Old}
-use Rattle.fj_replay.specs.Cuts.{lines}
+use Rattle.fj_filter.specs.Cuts.{lines}
 use Rattle.fj_replay.specs.Scripts.{text, text_from, up}
-use Rattle.fj_replay.specs.Tells.{FaultTells}
-use Rattle.fj_replay.specs.Faults.{Ends, EndsFrom, EndsUpgrade, FaultOf, IsBegun, IsReplayed, IsUpgradeBegun, IsUpgraded}
-use Rattle.fj_streams.specs.Calls.{Calls}
-use Rattle.fj_streams.proofs.Bytes.{appends_keeps}
-use Rattle.fj_streams.proofs.CallsMade.{fine_self}
-
--- the whole is a beginning too
-pub all_some : (a b : Option (List ℕ)) (t : List ℕ) → Appends a b t → AppendsSome a b t
-all_some a b t p = (length t, rw (take-length t) p)
-
-some_keeps : (a b c : Option (List ℕ)) (t : List ℕ) → AppendsSome a b t → Keeps b c → AppendsSome a c t
-some_keeps a b c t p q = (p.0, appends_keeps a b c _ p.1 q)
+use Rattle.fj_replay.specs.Faults.{Ends, EndsUpgrade, FaultOf, IsBegun, IsReplayed, IsUpgradeBegun, IsUpgraded}
+use Rattle.fj_filter.proofs.Begun.{all_some, some_keeps}
 
 fault_some : (first : ScriptStage) (fault : ReplayFault) (b : List ℕ) (ahead start now : Option (List ℕ)) → FaultOf first fault b ahead start now → AppendsSome start now (text_from first (lines b))
 fault_some first (Line n) b ahead start now f = all_some start now (text_from first (lines b)) f.1
@@ -69,17 +57,3 @@ upgrade_begun_fault fault before ahead start now flushed r k = (
     written = some_keeps start now flushed _ (fault_some Old fault r.0 ahead start now r.1.means) k;
   },
 )
-
--- ---- nothing was read
-
-consumes_nothing : (a : Option (List ℕ)) → Consumes a a []
-consumes_nothing None = tt
-consumes_nothing (Some x) = refl
-
-pub appends_nothing : (a : Option (List ℕ)) → Appends a a []
-appends_nothing None = tt
-appends_nothing (Some x) = rw append-nil refl
-
--- out of memory before the first read
-pub stops_at_once : (first : ScriptStage) (a n : Option (List ℕ)) (p q : Option Calls) → (b : List ℕ) × EndsFrom first Memory b a a n n × FaultTells Memory b p p q q
-stops_at_once first a n p q = ([], record { read = consumes_nothing a; means = (0, appends_nothing n) }, (fine_self p, fine_self q))

@@ -10,7 +10,8 @@ use Rattle.fj_replay.specs.declared.asked.Asked.{Asked}
 use Rattle.fj_replay.specs.declared.script_stage.ScriptStage.{ScriptStage}
 use Rattle.fj_replay.specs.declared.script_stage.ScriptStage.TheVariants.{Start, Titled, Plays, Old, Rewrites}
 use Rattle.fj_replay.specs.Plays.{Play, asked_in, play_after, is_title}
-use Rattle.fj_replay.specs.Scripts.{pool_in, start, opened, stage_from}
+use Rattle.fj_replay.specs.Scripts.{stage_from}
+use Rattle.fj_replay.specs.Stages.{pool_in, start, opened}
 
 -- it stays so at a line
 abbrev pub Stays : (Play → Type 0) → Type 0

@@ -1,5 +1,3 @@
--- bytes that are read in two parts, and their lines
-pub mod Lines
 -- where more lines lead, behind good ones
 pub mod Stages
 -- names and their places in a table
@@ -14,15 +12,13 @@ pub mod Runs
 pub mod Named
 -- the replies are the answers to the moves that lines ask for
 pub mod Moves
--- a session takes one byte more
-pub mod Steps
--- what a session has found when it stops
-pub mod FaultsFound
+-- how a replay or an upgrade ends, by how its filter does
+pub mod Ends
 -- a script that is whole, as a replay and as an upgrade tell it
 pub mod Whole
 -- however a replay or an upgrade ends, a beginning of what it writes was written
 pub mod Begun
 -- the replies to a script of version 1, and to the same script as version 2
 pub mod Version2
--- what a fault tells of the calls of the reader and of the writer
-pub mod CallsTold
+-- a reader of bytes in memory does not fail
+pub mod NeverRead

@@ -1,42 +1,44 @@
 -- A script that is whole, as a replay and as an upgrade tell it.
-use Rattle.std.proofs.Common.{ℕ, ◌≡◌, ◌∙◌, sym, ap, subst, List, Option, Some}
+use Rattle.std.specs.Prelude.{true, false}
+use Rattle.std.proofs.Common.{ℕ, ◌≡◌, refl, ◌∙◌, ap, subst, List, Option, Some}
+use Rattle.fj_filter.specs.Cuts.{lines}
+use Rattle.fj_filter.specs.Faults.{Finishes}
+use Rattle.fj_filter.proofs.States.{some_state}
 use Rattle.fj_replay.specs.declared.script_stage.ScriptStage.{ScriptStage}
 use Rattle.fj_replay.specs.declared.script_stage.ScriptStage.TheVariants.{Start, Titled, Old}
-use Rattle.fj_replay.specs.Cuts.{lines}
+use Rattle.fj_replay.specs.Stages.{has_heading, script_rules}
 use Rattle.fj_replay.specs.Scripts.{stage_from}
-use Rattle.fj_replay.specs.Faults.{IsHeadless, Finishes, Replays, Upgrades}
-use Rattle.fj_replay.proofs.Stages.{some_stage, old_leads}
+use Rattle.fj_replay.specs.Faults.{Replays, Upgrades}
+use Rattle.fj_replay.proofs.Stages.{old_leads}
 use Rattle.fj_replay.proofs.Runs.{is_run}
 
-no_start : (t : ScriptStage) → (IsHeadless t → ⊥) → t ≡ Start → ⊥
-no_start t headed is = headed (subst (λ (u : ScriptStage). IsHeadless u) (sym is) tt)
+-- a stage with a heading is none before it
+no_stage : (s t : ScriptStage) → has_heading s ≡ false → has_heading t ≡ true → t ≡ s → ⊥
+no_stage s t none headed is = let both : has_heading s ≡ true = subst (λ u. has_heading u ≡ true) is headed in absurd cc
 
-no_title : (t : ScriptStage) → (IsHeadless t → ⊥) → t ≡ Titled → ⊥
-no_title t headed is = headed (subst (λ (u : ScriptStage). IsHeadless u) (sym is) tt)
-
-pub replays : (before ahead start now : Option (List ℕ)) → Finishes Start before ahead start now → Replays before ahead start now
-replays before ahead start now (b, f) = (
+pub replays : (last : ScriptStage) (before ahead start now : Option (List ℕ)) → Finishes script_rules Start last before ahead start now → Replays before ahead start now
+replays last before ahead start now (b, f) = (
   b,
   record {
     read = f.read;
     whole = f.whole;
     script = record {
-      good = some_stage (stage_from Start (lines b)) f.script.stage f.script.good;
-      ended = f.script.ended;
-      run = is_run b f.script.stage f.script.good (no_start f.script.stage f.script.headed) (no_title f.script.stage f.script.headed);
+      good = some_state (stage_from Start (lines b)) last f.input.good;
+      ended = f.input.ended;
+      run = is_run b last f.input.good (no_stage Start last refl f.input.headed) (no_stage Titled last refl f.input.headed);
     };
     written = f.written;
   },
 )
 
-pub upgrades : (before ahead start now : Option (List ℕ)) → Finishes Old before ahead start now → Upgrades before ahead start now
-upgrades before ahead start now (b, f) =
-    let there = old_leads f.script.stage (lines b) f.script.good f.script.headed in (
+pub upgrades : (last : ScriptStage) (before ahead start now : Option (List ℕ)) → Finishes script_rules Old last before ahead start now → Upgrades before ahead start now
+upgrades last before ahead start now (b, f) =
+    let there = old_leads last (lines b) f.input.good f.input.headed in (
       b,
       record {
         read = f.read;
         whole = f.whole;
-        script = record { past = there.0; good = f.script.good ∙ ap Some there.1; ended = f.script.ended };
+        script = record { past = there.0; good = f.input.good ∙ ap Some there.1; ended = f.input.ended };
         written = f.written;
       },
     )

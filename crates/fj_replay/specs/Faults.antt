@@ -1,63 +1,22 @@
 -- What the result of a replay or an upgrade says of the bytes that were read. `first` is the stage before the first line.
-use Rattle.std.specs.Prelude.{ℕ, ◌≡◌, ◌≢◌, ◌+◌, ◌<◌, ◌≤◌, ◌⊎◌, List, [], ◌∷◌, ◌++◌, Option, Some, None, true, false, length}
+use Rattle.std.specs.Prelude.{ℕ, ◌≡◌, ◌⊎◌, List, [], ◌∷◌, ◌++◌, Option, Some, true}
 use Rattle.std.specs.Io.KnownBytes.{Appends, Consumes, IsAtEnd}
-use Rattle.fj_lines.specs.declared.read.line2.TheConstants.{MAX_LINE2}
-use Rattle.fj_rules.specs.declared.mode.Mode.{Mode}
 use Rattle.fj_rules.specs.Pasts.{Past}
-use Rattle.fj_lines.specs.Lines.{head_in, step_in}
+use Rattle.fj_streams.specs.Beginnings.{AppendsSome}
+use Rattle.fj_filter.specs.Cuts.{lines, rest}
+use Rattle.fj_filter.specs.Faults.{Stands, IsNoLine, IsGoodSoFar}
 use Rattle.fj_replay.specs.declared.fault.ReplayFault.{ReplayFault}
 use Rattle.fj_replay.specs.declared.fault.ReplayFault.TheVariants.{Line, Limits, Memory, Read, Write}
-use Rattle.fj_streams.specs.Beginnings.{AppendsSome}
-use Rattle.fj_replay.specs.Cuts.{lines, rest}
 use Rattle.fj_replay.specs.declared.script_stage.ScriptStage.{ScriptStage}
-use Rattle.fj_replay.specs.declared.script_stage.ScriptStage.TheVariants.{Start, Titled, Plays, Old, Rewrites}
-use Rattle.fj_replay.specs.Plays.{asked_in, is_title}
-use Rattle.fj_replay.specs.Scripts.{pool_of, stage_from, text_from, is_good, text, up, IsRun}
-
--- the line is not canonical at this stage: a heading must come first, or after `fj 2`, and then steps of that version. A script to
--- upgrade is of version 1
-abbrev pub IsFaulty : ScriptStage → List ℕ → Type 0
-IsFaulty Start line = (is_title line ≡ false) × (head_in line ≡ None)
-IsFaulty Titled line = head_in line ≡ None
-IsFaulty (Plays play) line = asked_in play.naming line ≡ None
-IsFaulty Old line = head_in line ≡ None
-IsFaulty (Rewrites past) line = step_in line ≡ None
-
--- no heading has come yet
-abbrev pub IsHeadless : ScriptStage → Type 0
-IsHeadless Start = Unit {0}
-IsHeadless Titled = Unit {0}
-IsHeadless (Plays play) = ⊥
-IsHeadless Old = Unit {0}
-IsHeadless (Rewrites past) = ⊥
-
--- the bytes are good so far, and have no heading
-abbrev pub LacksHeading : ScriptStage → List ℕ → Type 0
-LacksHeading first b = (stage : ScriptStage) × (stage_from first (lines b) ≡ Some stage) × IsHeadless stage
-
--- the line with this number is whole and faulty, and all before it are good
-pub record Stands (first : ScriptStage) (n : ℕ) (b : List ℕ) (before : List (List ℕ)) (line : List ℕ) (after : List (List ℕ)) : Type 0 where
-  pub stage : ScriptStage
-  pub cut : lines b ≡ before ++ line ∷ after
-  pub number : n ≡ length before + 1
-  pub good : stage_from first before ≡ Some stage
-  pub faulty : IsFaulty stage line
-
--- the line with this number has not ended, and all before it are good
-pub record IsUnended (first : ScriptStage) (n : ℕ) (b : List ℕ) : Type 0 where
-  pub number : n ≡ length (lines b) + 1
-  pub good : is_good first (lines b) ≡ true
+use Rattle.fj_replay.specs.declared.script_stage.ScriptStage.TheVariants.{Start, Old, Rewrites}
+use Rattle.fj_replay.specs.declared.script_stop.ScriptStop.TheVariants.{Faulty}
+use Rattle.fj_replay.specs.Stages.{IsHeadless, IsOutOfLimits, script_rules}
+use Rattle.fj_replay.specs.Scripts.{stage_from, text_from, is_good, text, up, IsRun}
 
 -- this line is the first that is faulty or that does not end: it is whole, or it is longer than any canonical line, or the
 -- input ends within it or before the heading
 abbrev pub IsFirstFault : ScriptStage → ℕ → List ℕ → Option (List ℕ) → Type 0
-IsFirstFault first n b ahead =
-    ((before : List (List ℕ)) × (line : List ℕ) × (after : List (List ℕ)) × Stands first n b before line after)
-    ⊎ (IsUnended first n b × ((MAX_LINE2 < length (rest b)) ⊎ (IsAtEnd ahead × ((rest b ≢ []) ⊎ LacksHeading first b))))
-
--- the line is a heading with a limit out of its range
-abbrev pub IsOutOfLimits : List ℕ → Type 0
-IsOutOfLimits line = (head : Mode × List ℕ) × (head_in line ≡ Some head) × (pool_of head ≡ None)
+IsFirstFault first n b ahead = Stands script_rules first n Faulty b ⊎ IsNoLine script_rules first n b ahead
 
 -- the heading has a limit out of its range
 abbrev pub OpensOutOfLimits : ScriptStage → List (List ℕ) → Type 0
@@ -65,41 +24,18 @@ OpensOutOfLimits first ls =
     (before : List (List ℕ)) × (line : List ℕ) × (after : List (List ℕ)) × (stage : ScriptStage)
     × (ls ≡ before ++ line ∷ after) × (stage_from first before ≡ Some stage) × IsHeadless stage × IsOutOfLimits line
 
--- so far all is good: the whole lines are canonical, the heading is within the limits, and the present line is not too long
-pub record IsGoodSoFar (first : ScriptStage) (b : List ℕ) : Type 0 where
-  pub good : is_good first (lines b) ≡ true
-  pub short : length (rest b) ≤ MAX_LINE2
-
 -- what a fault says of the bytes that were read, of those ahead, and of what was written
 abbrev pub FaultOf : ScriptStage → ReplayFault → List ℕ → Option (List ℕ) → Option (List ℕ) → Option (List ℕ) → Type 0
 FaultOf first (Line n) b ahead start now = IsFirstFault first n b ahead × Appends start now (text_from first (lines b))
 FaultOf first Limits b ahead start now = OpensOutOfLimits first (lines b) × Appends start now []
 FaultOf first Memory b ahead start now = AppendsSome start now (text_from first (lines b))
-FaultOf first Read b ahead start now = IsGoodSoFar first b × Appends start now (text_from first (lines b))
+FaultOf first Read b ahead start now = IsGoodSoFar script_rules first b × Appends start now (text_from first (lines b))
 FaultOf first Write b ahead start now = AppendsSome start now (text_from first (lines b))
 
 -- the work on these bytes ended by this fault
 pub record EndsFrom (first : ScriptStage) (fault : ReplayFault) (b : List ℕ) (before ahead start now : Option (List ℕ)) : Type 0 where
   pub read : Consumes before ahead b
   pub means : FaultOf first fault b ahead start now
-
--- the lines are good and have a heading, and nothing follows the last line feed
-pub record IsWhole (first : ScriptStage) (b : List ℕ) : Type 0 where
-  pub stage : ScriptStage
-  pub good : stage_from first (lines b) ≡ Some stage
-  pub headed : IsHeadless stage → ⊥
-  pub ended : rest b ≡ []
-
--- these bytes are the whole input and whole, and their text was written
-pub record IsFinished (first : ScriptStage) (b : List ℕ) (before ahead start now : Option (List ℕ)) : Type 0 where
-  pub read : Consumes before ahead b
-  pub whole : IsAtEnd ahead
-  pub script : IsWhole first b
-  pub written : Appends start now (text_from first (lines b))
-
--- the same of some bytes
-abbrev pub Finishes : ScriptStage → Option (List ℕ) → Option (List ℕ) → Option (List ℕ) → Option (List ℕ) → Type 0
-Finishes first before ahead start now = (b : List ℕ) × IsFinished first b before ahead start now
 
 -- ---- a replay
 

@@ -1,10 +1,12 @@
+pub use Rattle.fj_filter.specs.Cuts
 pub mod Counted
-pub mod Cuts
 pub mod Namings
 pub mod Plays
 pub mod TaskNames
+pub mod Stages
+pub mod LongLines
 pub mod Scripts
 pub mod Faults
 pub mod Upgrades
 pub mod Tells
-pub mod Sessions
+pub mod Stops

@@ -3,104 +3,41 @@
 --
 -- A script is of version 2, in which tasks have names, where its first line is `fj 2`: its heading is the second line, and in one of
 -- version 1 the first.
-use Rattle.std.specs.Prelude.{ℕ, Bool, false, ◌≡◌, ◌&&◌, nat_le, if◌then◌else◌, List, [], ◌∷◌, ◌++◌, Option, Some, None, is_some, option_map, slice_index}
-use Rattle.std.specs.Option.{option_and_then, option_map_or}
-use Rattle.fj_rules.specs.declared.limits.TheConstants.{MAX_WORKERS, MAX_SUBMITTERS, MAX_TASKS, MAX_EVENTS}
-use Rattle.fj_rules.specs.declared.mode.Mode.{Mode}
+use Rattle.std.specs.Prelude.{ℕ, Bool, false, ◌≡◌, List, [], ◌∷◌, ◌++◌, Option, Some, None}
 use Rattle.fj_rules.specs.declared.step.Step.{Step}
 use Rattle.fj_rules.specs.declared.said.Said.{Said}
 use Rattle.fj_rules.specs.declared.said.Said.TheVariants.{Task}
 use Rattle.fj_rules.specs.declared.event.Event.{Event}
 use Rattle.fj_rules.specs.Bounds.{Bounds, Pool}
 use Rattle.fj_rules.specs.Answers.{answer}
-use Rattle.fj_rules.specs.Tasks.{accepted}
-use Rattle.fj_rules.specs.Pasts.{Past, fresh, grown}
+use Rattle.fj_rules.specs.Pasts.{Past, grown}
 use Rattle.fj_rules.specs.Runs.{Runs}
 use Rattle.fj_rules.specs.Epochs.{IsPast}
-use Rattle.fj_lines.specs.Lines.{head_in, step_in, reply_line}
-use Rattle.fj_replay.specs.declared.task_naming.TaskNaming.{TaskNaming}
-use Rattle.fj_replay.specs.declared.task_naming.TaskNaming.TheVariants.{Numbers, Names}
+use Rattle.fj_lines.specs.Lines.{step_in, reply_line}
+use Rattle.fj_replay.specs.declared.task_naming.TaskNaming.TheVariants.{Names}
 use Rattle.fj_replay.specs.declared.asked.Asked.TheVariants.{Accept}
 use Rattle.fj_replay.specs.declared.replied.Replied.TheVariants.{Said as Says}
 use Rattle.fj_replay.specs.declared.script_stage.ScriptStage.{ScriptStage}
-use Rattle.fj_replay.specs.declared.script_stage.ScriptStage.TheVariants.{Start, Titled, Plays, Old, Rewrites}
-use Rattle.fj_replay.specs.Cuts.{lines}
+use Rattle.fj_replay.specs.declared.script_stage.ScriptStage.TheVariants.{Start, Plays, Old}
+use Rattle.fj_filter.specs.Cuts.{lines}
+use Rattle.fj_filter.specs.Rules.{state_from, text_from as written_from, is_good as is_allowed}
+use Rattle.fj_replay.specs.Stages.{script_rules, pool_in, start}
 use Rattle.fj_replay.specs.Namings.{AreNamesOf, StandsFor}
-use Rattle.fj_replay.specs.Plays.{Play, asked_in, play_after, replied, reply_text, moves_told, AreMoves, is_title}
-use Rattle.fj_replay.specs.TaskNames.{named_line, titled_head}
-
--- ---- headings
-
--- the limits by the four numbers of a heading
-abbrev pub limits_of : List ℕ → Bounds
-limits_of numbers = record {
-  workers = slice_index numbers 0;
-  submitters = slice_index numbers 1;
-  tasks = slice_index numbers 2;
-  events = slice_index numbers 3;
-}
-
--- whether each limit is in its range
-abbrev pub is_within : Bounds → Bool
-is_within l =
-    (nat_le 1 l.workers && nat_le l.workers MAX_WORKERS)
-    && ((nat_le 1 l.submitters && nat_le l.submitters MAX_SUBMITTERS)
-    && ((nat_le 1 l.tasks && nat_le l.tasks MAX_TASKS) && (nat_le 1 l.events && nat_le l.events MAX_EVENTS)))
-
--- the pool of a heading, if its limits are in their ranges
-abbrev pub pool_of : Mode × List ℕ → Option Pool
-pool_of head = if is_within (limits_of head.1) then Some (record { mode = head.0; limits = limits_of head.1 }) else None
-
--- the pool of a line, if the line is a heading whose limits are in their ranges
-abbrev pub pool_in : List ℕ → Option Pool
-pool_in line = option_and_then pool_of (head_in line)
-
--- a new pool
-abbrev pub start : Pool → Past
-start p = fresh p.mode p.limits
+use Rattle.fj_replay.specs.Plays.{Play, asked_in, replied, moves_told, AreMoves, is_title}
 
 -- ---- from line to line
 
--- at its steps, where the heading has a pool
-abbrev pub opened : TaskNaming → Option Pool → Option ScriptStage
-opened naming None = None
-opened naming (Some p) = Some (Plays (record { past = start p; naming = naming }))
-
--- at the steps of a script that is written as version 2, where the heading has a pool
-abbrev pub rewriting : Option Pool → Option ScriptStage
-rewriting None = None
-rewriting (Some p) = Some (Rewrites (start p))
-
--- the stage after one more line, if this line is allowed there
-abbrev pub stage_after : ScriptStage → List ℕ → Option ScriptStage
-stage_after Start line = if is_title line then Some Titled else opened Numbers (pool_in line)
-stage_after Titled line = opened (Names []) (pool_in line)
-stage_after (Plays play) line = option_map (λ asked. Plays (play_after play asked)) (asked_in play.naming line)
-stage_after Old line = rewriting (pool_in line)
-stage_after (Rewrites past) line = option_map (λ asked. Rewrites (grown past (answer past asked).1)) (step_in line)
-
--- what is written at the line: the reply to it, or the line in version 2, where the task that it may accept is named by the number of
--- tasks accepted before
-abbrev pub line_text : ScriptStage → List ℕ → List ℕ
-line_text Start line = []
-line_text Titled line = []
-line_text (Plays play) line = option_map_or (λ asked. reply_text play asked) (asked_in play.naming line) []
-line_text Old line = titled_head line
-line_text (Rewrites past) line = option_map_or (λ asked. named_line (accepted past.events) asked) (step_in line) []
-
 -- the stage after these lines, if each of them is allowed where it is
 abbrev pub stage_from : ScriptStage → List (List ℕ) → Option ScriptStage
-stage_from stage [] = Some stage
-stage_from stage (line ∷ later) = option_and_then (λ next. stage_from next later) (stage_after stage line)
+stage_from first ls = state_from script_rules first ls
 
 -- what is written at these lines, up to the first that is not allowed where it is
 abbrev pub text_from : ScriptStage → List (List ℕ) → List ℕ
-text_from stage [] = []
-text_from stage (line ∷ later) = option_map_or (λ next. line_text stage line ++ text_from next later) (stage_after stage line) []
+text_from first ls = written_from script_rules first ls
 
 -- whether each of the lines is allowed where it is
 abbrev pub is_good : ScriptStage → List (List ℕ) → Bool
-is_good first ls = is_some (stage_from first ls)
+is_good first ls = is_allowed script_rules first ls
 
 -- ---- from bytes to bytes
 

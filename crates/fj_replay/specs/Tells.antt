@@ -1,21 +1,14 @@
 -- What a fault says of the calls of the reader and of the writer.
+pub use Rattle.fj_filter.specs.Tells.{Seen, seen}
 use Rattle.std.specs.Prelude.{ℕ, ◌-◌, ◌^◌, ◌≤◌, ◌⊎◌, List, Option, length}
 use Rattle.fj_streams.specs.Calls.{Calls, HasFailed, IsFine}
+use Rattle.fj_filter.specs.declared.read_loop.TheConstants.{CHUNK}
+use Rattle.fj_filter.specs.Cuts.{lines}
 use Rattle.fj_replay.specs.declared.fault.ReplayFault.{ReplayFault}
 use Rattle.fj_replay.specs.declared.fault.ReplayFault.TheVariants.{Line, Limits, Memory, Read, Write}
-use Rattle.fj_replay.specs.declared.session.TheConstants.{CHUNK}
-use Rattle.fj_replay.specs.Cuts.{lines}
 use Rattle.fj_replay.specs.declared.script_stage.ScriptStage.{ScriptStage}
 use Rattle.fj_replay.specs.declared.script_stage.ScriptStage.TheVariants.{Start, Old}
 use Rattle.fj_replay.specs.Faults.{EndsFrom}
-
--- what a fault says of the writer: it failed only at `Write`
-abbrev pub WriterTells : ReplayFault → Option Calls → Option Calls → Type 0
-WriterTells (Line n) old new = IsFine old new
-WriterTells Limits old new = IsFine old new
-WriterTells Memory old new = IsFine old new
-WriterTells Read old new = ⊥
-WriterTells Write old new = HasFailed old new
 
 -- what a fault says of the reader, of which these bytes were read, and of the writer: the reader failed only at `Read`, the writer only
 -- at `Write`. More lines than 64 bits count are `Read` too.
@@ -25,17 +18,6 @@ FaultTells Limits b read now written after = IsFine read now × IsFine written a
 FaultTells Memory b read now written after = IsFine read now × IsFine written after
 FaultTells Read b read now written after = (HasFailed read now ⊎ (2 ^ 64 - 1 - CHUNK ≤ length (lines b))) × IsFine written after
 FaultTells Write b read now written after = IsFine read now × HasFailed written after
-
--- what contracts see of a reader or a writer: its bytes and its calls, before and after
-pub record Seen : Type 0 where
-  pub bytes : Option (List ℕ)
-  pub bytes_after : Option (List ℕ)
-  pub calls : Option Calls
-  pub calls_after : Option Calls
-
--- the same by functions for bytes and calls
-abbrev pub seen : {A : Type 0} → (A → Option (List ℕ)) → (A → Option Calls) → A → A → Seen
-seen bytes calls old new = record { bytes = bytes old; bytes_after = bytes new; calls = calls old; calls_after = calls new }
 
 -- some bytes were read, and the work on them ended by this fault, which also says which calls failed
 abbrev pub StopsFrom : ScriptStage → Seen → Seen → ReplayFault → Type 0

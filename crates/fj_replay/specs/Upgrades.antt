@@ -9,10 +9,11 @@ use Rattle.fj_lines.specs.Replies.{reply_words}
 use Rattle.fj_rules.specs.Tasks.{accepted}
 use Rattle.fj_rules.specs.Pasts.{Past, grown}
 use Rattle.fj_rules.specs.Answers.{answer}
-use Rattle.fj_replay.specs.Cuts.{lines}
+use Rattle.fj_filter.specs.Cuts.{lines}
 use Rattle.fj_replay.specs.Namings.{task_told, words_by}
 use Rattle.fj_replay.specs.TaskNames.{task_name, named_line, titled_head}
-use Rattle.fj_replay.specs.Scripts.{pool_in, start, steps_of, replies, text, up}
+use Rattle.fj_replay.specs.Scripts.{steps_of, replies, text, up}
+use Rattle.fj_replay.specs.Stages.{pool_in, start}
 use Rattle.fj_replay.specs.Faults.{IsOldScript}
 
 -- ---- the script

@@ -9,7 +9,6 @@
 
 mod asked;
 mod fault;
-mod in_memory;
 mod named_step;
 mod names;
 mod opening;
@@ -17,14 +16,13 @@ mod replay_script;
 mod replied;
 mod responder;
 mod rewriter;
-mod script_loop;
+mod script_run;
 mod script_stage;
-mod session;
+mod script_stop;
 mod task_naming;
 mod task_told;
 mod title;
 mod upgrade_script;
-mod writing;
 
 pub use fault::ReplayFault;
 pub use replay_script::{replay, replayed};

@@ -2,16 +2,16 @@
 ghost use Rattle.std.specs.Prelude.{◌≡◌, ◌≢◌, ℕ, OnOk, IfOk, IfErr, List, [], Option, Some, false};
 ghost use Rattle.fj_streams.specs.Calls.{IsFine};
 ghost use Rattle.fj_replay.specs.Tells.{Stops, seen};
-ghost use Rattle.fj_replay.specs.Cuts.{lines};
+ghost use Rattle.fj_filter.specs.Cuts.{lines};
 ghost use Rattle.fj_replay.specs.Scripts.{AreRun, KeepsNames, MakesMoves, NamesTasks, is_titled, numbered_text, text};
 ghost use Rattle.fj_replay.specs.Faults.{IsScript, Replays, Ends};
 ghost use Rattle.fj_rules.specs.Bounds.{Pool};
 ghost use Rattle.fj_rules.specs.declared.step.Step.{Step};
 
 use crate::fault::ReplayFault;
-use crate::in_memory::InMemory;
-use crate::script_loop::run;
+use crate::script_run::run;
 use crate::script_stage::ScriptStage;
+use fj_filter::InMemory;
 use fj_streams::{Sink, Source};
 use std::alloc::Global;
 

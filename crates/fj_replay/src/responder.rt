@@ -2,20 +2,20 @@ ghost use Rattle.std.specs.Prelude.{◌≡◌, Some, OnOk, OnErr, IfOk, IfErr};
 ghost use Rattle.std.specs.Io.KnownBytes.{Appends};
 ghost use Rattle.fj_lines.specs.Words.{Reads};
 ghost use Rattle.fj_streams.specs.Calls.{IsFine};
-ghost use Rattle.fj_replay.specs.Tells.{WriterTells};
+ghost use Rattle.fj_filter.specs.Tells.{WriterTells};
 ghost use Rattle.fj_streams.specs.Beginnings.{AppendsSome};
 ghost use Rattle.fj_replay.specs.Namings.{replied_line};
 ghost use Rattle.fj_replay.specs.Plays.{asked_in, play_after, replied, reply_text};
-ghost use Rattle.fj_replay.specs.Scripts.{pool_in, start};
-ghost use Rattle.fj_replay.specs.Sessions.{IsHeadFault, IsReplyFault};
+ghost use Rattle.fj_replay.specs.Stages.{pool_in, start};
+ghost use Rattle.fj_replay.specs.Stops.{IsHeadStop, IsCutOff};
 
 use crate::asked::Asked;
-use crate::fault::ReplayFault;
 use crate::opening::open;
 use crate::replied::Replied;
+use crate::script_stop::ScriptStop;
 use crate::task_naming::TaskNaming;
 use crate::task_told::is_task;
-use crate::writing::write_all;
+use fj_filter::{LineStop, write_all};
 use fj_lines::{LineFault, Name};
 use fj_machine::Machine;
 use fj_rules::{Limits, OutOfMemory, Refusal, Said, Step};
@@ -45,20 +45,19 @@ impl Model for Responder {
 }
 
 impl Responder {
-    /// A new machine by the heading, which is line `number`. `Line` where it is no heading, `Limits` where a limit is out of its range,
-    /// `Memory` where out of memory.
+    /// A new machine by the heading. `Faulty` where it is no heading, `Limits` where a limit is out of its range, `Memory` where out of
+    /// memory.
     pub fn open(
         alloc: Global,
         heading: &[u8],
-        number: u64,
         naming: TaskNaming,
-    ) -> Result<Responder, ReplayFault>
+    ) -> Result<Responder, LineStop<ScriptStop>>
         ensures pool { IfOk result (λ r. pool_in heading.now ≡ Some r.past.pool) }
         ensures fresh { IfOk result (λ r. r.past ≡ start r.past.pool) }
         ensures naming { IfOk result (λ r. r.naming ≡ naming) }
-        ensures err { IfErr result (λ fault. IsHeadFault fault number heading.now) }
+        ensures err { IfErr result (IsHeadStop heading.now) }
     {
-        let machine = open(alloc, heading, number)?;
+        let machine = open(alloc, heading)?;
         let limits = machine.limits();
         Ok(Responder {
             machine,
@@ -81,17 +80,17 @@ impl Responder {
         alloc: Global,
         asked: Asked,
         w: &mut W,
-    ) -> Result<(), ReplayFault>
+    ) -> Result<(), LineStop<ScriptStop>>
         ensures play { OnOk result (self.new ≡ play_after self.old asked) }
         ensures written { OnOk result (Appends (W.contents w.old) (W.contents w.new) (reply_text self.old asked)) }
-        ensures err { IfErr result (λ fault. IsReplyFault fault) }
+        ensures err { IfErr result IsCutOff }
         ensures fine { OnOk result (IsFine (W.calls w.old) (W.calls w.new)) }
         ensures told { IfErr result (λ fault. WriterTells fault (W.calls w.old) (W.calls w.new)) }
         ensures some { OnErr result (AppendsSome (W.contents w.old) (W.contents w.new) (reply_text self.old asked)) }
     {
         match self.make(alloc, asked) {
             Ok(reply) => self.write(reply, w),
-            Err(_) => Err(ReplayFault::Memory),
+            Err(_) => Err(LineStop::Memory),
         }
     }
 
@@ -141,10 +140,10 @@ impl Responder {
     }
 
     /// Writes a reply. At `Memory` or `Write` only a part of it, or nothing, was written.
-    fn write<W: Sink>(&mut self, reply: Replied, w: &mut W) -> Result<(), ReplayFault>
+    fn write<W: Sink>(&mut self, reply: Replied, w: &mut W) -> Result<(), LineStop<ScriptStop>>
         ensures same { self.new ≡ self.old }
         ensures written { OnOk result (Appends (W.contents w.old) (W.contents w.new) (replied_line self.old.naming self.old.past.pool.limits reply)) }
-        ensures err { IfErr result (λ fault. IsReplyFault fault) }
+        ensures err { IfErr result IsCutOff }
         ensures fine { OnOk result (IsFine (W.calls w.old) (W.calls w.new)) }
         ensures told { IfErr result (λ fault. WriterTells fault (W.calls w.old) (W.calls w.new)) }
         ensures some { OnErr result (AppendsSome (W.contents w.old) (W.contents w.new) (replied_line self.old.naming self.old.past.pool.limits reply)) }
@@ -152,7 +151,7 @@ impl Responder {
         self.line.clear();
         match self.naming.push_line(reply, &self.limits, &mut self.line) {
             Ok(()) => write_all(w, self.line.as_bytes()),
-            Err(_) => Err(ReplayFault::Memory),
+            Err(_) => Err(LineStop::Memory),
         }
     }
 }

@@ -6,15 +6,15 @@ ghost use Rattle.fj_rules.specs.Tasks.{accepted};
 ghost use Rattle.fj_streams.specs.Calls.{IsFine};
 ghost use Rattle.fj_streams.specs.Beginnings.{AppendsSome};
 ghost use Rattle.fj_replay.specs.TaskNames.{named_line};
-ghost use Rattle.fj_replay.specs.Tells.{WriterTells};
-ghost use Rattle.fj_replay.specs.Scripts.{pool_in, start};
-ghost use Rattle.fj_replay.specs.Sessions.{IsHeadFault, IsReplyFault};
+ghost use Rattle.fj_filter.specs.Tells.{WriterTells};
+ghost use Rattle.fj_replay.specs.Stages.{pool_in, start};
+ghost use Rattle.fj_replay.specs.Stops.{IsHeadStop, IsCutOff};
 
-use crate::fault::ReplayFault;
 use crate::named_step::push_named;
 use crate::opening::open;
+use crate::script_stop::ScriptStop;
 use crate::task_told::is_task;
-use crate::writing::write_all;
+use fj_filter::{LineStop, write_all};
 use fj_machine::Machine;
 use fj_rules::Step;
 use fj_streams::Sink;
@@ -44,14 +44,14 @@ impl Model for Rewriter {
 }
 
 impl Rewriter {
-    /// A new machine by the heading, which is line `number`. `Line` where it is no heading, `Limits` where a limit is out of its range,
-    /// `Memory` where out of memory.
-    pub fn open(alloc: Global, heading: &[u8], number: u64) -> Result<Rewriter, ReplayFault>
+    /// A new machine by the heading. `Faulty` where it is no heading, `Limits` where a limit is out of its range, `Memory` where out of
+    /// memory.
+    pub fn open(alloc: Global, heading: &[u8]) -> Result<Rewriter, LineStop<ScriptStop>>
         ensures pool { IfOk result (λ r. pool_in heading.now ≡ Some r.pool) }
         ensures fresh { IfOk result (λ r. r ≡ start r.pool) }
-        ensures err { IfErr result (λ fault. IsHeadFault fault number heading.now) }
+        ensures err { IfErr result (IsHeadStop heading.now) }
     {
-        let machine = open(alloc, heading, number)?;
+        let machine = open(alloc, heading)?;
         Ok(Rewriter {
             machine,
             count: 0,
@@ -60,10 +60,10 @@ impl Rewriter {
     }
 
     /// Writes a step's line of version 2, and makes the step. At `Memory` or `Write` only a part of the line, or nothing, was written.
-    pub fn rewrite<W: Sink>(&mut self, asked: &Step, w: &mut W) -> Result<(), ReplayFault>
+    pub fn rewrite<W: Sink>(&mut self, asked: &Step, w: &mut W) -> Result<(), LineStop<ScriptStop>>
         ensures past { OnOk result (self.new ≡ grown self.old (answer self.old asked.now).1) }
         ensures written { OnOk result (Appends (W.contents w.old) (W.contents w.new) (named_line (accepted self.old.events) asked.now)) }
-        ensures err { IfErr result (λ fault. IsReplyFault fault) }
+        ensures err { IfErr result IsCutOff }
         ensures fine { OnOk result (IsFine (W.calls w.old) (W.calls w.new)) }
         ensures told { IfErr result (λ fault. WriterTells fault (W.calls w.old) (W.calls w.new)) }
         ensures some { OnErr result (AppendsSome (W.contents w.old) (W.contents w.new) (named_line (accepted self.old.events) asked.now)) }
@@ -78,10 +78,10 @@ impl Rewriter {
     }
 
     /// Writes a step's line of version 2, as `rewrite`.
-    fn write<W: Sink>(&mut self, asked: &Step, w: &mut W) -> Result<(), ReplayFault>
+    fn write<W: Sink>(&mut self, asked: &Step, w: &mut W) -> Result<(), LineStop<ScriptStop>>
         ensures same { self.new ≡ self.old }
         ensures written { OnOk result (Appends (W.contents w.old) (W.contents w.new) (named_line (accepted self.old.events) asked.now)) }
-        ensures err { IfErr result (λ fault. IsReplyFault fault) }
+        ensures err { IfErr result IsCutOff }
         ensures fine { OnOk result (IsFine (W.calls w.old) (W.calls w.new)) }
         ensures told { IfErr result (λ fault. WriterTells fault (W.calls w.old) (W.calls w.new)) }
         ensures some { OnErr result (AppendsSome (W.contents w.old) (W.contents w.new) (named_line (accepted self.old.events) asked.now)) }
@@ -89,7 +89,7 @@ impl Rewriter {
         self.line.clear();
         match push_named(asked, self.count, &mut self.line) {
             Ok(()) => write_all(w, self.line.as_bytes()),
-            Err(_) => Err(ReplayFault::Memory),
+            Err(_) => Err(LineStop::Memory),
         }
     }
 

@@ -1,18 +1,21 @@
 ghost use Rattle.std.specs.Prelude.{◌≡◌, Some, OnOk, IfOk, IfErr, false};
 ghost use Rattle.std.specs.Io.KnownBytes.{Appends};
 ghost use Rattle.fj_streams.specs.Calls.{IsFine};
-ghost use Rattle.fj_replay.specs.Tells.{WriterTells};
+ghost use Rattle.fj_filter.specs.Faults.{StopsAtLine};
+ghost use Rattle.fj_filter.specs.Tells.{WriterTells};
 ghost use Rattle.fj_replay.specs.Plays.{is_title};
-ghost use Rattle.fj_replay.specs.Scripts.{stage_after, line_text};
-ghost use Rattle.fj_replay.specs.Sessions.{IsHeadFault, FaultAtEnd};
+ghost use Rattle.fj_replay.specs.Stages.{stage_after, line_text, script_rules};
+ghost use Rattle.fj_replay.specs.LongLines.{too_long};
+ghost use Rattle.fj_replay.specs.Stops.{IsHeadStop};
 
-use crate::fault::ReplayFault;
 use crate::names::Names;
 use crate::responder::Responder;
 use crate::rewriter::Rewriter;
+use crate::script_stop::ScriptStop;
 use crate::task_naming::TaskNaming;
 use crate::title::{is_title, write_head};
-use fj_lines::read_step;
+use fj_filter::{LineFilter, LineStop};
+use fj_lines::{MAX_LINE2, read_step};
 use fj_streams::Sink;
 use std::alloc::Global;
 
@@ -31,53 +34,65 @@ pub enum ScriptStage {
     Rewrites(Rewriter),
 }
 
-impl ScriptStage {
-    /// Handles the next line, with this number. A replay writes nothing at `fj 2` and at a heading, and the reply at any other line; an
-    /// upgrade writes the line in version 2.
-    pub fn advance<W: Sink>(
+impl LineFilter for ScriptStage {
+    type Stop = ScriptStop;
+
+    ghost rules = { script_rules };
+
+    ghost too_long = { too_long };
+
+    fn longest() -> usize {
+        MAX_LINE2
+    }
+
+    /// Handles the next line. A replay writes nothing at `fj 2` and at a heading, and the reply at any other line; an upgrade writes the
+    /// line in version 2.
+    fn advance<W: Sink>(
         &mut self,
         alloc: Global,
         line: &[u8],
-        number: u64,
         w: &mut W,
-    ) -> Result<(), ReplayFault>
-        ensures next { OnOk result (stage_after self.old line.now ≡ Some self.new) }
-        ensures wrote { OnOk result (Appends (W.contents w.old) (W.contents w.new) (line_text self.old line.now)) }
-        ensures err { IfErr result (λ fault. FaultAtEnd fault number self.old line.now (W.contents w.old) (W.contents w.new)) }
-        ensures fine { OnOk result (IsFine (W.calls w.old) (W.calls w.new)) }
-        ensures told { IfErr result (λ fault. WriterTells fault (W.calls w.old) (W.calls w.new)) }
-    {
+    ) -> Result<(), LineStop<ScriptStop>> {
         match self {
-            ScriptStage::Start => self.begin(alloc, line, number),
-            ScriptStage::Titled => self.open(alloc, line, number),
+            ScriptStage::Start => self.begin(alloc, line),
+            ScriptStage::Titled => self.open(alloc, line),
             ScriptStage::Plays(responder) => match responder.read(line) {
                 Ok(asked) => responder.reply(alloc, asked, w),
-                Err(_) => Err(ReplayFault::Line(number)),
+                Err(_) => Err(LineStop::Stop(ScriptStop::Faulty)),
             },
-            ScriptStage::Old => self.rewrite_head(alloc, line, number, w),
+            ScriptStage::Old => self.rewrite_head(alloc, line, w),
             ScriptStage::Rewrites(rewriter) => {
                 let Ok(asked) = read_step(line) else {
-                    return Err(ReplayFault::Line(number));
+                    return Err(LineStop::Stop(ScriptStop::Faulty));
                 };
                 rewriter.rewrite(&asked, w)
             }
         }
     }
 
+    fn has_heading(&self) -> bool {
+        match self {
+            ScriptStage::Start | ScriptStage::Titled | ScriptStage::Old => false,
+            ScriptStage::Plays(_) | ScriptStage::Rewrites(_) => true,
+        }
+    }
+}
+
+impl ScriptStage {
     // Each call clears its frame, so the new stages of the three below, which a script makes once, are kept out of that of `advance`.
 
     /// Handles the first line, at `Start`.
     #[cold]
     #[inline(never)]
-    fn begin(&mut self, alloc: Global, line: &[u8], number: u64) -> Result<(), ReplayFault>
+    fn begin(&mut self, alloc: Global, line: &[u8]) -> Result<(), LineStop<ScriptStop>>
         ensures next { OnOk result (stage_after ScriptStage.Start line.now ≡ Some self.new) }
-        ensures err { IfErr result (λ fault. (is_title line.now ≡ false) × IsHeadFault fault number line.now) }
+        ensures err { IfErr result (λ stop. (is_title line.now ≡ false) × IsHeadStop line.now stop) }
     {
         if is_title(line) {
             *self = ScriptStage::Titled;
             return Ok(());
         }
-        let responder = Responder::open(alloc, line, number, TaskNaming::Numbers)?;
+        let responder = Responder::open(alloc, line, TaskNaming::Numbers)?;
         *self = ScriptStage::Plays(responder);
         Ok(())
     }
@@ -85,12 +100,12 @@ impl ScriptStage {
     /// Handles the heading, at `Titled`.
     #[cold]
     #[inline(never)]
-    fn open(&mut self, alloc: Global, line: &[u8], number: u64) -> Result<(), ReplayFault>
+    fn open(&mut self, alloc: Global, line: &[u8]) -> Result<(), LineStop<ScriptStop>>
         ensures next { OnOk result (stage_after ScriptStage.Titled line.now ≡ Some self.new) }
-        ensures err { IfErr result (λ fault. IsHeadFault fault number line.now) }
+        ensures err { IfErr result (IsHeadStop line.now) }
     {
         let names = Names::new(alloc);
-        let responder = Responder::open(alloc, line, number, TaskNaming::Names(names))?;
+        let responder = Responder::open(alloc, line, TaskNaming::Names(names))?;
         *self = ScriptStage::Plays(responder);
         Ok(())
     }
@@ -102,16 +117,15 @@ impl ScriptStage {
         &mut self,
         alloc: Global,
         line: &[u8],
-        number: u64,
         w: &mut W,
-    ) -> Result<(), ReplayFault>
+    ) -> Result<(), LineStop<ScriptStop>>
         ensures next { OnOk result (stage_after ScriptStage.Old line.now ≡ Some self.new) }
         ensures wrote { OnOk result (Appends (W.contents w.old) (W.contents w.new) (line_text ScriptStage.Old line.now)) }
-        ensures err { IfErr result (λ fault. FaultAtEnd fault number ScriptStage.Old line.now (W.contents w.old) (W.contents w.new)) }
+        ensures err { IfErr result (λ stop. StopsAtLine script_rules ScriptStage.Old line.now stop (W.contents w.old) (W.contents w.new)) }
         ensures fine { OnOk result (IsFine (W.calls w.old) (W.calls w.new)) }
-        ensures told { IfErr result (λ fault. WriterTells fault (W.calls w.old) (W.calls w.new)) }
+        ensures told { IfErr result (λ stop. WriterTells stop (W.calls w.old) (W.calls w.new)) }
     {
-        let rewriter = Rewriter::open(alloc, line, number)?;
+        let rewriter = Rewriter::open(alloc, line)?;
         *self = ScriptStage::Rewrites(rewriter);
         write_head(alloc, line, w)
     }

@@ -2,13 +2,13 @@ ghost use Rattle.std.specs.Prelude.{◌≡◌, OnOk, OnErr, IfOk, IfErr};
 ghost use Rattle.std.specs.Io.KnownBytes.{Appends};
 ghost use Rattle.fj_streams.specs.Calls.{IsFine};
 ghost use Rattle.fj_streams.specs.Beginnings.{AppendsSome};
-ghost use Rattle.fj_replay.specs.Sessions.{IsReplyFault};
+ghost use Rattle.fj_replay.specs.Stops.{IsCutOff};
 ghost use Rattle.fj_replay.specs.TaskNames.{titled_head};
-ghost use Rattle.fj_replay.specs.Tells.{WriterTells};
+ghost use Rattle.fj_filter.specs.Tells.{WriterTells};
 ghost use Rattle.fj_replay.specs.Plays.{is_title};
 
-use crate::fault::ReplayFault;
-use crate::writing::write_all;
+use crate::script_stop::ScriptStop;
+use fj_filter::{LineStop, write_all};
 use fj_lines::LINE_FEED;
 use fj_streams::Sink;
 use std::alloc::{AllocError, Global};
@@ -22,16 +22,16 @@ pub fn is_title(line: &[u8]) -> bool
 
 /// Writes the first two lines of a script of version 2: `fj 2` and this heading. At `Memory` or `Write` only a part of them, or nothing,
 /// was written.
-pub fn write_head<W: Sink>(alloc: Global, heading: &[u8], w: &mut W) -> Result<(), ReplayFault>
+pub fn write_head<W: Sink>(alloc: Global, heading: &[u8], w: &mut W) -> Result<(), LineStop<ScriptStop>>
     ensures written { OnOk result (Appends (W.contents w.old) (W.contents w.new) (titled_head heading.now)) }
-    ensures err { IfErr result (λ fault. IsReplyFault fault) }
+    ensures err { IfErr result IsCutOff }
     ensures fine { OnOk result (IsFine (W.calls w.old) (W.calls w.new)) }
     ensures told { IfErr result (λ fault. WriterTells fault (W.calls w.old) (W.calls w.new)) }
     ensures some { OnErr result (AppendsSome (W.contents w.old) (W.contents w.new) (titled_head heading.now)) }
 {
     match titled(alloc, heading) {
         Ok(head) => write_all(w, head.as_slice()),
-        Err(_) => Err(ReplayFault::Memory),
+        Err(_) => Err(LineStop::Memory),
     }
 }
 

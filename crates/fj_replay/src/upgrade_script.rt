@@ -1,16 +1,16 @@
 //! The upgrade of a script to version 2, from a reader to a writer or in memory.
 ghost use Rattle.std.specs.Prelude.{◌≡◌, ◌≢◌, ℕ, OnOk, IfOk, IfErr, List, [], Option, Some, true, false};
 ghost use Rattle.fj_streams.specs.Calls.{IsFine};
-ghost use Rattle.fj_replay.specs.Cuts.{lines};
+ghost use Rattle.fj_filter.specs.Cuts.{lines};
 ghost use Rattle.fj_replay.specs.Tells.{StopsUpgrade, seen};
 ghost use Rattle.fj_replay.specs.Scripts.{is_titled, up};
 ghost use Rattle.fj_replay.specs.Faults.{EndsUpgrade, IsOldScript, Upgrades};
 ghost use Rattle.fj_replay.specs.Upgrades.{KeepsReplies, up_text, IsNotUpgraded};
 
 use crate::fault::ReplayFault;
-use crate::in_memory::InMemory;
-use crate::script_loop::run;
+use crate::script_run::run;
 use crate::script_stage::ScriptStage;
+use fj_filter::InMemory;
 use fj_streams::{Sink, Source};
 use std::alloc::Global;
 

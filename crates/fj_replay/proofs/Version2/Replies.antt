@@ -25,7 +25,7 @@ use Rattle.fj_replay.specs.declared.asked.Asked.TheVariants as ask
 use Rattle.fj_replay.specs.declared.replied.Replied.TheVariants.{Said as Says}
 use Rattle.fj_replay.specs.declared.script_stage.ScriptStage.{ScriptStage}
 use Rattle.fj_replay.specs.declared.script_stage.ScriptStage.TheVariants.{Start, Titled, Plays, Old, Rewrites}
-use Rattle.fj_replay.specs.Cuts.{cut, lines}
+use Rattle.fj_filter.specs.Cuts.{cut, lines}
 use Rattle.fj_replay.specs.Namings.{name_of, replied_line, task_told, words_by}
 use Rattle.fj_replay.specs.Plays.{Play, asked_in, asked_by, play_after, replied, reply_text, named_if, is_task}
 use Rattle.fj_replay.specs.TaskNames.{task_name, named_step, named_line, titled_head}
@@ -33,7 +33,8 @@ use Rattle.fj_lines.specs.Readings.{head_said}
 use Rattle.fj_lines.specs.Words.{joined as words_joined, words}
 use Rattle.fj_lines.specs.Replies.{reply_words}
 use Rattle.fj_lines.proofs.Reading.FeedLaws.{is_free}
-use Rattle.fj_replay.specs.Scripts.{stage_from, is_within, limits_of, pool_of, pool_in, start, rewriting, stage_after, line_text, text_from, text, up, before_those, steps_of, replies, joined, said, numbered_text, is_titled}
+use Rattle.fj_replay.specs.Scripts.{stage_from, text_from, text, up, before_those, steps_of, replies, joined, said, numbered_text, is_titled}
+use Rattle.fj_replay.specs.Stages.{is_within, limits_of, pool_of, pool_in, start, rewriting, stage_after, line_text}
 use Rattle.fj_replay.specs.Upgrades.{named_lines, up_by, up_text, called_line, called_lines, called_by, called_text, KeepsReplies, IsNotUpgraded}
 use Rattle.fj_replay.proofs.NameTables.{numbered_line}
 use Rattle.fj_replay.proofs.Stages.{text-line}

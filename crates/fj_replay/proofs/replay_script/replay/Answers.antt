@@ -6,7 +6,7 @@ use Rattle.fj_replay.proofs.Whole.{replays}
 use Rattle.fj_replay.proofs.replay_script.replay.Goals as goal
 
 pub returns-clause-ok : goal.returns-clause-ok
-returns-clause-ok g c = on_ok_weaker c.run.result (λ done. replays _ _ _ _ done) c.run.ensures.ok
+returns-clause-ok g c = on_ok_weaker c.run.result (λ done. replays done.0 _ _ _ _ done.1) c.run.ensures.ok
 
 pub returns-clause-numbered : goal.returns-clause-numbered
 returns-clause-numbered g c = text_numbered

@@ -4,7 +4,7 @@ use Rattle.fj_replay.proofs.Version2.Replies.{keeps_replies, not_upgraded, up_is
 use Rattle.fj_replay.proofs.upgrade_script.upgrade.Goals as goal
 
 pub returns-clause-ok : goal.returns-clause-ok
-returns-clause-ok g c = on_ok_weaker c.run.result (λ done. upgrades _ _ _ _ done) c.run.ensures.ok
+returns-clause-ok g c = on_ok_weaker c.run.result (λ done. upgrades done.0 _ _ _ _ done.1) c.run.ensures.ok
 
 pub returns-clause-replies : goal.returns-clause-replies
 returns-clause-replies g c = keeps_replies

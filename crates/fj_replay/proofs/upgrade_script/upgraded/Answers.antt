@@ -1,7 +1,7 @@
 use Rattle.std.proofs.Common.{rules, ◌≢◌}
 use Rattle.fj_replay.specs.declared.fault.ReplayFault.TheVariants.{Write}
-use Rattle.fj_replay.proofs.CallsTold.{never_read}
-use Rattle.fj_replay.proofs.FaultsFound.{ends_in_memory, write_is_memory}
+use Rattle.fj_replay.proofs.NeverRead.{never_read}
+use Rattle.fj_replay.proofs.Ends.{ends_in_memory, write_is_memory}
 use Rattle.fj_replay.proofs.upgrade_script.upgraded.Goals as goal
 
 pub returns-in-Err-Write-clause-err : goal.returns-in-Err-Write-clause-err
