@@ -4,7 +4,7 @@ use Rattle.fj_trees.specs.declared.tree_fault.TreeFault.{TreeFault}
 use Rattle.fj_trees.specs.declared.tree_fault.TreeFault.TheVariants.{Line, Memory, Read}
 use Rattle.fj_cli.specs.declared.command_line.options.RangeOptions.{RangeOptions}
 use Rattle.fj_cli.specs.declared.command_line.Subcommand.{Subcommand}
-use Rattle.fj_cli.specs.declared.command_line.Subcommand.TheVariants.{Replay, Upgrade, Sum, Min, Find, Tree}
+use Rattle.fj_cli.specs.declared.command_line.Subcommand.TheVariants.{Replay, Upgrade, Sum, Min, Find, Tree, Check}
 use Rattle.fj_cli.specs.Answers.{EndsRange, EndsTree, status_of_fault}
 use Rattle.fj_cli.specs.Statuses.{EndsCommand, EndsReplay}
 use Rattle.fj_replay.specs.Faults.{Replays}
@@ -14,10 +14,10 @@ abbrev IsOfCommand : ℕ → Type 0
 IsOfCommand status = (status ≡ 0) ⊎ ((status ≡ 3) ⊎ ((status ≡ 4) ⊎ (status ≡ 5)))
 
 abbrev pub IsOfProgram : ℕ → Type 0
-IsOfProgram status = (status ≡ 0) ⊎ ((status ≡ 2) ⊎ ((status ≡ 3) ⊎ ((status ≡ 4) ⊎ (status ≡ 5))))
+IsOfProgram status = (status ≡ 0) ⊎ ((status ≡ 1) ⊎ ((status ≡ 2) ⊎ ((status ≡ 3) ⊎ ((status ≡ 4) ⊎ (status ≡ 5)))))
 
 with_two : (status : ℕ) → IsOfCommand status → IsOfProgram status
-with_two status known = ⊎_elim (λ zero. inl zero) (λ others. inr (inr others)) known
+with_two status known = ⊎_elim (λ zero. inl zero) (λ others. inr (inr (inr others))) known
 
 not_two : (status : ℕ) → IsOfCommand status → status ≢ 2
 not_two status known two = ⊎_elim (λ a. omega (arith, a, two)) (⊎_elim (λ b. omega (arith, b, two)) (⊎_elim (λ c. omega (arith, c, two)) (λ d. omega (arith, d, two)))) known
@@ -29,7 +29,7 @@ of_fault Read = inr (inr (inr refl))
 
 module _ (status : ℕ) (before ahead start now : Option (List ℕ)) where
   of_range : (o : RangeOptions) (line : List ℕ) → EndsRange o status line start now → IsOfProgram status
-  of_range o line ends = ⊎_elim (λ many. inr (inl many.1)) (λ few. with_two status few.1.known) ends
+  of_range o line ends = ⊎_elim (λ many. inr (inr (inl many.1))) (λ few. with_two status few.1.known) ends
 
   of_tree : EndsTree status before ahead start now → IsOfCommand status
   of_tree ends = ⊎_elim (λ read. read.2.known) (λ unread. subst IsOfCommand (sym unread.1) (of_fault unread.0)) ends
@@ -41,6 +41,7 @@ module _ (status : ℕ) (before ahead start now : Option (List ℕ)) where
   status_of_command (Min o f) ends = of_range o _ ends.1
   status_of_command (Find o f want) ends = of_range o _ ends.1
   status_of_command (Tree workers) ends = with_two status (of_tree ends)
+  status_of_command Check ends = ⊎_elim (λ zero. inl zero) (λ others. inr (⊎_elim (λ one. inl one) (λ rest. inr (inr rest)) others)) ends.known
 
   -- a replay that is asked for does not end by 2, and at 0 the script was replayed
   pub known_of_replay : (asked : Subcommand) → EndsCommand asked status before ahead start now → asked ≡ Replay → (status ≢ 2) × (status ≡ 0 → Replays before ahead start now)

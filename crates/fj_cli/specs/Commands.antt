@@ -21,7 +21,9 @@ script_line = with_subcommand replay_line (new_app (codes "upgrade")).top
 
 -- the whole command line, as a parse sees it
 abbrev pub whole_line : App
-whole_line = with_subcommand (with_subcommand (with_subcommand (with_subcommand script_line sum_line.top) min_line.top) find_line.top) tree_line.top
+whole_line =
+    with_subcommand (with_subcommand (with_subcommand (with_subcommand (with_subcommand script_line sum_line.top) min_line.top) find_line.top) tree_line.top)
+    (new_app (codes "check")).top
 
 -- the words of a replay
 abbrev pub replay_words : List Text

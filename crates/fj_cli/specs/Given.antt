@@ -4,7 +4,7 @@ use Rattle.std.specs.Prelude.{codes}
 use Rattle.std.specs.Str.Parse.{IsNumeral, digits_value, without_leading_plus}
 use Rattle.clap.specs.Words.{Row, Text, one_of}
 use Rattle.fj_cli.specs.declared.command_line.Subcommand.{Subcommand}
-use Rattle.fj_cli.specs.declared.command_line.Subcommand.TheVariants.{Replay, Upgrade, Sum, Min, Find, Tree}
+use Rattle.fj_cli.specs.declared.command_line.Subcommand.TheVariants.{Replay, Upgrade, Sum, Min, Find, Tree, Check}
 use Rattle.fj_cli.specs.declared.command_line.options.RangeOptions.{RangeOptions}
 use Rattle.fj_cli.specs.declared.command_line.options.FunctionOptions.{FunctionOptions}
 
@@ -37,6 +37,7 @@ GivesOptions rows (Sum o) = GivesRange rows o
 GivesOptions rows (Min o f) = GivesRange rows o × GivesFunction rows f
 GivesOptions rows (Find o f want) = GivesRange rows o × GivesFunction rows f × Gives rows (codes "want") want
 GivesOptions rows (Tree workers) = Gives rows (codes "workers") workers.count
+GivesOptions rows Check = ⊤
 
 -- the name of a command
 abbrev pub name_of : Subcommand → Text
@@ -46,6 +47,7 @@ name_of (Sum o) = codes "sum"
 name_of (Min o f) = codes "min"
 name_of (Find o f want) = codes "find"
 name_of (Tree workers) = codes "tree"
+name_of Check = codes "check"
 
 -- the command of this name, with these options, is the command to run
 abbrev pub IsAsked : Option (Text × List Row) → Subcommand → Type 0

@@ -1,12 +1,16 @@
 -- The meaning of exit statuses.
-use Rattle.std.specs.Prelude.{ℕ, ◌≡◌, ◌≢◌, ◌⊎◌, List, Option, Result, MatchResult}
+use Rattle.std.specs.Prelude.{ℕ, ◌≡◌, ◌≢◌, ◌⊎◌, ◌++◌, List, Option, Result, MatchResult, codes}
 use Rattle.clap.specs.Words.{Text}
 use Rattle.std.specs.declared.io.ErrorKind.{ErrorKind}
 use Rattle.std.specs.declared.io.ErrorKind.TheVariants.{InvalidData}
 use Rattle.fj_replay.specs.declared.fault.ReplayFault.{ReplayFault}
 use Rattle.fj_replay.specs.declared.fault.ReplayFault.TheVariants.{Line, Limits, Memory, Read, Write}
+use Rattle.std.specs.Io.KnownBytes.{Appends, Consumes}
+use Rattle.fj_trace.specs.declared.fault.CheckFault.{CheckFault}
+use Rattle.fj_trace.specs.declared.fault.CheckFault.TheVariants as check
+use Rattle.fj_trace.specs.Checks.{IsChecked, IsBarred, IsFaulty, IsOpenedWrong}
 use Rattle.fj_cli.specs.declared.command_line.Subcommand.{Subcommand}
-use Rattle.fj_cli.specs.declared.command_line.Subcommand.TheVariants.{Replay, Upgrade, Sum, Min, Find, Tree}
+use Rattle.fj_cli.specs.declared.command_line.Subcommand.TheVariants.{Replay, Upgrade, Sum, Min, Find, Tree, Check}
 use Rattle.fj_cli.specs.Answers.{EndsRange, EndsTree, hit_line, hit_of, least_line, least_of, number_line, sum_of}
 use Rattle.fj_cli.specs.Commands.{Asks, AsksToShow, IsAtFault, NamesNoScript, replay_words, upgrade_words}
 use Rattle.fj_replay.specs.declared.script_stage.ScriptStage.{ScriptStage}
@@ -58,6 +62,22 @@ abbrev pub EndsUpgrade : ℕ → Option (List ℕ) → Option (List ℕ) → Opt
 EndsUpgrade status before ahead start now =
     EndsScript Old status (Upgrades before ahead start now) (BeginsUpgrade before ahead start now) before ahead start now
 
+-- a check that ended by this fault has this exit status; what is not an objection writes nothing
+abbrev pub IsEndOfCheck : CheckFault → ℕ → Option (List ℕ) → Option (List ℕ) → Type 0
+IsEndOfCheck (check.Objection n why) status start now = (status ≡ 1) ⊎ ((status ≡ 4) ⊎ (status ≡ 5))
+IsEndOfCheck (check.Line n) status start now = (status ≡ 3) × (now ≡ start)
+IsEndOfCheck check.Limits status start now = (status ≡ 3) × (now ≡ start)
+IsEndOfCheck check.Memory status start now = (status ≡ 4) × (now ≡ start)
+IsEndOfCheck check.Read status start now = (status ≡ 5) × (now ≡ start)
+
+-- a check ended with this exit status: 0 where the whole input is a history, and its number of events was written; 1 where some line is
+-- that of an entry that may not come, as was written; 3 where it is at fault
+pub record EndsCheck (status : ℕ) (before ahead start now : Option (List ℕ)) : Type 0 where
+  pub known : (status ≡ 0) ⊎ ((status ≡ 1) ⊎ ((status ≡ 3) ⊎ ((status ≡ 4) ⊎ (status ≡ 5))))
+  pub good : status ≡ 0 → (n : ℕ) × IsChecked n before ahead × Appends start now (codes "ok " ++ number_line n)
+  pub barred : status ≡ 1 → (n : ℕ) × (b : List ℕ) × Consumes before ahead b × IsBarred n b
+  pub faulty : status ≡ 3 → (b : List ℕ) × Consumes before ahead b × (((n : ℕ) × IsFaulty n b ahead) ⊎ IsOpenedWrong b) × (now ≡ start)
+
 -- this command ended with this exit status; a job over a range reads nothing
 abbrev pub EndsCommand : Subcommand → ℕ → Option (List ℕ) → Option (List ℕ) → Option (List ℕ) → Option (List ℕ) → Type 0
 EndsCommand Replay status before ahead start now = EndsReplay status before ahead start now
@@ -66,6 +86,7 @@ EndsCommand (Sum o) status before ahead start now = (ahead ≡ before) × EndsRa
 EndsCommand (Min o f) status before ahead start now = (ahead ≡ before) × EndsRange o status (least_line (least_of o f)) start now
 EndsCommand (Find o f want) status before ahead start now = (ahead ≡ before) × EndsRange o status (hit_line (hit_of o f want)) start now
 EndsCommand (Tree workers) status before ahead start now = EndsTree status before ahead start now
+EndsCommand Check status before ahead start now = EndsCheck status before ahead start now
 
 -- no command was run, and nothing read: at 0 the words ask for help or the version, at 2 they have a usage error, or they name no
 -- command for scripts; at 2 and 4 nothing was written

@@ -32,6 +32,8 @@ pub enum Subcommand {
     Find(RangeOptions, FunctionOptions, u32),
     /// The value of a tree on standard input.
     Tree(Workers),
+    /// Whether the history on standard input is one.
+    Check,
 }
 
 /// Parses the arguments, the first being the program's name. `None` if they ask for no command. An error for a usage error, for help or
@@ -80,6 +82,9 @@ fn asked_job(matches: &ArgMatches) -> Option<Subcommand>
     }
     if let Some(given) = matches.subcommand_matches("tree") {
         return Some(Subcommand::Tree(read_workers(given)?));
+    }
+    if matches.subcommand_matches("check").is_some() {
+        return Some(Subcommand::Check);
     }
     None
 }

@@ -7,6 +7,7 @@
 #![tactic(auto)]
 
 mod answer;
+mod check_command;
 mod command_line;
 mod job_commands;
 mod program;
@@ -22,4 +23,5 @@ pub use fj_invoke::{
 };
 pub use fj_replay::{ReplayFault, replay, replayed, upgrade, upgraded};
 pub use fj_streams::{Sink, Source, Watched};
+pub use fj_trace::{CheckFault, check};
 pub use program::{fj, without_words};

@@ -6,6 +6,7 @@ ghost use Rattle.fj_cli.specs.Commands.{IsForScript, TellsOfFault};
 ghost use Rattle.fj_cli.specs.Statuses.{EndsCommand, EndsKnown, EndsProgram, StatusOfNoWords};
 
 use crate::answer::told;
+use crate::check_command::run_check;
 use crate::command_line::{Subcommand, read};
 use crate::job_commands::{run_find, run_min, run_sum};
 use crate::replay_command::run_replay;
@@ -21,7 +22,7 @@ use std::thread::Threads;
 
 /// Runs a command, and answers the exit status. `words` are the arguments, the first being the program's name.
 ///
-/// 0: it was run, or help or the version was asked for and written to `out`. 2: a usage error. 3: a fault of the input, or a job that
+/// 0: it was run, or help or the version was asked for and written to `out`. 1: the history has a line that may not stand there. 2: a usage error. 3: a fault of the input, or a job that
 /// the pool refused. 4: out of memory. 5: a read or a write failed. For all but 0 a text is sent to `err`, which may fail. `out` is
 /// flushed after a command, and after help or the version; a failed flush gives 5.
 #[tactic(auto, using(crate::proofs::Answered::shown_asks, crate::proofs::Answered::else_at_fault, crate::proofs::Ended::status_of_command, crate::proofs::Ended::known_of_replay))]
@@ -33,7 +34,7 @@ pub fn fj<H: Threads + Wait + Sync, R: Read, W: Write, E: Write>(
     out: &mut W,
     err: &mut E,
 ) -> u8
-    ensures status { (result ≡ 0) ⊎ ((result ≡ 2) ⊎ ((result ≡ 3) ⊎ ((result ≡ 4) ⊎ (result ≡ 5)))) }
+    ensures status { (result ≡ 0) ⊎ ((result ≡ 1) ⊎ ((result ≡ 2) ⊎ ((result ≡ 3) ⊎ ((result ≡ 4) ⊎ (result ≡ 5))))) }
     // The arguments of a replay and of an upgrade run one, to its end where the status is 0.
     ensures known { IsForScript (texts words.entry.now) → result ≢ 2 }
     ensures done { EndsKnown (texts words.entry.now) result (R.remaining input.old) (R.remaining input.new) (W.contents out.old) (W.contents out.new) }
@@ -67,6 +68,7 @@ fn run<H: Threads + Wait + Sync, R: Read, W: Write, E: Write>(
             run_find(rt, alloc, options, function, want, out, err)
         }
         Subcommand::Tree(workers) => run_tree(rt, alloc, workers, input, out, err),
+        Subcommand::Check => run_check(alloc, input, out, err),
     }
 }
 

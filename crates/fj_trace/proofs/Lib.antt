@@ -1,4 +1,6 @@
--- what a check does at a line, by tests that hold exactly where an entry may come
+-- the test of a check holds exactly where an entry may come
 pub mod Tested
 -- where lines lead
 pub mod Leading
+-- what a check has found when it stops
+pub mod Found

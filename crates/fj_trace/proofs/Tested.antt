@@ -1,5 +1,5 @@
--- What a check does at a line. Whether an entry may come is a test here, which holds exactly where it may.
-use Rattle.std.proofs.Common.{ℕ, ◌≡◌, ◌+◌, ◌<◌, ◌×◌, Bool, true, false, ◌&&◌, List, [], ◌∷◌, length, Option, Some, None, refl, sym, ap, ◌∙◌, arith}
+-- The test of a check holds exactly where an entry may come.
+use Rattle.std.proofs.Common.{ℕ, ◌≡◌, ◌+◌, ◌<◌, ◌×◌, ◌⊎◌, Bool, true, false, ◌&&◌, List, [], ◌∷◌, length, Option, Some, None, refl, sym, ap, ◌∙◌, arith}
 use Rattle.std.specs.Prelude.{if◌then◌else◌, nat_lt, is_none, is_some, IfSome}
 use Rattle.std.specs.Option.{option_and_then, option_map_or}
 use Rattle.std.proofs.lemmas.Bool.{and_parts, ltb-true, lt-ltb}
@@ -20,35 +20,18 @@ use Rattle.fj_lines.specs.Lines.{head_in}
 use Rattle.fj_history.specs.declared.entry.Entry.{Entry}
 use Rattle.fj_history.specs.declared.entry.Entry.TheVariants as entry
 use Rattle.fj_history.specs.Entries.{entry_in}
+use Rattle.fj_history.specs.declared.read.TheConstants.{MAX_ENTRY}
+use Rattle.fj_filter.specs.Rules.{Rules}
 use Rattle.fj_filter.specs.declared.fault.LineStop.{LineStop}
 use Rattle.fj_filter.specs.declared.fault.LineStop.TheVariants as fails
-use Rattle.fj_replay.specs.Scripts.{pool_in, start}
-use Rattle.fj_replay.specs.Faults.{IsOutOfLimits}
+use Rattle.fj_replay.specs.Stages.{pool_in, start}
+use Rattle.fj_replay.specs.Stages.{IsOutOfLimits}
 use Rattle.fj_trace.specs.declared.history_check.HistoryCheck.{HistoryCheck}
 use Rattle.fj_trace.specs.declared.history_check.HistoryCheck.TheVariants.{Start, Going}
 use Rattle.fj_trace.specs.declared.history_stop.HistoryStop.{HistoryStop}
 use Rattle.fj_trace.specs.declared.history_stop.HistoryStop.TheVariants as stop
-use Rattle.fj_trace.specs.Entries.{MayCome, past_after}
-
--- ---- the test
-
-names_test : List Event → Event → Bool
-names_test h e = option_map_or (λ c. is_completer h c) (climbed_by e) true
-
-hand_free : Pool → List Event → Option ℕ → Bool
-hand_free pool h None = false
-hand_free pool h (Some w) = nat_lt w pool.limits.workers && is_none (hand h w)
-
-hand_test : Pool → List Event → Event → Bool
-hand_test pool h (Fire c how) = hand_free pool h (goes_to h c)
-hand_test pool h _ = true
-
-follows_test : Past → Event → Bool
-follows_test past e = allowed_test past.pool past.events e && (names_test past.events e && (hand_test past.pool past.events e && nat_lt (length past.events) (limit past)))
-
-pub can_come : Past → Entry → Bool
-can_come past (entry.Event e) = follows_test past e
-can_come past entry.Seal = is_none (seal_refusal past)
+use Rattle.fj_trace.specs.Entries.{MayCome}
+use Rattle.fj_trace.specs.Rules.{names_test, hand_free, hand_test, follows_test, can_come}
 
 -- ---- it holds exactly where the entry may come
 
@@ -117,50 +100,3 @@ come_barred past e bar = go (can_come past e) refl
     go : (b : Bool) → can_come past e ≡ b → b ≡ false
     go true is = absurd (bar (come_told past e is))
     go false is = refl
-
--- ---- lines
-
-abbrev pub count_of : Entry → ℕ
-count_of (entry.Event e) = 1
-count_of entry.Seal = 0
-
-abbrev pub opened : Option Pool → Option HistoryCheck
-opened None = None
-opened (Some p) = Some (Going (start p) 0)
-
-abbrev pub came : Past → ℕ → Entry → Option HistoryCheck
-came past n e = if can_come past e then Some (Going (past_after past e) (n + count_of e)) else None
-
--- the state after a line
-abbrev pub after : HistoryCheck → List ℕ → Option HistoryCheck
-after Start line = opened (pool_in line)
-after (Going past n) line = option_and_then (came past n) (entry_in line)
-
-abbrev pub has_heading : HistoryCheck → Bool
-has_heading Start = false
-has_heading (Going past n) = true
-
--- why it may not stand there
-abbrev pub StopsHere : HistoryCheck → List ℕ → HistoryStop → Type 0
-StopsHere Start line (stop.Objection why) = ⊥
-StopsHere Start line stop.Line = head_in line ≡ None
-StopsHere Start line stop.Limits = IsOutOfLimits line
-StopsHere (Going past n) line (stop.Objection why) = (e : Entry) × (entry_in line ≡ Some e) × (MayCome past e → ⊥)
-StopsHere (Going past n) line stop.Line = entry_in line ≡ None
-StopsHere (Going past n) line stop.Limits = ⊥
-
--- what a fault at the heading says
-abbrev pub IsHeadStop : List ℕ → LineStop HistoryStop → Type 0
-IsHeadStop line (fails.Stop (stop.Objection why)) = ⊥
-IsHeadStop line (fails.Stop stop.Line) = head_in line ≡ None
-IsHeadStop line (fails.Stop stop.Limits) = IsOutOfLimits line
-IsHeadStop line fails.Memory = is_some (pool_in line) ≡ true
-IsHeadStop line fails.Write = ⊥
-
--- what a fault behind the heading says
-abbrev pub IsEntryStop : Past → List ℕ → LineStop HistoryStop → Type 0
-IsEntryStop past line (fails.Stop (stop.Objection why)) = (e : Entry) × (entry_in line ≡ Some e) × (MayCome past e → ⊥)
-IsEntryStop past line (fails.Stop stop.Line) = entry_in line ≡ None
-IsEntryStop past line (fails.Stop stop.Limits) = ⊥
-IsEntryStop past line fails.Memory = (e : Entry) × (entry_in line ≡ Some e) × (can_come past e ≡ true)
-IsEntryStop past line fails.Write = ⊥

@@ -1,8 +1,9 @@
-ghost use Rattle.std.specs.Prelude.{◌≡◌, Some, IfErr, OnOk};
+ghost use Rattle.std.specs.Prelude.{◌≡◌, ℕ, Some, IfOk, IfErr, OnOk};
 ghost use Rattle.fj_history.specs.declared.read.TheConstants.{MAX_ENTRY};
-ghost use Rattle.fj_replay.specs.Scripts.{pool_in, start};
-ghost use Rattle.fj_trace.proofs.Tested.{after, has_heading, StopsHere, IsHeadStop};
-ghost use Rattle.fj_trace.proofs.Leading.{too_long};
+ghost use Rattle.fj_replay.specs.Stages.{pool_in, start};
+ghost use Rattle.fj_history.specs.declared.entry.Entry.{Entry as EntryCase};
+ghost use Rattle.fj_trace.specs.Rules.{after, came, check_rules, IsHeadStop, IsEntryStop, IsStopAt};
+ghost use Rattle.fj_trace.specs.LongLines.{too_long};
 
 use crate::history_stop::HistoryStop;
 use fj_checker::Checker;
@@ -25,15 +26,9 @@ pub enum HistoryCheck {
 impl LineFilter for HistoryCheck {
     type Stop = HistoryStop;
 
-    ghost rules = { record {
-      after = after;
-      text = λ state line. [];
-      Stops = StopsHere;
-      has_heading = has_heading;
-      longest = MAX_ENTRY;
-    } };
+    ghost rules = { check_rules };
 
-    ghost too_long = { λ state line long. too_long state line long };
+    ghost too_long = { too_long };
 
     fn longest() -> usize {
         MAX_ENTRY
@@ -84,6 +79,63 @@ fn opened(alloc: Global, heading: &[u8]) -> Result<Checker, LineStop<HistoryStop
     };
     match Checker::new(alloc, head.0, limits) {
         Ok(checker) => Ok(checker),
+        Err(_) => Err(LineStop::Memory),
+    }
+}
+
+/// Handles a line behind the heading.
+fn go_on(
+    alloc: Global,
+    checker: &mut Checker,
+    events: &mut u64,
+    line: &[u8],
+) -> Result<(), LineStop<HistoryStop>>
+    ensures next { OnOk result (after (HistoryCheck.Going checker.old events.old) line.now ≡ Some (HistoryCheck.Going checker.new events.new)) }
+    ensures err { IfErr result (IsEntryStop checker.old line.now) }
+{
+    let Ok(entry) = read_entry(line) else {
+        return Err(LineStop::Stop(HistoryStop::Line));
+    };
+    match entry {
+        Entry::Event(event) => append(checker, events, &event),
+        Entry::Seal => seal(alloc, checker),
+    }
+}
+
+/// Goes on by an event, if it follows.
+fn append(
+    checker: &mut Checker,
+    events: &mut u64,
+    event: &Event,
+) -> Result<(), LineStop<HistoryStop>>
+    ensures next { OnOk result (came checker.old events.old (EntryCase.Event event.now) ≡ Some (HistoryCheck.Going checker.new events.new)) }
+    ensures err { IfErr result (IsStopAt checker.old (EntryCase.Event event.now)) }
+{
+    if let Err(objection) = checker.may_follow(event) {
+        return Err(LineStop::Stop(HistoryStop::Objection(objection)));
+    }
+    let Some(more) = events.checked_add(1) else {
+        return Err(LineStop::Memory);
+    };
+    match checker.append(event) {
+        Ok(()) => {
+            *events = more;
+            Ok(())
+        }
+        Err(_) => Err(LineStop::Memory),
+    }
+}
+
+/// Seals a part, if it may be sealed.
+fn seal(alloc: Global, checker: &mut Checker) -> Result<(), LineStop<HistoryStop>>
+    ensures next { (n : ℕ) → OnOk result (came checker.old n EntryCase.Seal ≡ Some (HistoryCheck.Going checker.new n)) }
+    ensures err { IfErr result (IsStopAt checker.old EntryCase.Seal) }
+{
+    if let Err(objection) = checker.may_seal() {
+        return Err(LineStop::Stop(HistoryStop::Objection(objection)));
+    }
+    match checker.seal(alloc) {
+        Ok(()) => Ok(()),
         Err(_) => Err(LineStop::Memory),
     }
 }

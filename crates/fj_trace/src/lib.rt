@@ -8,3 +8,6 @@ mod history_stop;
 
 pub use check_history::check;
 pub use fault::CheckFault;
+
+#[cfg(test)]
+mod tests;

@@ -156,6 +156,16 @@ fn upgrade<'a>(alloc: Global) -> Command<'a>
         .after_help(help::UPGRADE)
 }
 
+fn check<'a>(alloc: Global) -> Command<'a>
+    ensures app { app_of result ≡ new_app (codes "check") }
+    ensures local { (out-Command result).has_globals ≡ false }
+{
+    Command::new(alloc, "check")
+        .about("Tells whether the history on standard input is one")
+        .override_usage("fj check < HISTORY")
+        .after_help(help::CHECK)
+}
+
 /// The program with its first command.
 fn program<'a>(alloc: Global) -> Result<Command<'a>, AllocError>
     ensures { IfOk result (λ c. app_of c ≡ replay_line) }
@@ -184,5 +194,6 @@ pub fn command<'a>(alloc: Global) -> Result<Command<'a>, AllocError>
     let with_sum = with_one(with_upgrade, sum(alloc)?)?;
     let with_min = with_one(with_sum, min(alloc)?)?;
     let with_find = with_one(with_min, find(alloc)?)?;
-    with_one(with_find, tree(alloc)?)
+    let with_tree = with_one(with_find, tree(alloc)?)?;
+    with_one(with_tree, check(alloc))
 }

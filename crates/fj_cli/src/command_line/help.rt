@@ -13,6 +13,7 @@ Example:
 
 Exit status:
   0  the command was run to its end, or help or the version was written
+  1  fj check: a line of the history may not stand there
   2  a fault of the command line
   3  a fault of the input, told by its line, or a refusal, told by its number
   4  out of memory
@@ -133,4 +134,32 @@ Exit status:
   2  a fault of the command line
   3  a faulty line, told by its number, or the pool's history is full
   4  out of memory, or a thread could not be started
+  5  a read or a write failed";
+
+/// Of `fj check`.
+pub const CHECK: &str =
+    "Input of fj check: a history, which is a heading as that of a script, and then a
+line for each event and each seal
+  acc T sub S KIND | acc T work W KIND | make T KIND | out T W | skip T W | end T W
+  add C N | dec C | fire C zero | fire C complete | pass C | hooked C
+  settle T normal | settle T cancelled | settle T exceptional CODE
+  close | stop | rel T | seal
+A KIND is plain, or completer PARENT COUNT RELAY as in a fork. Each line ends with a
+line feed, the last one too.
+
+Written is ok and the number of events where each event follows those before it, by
+the rules of docs/MODEL.md; otherwise the first line that may not stand there, and why.
+
+Example:
+  $ printf 'async 1 1 8 64\\nacc 0 sub 0 plain\\nout 0 0\\nend 0 0\\n' | fj check
+  ok 3
+  $ printf 'async 1 1 8 64\\nacc 0 sub 0 plain\\nend 0 0\\n' | fj check
+  line 3: worker 0 runs nothing
+
+Exit status:
+  0  the input is a history, or help was written
+  1  line N: a line that may not stand there, and why, on standard output
+  2  a fault of the command line
+  3  fault: line N, no line of a history; or refused 13, a limit out of range
+  4  out of memory
   5  a read or a write failed";

@@ -13,4 +13,5 @@ returns c =
     let summed = c.in_ok-with_sum.ensures ∙ ap₂ with_shape scripts c.in_ok-sum.ensures.app in
     let least = c.in_ok-with_min.ensures ∙ ap₂ with_shape summed c.in_ok-min.ensures.app in
     let found = c.in_ok-with_find.ensures ∙ ap₂ with_shape least c.in_ok-find.ensures.app in
-    subst (λ a. IfOk c.with_one-5.result (λ command. app_of command ≡ a)) (ap₂ with_shape found c.in_ok-tree.ensures.app) c.with_one-5.ensures
+    let folded = c.in_ok-with_tree.ensures ∙ ap₂ with_shape found c.in_ok-tree.ensures.app in
+    subst (λ a. IfOk c.with_one-6.result (λ command. app_of command ≡ a)) (ap₂ with_shape folded c.check.ensures.app) c.with_one-6.ensures

@@ -1,0 +1,64 @@
+//! The command that checks a history.
+ghost use Rattle.std.specs.Prelude.{◌≡◌, ◌⊎◌};
+ghost use Rattle.fj_cli.specs.Statuses.{EndsCheck, IsEndOfCheck};
+
+use crate::answer::answered;
+use fj_trace::{CheckFault, check};
+use std::alloc::Global;
+use std::io::{Read, Write};
+
+/// Reads a history to its end, or to the first line that may not stand there, writes which, and answers the exit status.
+pub fn run_check<R: Read, W: Write, E: Write>(
+    alloc: Global,
+    input: &mut R,
+    out: &mut W,
+    err: &mut E,
+) -> u8
+    ensures { EndsCheck result (R.remaining input.old) (R.remaining input.new) (W.contents out.old) (W.contents out.new) }
+{
+    match check(alloc, input) {
+        Ok(events) => answered(format!(in alloc; "ok {events}\n"), out, err),
+        Err(fault) => told_of_fault(alloc, fault, out, err),
+    }
+}
+
+/// Writes why the input is no history, and answers the exit status.
+fn told_of_fault<W: Write, E: Write>(
+    alloc: Global,
+    fault: CheckFault,
+    out: &mut W,
+    err: &mut E,
+) -> u8
+    ensures { IsEndOfCheck fault result (W.contents out.old) (W.contents out.new) }
+{
+    match fault {
+        CheckFault::Objection(_, _) => objected(alloc, fault, out, err),
+        CheckFault::Line(_) | CheckFault::Limits => told_as(fault, 3, err),
+        CheckFault::Memory => told_as(fault, 4, err),
+        CheckFault::Read => told_as(fault, 5, err),
+    }
+}
+
+/// Writes the line that may not stand there, and why: 1 where it was written.
+fn objected<W: Write, E: Write>(
+    alloc: Global,
+    fault: CheckFault,
+    out: &mut W,
+    err: &mut E,
+) -> u8
+    ensures { (result ≡ 1) ⊎ ((result ≡ 4) ⊎ (result ≡ 5)) }
+{
+    match answered(format!(in alloc; "{fault}\n"), out, err) {
+        0 => 1,
+        4 => 4,
+        _ => 5,
+    }
+}
+
+/// Writes a fault to standard error, and answers the status.
+fn told_as<E: Write>(fault: CheckFault, status: u8, err: &mut E) -> u8
+    ensures { result ≡ status }
+{
+    let _ = writeln!(err, "{fault}");
+    status
+}

@@ -1,0 +1,128 @@
+-- What a check has found when it stops.
+use Rattle.std.proofs.Common.{ℕ, ◌≡◌, ◌≢◌, ◌+◌, ◌<◌, ◌×◌, ◌⊎◌, List, [], ◌∷◌, ◌++◌, length, Option, Some, None, true, false, refl, sym, ap, ◌∙◌, inl, inr, ⊎_elim, subst}
+use Rattle.std.specs.Prelude.{is_some}
+use Rattle.std.specs.Io.KnownBytes.{Consumes, IsAtEnd}
+use Rattle.std.proofs.lemmas.Bool.{true≢false}
+use Rattle.std.proofs.lemmas.List.{append-nil}
+use Rattle.fj_rules.specs.Bounds.{Pool}
+use Rattle.fj_rules.specs.Pasts.{Past}
+use Rattle.fj_history.specs.declared.entry.Entry.{Entry}
+use Rattle.fj_history.specs.declared.read.TheConstants.{MAX_ENTRY}
+use Rattle.fj_history.specs.Entries.{entry_in}
+use Rattle.fj_lines.specs.Lines.{head_in}
+use Rattle.fj_filter.specs.declared.fault.FilterFault.{FilterFault}
+use Rattle.fj_filter.specs.declared.fault.FilterFault.TheVariants as filter
+use Rattle.fj_filter.specs.Cuts.{lines, rest}
+use Rattle.fj_filter.specs.Rules.{state_from, is_good}
+use Rattle.fj_filter.specs.Faults.{Finishes, FaultOf, Stands, IsLong, IsNoLine, IsUnended, IsGoodSoFar, LacksHeading}
+use Rattle.fj_filter.specs.Tells.{Seen, StopsFrom}
+use Rattle.fj_replay.specs.Stages.{pool_in, start, IsOutOfLimits}
+use Rattle.fj_trace.specs.declared.fault.CheckFault.{CheckFault}
+use Rattle.fj_trace.specs.declared.fault.CheckFault.TheVariants as check
+use Rattle.fj_trace.specs.declared.history_check.HistoryCheck.{HistoryCheck}
+use Rattle.fj_trace.specs.declared.history_check.HistoryCheck.TheVariants.{Start, Going}
+use Rattle.fj_trace.specs.declared.history_stop.HistoryStop.{HistoryStop}
+use Rattle.fj_trace.specs.declared.history_stop.HistoryStop.TheVariants as stop
+use Rattle.fj_trace.specs.Entries.{MayCome, past_from, event_count}
+use Rattle.fj_trace.specs.Histories.{AreHistory, IsHistory}
+use Rattle.fj_trace.specs.Checks.{IsChecked, IsBarred, AreGood, IsNoEntry, IsWrong, IsFaulty, IsOpenedWrong, FaultMeans, StopsCheck}
+use Rattle.fj_trace.specs.Rules.{check_rules, has_heading, StopsHere, check_fault, events_in}
+use Rattle.fj_trace.proofs.Leading.{Leads, leads}
+
+-- ---- where lines lead
+
+are_good : (ls : List (List ℕ)) (last : HistoryCheck) → Leads ls last → AreGood ls
+are_good ls last l = ⊎_elim (λ none. inl none.0) (λ some. inr (some.0, some.1, some.2)) l
+
+good_lines : (ls : List (List ℕ)) → is_good check_rules Start ls ≡ true → AreGood ls
+good_lines ls good = go (state_from check_rules Start ls) refl good
+  where
+    go : (o : Option HistoryCheck) → state_from check_rules Start ls ≡ o → is_some o ≡ true → AreGood ls
+    go None is good = absurd cc
+    go (Some last) is good = are_good ls last (leads ls last is)
+
+headed : (ls : List (List ℕ)) (last : HistoryCheck) → Leads ls last → has_heading last ≡ true
+    → (pool : Pool) × (entries : List Entry) × AreHistory ls pool entries × (last ≡ Going (past_from (start pool) entries) (event_count entries))
+headed ls last l has = ⊎_elim (λ none. absurd (true≢false (sym has ∙ ap has_heading none.1))) (λ some. some) l
+
+headless : (ls : List (List ℕ)) (last : HistoryCheck) → Leads ls last → has_heading last ≡ false → ls ≡ []
+headless ls last l has = ⊎_elim (λ none. none.0) (λ some. absurd (true≢false (sym (ap has_heading some.3) ∙ has))) l
+
+-- ---- at the end
+
+pub checked : (last : HistoryCheck) (before ahead start now : Option (List ℕ)) → Finishes check_rules Start last before ahead start now → IsChecked (events_in last) before ahead
+checked last before ahead start now done =
+    let b = done.0 in
+    let end = done.1 in
+    let found = headed (lines b) last (leads (lines b) last end.input.good) end.input.headed in
+    record {
+      bytes = b;
+      read = end.read;
+      whole = end.whole;
+      history = record { pool = found.0; entries = found.1; lines = found.2; ended = end.input.ended; count = ap events_in found.3 };
+    }
+
+-- ---- at a fault
+
+-- the stop of a line behind these, by its reason
+stop_means : (n : ℕ) (why : HistoryStop) (b : List ℕ) (ahead : Option (List ℕ)) → Stands check_rules Start n why b → FaultMeans (check_fault (filter.Stop n why)) b ahead
+stop_means n why b ahead at = go why at.reason (leads at.before at.state at.good)
+  where
+    as : (past : Past) (k : ℕ) (why : HistoryStop) → at.state ≡ Going past k → StopsHere at.state at.line why → StopsHere (Going past k) at.line why
+    as past k why is reason = subst (λ (s : HistoryCheck). StopsHere s at.line why) is reason
+
+    at_start : (why : HistoryStop) → at.state ≡ Start → StopsHere at.state at.line why → StopsHere Start at.line why
+    at_start why is reason = subst (λ (s : HistoryCheck). StopsHere s at.line why) is reason
+
+    first : at.before ≡ [] → lines b ≡ at.line ∷ at.later
+    first none = at.cut ∙ ap (λ ls. ls ++ at.line ∷ at.later) none
+
+    no_entry : {pool : Pool} {entries : List Entry} → AreHistory at.before pool entries → entry_in at.line ≡ None → IsNoEntry at.before at.line
+    no_entry h none = subst (λ ls. IsNoEntry ls at.line) (sym h.cut) none
+
+    go : (why : HistoryStop) → StopsHere at.state at.line why → Leads at.before at.state → FaultMeans (check_fault (filter.Stop n why)) b ahead
+    go (stop.Objection o) reason l = ⊎_elim
+        (λ none. absurd (at_start (stop.Objection o) none.1 reason))
+        (λ some. let bar = as _ _ (stop.Objection o) some.3 reason in record {
+          before = at.before; line = at.line; later = at.later; pool = some.0; entries = some.1; entry = bar.0; cut = at.cut; number = at.number; good = some.2; reads = bar.1; barred = bar.2;
+        }) l
+    go stop.Line reason l = record {
+      before = at.before;
+      behind = at.line ∷ at.later;
+      cut = at.cut;
+      number = at.number;
+      good = are_good at.before at.state l;
+      wrong = inl (⊎_elim (λ none. subst (λ ls. IsNoEntry ls at.line) (sym none.0) (at_start stop.Line none.1 reason)) (λ some. no_entry some.2 (as _ _ stop.Line some.3 reason)) l);
+    }
+    go stop.Limits reason l = ⊎_elim
+        (λ none. record { heading = at.line; others = at.later; cut = first none.0; outside = at_start stop.Limits none.1 reason })
+        (λ some. absurd (as _ _ stop.Limits some.3 reason)) l
+
+line_means : (n : ℕ) (b : List ℕ) (ahead : Option (List ℕ)) → IsNoLine check_rules Start n b ahead → IsFaulty n b ahead
+line_means n b ahead found = ⊎_elim
+    (λ long. record {
+      before = long.before;
+      behind = long.line ∷ long.later;
+      cut = long.cut;
+      number = long.number;
+      good = are_good long.before long.state (leads long.before long.state long.good);
+      wrong = inr long.long;
+    })
+    (λ open. record {
+      before = lines b;
+      behind = [];
+      cut = sym (append-nil (lines b));
+      number = open.0.number;
+      good = good_lines (lines b) open.0.good;
+      wrong = ⊎_elim (λ long. inl long) (λ end. inr (end.0, ⊎_elim (λ some. inl some) (λ lacks. inr (headless (lines b) lacks.0 (leads (lines b) lacks.0 lacks.1) lacks.2)) end.1)) open.1;
+    }) found
+
+fault_means : (fault : FilterFault HistoryStop) (b : List ℕ) (ahead start now : Option (List ℕ)) → FaultOf check_rules Start fault b ahead start now → FaultMeans (check_fault fault) b ahead
+fault_means (filter.Stop n why) b ahead start now means = stop_means n why b ahead means.0
+fault_means (filter.Line n) b ahead start now means = line_means n b ahead means.0
+fault_means filter.Memory b ahead start now means = tt
+fault_means filter.Read b ahead start now means = good_lines (lines b) means.0.good
+fault_means filter.Write b ahead start now means = tt
+
+pub stops : (r w : Seen) (fault : FilterFault HistoryStop) → StopsFrom check_rules Start r w fault → StopsCheck r.bytes r.bytes_after (check_fault fault)
+stops r w fault s = (s.0, s.1.read, fault_means fault s.0 _ _ _ s.1.means)
