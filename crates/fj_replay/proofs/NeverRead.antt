@@ -1,6 +1,6 @@
 -- A reader of bytes in memory does not fail.
 use Rattle.std.specs.Io.KnownBytes.{Consumes}
-use Rattle.std.proofs.Common.{ℕ, ◌≡◌, ◌≢◌, subst, ◌+◌, ◌^◌, ◌≤◌, List, length, Option, Some}
+use Rattle.std.proofs.Common.{ℕ, ◌≢◌, subst, ◌+◌, ◌^◌, ◌≤◌, List, length, Option, Some}
 use Rattle.fj_streams.specs.Calls.{Calls}
 use Rattle.fj_filter.proofs.CallsTold.{never_failed}
 use Rattle.fj_replay.specs.declared.fault.ReplayFault.{ReplayFault}

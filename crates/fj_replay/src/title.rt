@@ -22,7 +22,11 @@ pub fn is_title(line: &[u8]) -> bool
 
 /// Writes the first two lines of a script of version 2: `fj 2` and this heading. At `Memory` or `Write` only a part of them, or nothing,
 /// was written.
-pub fn write_head<W: Sink>(alloc: Global, heading: &[u8], w: &mut W) -> Result<(), LineStop<ScriptStop>>
+pub fn write_head<W: Sink>(
+    alloc: Global,
+    heading: &[u8],
+    w: &mut W,
+) -> Result<(), LineStop<ScriptStop>>
     ensures written { OnOk result (Appends (W.contents w.old) (W.contents w.new) (titled_head heading.now)) }
     ensures err { IfErr result IsCutOff }
     ensures fine { OnOk result (IsFine (W.calls w.old) (W.calls w.new)) }
