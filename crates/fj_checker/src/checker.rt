@@ -2,7 +2,7 @@ ghost use Rattle.std.specs.Prelude.{◌≡◌, ◌↔◌, ◌<◌, ◌∷◌, �
 ghost use Rattle.fj_rules.specs.Lists.{is_in};
 ghost use Rattle.fj_rules.specs.Tasks.{tasks, accepted, is_completer};
 ghost use Rattle.fj_rules.specs.Hooks.{goes_to, hand, hooks};
-ghost use Rattle.fj_rules.specs.Allowed.{Allowed};
+ghost use Rattle.fj_rules.specs.Allowed.{Allowed, AllowedFrom};
 ghost use Rattle.fj_rules.specs.Follows.{Follows, NamesCompleter, HasHand};
 ghost use Rattle.fj_rules.specs.Pasts.{fresh, grown, limit, sealed_now};
 ghost use Rattle.fj_rules.specs.Epochs.{seal_refusal, RefusesSeal};
@@ -61,8 +61,12 @@ impl Checker {
 
     /// Whether the event follows; otherwise why it does not.
     pub fn may_follow(&self, event: &Event) -> Result<(), Objection>
-        ensures { IsOk result ↔ Follows self.now event.now }
+        ensures follows { IsOk result ↔ Follows self.now event.now }
+        // Each event so far was allowed where it stands.
+        ensures lawful { AllowedFrom self.now.pool [] self.now.events }
     {
+        // For the proof: the history of a ledger is lawful.
+        let _lawful = self.ledger.is_stopped();
         if let Err(objection) = self.rule(event) {
             return Err(self.precise(objection));
         }

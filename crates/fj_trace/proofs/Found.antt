@@ -1,32 +1,30 @@
 -- What a check has found when it stops.
-use Rattle.std.proofs.Common.{ℕ, ◌≡◌, ◌≢◌, ◌+◌, ◌<◌, ◌×◌, ◌⊎◌, List, [], ◌∷◌, ◌++◌, length, Option, Some, None, true, false, refl, sym, ap, ◌∙◌, inl, inr, ⊎_elim, subst}
+use Rattle.std.proofs.Common.{ℕ, ◌≡◌, List, [], ◌∷◌, ◌++◌, Option, Some, None, true, false, refl, sym, ap, ◌∙◌, inl, inr, ⊎_elim, subst}
 use Rattle.std.specs.Prelude.{is_some}
-use Rattle.std.specs.Io.KnownBytes.{Consumes, IsAtEnd}
 use Rattle.std.proofs.lemmas.Bool.{true≢false}
 use Rattle.std.proofs.lemmas.List.{append-nil}
 use Rattle.fj_rules.specs.Bounds.{Pool}
 use Rattle.fj_rules.specs.Pasts.{Past}
 use Rattle.fj_history.specs.declared.entry.Entry.{Entry}
-use Rattle.fj_history.specs.declared.read.TheConstants.{MAX_ENTRY}
 use Rattle.fj_history.specs.Entries.{entry_in}
-use Rattle.fj_lines.specs.Lines.{head_in}
 use Rattle.fj_filter.specs.declared.fault.FilterFault.{FilterFault}
 use Rattle.fj_filter.specs.declared.fault.FilterFault.TheVariants as filter
-use Rattle.fj_filter.specs.Cuts.{lines, rest}
+use Rattle.fj_filter.specs.Cuts.{lines}
 use Rattle.fj_filter.specs.Rules.{state_from, is_good}
-use Rattle.fj_filter.specs.Faults.{Finishes, FaultOf, Stands, IsLong, IsNoLine, IsUnended, IsGoodSoFar, LacksHeading}
-use Rattle.fj_filter.specs.Tells.{Seen, StopsFrom}
-use Rattle.fj_replay.specs.Stages.{pool_in, start, IsOutOfLimits}
-use Rattle.fj_trace.specs.declared.fault.CheckFault.{CheckFault}
-use Rattle.fj_trace.specs.declared.fault.CheckFault.TheVariants as check
+use Rattle.fj_filter.specs.Faults.{StopsAtLine, EndsFrom, Finishes, FaultOf, Stands, IsNoLine}
+use Rattle.fj_replay.specs.Stages.{start}
 use Rattle.fj_trace.specs.declared.history_check.HistoryCheck.{HistoryCheck}
 use Rattle.fj_trace.specs.declared.history_check.HistoryCheck.TheVariants.{Start, Going}
 use Rattle.fj_trace.specs.declared.history_stop.HistoryStop.{HistoryStop}
 use Rattle.fj_trace.specs.declared.history_stop.HistoryStop.TheVariants as stop
-use Rattle.fj_trace.specs.Entries.{MayCome, past_from, event_count}
-use Rattle.fj_trace.specs.Histories.{AreHistory, IsHistory}
-use Rattle.fj_trace.specs.Checks.{IsChecked, IsBarred, AreGood, IsNoEntry, IsWrong, IsFaulty, IsOpenedWrong, FaultMeans, StopsCheck}
-use Rattle.fj_trace.specs.Rules.{check_rules, has_heading, StopsHere, check_fault, events_in}
+use Rattle.fj_trace.specs.Entries.{past_from, event_count}
+use Rattle.fj_trace.specs.Histories.{AreHistory}
+use Rattle.fj_trace.specs.Checks.{IsChecked, AreGood, IsNoEntry, IsFaulty, FaultMeans, StopsCheck}
+use Rattle.fj_filter.specs.declared.fault.LineStop.{LineStop}
+use Rattle.fj_filter.specs.declared.fault.LineStop.TheVariants as fails
+use Rattle.fj_trace.specs.Rules.{check_rules, has_heading, StopsHere, IsStopAt, IsEntryStop, check_fault, events_in}
+use Rattle.fj_filter.proofs.Begun.{appends_nothing}
+use Rattle.fj_trace.proofs.Tested.{come_barred}
 use Rattle.fj_trace.proofs.Leading.{Leads, leads}
 
 -- ---- where lines lead
@@ -68,8 +66,8 @@ checked last before ahead start now done =
 stop_means : (n : ℕ) (why : HistoryStop) (b : List ℕ) (ahead : Option (List ℕ)) → Stands check_rules Start n why b → FaultMeans (check_fault (filter.Stop n why)) b ahead
 stop_means n why b ahead at = go why at.reason (leads at.before at.state at.good)
   where
-    as : (past : Past) (k : ℕ) (why : HistoryStop) → at.state ≡ Going past k → StopsHere at.state at.line why → StopsHere (Going past k) at.line why
-    as past k why is reason = subst (λ (s : HistoryCheck). StopsHere s at.line why) is reason
+    behind : (past : Past) (k : ℕ) (why : HistoryStop) → at.state ≡ Going past k → StopsHere at.state at.line why → StopsHere (Going past k) at.line why
+    behind past k why is reason = subst (λ (s : HistoryCheck). StopsHere s at.line why) is reason
 
     at_start : (why : HistoryStop) → at.state ≡ Start → StopsHere at.state at.line why → StopsHere Start at.line why
     at_start why is reason = subst (λ (s : HistoryCheck). StopsHere s at.line why) is reason
@@ -83,8 +81,18 @@ stop_means n why b ahead at = go why at.reason (leads at.before at.state at.good
     go : (why : HistoryStop) → StopsHere at.state at.line why → Leads at.before at.state → FaultMeans (check_fault (filter.Stop n why)) b ahead
     go (stop.Objection o) reason l = ⊎_elim
         (λ none. absurd (at_start (stop.Objection o) none.1 reason))
-        (λ some. let bar = as _ _ (stop.Objection o) some.3 reason in record {
-          before = at.before; line = at.line; later = at.later; pool = some.0; entries = some.1; entry = bar.0; cut = at.cut; number = at.number; good = some.2; reads = bar.1; barred = bar.2;
+        (λ some. let bar = behind _ _ (stop.Objection o) some.3 reason in record {
+          before = at.before;
+          line = at.line;
+          later = at.later;
+          pool = some.0;
+          entries = some.1;
+          entry = bar.0;
+          cut = at.cut;
+          number = at.number;
+          good = some.2;
+          reads = bar.1;
+          barred = bar.2;
         }) l
     go stop.Line reason l = record {
       before = at.before;
@@ -92,11 +100,11 @@ stop_means n why b ahead at = go why at.reason (leads at.before at.state at.good
       cut = at.cut;
       number = at.number;
       good = are_good at.before at.state l;
-      wrong = inl (⊎_elim (λ none. subst (λ ls. IsNoEntry ls at.line) (sym none.0) (at_start stop.Line none.1 reason)) (λ some. no_entry some.2 (as _ _ stop.Line some.3 reason)) l);
+      wrong = inl (⊎_elim (λ none. subst (λ ls. IsNoEntry ls at.line) (sym none.0) (at_start stop.Line none.1 reason)) (λ some. no_entry some.2 (behind _ _ stop.Line some.3 reason)) l);
     }
     go stop.Limits reason l = ⊎_elim
         (λ none. record { heading = at.line; others = at.later; cut = first none.0; outside = at_start stop.Limits none.1 reason })
-        (λ some. absurd (as _ _ stop.Limits some.3 reason)) l
+        (λ some. absurd (behind _ _ stop.Limits some.3 reason)) l
 
 line_means : (n : ℕ) (b : List ℕ) (ahead : Option (List ℕ)) → IsNoLine check_rules Start n b ahead → IsFaulty n b ahead
 line_means n b ahead found = ⊎_elim
@@ -108,13 +116,13 @@ line_means n b ahead found = ⊎_elim
       good = are_good long.before long.state (leads long.before long.state long.good);
       wrong = inr long.long;
     })
-    (λ open. record {
+    (λ unended. record {
       before = lines b;
       behind = [];
       cut = sym (append-nil (lines b));
-      number = open.0.number;
-      good = good_lines (lines b) open.0.good;
-      wrong = ⊎_elim (λ long. inl long) (λ end. inr (end.0, ⊎_elim (λ some. inl some) (λ lacks. inr (headless (lines b) lacks.0 (leads (lines b) lacks.0 lacks.1) lacks.2)) end.1)) open.1;
+      number = unended.0.number;
+      good = good_lines (lines b) unended.0.good;
+      wrong = ⊎_elim (λ long. inl long) (λ end. inr (end.0, ⊎_elim (λ some. inl some) (λ lacks. inr (headless (lines b) lacks.0 (leads (lines b) lacks.0 lacks.1) lacks.2)) end.1)) unended.1;
     }) found
 
 fault_means : (fault : FilterFault HistoryStop) (b : List ℕ) (ahead start now : Option (List ℕ)) → FaultOf check_rules Start fault b ahead start now → FaultMeans (check_fault fault) b ahead
@@ -124,5 +132,25 @@ fault_means filter.Memory b ahead start now means = tt
 fault_means filter.Read b ahead start now means = good_lines (lines b) means.0.good
 fault_means filter.Write b ahead start now means = tt
 
-pub stops : (r w : Seen) (fault : FilterFault HistoryStop) → StopsFrom check_rules Start r w fault → StopsCheck r.bytes r.bytes_after (check_fault fault)
-stops r w fault s = (s.0, s.1.read, fault_means fault s.0 _ _ _ s.1.means)
+pub stops : {Told : List ℕ → Type 0} (fault : FilterFault HistoryStop) (before ahead start now : Option (List ℕ)) → ((b : List ℕ) × EndsFrom check_rules Start fault b before ahead start now × Told b) → StopsCheck before ahead (check_fault fault)
+stops fault before ahead start now s = (s.0, s.1.read, fault_means fault s.0 ahead start now s.1.means)
+
+-- ---- at one line
+
+-- a fault behind the heading, where nothing was written
+pub entry_stops : (past : Past) (n : ℕ) (line : List ℕ) (why : LineStop HistoryStop) (old : Option (List ℕ)) → IsEntryStop past line why → StopsAtLine check_rules (Going past n) line why old old
+entry_stops past n line why old found = ⊎_elim (λ none. no_entry none.0 why none.1) (λ some. at some.0 some.1 why some.2) found
+  where
+    no_entry : entry_in line ≡ None → (why : LineStop HistoryStop) → why ≡ fails.Stop stop.Line → StopsAtLine check_rules (Going past n) line why old old
+    no_entry none (fails.Stop stop.Line) is = (rw none refl, none, appends_nothing old)
+    no_entry none (fails.Stop (stop.Objection o)) is = absurd cc
+    no_entry none (fails.Stop stop.Limits) is = absurd cc
+    no_entry none fails.Memory is = absurd cc
+    no_entry none fails.Write is = absurd cc
+
+    at : (e : Entry) → entry_in line ≡ Some e → (why : LineStop HistoryStop) → IsStopAt past e why → StopsAtLine check_rules (Going past n) line why old old
+    at e reads (fails.Stop (stop.Objection o)) bar = (rw (reads, come_barred past e bar) refl, (e, reads, bar), appends_nothing old)
+    at e reads (fails.Stop stop.Line) bar = absurd bar
+    at e reads (fails.Stop stop.Limits) bar = absurd bar
+    at e reads fails.Memory may = (rw (reads, may) refl, (0, appends_nothing old))
+    at e reads fails.Write bar = absurd bar

@@ -1,19 +1,14 @@
 -- Where the lines of a history lead.
-use Rattle.std.proofs.Common.{ℕ, ◌≡◌, ◌+◌, ◌<◌, ◌×◌, ◌⊎◌, Bool, true, false, List, [], ◌∷◌, ◌++◌, length, map, Option, Some, None, refl, sym, ap, ◌∙◌, arith, inl, inr, subst}
+use Rattle.std.proofs.Common.{ℕ, ◌≡◌, ◌+◌, ◌⊎◌, Bool, true, false, List, [], ◌∷◌, map, Option, Some, None, refl, sym, ap, ◌∙◌, arith, inl, inr, subst}
 use Rattle.std.specs.Prelude.{if◌then◌else◌}
 use Rattle.std.specs.Option.{option_and_then}
-use Rattle.fj_rules.specs.declared.mode.Mode.{Mode}
 use Rattle.fj_rules.specs.Bounds.{Pool}
 use Rattle.fj_rules.specs.Pasts.{Past}
-use Rattle.fj_lines.specs.Lines.{head_in}
 use Rattle.fj_lines.proofs.Reading.PartLaws.{some_is}
-use Rattle.fj_lines.proofs.Reading.HeadLaws.{head_short}
 use Rattle.fj_history.specs.declared.entry.Entry.{Entry}
 use Rattle.fj_history.specs.declared.entry.Entry.TheVariants as entry
-use Rattle.fj_history.specs.declared.read.TheConstants.{MAX_ENTRY}
 use Rattle.fj_history.specs.Entries.{entry_in, entry_line, HasEntryLine}
 use Rattle.fj_history.proofs.Entries.EntryLaws.{entry_found}
-use Rattle.fj_history.proofs.Entries.LineLaws.{entry_short}
 use Rattle.fj_filter.specs.Rules.{state_from}
 use Rattle.fj_replay.specs.Stages.{pool_in, start}
 use Rattle.fj_trace.specs.declared.history_check.HistoryCheck.{HistoryCheck}
@@ -28,18 +23,18 @@ use Rattle.fj_trace.proofs.Tested.{come_told}
 -- the entry of a line that leads on, and where
 record Comes (past : Past) (n : ℕ) (line : List ℕ) (next : HistoryCheck) : Type 0 where
   entry : Entry
-  line : line ≡ entry_line entry
+  written : line ≡ entry_line entry
   small : HasEntryLine entry
   may : MayCome past entry
-  next : next ≡ Going (past_after past entry) (n + count_of entry)
+  leads : next ≡ Going (past_after past entry) (n + count_of entry)
 
 comes : (past : Past) (n : ℕ) (line : List ℕ) (next : HistoryCheck) → after (Going past n) line ≡ Some next → Comes past n line next
 comes past n line next is = read (entry_in line) refl is
   where
     at : (e : Entry) (b : Bool) → entry_in line ≡ Some e → can_come past e ≡ b → (if b then Some (Going (past_after past e) (n + count_of e)) else None) ≡ Some next → Comes past n line next
-    at e true found yes is =
-        let law = entry_found line e found in record { entry = e; line = law.1; small = law.0; may = come_told past e yes; next = sym (some_is (Going (past_after past e) (n + count_of e)) next is) }
-    at e false found no is = absurd cc
+    at e true found holds is =
+        let law = entry_found line e found in record { entry = e; written = law.1; small = law.0; may = come_told past e holds; leads = sym (some_is (Going (past_after past e) (n + count_of e)) next is) }
+    at e false found bad is = absurd cc
 
     read : (o : Option Entry) → entry_in line ≡ o → option_and_then (came past n) o ≡ Some next → Comes past n line next
     read None found is = absurd cc
@@ -53,16 +48,16 @@ pub record Goes (past : Past) (n : ℕ) (ls : List (List ℕ)) (last : HistoryCh
   pub cut : ls ≡ map entry_line entries
   pub small : AllHaveLines entries
   pub may : AllMayCome past entries
-  pub last : last ≡ Going (past_from past entries) (n + event_count entries)
+  pub end : last ≡ Going (past_from past entries) (n + event_count entries)
 
 one_more : (past : Past) (n : ℕ) (line : List ℕ) (ls : List (List ℕ)) (next last : HistoryCheck) (first : Comes past n line next) → Goes (past_after past first.entry) (n + count_of first.entry) ls last
     → Goes past n (line ∷ ls) last
 one_more past n line ls next last first rest = record {
   entries = first.entry ∷ rest.entries;
-  cut = rw (first.line, rest.cut) refl;
+  cut = rw (first.written, rest.cut) refl;
   small = (first.small, rest.small);
   may = (first.may, rest.may);
-  last = rest.last ∙ ap (Going (past_from (past_after past first.entry) rest.entries)) (counted first.entry rest.entries);
+  end = rest.end ∙ ap (Going (past_from (past_after past first.entry) rest.entries)) (counted first.entry rest.entries);
 }
   where
     counted : (e : Entry) (es : List Entry) → n + count_of e + event_count es ≡ n + event_count (e ∷ es)
@@ -70,7 +65,7 @@ one_more past n line ls next last first rest = record {
     counted entry.Seal es = omega arith
 
 pub goes : (past : Past) (n : ℕ) (ls : List (List ℕ)) (last : HistoryCheck) → state_from check_rules (Going past n) ls ≡ Some last → Goes past n ls last
-goes past n [] last is = record { entries = []; cut = refl; small = tt; may = tt; last = sym (some_is (Going past n) last is) ∙ ap (Going past) (omega arith) }
+goes past n [] last is = record { entries = []; cut = refl; small = tt; may = tt; end = sym (some_is (Going past n) last is) ∙ ap (Going past) (omega arith) }
 goes past n (line ∷ ls) last is = there (after (Going past n) line) refl is (λ past2 n2 is. goes past2 n2 ls last is)
   where
     there : (o : Option HistoryCheck) → after (Going past n) line ≡ o → option_and_then (λ next. state_from check_rules next ls) o ≡ Some last
@@ -78,7 +73,7 @@ goes past n (line ∷ ls) last is = there (after (Going past n) line) refl is (�
     there None found is more = absurd cc
     there (Some next) found is more =
         let first = comes past n line next found in
-        one_more past n line ls next last first (more (past_after past first.entry) (n + count_of first.entry) (subst (λ (s : HistoryCheck). state_from check_rules s ls ≡ Some last) first.next is))
+        one_more past n line ls next last first (more (past_after past first.entry) (n + count_of first.entry) (subst (λ (s : HistoryCheck). state_from check_rules s ls ≡ Some last) first.leads is))
 
 -- ---- from the beginning
 
@@ -97,4 +92,4 @@ leads (heading ∷ ls) last is = inr (there (pool_in heading) refl is)
     there None found is = absurd cc
     there (Some pool) found is =
         let rest = goes (start pool) 0 ls last is in
-        (pool, rest.entries, record { heading = heading; cut = ap (λ ms. heading ∷ ms) rest.cut; opens = found; small = rest.small; may = rest.may }, rest.last ∙ ap (Going (past_from (start pool) rest.entries)) (omega arith))
+        (pool, rest.entries, record { heading = heading; cut = ap (λ ms. heading ∷ ms) rest.cut; opens = found; small = rest.small; may = rest.may }, rest.end ∙ ap (Going (past_from (start pool) rest.entries)) (omega arith))

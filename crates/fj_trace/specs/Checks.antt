@@ -7,7 +7,7 @@ use Rattle.fj_history.specs.declared.read.TheConstants.{MAX_ENTRY}
 use Rattle.fj_history.specs.Entries.{entry_in}
 use Rattle.fj_lines.specs.Lines.{head_in}
 use Rattle.fj_filter.specs.Cuts.{lines, rest}
-use Rattle.fj_replay.specs.Stages.{pool_in, start}
+use Rattle.fj_replay.specs.Stages.{start}
 use Rattle.fj_replay.specs.Stages.{IsOutOfLimits}
 use Rattle.fj_trace.specs.declared.fault.CheckFault.{CheckFault}
 use Rattle.fj_trace.specs.declared.fault.CheckFault.TheVariants.{Objection, Line, Limits, Memory, Read}

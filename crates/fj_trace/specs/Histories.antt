@@ -1,5 +1,5 @@
 -- Which bytes are a history: a heading within the limits, and behind it entries each of which may come.
-use Rattle.std.specs.Prelude.{ℕ, ◌≡◌, List, [], ◌∷◌, Option, Some, map}
+use Rattle.std.specs.Prelude.{ℕ, ◌≡◌, List, [], ◌∷◌, Some, map}
 use Rattle.fj_rules.specs.Bounds.{Pool}
 use Rattle.fj_history.specs.declared.entry.Entry.{Entry}
 use Rattle.fj_history.specs.Entries.{HasEntryLine, entry_line}

@@ -1,17 +1,13 @@
 -- What a check does at a line: its rules, as a filter. Whether an entry may come is a test here; it holds exactly where `MayCome` does.
-use Rattle.std.proofs.Common.{ℕ, ◌≡◌, ◌+◌, ◌<◌, ◌×◌, ◌⊎◌, Bool, true, false, ◌&&◌, List, [], ◌∷◌, length, Option, Some, None, refl, sym, ap, ◌∙◌, arith}
-use Rattle.std.specs.Prelude.{if◌then◌else◌, nat_lt, is_none, is_some, IfSome}
+use Rattle.std.proofs.Common.{ℕ, ◌≡◌, ◌+◌, ◌⊎◌, Bool, true, false, ◌&&◌, List, [], length, Option, Some, None}
+use Rattle.std.specs.Prelude.{if◌then◌else◌, nat_lt, is_none, is_some}
 use Rattle.std.specs.Option.{option_and_then, option_map_or}
-use Rattle.std.proofs.lemmas.Bool.{and_parts, ltb-true, lt-ltb}
 use Rattle.fj_rules.specs.declared.event.Event.{Event}
 use Rattle.fj_rules.specs.declared.event.Event.TheVariants.{Fire}
-use Rattle.fj_rules.specs.declared.refusal.Refusal.{Refusal}
 use Rattle.fj_rules.specs.Bounds.{Pool}
 use Rattle.fj_rules.specs.Tasks.{is_completer}
 use Rattle.fj_rules.specs.Hooks.{hand, goes_to}
 use Rattle.fj_rules.specs.Climbs.{climbed_by}
-use Rattle.fj_rules.specs.Allowed.{Allowed, AllowedFrom}
-use Rattle.fj_rules.specs.Follows.{Follows, NamesCompleter, HasHand}
 use Rattle.fj_rules.specs.Pasts.{Past, limit}
 use Rattle.fj_rules.specs.Epochs.{seal_refusal}
 use Rattle.fj_rules.proofs.Samples.AllowedTest.{allowed_test}

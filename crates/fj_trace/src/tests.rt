@@ -92,6 +92,9 @@ fn histories_are_checked(rt: HostRuntime) -> Result<(), Fail> {
 fn an_input_without_a_line_feed_is_faulty(rt: HostRuntime) -> Result<(), Fail> {
     assert_eq!(rt; checked(&rt, "")?.as_str(), "fault: line 1");
     assert_eq!(rt; checked(&rt, "async 1 1 1 1")?.as_str(), "fault: line 1");
-    assert_eq!(rt; checked(&rt, "async 1 1 1 1\nstop")?.as_str(), "fault: line 2");
+    assert_eq!(rt;
+        checked(&rt, "async 1 1 1 1\nstop")?.as_str(),
+        "fault: line 2"
+    );
     Ok(())
 }

@@ -1,0 +1,8 @@
+use Rattle.fj_trace.proofs.Found.{checked, stops}
+use Rattle.fj_trace.proofs.check_history.check.Goals as goal
+
+pub returns-in-Ok-clause-ok : goal.returns-in-Ok-clause-ok
+returns-in-Ok-clause-ok g c = rw c.events_in.ensures (checked c.filter-run.new.state _ _ _ _ c.in-Ok.ensures.ok)
+
+pub returns-clause-err : goal.returns-clause-err
+returns-clause-err g c = rw c.told.ensures (stops c.in-Err.fault _ _ _ _ c.in-Err.ensures.err)
