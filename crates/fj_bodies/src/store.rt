@@ -75,6 +75,9 @@ impl<B: Body> Store<B> {
         let results = SerialMap::new(alloc, room)?;
         let taken = SerialSet::new(alloc, room)?;
         let Ok(machine) = Machine::new(alloc, mode, limits) else {
+            drop(bodies);
+            drop(results);
+            drop(taken);
             return Err(OutOfMemory);
         };
         Ok(Store {

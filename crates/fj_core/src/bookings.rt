@@ -24,7 +24,11 @@ impl Model for Bookings {
 
     ghost view = { λ b. record { bookings = b.list.items; room = b.room } };
 
-    ghost invariant = { λ b. (b.room ≤ vec_capacity b.list) × (length b.list.items ≤ b.room) × IsIndex b.list.items b.first.items };
+    ghost invariant = { λ b. record {
+      has_room : b.room ≤ vec_capacity b.list;
+      within : length b.list.items ≤ b.room;
+      index : IsIndex b.list.items b.first.items;
+    } };
 }
 
 impl Bookings {

@@ -20,7 +20,10 @@ impl<N: Naming> Model for Closer<N> {
 
     ghost view = { λ c. c.end };
 
-    ghost invariant = { λ c. (c.end.gate ≡ N.gate) × (c.end.submitters ≡ length N.lanes) };
+    ghost invariant = { λ c. record {
+      gate : c.end.gate ≡ N.gate;
+      submitters : c.end.submitters ≡ length N.lanes;
+    } };
 }
 
 impl<N: Naming> Closer<N> {

@@ -37,14 +37,15 @@ impl<B: Body, N: Naming> Model for Guarded<B, N> {
 
     ghost view = { λ g. g.core };
 
-    ghost invariant = { λ g.
-        (lanes_of g.core.lanes ≡ N.lanes)
-        × (g.entrants.items ≡ [])
-        × (length N.lanes ≤ vec_capacity g.entrants)
-        × (g.rests.items ≡ [])
-        × (length N.lanes ≤ vec_capacity g.rests)
-        × (g.core.store.past.pool ≡ N.pool)
-        × (g.first < N.pool.limits.submitters) };
+    ghost invariant = { λ g. record {
+      lanes : lanes_of g.core.lanes ≡ N.lanes;
+      no_entrants : g.entrants.items ≡ [];
+      entrant_room : length N.lanes ≤ vec_capacity g.entrants;
+      no_rests : g.rests.items ≡ [];
+      rest_room : length N.lanes ≤ vec_capacity g.rests;
+      pool : g.core.store.past.pool ≡ N.pool;
+      begins : g.first < N.pool.limits.submitters;
+    } };
 }
 
 impl<B: Body, N: Naming> Guarded<B, N> {

@@ -26,5 +26,8 @@ impl<B, N: Naming> Model for Hand<B, N> {
 
     ghost view = { λ h. h.held };
 
-    ghost invariant = { λ h. (slice_get N.hands h.held.worker ≡ Some h.end.pair) × (h.end.value ≡ holding_of h.held) };
+    ghost invariant = { λ h. record {
+      tied : slice_get N.hands h.held.worker ≡ Some h.end.pair;
+      known : h.end.value ≡ holding_of h.held;
+    } };
 }

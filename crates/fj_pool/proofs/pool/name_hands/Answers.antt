@@ -10,7 +10,7 @@ invariant_of-push g c =
     let gives = c.into_iter-hand-iterator.ensures.into_iter_gives in
     let t = YieldsList-turn (YieldsList-from_vec c.args.tied.items gives.0 (gives.1 ∙ c.args.tied.ok.0)) c.loop-hand.yielded c.loop-hand.hand-iterator c.loop-hand.yielded_by c.next.result c.next.new.self c.in-Some.hand c.in-Some.is c.next.ensures.steps in
     let named = at_turn (IsTied g.N.Naming.hands) c.args.tied.items (length c.loop-hand.yielded) c.in-Some.hand c.requires t in
-    (subst (IsTied g.N.Naming.hands) (sym c.hand.view_is) named, c.hand.invariant)
+    record { tied = subst (IsTied g.N.Naming.hands) (sym c.hand.view_is) named; known = c.hand.invariant }
 
 pub returns : goal.returns
 returns g c =

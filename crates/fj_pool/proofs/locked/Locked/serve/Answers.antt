@@ -10,14 +10,14 @@ pub meet-requires : goal.meet-requires
 meet-requires g c =
     let lock = c.self.inside in
     let mine = c.hand.inside in record {
-      pair = same_pair g.N.Naming.hands lock.guarded.store.past lock.ends.items mine.held.worker c.end_of.result mine.end.pair c.index_mut-end.result.now c.self.invariant c.end_of.ensures c.hand.invariant.0 c.index_mut-end.ensures.value;
+      pair = same_pair g.N.Naming.hands lock.guarded.store.past lock.ends.items mine.held.worker c.end_of.result mine.end.pair c.index_mut-end.result.now c.self.invariant c.end_of.ensures c.hand.invariant.tied c.index_mut-end.ensures.value;
     }
 
 pub serve-next-requires-clause-fits : goal.serve-next-requires-clause-fits
 serve-next-requires-clause-fits g c =
     let lock = c.self.inside in
     let mine = c.hand.inside in
-    met_fits g.N.Naming.hands lock.guarded.store.past lock.ends.items mine.held c.end_of.result mine.end c.index_mut-end.result.now c.self.invariant c.end_of.ensures c.hand.invariant.0 c.hand.invariant.1 c.index_mut-end.ensures.value
+    met_fits g.N.Naming.hands lock.guarded.store.past lock.ends.items mine.held c.end_of.result mine.end c.index_mut-end.result.now c.self.invariant c.end_of.ensures c.hand.invariant.tied c.hand.invariant.known c.index_mut-end.ensures.value
     c.meet.ensures.same
 
 pub agree_on-requires : goal.agree_on-requires
@@ -25,7 +25,7 @@ agree_on-requires g c =
     let lock = c.self.inside in
     let mine = c.hand.inside in record {
       pair = ap (λ (e : EndState Holding). e.pair) c.meet.ensures.stays.0
-          ∙ same_pair g.N.Naming.hands lock.guarded.store.past lock.ends.items mine.held.worker c.end_of.result mine.end.pair c.index_mut-end.result.now c.self.invariant c.end_of.ensures c.hand.invariant.0 c.index_mut-end.ensures.value
+          ∙ same_pair g.N.Naming.hands lock.guarded.store.past lock.ends.items mine.held.worker c.end_of.result mine.end.pair c.index_mut-end.result.now c.self.invariant c.end_of.ensures c.hand.invariant.tied c.index_mut-end.ensures.value
           ∙ sym (ap (λ (e : EndState Holding). e.pair) c.meet.ensures.stays.1);
     }
 
@@ -35,15 +35,15 @@ invariant_of-self g c =
     let mine = c.hand.inside in
     let done = c.serve-next.ensures in
     kept_after g.N.Naming.hands lock.guarded.store.past c.serve-next.new.self.store.past lock.ends.items mine.held.worker c.end_of.result mine.end.pair c.index_mut-end.result.now c.agree_on.new.self c.self.invariant c.end_of.ensures
-    c.hand.invariant.0 c.index_mut-end.ensures.value (c.agree_on.ensures.stays.0 ∙ ap (λ (e : EndState Holding). e.pair) c.meet.ensures.stays.0)
+    c.hand.invariant.tied c.index_mut-end.ensures.value (c.agree_on.ensures.stays.0 ∙ ap (λ (e : EndState Holding). e.pair) c.meet.ensures.stays.0)
     (c.agree_on.ensures.value.0 ∙ fits_holding c.serve-next.new.self.store.past c.serve-next.new.hand mine.held.worker done.fits done.worker) done.others
 
 pub invariant_of-hand : goal.invariant_of-hand
-invariant_of-hand g c = (
-  ap (λ w. slice_get g.N.Naming.hands w) c.serve-next.ensures.worker ∙ c.hand.invariant.0
-      ∙ ap (λ p. Some p) (sym (c.agree_on.ensures.stays.1 ∙ ap (λ (e : EndState Holding). e.pair) c.meet.ensures.stays.1)),
-  c.agree_on.ensures.value.1,
-)
+invariant_of-hand g c = record {
+      tied = ap (λ w. slice_get g.N.Naming.hands w) c.serve-next.ensures.worker ∙ c.hand.invariant.tied
+          ∙ ap (λ p. Some p) (sym (c.agree_on.ensures.stays.1 ∙ ap (λ (e : EndState Holding). e.pair) c.meet.ensures.stays.1));
+      known = c.agree_on.ensures.value.1;
+    }
 
 pub returns-clause-fits : goal.returns-clause-fits
 returns-clause-fits g c =
@@ -51,5 +51,5 @@ returns-clause-fits g c =
     let mine = c.hand.inside in
     subst (λ h. Fits c.args.self.now.store.past h) c.hand.view_is
     (subst (λ s. Fits s.store.past mine.held) c.self.view_is
-    (met_fits g.N.Naming.hands lock.guarded.store.past lock.ends.items mine.held c.end_of.result mine.end c.index_mut-end.result.now c.self.invariant c.end_of.ensures c.hand.invariant.0 c.hand.invariant.1
+    (met_fits g.N.Naming.hands lock.guarded.store.past lock.ends.items mine.held c.end_of.result mine.end c.index_mut-end.result.now c.self.invariant c.end_of.ensures c.hand.invariant.tied c.hand.invariant.known
     c.index_mut-end.ensures.value c.meet.ensures.same))

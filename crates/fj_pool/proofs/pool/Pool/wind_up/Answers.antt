@@ -24,10 +24,10 @@ use Rattle.fj_pool.proofs.pool.Pool.wind_up.Goals as goal
 
 pub settle-entrants-requires-clause-lanes : goal.settle-entrants-requires-clause-lanes
 settle-entrants-requires-clause-lanes g c =
-    ap (λ (ds : List (DrainState g.row.B.Denot)). lanes_of ds) c.into_remains-machine.ensures.drains ∙ c.core.invariant.0
+    ap (λ (ds : List (DrainState g.row.B.Denot)). lanes_of ds) c.into_remains-machine.ensures.drains ∙ c.core.invariant.lanes
 
 pub meet-tickets-requires-clause-same : goal.meet-tickets-requires-clause-same
-meet-tickets-requires-clause-same g c = λ k e low. c.settle-entrants.ensures.gates k e low ∙ sym c.closer.invariant.0
+meet-tickets-requires-clause-same g c = λ k e low. c.settle-entrants.ensures.gates k e low ∙ sym c.closer.invariant.gate
 
 pub returns-clause-lanes : goal.returns-clause-lanes
 returns-clause-lanes g c =
