@@ -75,6 +75,7 @@ impl<B: Body> Store<B> {
         let results = SerialMap::new(alloc, room)?;
         let taken = SerialSet::new(alloc, room)?;
         let Ok(machine) = Machine::new(alloc, mode, limits) else {
+            // Explicit drops are proved faster.
             drop(bodies);
             drop(results);
             drop(taken);

@@ -81,8 +81,16 @@ fn make<B: Body>(
 {
     let (entrants, closer) = gate(alloc, limits.submitters(), lane_capacity)?;
     let (seats, drains) = seat_all(alloc, entrants, lane_capacity)?;
-    let (core, untied) = Core::new(alloc, mode, limits, lane_capacity, drains, start)?;
-    let (hands, ends) = tie_all(alloc, untied)?;
+    let Ok((core, untied)) = Core::new(alloc, mode, limits, lane_capacity, drains, start) else {
+        drop(seats);
+        return Err(OutOfMemory);
+    };
+    let Ok((hands, ends)) = tie_all(alloc, untied) else {
+        // Explicit drops are proved faster.
+        drop(core);
+        drop(seats);
+        return Err(OutOfMemory);
+    };
     Ok(Parts {
         core,
         hands,

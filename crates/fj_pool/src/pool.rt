@@ -66,12 +66,18 @@ impl<B: Body, N: Naming> Pool<B, N> {
         } = parts;
         let lanes = seats.len();
         let workers = core.limits().workers() as usize;
+        let Ok(beside) = Beside::new(alloc, workers, hands, seats) else {
+            // Explicit drops are proved faster.
+            drop(core);
+            drop(ends);
+            return Err(OutOfMemory);
+        };
         let Beside {
             condvars,
             room,
             hands,
             submitters,
-        } = Beside::new(alloc, workers, hands, seats)?;
+        } = beside;
         let pool = Pool {
             alloc,
             lanes,

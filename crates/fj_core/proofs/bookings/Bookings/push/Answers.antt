@@ -5,7 +5,7 @@ use Rattle.fj_core.proofs.bookings.Bookings.push.Goals as goal
 
 pub invariant_of-self : goal.invariant_of-self
 invariant_of-self c = record {
-      has_room = search rules;
-      within = search rules;
-      index = rw c.push_reserved.ensures.items (rw c.mark.ensures (rw (c.len.ensures ∙ c.self.inside.list.ok.0) (more_index _ _ c.args.booking (slice_get c.self.inside.first.items c.args.booking.ticket) refl c.self.invariant.index)));
-    }
+  has_room = search rules;
+  within = search rules;
+  index = rw c.push_reserved.ensures.items (rw c.mark.ensures (rw (c.len.ensures ∙ c.self.inside.list.ok.0) (more_index _ _ c.args.booking (slice_get c.self.inside.first.items c.args.booking.ticket) refl c.self.invariant.index)));
+}

@@ -40,10 +40,10 @@ invariant_of-self g c =
 
 pub invariant_of-hand : goal.invariant_of-hand
 invariant_of-hand g c = record {
-      tied = ap (λ w. slice_get g.N.Naming.hands w) c.serve-next.ensures.worker ∙ c.hand.invariant.tied
-          ∙ ap (λ p. Some p) (sym (c.agree_on.ensures.stays.1 ∙ ap (λ (e : EndState Holding). e.pair) c.meet.ensures.stays.1));
-      known = c.agree_on.ensures.value.1;
-    }
+  tied = ap (λ w. slice_get g.N.Naming.hands w) c.serve-next.ensures.worker ∙ c.hand.invariant.tied
+      ∙ ap (λ p. Some p) (sym (c.agree_on.ensures.stays.1 ∙ ap (λ (e : EndState Holding). e.pair) c.meet.ensures.stays.1));
+  known = c.agree_on.ensures.value.1;
+}
 
 pub returns-clause-fits : goal.returns-clause-fits
 returns-clause-fits g c =

@@ -31,5 +31,5 @@ new-requires-clause-named g c =
 pub returns-clause-all : goal.returns-clause-all
 returns-clause-all g c =
     let inside = c.parts.inside in
-    subst (λ seats. AreAll (length g.N.Naming.lanes) seats) (sym c.in_ok-condvars.ensures.submitters)
+    subst (λ seats. AreAll (length g.N.Naming.lanes) seats) (sym c.in-Ok.ensures.submitters)
     (all_seats inside.closer (lanes_of inside.core.lanes) g.N.Naming.lanes inside.seats.items c.parts.invariant.paired (lanes_named g.N.Naming.lanes _ c.args.parts c.requires.lanes c.parts.view_is))
