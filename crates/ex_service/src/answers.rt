@@ -1,5 +1,5 @@
 use crate::event::Event;
-use fj_serve::{Reported, Sink};
+use fj_serve::{Consumer, Reported};
 
 /// What the handlers have answered.
 #[derive(Drop)]
@@ -10,7 +10,7 @@ pub struct Answers {
     pub lost: bool,
 }
 
-impl Sink<Event> for Answers {
+impl Consumer<Event> for Answers {
     fn hear(&mut self, _nth: u64, told: Reported<u32, u64>) {
         let kept = match told {
             Reported::Result(_, answer) => self.answers.push(answer).is_ok(),

@@ -17,8 +17,8 @@ fn main(rt: HostRuntime) -> Result<()> {
     for line in rt.lines(alloc) {
         numbers.push_back(line?.trim().parse()?)?;
     }
-    let source = Events { numbers };
-    let sink = Answers {
+    let producer = Events { numbers };
+    let consumer = Answers {
         answers: Vec::new(alloc),
         lost: false,
     };
@@ -29,20 +29,20 @@ fn main(rt: HostRuntime) -> Result<()> {
         alloc,
         Settings::available(&rt),
         window,
-        source,
-        sink,
+        producer,
+        consumer,
         &Open,
     ) {
         Ok(served) => served,
         Err(unserved) => bail!("{}", unserved.refusal),
     };
-    for answer in served.sink.answers.as_slice() {
+    for answer in served.consumer.answers.as_slice() {
         println!(rt; "{answer}")?;
     }
     println!(rt;
         "{} events, {}",
         served.bodies,
-        if served.sink.lost {
+        if served.consumer.lost {
             "some lost"
         } else {
             "none lost"

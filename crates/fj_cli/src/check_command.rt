@@ -40,12 +40,7 @@ fn told_of_fault<W: Write, E: Write>(
 }
 
 /// Writes the line that may not stand there, and why: 1 where it was written.
-fn objected<W: Write, E: Write>(
-    alloc: Global,
-    fault: CheckFault,
-    out: &mut W,
-    err: &mut E,
-) -> u8
+fn objected<W: Write, E: Write>(alloc: Global, fault: CheckFault, out: &mut W, err: &mut E) -> u8
     ensures { (result ≡ 1) ⊎ ((result ≡ 4) ⊎ (result ≡ 5)) }
 {
     match answered(format!(in alloc; "{fault}\n"), out, err) {

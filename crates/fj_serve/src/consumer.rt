@@ -3,7 +3,7 @@ use crate::reported::Reported;
 use fj_run::{Body, Sealed};
 
 /// Where the outcomes of a service go.
-pub trait Sink<B: Body> {
+pub trait Consumer<B: Body> {
     /// What became of the nth body that came, counted from 0: called once for each.
     fn hear(&mut self, nth: u64, told: Reported<B::Key, B::Out>);
 

@@ -1,9 +1,9 @@
 ghost use Rattle.std.specs.Prelude.{◌≡◌, ◌+◌};
 ghost use Rattle.fj_serve.specs.UnderWays.{how_many};
 
+use crate::consumer::Consumer;
+use crate::producer::Producer;
 use crate::reported::told_of;
-use crate::sink::Sink;
-use crate::source::Source;
 use crate::under_way::UnderWay;
 use crate::window::Window;
 use fj_run::{Body, Naming, Play, Refusal, Running, SubId};
@@ -15,9 +15,9 @@ const TOLD_PER_LOOK: u64 = 4_096;
 
 /// The player that feeds the pools of a service, one after another.
 #[derive(Drop)]
-pub struct Feeding<B: Body, S, K> {
-    pub source: S,
-    pub sink: K,
+pub struct Feeding<B: Body, P, C> {
+    pub producer: P,
+    pub consumer: C,
     pub window: Window,
     /// What is under way in the current pool.
     pub under_way: UnderWay,
@@ -25,7 +25,7 @@ pub struct Feeding<B: Body, S, K> {
     pub lane: SubId,
     /// A body that came, but was not submitted yet.
     pub next: Option<B>,
-    /// Whether the source has ended.
+    /// Whether the producer has ended.
     pub is_over: bool,
     /// How many bodies were submitted, and how many outcomes were reported.
     pub submitted: u64,
@@ -35,12 +35,12 @@ pub struct Feeding<B: Body, S, K> {
     ghost counted: { told + how_many under_way ≡ submitted },
 }
 
-impl<B: Body, S: Drop, K: Drop> Feeding<B, S, K> {
+impl<B: Body, P: Drop, C: Drop> Feeding<B, P, C> {
     /// Nothing was submitted yet.
-    pub fn new(alloc: Global, window: Window, source: S, sink: K) -> Feeding<B, S, K> {
+    pub fn new(alloc: Global, window: Window, producer: P, consumer: C) -> Feeding<B, P, C> {
         Feeding {
-            source,
-            sink,
+            producer,
+            consumer,
             window,
             under_way: UnderWay::new(alloc, window),
             lane: SubId(0),
@@ -53,7 +53,7 @@ impl<B: Body, S: Drop, K: Drop> Feeding<B, S, K> {
     }
 }
 
-impl<B: Body, S: Source<B>, K: Sink<B>> Feeding<B, S, K> {
+impl<B: Body, P: Producer<B>, C: Consumer<B>> Feeding<B, P, C> {
     /// The next body, if there is one.
     fn next_body(&mut self) -> Option<B>
         ensures { (self.new.submitted ≡ self.old.submitted) × (self.new.under_way ≡ self.old.under_way) }
@@ -64,7 +64,7 @@ impl<B: Body, S: Source<B>, K: Sink<B>> Feeding<B, S, K> {
         if self.is_over {
             return None;
         }
-        let next = self.source.next();
+        let next = self.producer.next();
         self.is_over = next.is_none();
         next
     }
@@ -127,17 +127,17 @@ impl<B: Body, S: Source<B>, K: Sink<B>> Feeding<B, S, K> {
         if matches!(outcome, Err(Refusal::LogFull)) {
             self.refusal = Some(Refusal::LogFull);
         }
-        self.sink.hear(nth, told_of(outcome));
+        self.consumer.hear(nth, told_of(outcome));
         if self.told % TOLD_PER_LOOK == 0 {
             for part in pool.take_parts() {
-                self.sink.take_part(part);
+                self.consumer.take_part(part);
             }
         }
         true
     }
 }
 
-impl<B: Body, S: Source<B>, K: Sink<B>> Play<B> for Feeding<B, S, K> {
+impl<B: Body, P: Producer<B>, C: Consumer<B>> Play<B> for Feeding<B, P, C> {
     /// Whether nothing is left to do, in any pool.
     type Out = bool;
 

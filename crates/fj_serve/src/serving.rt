@@ -1,29 +1,29 @@
+use crate::consumer::Consumer;
 use crate::feeding::Feeding;
 use crate::pool_record::of_record;
-use crate::sink::Sink;
-use crate::source::Source;
+use crate::producer::Producer;
 use crate::window::Window;
 use fj_run::{Body, Played, Record, Refusal, Settings, Turnstile, with_pool};
 use std::alloc::Global;
 use std::sync::Wait;
 use std::thread::Threads;
 
-/// The end of a service whose source has ended.
+/// The end of a service whose producer has ended.
 #[derive(Drop)]
-pub struct Served<S, K> {
+pub struct Served<P, C> {
     /// How many bodies came; the outcome of each was reported.
     pub bodies: u64,
     /// How many pools served, one after another.
     pub pools: u64,
     /// Where the bodies came from.
-    pub source: S,
+    pub producer: P,
     /// Where their outcomes went.
-    pub sink: K,
+    pub consumer: C,
 }
 
 /// A service that could not go on.
 #[derive(Drop)]
-pub struct Unserved<B: Body, S, K> {
+pub struct Unserved<B: Body, P, C> {
     /// Why.
     pub refusal: Refusal,
     /// How many bodies were reported: all that were submitted.
@@ -33,21 +33,21 @@ pub struct Unserved<B: Body, S, K> {
     /// What is left of the last pool: what its lanes still hold, and outcomes that were not delivered.
     pub record: Option<Record<B>>,
     /// Where the bodies came from.
-    pub source: S,
+    pub producer: P,
     /// Where their outcomes went.
-    pub sink: K,
+    pub consumer: C,
 }
 
-/// Serves until the source ends: submits its bodies in order, at most a window of them at a time, and reports the outcome of each to the
-/// sink. When all lanes of a pool are spent it is drained and shut down, and the next pool is opened. In Java, a `ForkJoinPool` behind a
-/// bounded queue.
+/// Serves until the producer ends: submits its bodies in order, at most a window of them at a time, and reports the outcome of each to the
+/// consumer. When all lanes of a pool are spent it is drained and shut down, and the next pool is opened. In Java, a `ForkJoinPool` behind
+/// a bounded queue.
 ///
 /// `OutOfMemory` if an allocation fails or a thread cannot be started; what was submitted is served before. `LogFull` if a pool got stuck,
 /// since a job had more events than its history has room for. `LaneSpent` after 2^64 - 1 bodies.
 pub fn serve<
     B: Body + Send,
-    S: Source<B> + Drop,
-    K: Sink<B> + Drop,
+    P: Producer<B> + Drop,
+    C: Consumer<B> + Drop,
     T: Turnstile + Sync,
     R: Threads + Wait + Sync,
 >(
@@ -55,15 +55,15 @@ pub fn serve<
     alloc: Global,
     settings: Settings,
     window: Window,
-    source: S,
-    sink: K,
+    producer: P,
+    consumer: C,
     turnstile: &T,
-) -> Result<Served<S, K>, Unserved<B, S, K>>
+) -> Result<Served<P, C>, Unserved<B, P, C>>
 where
     B::Key: Send,
     B::Out: Send,
 {
-    let mut feeding = Feeding::new(alloc, window, source, sink);
+    let mut feeding = Feeding::new(alloc, window, producer, consumer);
     let serving = Serving {
         rt,
         alloc,
@@ -78,8 +78,8 @@ where
             return Ok(Served {
                 bodies: player.told,
                 pools,
-                source: player.source,
-                sink: player.sink,
+                producer: player.producer,
+                consumer: player.consumer,
             });
         }
         feeding = player;
@@ -97,11 +97,11 @@ struct Serving<'r, 't, R, T> {
 }
 
 impl<R: Threads + Wait + Sync, T: Turnstile + Sync> Serving<'_, '_, R, T> {
-    /// One pool serves until its lanes are spent, or the source ends. True if all is done.
-    fn serve_by_one<B: Body + Send, S: Source<B> + Drop, K: Sink<B> + Drop>(
+    /// One pool serves until its lanes are spent, or the producer ends. True if all is done.
+    fn serve_by_one<B: Body + Send, P: Producer<B> + Drop, C: Consumer<B> + Drop>(
         &self,
-        feeding: Feeding<B, S, K>,
-    ) -> Result<(Feeding<B, S, K>, bool), Unserved<B, S, K>>
+        feeding: Feeding<B, P, C>,
+    ) -> Result<(Feeding<B, P, C>, bool), Unserved<B, P, C>>
     where
         B::Key: Send,
         B::Out: Send,
@@ -116,7 +116,7 @@ impl<R: Threads + Wait + Sync, T: Turnstile + Sync> Serving<'_, '_, R, T> {
                 match player.refusal {
                     Some(refusal) => Err(stop(player, refusal, Some(record))),
                     None => {
-                        player.sink.take_record(of_record(record));
+                        player.consumer.take_record(of_record(record));
                         Ok((player, is_done))
                     }
                 }
@@ -127,17 +127,17 @@ impl<R: Threads + Wait + Sync, T: Turnstile + Sync> Serving<'_, '_, R, T> {
 }
 
 /// What a service that cannot go on returns.
-fn stop<B: Body, S: Drop, K: Drop>(
-    feeding: Feeding<B, S, K>,
+fn stop<B: Body, P: Drop, C: Drop>(
+    feeding: Feeding<B, P, C>,
     refusal: Refusal,
     record: Option<Record<B>>,
-) -> Unserved<B, S, K> {
+) -> Unserved<B, P, C> {
     Unserved {
         refusal,
         bodies: feeding.told,
         next: feeding.next,
         record,
-        source: feeding.source,
-        sink: feeding.sink,
+        producer: feeding.producer,
+        consumer: feeding.consumer,
     }
 }

@@ -19,7 +19,7 @@ pub enum UnderWay {
 }
 
 /// The number of a body, and its outcome.
-pub type Reported<B> = (u64, Result<Outcome<B>, Refusal>);
+pub type NthOutcome<B> = (u64, Result<Outcome<B>, Refusal>);
 
 impl UnderWay {
     /// Nothing is under way.
@@ -79,7 +79,7 @@ impl UnderWay {
         &mut self,
         pool: &mut Running<'_, '_, B, N, R>,
         told: u64,
-    ) -> Option<Reported<B>>
+    ) -> Option<NthOutcome<B>>
         ensures some { IfSome result (λ told. how_many self.new + 1 ≡ how_many self.old) }
         ensures none { IfNone result (how_many self.new ≡ how_many self.old) }
     {

@@ -22,7 +22,7 @@ pub mod trees;
 use crate::calls::read_call;
 use crate::driver::{Driver, drive};
 use fj_core::Archive;
-use fj_rules::{Owner, Place, Refusal, Status, SubId, WorkerId};
+use fj_rules::InnerTypes;
 use std::alloc::Global;
 use std::fmt::Write;
 use std::rc::Rc;
@@ -87,8 +87,8 @@ fn first_row(alloc: Global, driver: &mut Driver, rows: &str) -> Result<String, F
 
 /// The reply to the call of a line.
 fn tell(alloc: Global, driver: &mut Driver, asked: &str, told: &mut String) -> Result<(), Fail> {
-    // For the proof: each type inside a moved reply is named.
-    let _inside: Option<(Place, Owner, Status, Refusal, SubId, WorkerId)> = None;
+    // For the proof: see `InnerTypes`.
+    let _inside: Option<InnerTypes> = None;
     match read_call(asked) {
         Some(call) => {
             let tells = driver.make(alloc, call)?;

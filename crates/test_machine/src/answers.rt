@@ -5,10 +5,7 @@ use anyhow::Result;
 use fj_lines::{Reply, read_head, read_step};
 use fj_machine::{Machine, run_epochs};
 use fj_replay::{replayed, upgraded};
-use fj_rules::{
-    Answer, Ending, Kind, Limits, Mode, Move, OutOfMemory, Owner, Place, Refusal, Said, Sealed,
-    Serial, Status, Step, SubId, SubmittedKind, WorkerId,
-};
+use fj_rules::{Answer, InnerTypes, Limits, Mode, Move, OutOfMemory, Sealed};
 use std::alloc::Global;
 use std::fmt::Write;
 use std::str;
@@ -100,8 +97,8 @@ fn answer(alloc: Global, machine: &mut Machine, limits: &Limits, asked: &str) ->
 
 /// The move that a line asks for, if it is one.
 fn move_of(asked: &str) -> Option<Move> {
-    // For the proof: moving a step needs each type inside it named.
-    let _inside: Option<(Kind, SubmittedKind, Ending, Serial, SubId, WorkerId)> = None;
+    // For the proof: see `InnerTypes`.
+    let _inside: Option<InnerTypes> = None;
     if asked == "seal" {
         return Some(Move::Seal);
     }
@@ -112,8 +109,8 @@ fn move_of(asked: &str) -> Option<Move> {
 }
 
 fn moves_in(alloc: Global, lines: &[Line<'_>]) -> Result<Vec<Move>> {
-    // As in `move_of`.
-    let _inside: Option<(Step, Kind, SubmittedKind, Ending, Serial, SubId, WorkerId)> = None;
+    // For the proof: see `InnerTypes`.
+    let _inside: Option<InnerTypes> = None;
     let mut moves = Vec::new(alloc);
     for line in lines {
         if let Some(asked) = move_of(line.asked) {
@@ -136,8 +133,8 @@ fn without_machine(
     limits: Limits,
     moves: &[Move],
 ) -> Result<(Vec<Sealed>, Vec<Answer>), OutOfMemory> {
-    // As in `move_of`.
-    let _inside: Option<(Said, Place, Status, Owner, Refusal, Serial, SubId, WorkerId)> = None;
+    // For the proof: see `InnerTypes`.
+    let _inside: Option<InnerTypes> = None;
     let (_machine, parts, answers) = run_epochs(alloc, mode, limits, moves)?;
     Ok((parts, answers))
 }

@@ -1,8 +1,8 @@
 use fj_lines::read_step;
 use fj_machine::{Machine, run_epochs};
 use fj_rules::{
-    Answer, Ending, Kind, Limits, Mode, Move, OutOfMemory, Refusal, Said, Serial, Step, SubId,
-    SubmittedKind, WorkerId,
+    Answer, Ending, InnerTypes, Limits, Mode, Move, OutOfMemory, Refusal, Said, Serial, Step,
+    SubId, SubmittedKind, WorkerId,
 };
 use std::alloc::Global;
 use std::test::*;
@@ -67,8 +67,8 @@ fn a_seal_without_memory_changes_nothing(rt: HostRuntime) -> Result<(), Fail> {
 
 /// The move that a line asks for; a line that is no step is a seal.
 fn move_of(line: &str) -> Move {
-    // For the proof: moving a step needs each type inside it named.
-    let _inside: Option<(Kind, SubmittedKind, Ending, Serial, SubId, WorkerId)> = None;
+    // For the proof: see `InnerTypes`.
+    let _inside: Option<InnerTypes> = None;
     match read_step(line.as_bytes()) {
         Ok(step) => Move::Step(step),
         Err(_) => Move::Seal,
@@ -77,8 +77,8 @@ fn move_of(line: &str) -> Move {
 
 /// Moves that submit another task after the seal.
 fn moves(alloc: Global) -> Result<Vec<Move>, OutOfMemory> {
-    // As in `move_of`.
-    let _inside: Option<(Step, Kind, SubmittedKind, Ending, Serial, SubId, WorkerId)> = None;
+    // For the proof: see `InnerTypes`.
+    let _inside: Option<InnerTypes> = None;
     let mut moves = Vec::new(alloc);
     for line in ["submit 0", "poll 0 0", "end 0 ok", "seal", "submit 0"] {
         moves.push(move_of(line))?;
