@@ -140,19 +140,22 @@ Exit status:
 pub const CHECK: &str =
     "Input of fj check: a history, which is a heading as that of a script, and then a
 line for each event and each seal
-  acc T sub S KIND | acc T work W KIND | make T KIND | out T W | skip T W | end T W
-  add C N | dec C | fire C zero | fire C complete | pass C | hooked C
-  settle T normal | settle T cancelled | settle T exceptional CODE
-  close | stop | rel T | seal
-A KIND is plain, or completer PARENT COUNT RELAY as in a fork. Each line ends with a
-line feed, the last one too.
+  acc T sub S KIND     acc T work W KIND     make T KIND
+  out T W              skip T W              end T W
+  add C N              dec C                 fire C zero
+  fire C complete      pass C                hooked C
+  settle T normal      settle T cancelled    settle T exceptional CODE
+  close                stop                  rel T
+  seal
+A KIND is plain, or completer PARENT COUNT RELAY as in a fork. Each line ends
+with a line feed, the last one too.
 
-Written is ok and the number of events where each event follows those before it, by
-the rules of docs/MODEL.md; otherwise the first line that may not stand there, and why.
+Written is ok and the number of events where each event follows those before it;
+otherwise the first line that may not stand there, and why.
 
 Example:
-  $ printf 'async 1 1 8 64\\nacc 0 sub 0 plain\\nout 0 0\\nend 0 0\\n' | fj check
-  ok 3
+  $ printf 'async 1 1 8 64\\nacc 0 sub 0 plain\\nout 0 0\\n' | fj check
+  ok 2
   $ printf 'async 1 1 8 64\\nacc 0 sub 0 plain\\nend 0 0\\n' | fj check
   line 3: worker 0 runs nothing
 
