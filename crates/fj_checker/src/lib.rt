@@ -12,3 +12,6 @@ mod rules;
 
 pub use checker::Checker;
 pub use objection::Objection;
+
+#[cfg(test)]
+mod tests;
