@@ -53,14 +53,8 @@ arrival_is h t r told = ap (arrival h) (sym told.number) ∙ sym (arrival_told h
 
 -- ---- additions
 
-pub add_none : (pool : Pool) (h : List Event) (c n : ℕ) → is_kept h c ≡ false → Allowed pool h (Add c n) → ⊥
-add_none pool h c n none may = true≢false (sym may.0 ∙ none)
-
 pub add_plain : (pool : Pool) (h : List Event) (c n : ℕ) (r : Record) → TellsOf h c r → is_completer_kind (Some r.kind) ≡ false → Allowed pool h (Add c n) → ⊥
 add_plain pool h c n r told plain may = true≢false (sym may.1 ∙ completer_is h c r told ∙ plain)
-
-pub add_large : (pool : Pool) (h : List Event) (c n : ℕ) (r : Record) → TellsOf h c r → MAX_PENDING < r.pending + n → Allowed pool h (Add c n) → ⊥
-add_large pool h c n r told large may = let same = pending_is h c r told in let most = may.2 in absurd (omega (arith, same, large, most))
 
 pub add_may : (pool : Pool) (h : List Event) (c n : ℕ) (r : Record) → TellsOf h c r → is_completer_kind (Some r.kind) ≡ true → r.pending + n ≤ MAX_PENDING → Allowed pool h (Add c n)
 add_may pool h c n r told completer few = let same = pending_is h c r told in (kept_is h c r told, completer_is h c r told ∙ completer, omega (arith, same, few))
