@@ -31,7 +31,7 @@ pub fn refused<E: Write>(refusal: Refusal, err: &mut E) -> u8
 }
 
 /// Writes a line, and flushes it. On an error a part of it, or nothing, was written.
-#[tactic(auto, using(fj_replay::proofs::Begun::all_some, fj_streams::proofs::Bytes::appends_keeps))]
+#[tactic(auto, using(fj_filter::proofs::Begun::all_some, fj_streams::proofs::Bytes::appends_keeps))]
 fn written<W: Write>(out: &mut W, line: &str) -> io::Result<()>
     ensures ok { OnOk result (Appends (W.contents out.old) (W.contents out.new) line.now) }
     ensures err { OnErr result (AppendsSome (W.contents out.old) (W.contents out.new) line.now) }
