@@ -2,6 +2,8 @@
 pub mod Answered
 -- what the end of a command says of its exit status
 pub mod Ended
+-- how a check ended
+pub mod Checked
 -- how a script ended, once what was written of it was flushed
 pub mod ScriptEnds
 -- the number that was read for an option is that of its text

@@ -1,5 +1,5 @@
 //! The output of a command: its answer on standard output, or an error on standard error.
-ghost use Rattle.std.specs.Prelude.{◌≡◌, ℕ, List, IfErr, IfOk, OnOk, OnErr, string_bytes};
+ghost use Rattle.std.specs.Prelude.{◌≡◌, ◌⊎◌, ℕ, List, IfErr, IfOk, OnOk, OnErr, string_bytes};
 ghost use Rattle.std.specs.Io.KnownBytes.{Appends};
 ghost use Rattle.fj_streams.specs.Beginnings.{AppendsSome};
 ghost use Rattle.fj_cli.specs.Answers.{EndsJob, status_of_refusal};
@@ -51,6 +51,7 @@ pub fn answered<W: Write, E: Write>(
 ) -> u8
     ensures job { (text : List ℕ) → IfOk line (λ s. string_bytes s ≡ text) → EndsJob result text (W.contents out.old) (W.contents out.new) }
     ensures memory { IfErr line (λ e. result ≡ 4) }
+    ensures status { (result ≡ 0) ⊎ ((result ≡ 4) ⊎ (result ≡ 5)) }
 {
     let Ok(line) = line else {
         return told(err, "out of memory\n", 4);

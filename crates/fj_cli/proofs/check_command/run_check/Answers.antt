@@ -1,0 +1,13 @@
+use Rattle.std.proofs.Common.{string_bytes, ◌≡◌, ◌++◌}
+use Rattle.std.specs.Prelude.{IfOk, codes}
+use Rattle.fj_cli.specs.Answers.{number_line}
+use Rattle.fj_cli.proofs.Checked.{good_ended, fault_ended}
+use Rattle.fj_cli.proofs.check_command.run_check.Goals as goal
+
+pub returns-in-Ok : goal.returns-in-Ok
+returns-in-Ok g c =
+    let line : IfOk c.format.result (λ s. string_bytes s ≡ codes "ok " ++ number_line c.in-Ok.events) = c.format.ensures.ok in
+    good_ended c.in-Ok.events c.answered.result _ _ _ _ c.in-Ok.ensures.ok (c.answered.ensures.job (codes "ok " ++ number_line c.in-Ok.events) line) c.answered.ensures.status
+
+pub returns-in-Err : goal.returns-in-Err
+returns-in-Err g c = fault_ended c.in-Err.fault c.told_of_fault.result _ _ _ _ c.in-Err.ensures.err c.told_of_fault.ensures
