@@ -4,9 +4,11 @@ use Rattle.fj_trees.specs.declared.tree_fault.TreeFault.{TreeFault}
 use Rattle.fj_trees.specs.declared.tree_fault.TreeFault.TheVariants.{Line, Memory, Read}
 use Rattle.fj_cli.specs.declared.command_line.options.RangeOptions.{RangeOptions}
 use Rattle.fj_cli.specs.declared.command_line.Subcommand.{Subcommand}
-use Rattle.fj_cli.specs.declared.command_line.Subcommand.TheVariants.{Replay, Upgrade, Sum, Min, Find, Tree, Check}
+use Rattle.fj_cli.specs.declared.command_line.Subcommand.TheVariants.{Replay, Upgrade, Compute, Record, Check, Trace, Test, Explain}
+use Rattle.fj_cli.specs.declared.command_line.Job.{Job}
+use Rattle.fj_cli.specs.declared.command_line.Job.TheVariants.{Sum, Min, Find, Tree}
 use Rattle.fj_cli.specs.Answers.{EndsRange, EndsTree, status_of_fault}
-use Rattle.fj_cli.specs.Statuses.{EndsCommand, EndsReplay}
+use Rattle.fj_cli.specs.Statuses.{EndsCommand, EndsCompute, EndsReplay}
 use Rattle.fj_replay.specs.Faults.{Replays}
 
 -- an exit status of a command that does not end by 2
@@ -34,14 +36,21 @@ module _ (status : ℕ) (before ahead start now : Option (List ℕ)) where
   of_tree : EndsTree status before ahead start now → IsOfCommand status
   of_tree ends = ⊎_elim (λ read. read.2.known) (λ unread. subst IsOfCommand (sym unread.1) (of_fault unread.0)) ends
 
+  of_job : (job : Job) → EndsCompute job status before ahead start now → IsOfProgram status
+  of_job (Sum o) ends = of_range o _ ends.1
+  of_job (Min o f) ends = of_range o _ ends.1
+  of_job (Find o f want) ends = of_range o _ ends.1
+  of_job (Tree workers) ends = with_two status (of_tree ends)
+
   pub status_of_command : (asked : Subcommand) → EndsCommand asked status before ahead start now → IsOfProgram status
   status_of_command Replay ends = with_two status ends.known
   status_of_command Upgrade ends = with_two status ends.known
-  status_of_command (Sum o) ends = of_range o _ ends.1
-  status_of_command (Min o f) ends = of_range o _ ends.1
-  status_of_command (Find o f want) ends = of_range o _ ends.1
-  status_of_command (Tree workers) ends = with_two status (of_tree ends)
+  status_of_command (Compute job) ends = of_job job ends
+  status_of_command (Record job) ends = ⊎_elim (λ zero. inl zero.0) (λ others. inr (inr others)) ends
   status_of_command Check ends = ⊎_elim (λ zero. inl zero) (λ others. inr (⊎_elim (λ one. inl one) (λ rest. inr (inr rest)) others)) ends.known
+  status_of_command Explain ends = with_two status ends
+  status_of_command Trace ends = with_two status ends.known
+  status_of_command Test ends = ⊎_elim (λ zero. inl zero.0) (λ others. inr (⊎_elim (λ one. inl one) (λ failed. inr (inr failed)) others)) ends
 
   -- a replay that is asked for does not end by 2, and at 0 the script was replayed
   pub known_of_replay : (asked : Subcommand) → EndsCommand asked status before ahead start now → asked ≡ Replay → (status ≢ 2) × (status ≡ 0 → Replays before ahead start now)

@@ -6,6 +6,8 @@ pub mod Ended
 pub mod Checked
 -- how a script ended, once what was written of it was flushed
 pub mod ScriptEnds
+-- how a trace ended
+pub mod TraceEnds
 -- the number that was read for an option is that of its text
 pub mod Numbers
 -- a flag is given where its text is true

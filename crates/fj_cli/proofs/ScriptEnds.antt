@@ -13,17 +13,17 @@ use Rattle.fj_replay.proofs.Begun.{begun_whole, begun_fault, upgrade_begun_whole
 use Rattle.fj_cli.specs.Statuses.{EndsBy, EndsReplay, EndsScript, EndsUpgrade, IsEndOf, status_of}
 
 -- an exit status of a command for scripts
-abbrev IsOfScript : ℕ → Type 0
+abbrev pub IsOfScript : ℕ → Type 0
 IsOfScript status = (status ≡ 0) ⊎ ((status ≡ 3) ⊎ ((status ≡ 4) ⊎ (status ≡ 5)))
 
-of_fault : (fault : ReplayFault) → IsOfScript (status_of fault)
+pub of_fault : (fault : ReplayFault) → IsOfScript (status_of fault)
 of_fault (Line n) = inr (inl refl)
 of_fault Limits = inr (inl refl)
 of_fault Memory = inr (inr (inl refl))
 of_fault Read = inr (inr (inr refl))
 of_fault Write = inr (inr (inr refl))
 
-no_fault_is_well : (fault : ReplayFault) → 0 ≡ status_of fault → ⊥
+pub no_fault_is_well : (fault : ReplayFault) → 0 ≡ status_of fault → ⊥
 no_fault_is_well (Line n) e = omega (arith, e)
 no_fault_is_well Limits e = omega (arith, e)
 no_fault_is_well Memory e = omega (arith, e)

@@ -1,5 +1,6 @@
 -- The command line.
-use Rattle.std.specs.Prelude.{◌≡◌, ◌≢◌, ◌⊎◌, List, [], ◌∷◌, codes, true, Option, Some, option_map, Result, MatchResult}
+use Rattle.std.specs.Prelude.{◌≡◌, ◌≢◌, ◌⊎◌, ◌++◌, if◌then◌else◌, List, [], ◌∷◌, codes, true, Option, Some, None, option_map, Result, MatchResult}
+use Rattle.std.specs.Str.{bytes_eq}
 use Rattle.clap.specs.Words.{App, IsAmong, Kinds, Row, Text, fault_of, kind_of, new_app, subcommand_of, with_subcommand}
 use Rattle.clap.specs.Simple.{on_top}
 use Rattle.clap.specs.declared.error.kind.ErrorKind.{ErrorKind}
@@ -19,11 +20,23 @@ replay_line =
 abbrev pub script_line : App
 script_line = with_subcommand replay_line (new_app (codes "upgrade")).top
 
--- the whole command line, as a parse sees it
+-- with the jobs
+abbrev pub with_jobs : App → App
+with_jobs line = with_subcommand (with_subcommand (with_subcommand (with_subcommand line sum_line.top) min_line.top) find_line.top) tree_line.top
+
+-- with a command that has no options
+abbrev pub with_plain : App → Text → App
+with_plain line name = with_subcommand line (new_app name).top
+
+-- the whole command line, as a parse sees it, but for what stands behind `record`
 abbrev pub whole_line : App
 whole_line =
-    with_subcommand (with_subcommand (with_subcommand (with_subcommand (with_subcommand script_line sum_line.top) min_line.top) find_line.top) tree_line.top)
-    (new_app (codes "check")).top
+    with_plain (with_plain (with_plain (with_plain (with_plain (with_jobs script_line) (codes "check")) (codes "trace")) (codes "test")) (codes "explain"))
+    (codes "record")
+
+-- the command line from `record` on
+abbrev pub record_line : App
+record_line = with_jobs (on_top (λ top. record top { subcommand_required = true }) (new_app (codes "fj record")))
 
 -- the words of a replay
 abbrev pub replay_words : List Text
@@ -37,9 +50,26 @@ upgrade_words = codes "fj" ∷ codes "upgrade" ∷ []
 abbrev pub IsForScript : List Text → Type 0
 IsForScript words = (words ≡ replay_words) ⊎ (words ≡ upgrade_words)
 
+-- the words behind the program's name, if the first of them is `record`
+abbrev pub recorded_in : List Text → Option (List Text)
+recorded_in (program ∷ word ∷ others) = if bytes_eq word (codes "record") then Some (word ∷ others) else None
+recorded_in _ = None
+
+-- the same job with a name of two words
+abbrev pub recorded_as : Text × List Row → Text × List Row
+recorded_as met = (codes "record " ++ met.0, met.1)
+
+-- the command that a parse finds, where these are the words from `record` on
+abbrev pub command_by : Option (List Text) → List Text → Option (Text × List Row)
+command_by None words = subcommand_of whole_line words
+command_by (Some job) words = option_map recorded_as (subcommand_of record_line job)
+
 -- the command that a parse finds in these words, if there is one, with their values of its options
 abbrev pub command_in : List Text → Option (Text × List Row)
-command_in words = subcommand_of whole_line words
+command_in words = command_by (recorded_in words) words
+
+abbrev pub name_in : Option (Text × List Row) → Option Text
+name_in met = option_map (λ (m : Text × List Row). m.0) met
 
 -- the words ask for this
 abbrev pub Asks : List Text → Subcommand → Type 0
@@ -47,7 +77,7 @@ Asks words asked = IsAsked (command_in words) asked
 
 -- they name this command
 abbrev pub Names : Text → List Text → Type 0
-Names command words = option_map (λ (met : Text × List Row). met.0) (command_in words) ≡ Some command
+Names command words = name_in (command_in words) ≡ Some command
 
 -- they name neither of the commands for scripts
 abbrev pub NamesNoScript : List Text → Type 0
@@ -61,9 +91,14 @@ ReadsAs asked result = MatchResult result (λ read. read ≡ Some asked) (λ err
 abbrev pub ReadsScript : List Text → Result (Option Subcommand) Error → Type 0
 ReadsScript words result = (words ≡ replay_words → ReadsAs Replay result) × (words ≡ upgrade_words → ReadsAs Upgrade result)
 
+-- the kinds of error, where these are the words from `record` on
+abbrev pub faults_by : Option (List Text) → List Text → Kinds
+faults_by None words = fault_of whole_line words
+faults_by (Some job) words = fault_of record_line job
+
 -- the kinds of error that a parse of these arguments may give, but for out of memory
 abbrev pub faults_in : List Text → Kinds
-faults_in words = fault_of whole_line words
+faults_in words = faults_by (recorded_in words) words
 
 -- the words ask for help or for the version
 abbrev pub AsksToShow : List Text → Type 0

@@ -1,10 +1,12 @@
 -- The values of a command's options in the arguments.
-use Rattle.std.specs.Prelude.{ℕ, ⊤, ◌≡◌, ◌↔◌, Bool, true, List, Option, Some}
+use Rattle.std.specs.Prelude.{ℕ, ⊤, ◌≡◌, ◌↔◌, ◌++◌, Bool, true, List, Option, Some}
 use Rattle.std.specs.Prelude.{codes}
 use Rattle.std.specs.Str.Parse.{IsNumeral, digits_value, without_leading_plus}
 use Rattle.clap.specs.Words.{Row, Text, one_of}
 use Rattle.fj_cli.specs.declared.command_line.Subcommand.{Subcommand}
-use Rattle.fj_cli.specs.declared.command_line.Subcommand.TheVariants.{Replay, Upgrade, Sum, Min, Find, Tree, Check}
+use Rattle.fj_cli.specs.declared.command_line.Subcommand.TheVariants.{Replay, Upgrade, Compute, Record, Check, Trace, Test, Explain}
+use Rattle.fj_cli.specs.declared.command_line.Job.{Job}
+use Rattle.fj_cli.specs.declared.command_line.Job.TheVariants.{Sum, Min, Find, Tree}
 use Rattle.fj_cli.specs.declared.command_line.options.RangeOptions.{RangeOptions}
 use Rattle.fj_cli.specs.declared.command_line.options.FunctionOptions.{FunctionOptions}
 
@@ -29,25 +31,45 @@ pub record GivesFunction (rows : List Row) (f : FunctionOptions) : Type 0 where
   pub add : Gives rows (codes "add") f.add
   pub modulus : Gives rows (codes "mod") f.modulus
 
+-- the job has these values
+abbrev pub GivesJob : List Row → Job → Type 0
+GivesJob rows (Sum o) = GivesRange rows o
+GivesJob rows (Min o f) = GivesRange rows o × GivesFunction rows f
+GivesJob rows (Find o f want) = GivesRange rows o × GivesFunction rows f × Gives rows (codes "want") want
+GivesJob rows (Tree workers) = Gives rows (codes "workers") workers.count
+
 -- the command to run has these values
 abbrev pub GivesOptions : List Row → Subcommand → Type 0
 GivesOptions rows Replay = ⊤
 GivesOptions rows Upgrade = ⊤
-GivesOptions rows (Sum o) = GivesRange rows o
-GivesOptions rows (Min o f) = GivesRange rows o × GivesFunction rows f
-GivesOptions rows (Find o f want) = GivesRange rows o × GivesFunction rows f × Gives rows (codes "want") want
-GivesOptions rows (Tree workers) = Gives rows (codes "workers") workers.count
+GivesOptions rows (Compute job) = GivesJob rows job
+GivesOptions rows (Record job) = GivesJob rows job
 GivesOptions rows Check = ⊤
+GivesOptions rows Trace = ⊤
+GivesOptions rows Test = ⊤
+GivesOptions rows Explain = ⊤
 
--- the name of a command
+-- the name of a job
+abbrev pub job_name : Job → Text
+job_name (Sum o) = codes "sum"
+job_name (Min o f) = codes "min"
+job_name (Find o f want) = codes "find"
+job_name (Tree workers) = codes "tree"
+
+-- the name of a command; that of a recorded job has two words
 abbrev pub name_of : Subcommand → Text
 name_of Replay = codes "replay"
 name_of Upgrade = codes "upgrade"
-name_of (Sum o) = codes "sum"
-name_of (Min o f) = codes "min"
-name_of (Find o f want) = codes "find"
-name_of (Tree workers) = codes "tree"
+name_of (Compute job) = job_name job
+name_of (Record job) = codes "record " ++ job_name job
 name_of Check = codes "check"
+name_of Trace = codes "trace"
+name_of Test = codes "test"
+name_of Explain = codes "explain"
+
+-- the command of this name, with these options, is the job
+abbrev pub IsAskedJob : Option (Text × List Row) → Job → Type 0
+IsAskedJob met job = (rows : List Row) × (met ≡ Some (job_name job, rows)) × GivesJob rows job
 
 -- the command of this name, with these options, is the command to run
 abbrev pub IsAsked : Option (Text × List Row) → Subcommand → Type 0

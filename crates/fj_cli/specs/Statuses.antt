@@ -6,11 +6,21 @@ use Rattle.std.specs.declared.io.ErrorKind.TheVariants.{InvalidData}
 use Rattle.fj_replay.specs.declared.fault.ReplayFault.{ReplayFault}
 use Rattle.fj_replay.specs.declared.fault.ReplayFault.TheVariants.{Line, Limits, Memory, Read, Write}
 use Rattle.std.specs.Io.KnownBytes.{Appends, Consumes}
+use Rattle.fj_filter.specs.declared.fault.FilterFault.{FilterFault}
+use Rattle.fj_filter.specs.Faults as filter
+use Rattle.fj_replay.specs.declared.script_stop.ScriptStop.{ScriptStop}
+use Rattle.fj_replay.specs.Stops.{replay_fault}
+use Rattle.fj_trace.specs.declared.trace_stage.TraceStage.TheVariants as trace
+use Rattle.fj_trace.specs.Traces.{trace_rules}
+use Rattle.fj_trace.specs.Traced.{Traces}
+use Rattle.fj_trace.specs.Histories.{IsHistory}
 use Rattle.fj_trace.specs.declared.fault.CheckFault.{CheckFault}
 use Rattle.fj_trace.specs.declared.fault.CheckFault.TheVariants as check
 use Rattle.fj_trace.specs.Checks.{IsChecked, IsBarred, IsFaulty, IsOpenedWrong}
 use Rattle.fj_cli.specs.declared.command_line.Subcommand.{Subcommand}
-use Rattle.fj_cli.specs.declared.command_line.Subcommand.TheVariants.{Replay, Upgrade, Sum, Min, Find, Tree, Check}
+use Rattle.fj_cli.specs.declared.command_line.Subcommand.TheVariants.{Replay, Upgrade, Compute, Record, Check, Trace, Test, Explain}
+use Rattle.fj_cli.specs.declared.command_line.Job.{Job}
+use Rattle.fj_cli.specs.declared.command_line.Job.TheVariants.{Sum, Min, Find, Tree}
 use Rattle.fj_cli.specs.Answers.{EndsRange, EndsTree, hit_line, hit_of, least_line, least_of, number_line, sum_of}
 use Rattle.fj_cli.specs.Commands.{Asks, AsksToShow, IsAtFault, NamesNoScript, replay_words, upgrade_words}
 use Rattle.fj_replay.specs.declared.script_stage.ScriptStage.{ScriptStage}
@@ -78,15 +88,55 @@ pub record EndsCheck (status : ℕ) (before ahead start now : Option (List ℕ))
   pub barred : status ≡ 1 → (n : ℕ) × (b : List ℕ) × Consumes before ahead b × IsBarred n b
   pub faulty : status ≡ 3 → (b : List ℕ) × Consumes before ahead b × (((n : ℕ) × IsFaulty n b ahead) ⊎ IsOpenedWrong b) × (now ≡ start)
 
--- this command ended with this exit status; a job over a range reads nothing
+-- a trace ended by a fault of this status
+abbrev pub EndsTraceBy : ℕ → Option (List ℕ) → Option (List ℕ) → Option (List ℕ) → Option (List ℕ) → Type 0
+EndsTraceBy status before ahead start now =
+    (why : FilterFault ScriptStop) × (b : List ℕ) × (status ≡ status_of (replay_fault why)) × filter.EndsFrom trace_rules trace.Start why b before ahead start now
+
+-- a trace ended with this exit status
+pub record EndsTrace (status : ℕ) (before ahead start now : Option (List ℕ)) : Type 0 where
+  pub known : (status ≡ 0) ⊎ ((status ≡ 3) ⊎ ((status ≡ 4) ⊎ (status ≡ 5)))
+  pub done : status ≡ 0 → Traces before ahead start now
+  pub fault : status ≡ 3 → EndsTraceBy 3 before ahead start now
+  pub memory : status ≡ 4 → EndsTraceBy 4 before ahead start now
+
+-- this job ended with this exit status; one over a range reads nothing
+abbrev pub EndsCompute : Job → ℕ → Option (List ℕ) → Option (List ℕ) → Option (List ℕ) → Option (List ℕ) → Type 0
+EndsCompute (Sum o) status before ahead start now = (ahead ≡ before) × EndsRange o status (number_line (sum_of o)) start now
+EndsCompute (Min o f) status before ahead start now = (ahead ≡ before) × EndsRange o status (least_line (least_of o f)) start now
+EndsCompute (Find o f want) status before ahead start now = (ahead ≡ before) × EndsRange o status (hit_line (hit_of o f want)) start now
+EndsCompute (Tree workers) status before ahead start now = EndsTree status before ahead start now
+
+-- the exit status of a command that failed
+abbrev pub IsOfFailure : ℕ → Type 0
+IsOfFailure status = (status ≡ 3) ⊎ ((status ≡ 4) ⊎ (status ≡ 5))
+
+-- a test of a script ended with this exit status: at 0 nothing was written
+abbrev pub EndsTest : ℕ → Option (List ℕ) → Option (List ℕ) → Type 0
+EndsTest status start now = ((status ≡ 0) × (now ≡ start)) ⊎ ((status ≡ 1) ⊎ IsOfFailure status)
+
+-- a script was explained with this exit status
+abbrev pub EndsExplain : ℕ → Type 0
+EndsExplain status = (status ≡ 0) ⊎ IsOfFailure status
+
+-- what was written is a history
+abbrev pub WritesHistory : Option (List ℕ) → Option (List ℕ) → Type 0
+WritesHistory start now = (text : List ℕ) × (n : ℕ) × IsHistory text n × Appends start now text
+
+-- a recorded job ended with this exit status: at 0 a history was written
+abbrev pub EndsRecord : ℕ → Option (List ℕ) → Option (List ℕ) → Type 0
+EndsRecord status start now = ((status ≡ 0) × WritesHistory start now) ⊎ ((status ≡ 2) ⊎ IsOfFailure status)
+
+-- this command ended with this exit status
 abbrev pub EndsCommand : Subcommand → ℕ → Option (List ℕ) → Option (List ℕ) → Option (List ℕ) → Option (List ℕ) → Type 0
 EndsCommand Replay status before ahead start now = EndsReplay status before ahead start now
 EndsCommand Upgrade status before ahead start now = EndsUpgrade status before ahead start now
-EndsCommand (Sum o) status before ahead start now = (ahead ≡ before) × EndsRange o status (number_line (sum_of o)) start now
-EndsCommand (Min o f) status before ahead start now = (ahead ≡ before) × EndsRange o status (least_line (least_of o f)) start now
-EndsCommand (Find o f want) status before ahead start now = (ahead ≡ before) × EndsRange o status (hit_line (hit_of o f want)) start now
-EndsCommand (Tree workers) status before ahead start now = EndsTree status before ahead start now
+EndsCommand (Compute job) status before ahead start now = EndsCompute job status before ahead start now
+EndsCommand (Record job) status before ahead start now = EndsRecord status start now
 EndsCommand Check status before ahead start now = EndsCheck status before ahead start now
+EndsCommand Trace status before ahead start now = EndsTrace status before ahead start now
+EndsCommand Test status before ahead start now = EndsTest status start now
+EndsCommand Explain status before ahead start now = EndsExplain status
 
 -- no command was run, and nothing read: at 0 the words ask for help or the version, at 2 they have a usage error, or they name no
 -- command for scripts; at 2 and 4 nothing was written

@@ -1,8 +1,8 @@
 //! The command that checks a history.
-ghost use Rattle.std.specs.Prelude.{◌≡◌, ◌⊎◌};
+ghost use Rattle.std.specs.Prelude.{◌≡◌};
 ghost use Rattle.fj_cli.specs.Statuses.{EndsCheck, IsEndOfCheck};
 
-use crate::answer::answered;
+use crate::answer::{answered, objected};
 use fj_trace::{CheckFault, check};
 use std::alloc::Global;
 use std::io::{Read, Write};
@@ -32,21 +32,10 @@ fn told_of_fault<W: Write, E: Write>(
     ensures { IsEndOfCheck fault result (W.contents out.old) (W.contents out.new) }
 {
     match fault {
-        CheckFault::Objection(_, _) => objected(alloc, fault, out, err),
+        CheckFault::Objection(_, _) => objected(format!(in alloc; "{fault}\n"), out, err),
         CheckFault::Line(_) | CheckFault::Limits => told_as(fault, 3, err),
         CheckFault::Memory => told_as(fault, 4, err),
         CheckFault::Read => told_as(fault, 5, err),
-    }
-}
-
-/// Writes the line that may not stand there, and why: 1 where it was written.
-fn objected<W: Write, E: Write>(alloc: Global, fault: CheckFault, out: &mut W, err: &mut E) -> u8
-    ensures { (result ≡ 1) ⊎ ((result ≡ 4) ⊎ (result ≡ 5)) }
-{
-    match answered(format!(in alloc; "{fault}\n"), out, err) {
-        0 => 1,
-        4 => 4,
-        _ => 5,
     }
 }
 

@@ -1,9 +1,9 @@
 //! The command line: parses the arguments.
-ghost use Rattle.std.specs.Prelude.{◌≡◌, ◌≢◌, ◌↔◌, Some, IfOk, IfErr, IfSome, codes};
+ghost use Rattle.std.specs.Prelude.{◌≡◌, ◌≢◌, ◌↔◌, Some, None, IfOk, IfErr, IfSome, IfNone, codes, option_map};
 ghost use Rattle.clap.specs.Walk.{texts};
-ghost use Rattle.clap.specs.Words.{HasKind, subcommand_name_of, subcommand_rows_of};
-ghost use Rattle.fj_cli.specs.Commands.{Asks, Names, ReadsScript, faults_in};
-ghost use Rattle.fj_cli.specs.Given.{IsAsked};
+ghost use Rattle.clap.specs.Words.{HasKind, fault_of, subcommand_name_of, subcommand_of, subcommand_rows_of};
+ghost use Rattle.fj_cli.specs.Commands.{Asks, Names, ReadsScript, faults_in, name_in, record_line, recorded_as, recorded_in, whole_line};
+ghost use Rattle.fj_cli.specs.Given.{IsAsked, IsAskedJob};
 
 mod arguments;
 mod commands;
@@ -12,18 +12,14 @@ mod help;
 mod options;
 
 use clap::{ArgMatches, Error};
-use commands::command;
+use commands::{command, record_command};
 use given::{read_function, read_range, read_want, read_workers};
 pub use options::{FunctionOptions, RangeOptions, Workers};
 use std::alloc::Global;
 
-/// The command to run.
+/// A job, with its options.
 #[derive(Clone, Copy)]
-pub enum Subcommand {
-    /// The replies to a script on standard input.
-    Replay,
-    /// A script of version 1 on standard input, as version 2.
-    Upgrade,
+pub enum Job {
     /// The sum of a range.
     Sum(RangeOptions),
     /// The least value of a function over a range.
@@ -32,8 +28,27 @@ pub enum Subcommand {
     Find(RangeOptions, FunctionOptions, u32),
     /// The value of a tree on standard input.
     Tree(Workers),
+}
+
+/// The command to run.
+#[derive(Clone, Copy)]
+pub enum Subcommand {
+    /// The replies to a script on standard input.
+    Replay,
+    /// A script of version 1 on standard input, as version 2.
+    Upgrade,
+    /// The value of a job.
+    Compute(Job),
+    /// The history of a run of a job.
+    Record(Job),
     /// Whether the history on standard input is one.
     Check,
+    /// The history of the run of a script on standard input.
+    Trace,
+    /// Whether the script on standard input gives the replies behind its lines.
+    Test,
+    /// The script on standard input, with its replies and their reasons.
+    Explain,
 }
 
 /// Parses the arguments, the first being the program's name. `None` if they ask for no command. An error for a usage error, for help or
@@ -43,6 +58,46 @@ pub fn read<'a>(alloc: Global, words: &'a [&'a str]) -> Result<Option<Subcommand
     ensures replay { IfOk result (λ asked. (asked ≡ Some Subcommand.Replay) ↔ Names (codes "replay") (texts words.entry.now)) }
     ensures upgrade { IfOk result (λ asked. (asked ≡ Some Subcommand.Upgrade) ↔ Names (codes "upgrade") (texts words.entry.now)) }
     ensures fault { IfErr result (λ error. HasKind (faults_in (texts words.entry.now)) error) }
+    ensures known { ReadsScript (texts words.entry.now) result }
+{
+    match recorded(words) {
+        Some(job) => read_recorded(alloc, job),
+        None => read_plain(alloc, words),
+    }
+}
+
+/// The arguments behind the program's name, if the first of them is `record`.
+fn recorded<'a>(words: &'a [&'a str]) -> Option<&'a [&'a str]>
+    ensures some { IfSome result (λ job. recorded_in (texts words.entry.now) ≡ Some (texts job.now)) }
+    ensures none { IfNone result (recorded_in (texts words.entry.now) ≡ None) }
+{
+    if words.len() < 2 || words[1] != "record" {
+        return None;
+    }
+    Some(&words[1..])
+}
+
+/// Parses `record` and the arguments behind it.
+fn read_recorded<'a>(alloc: Global, words: &'a [&'a str]) -> Result<Option<Subcommand>, Error>
+    ensures asked { IfOk result (λ asked. IfSome asked (λ a. IsAsked (option_map recorded_as (subcommand_of record_line (texts words.entry.now))) a)) }
+    ensures job { IfOk result (λ asked. (asked ≢ Some Subcommand.Replay) × (asked ≢ Some Subcommand.Upgrade)) }
+    ensures fault { IfErr result (λ error. HasKind (fault_of record_line (texts words.entry.now)) error) }
+{
+    match record_command(alloc)?.try_get_matches_from(words) {
+        Ok(matches) => match asked_job(&matches) {
+            Some(job) => Ok(Some(Subcommand::Record(job))),
+            None => Ok(None),
+        },
+        Err(error) => Err(error),
+    }
+}
+
+/// Parses the arguments of any other command.
+fn read_plain<'a>(alloc: Global, words: &'a [&'a str]) -> Result<Option<Subcommand>, Error>
+    ensures asked { IfOk result (λ asked. IfSome asked (λ a. IsAsked (subcommand_of whole_line (texts words.entry.now)) a)) }
+    ensures replay { IfOk result (λ asked. (asked ≡ Some Subcommand.Replay) ↔ (name_in (subcommand_of whole_line (texts words.entry.now)) ≡ Some (codes "replay"))) }
+    ensures upgrade { IfOk result (λ asked. (asked ≡ Some Subcommand.Upgrade) ↔ (name_in (subcommand_of whole_line (texts words.entry.now)) ≡ Some (codes "upgrade"))) }
+    ensures fault { IfErr result (λ error. HasKind (fault_of whole_line (texts words.entry.now)) error) }
     ensures known { ReadsScript (texts words.entry.now) result }
 {
     match command(alloc)?.try_get_matches_from(words) {
@@ -63,28 +118,44 @@ fn asked(matches: &ArgMatches) -> Option<Subcommand>
     if matches.subcommand_matches("upgrade").is_some() {
         return Some(Subcommand::Upgrade);
     }
-    asked_job(matches)
+    asked_other(matches)
+}
+
+/// The command that the arguments ask for, if it is neither a replay nor an upgrade.
+fn asked_other(matches: &ArgMatches) -> Option<Subcommand>
+    ensures asked { IfSome result (λ a. IsAsked (subcommand_rows_of matches.now) a) }
+    ensures other { IfSome result (λ a. (a ≢ Subcommand.Replay) × (a ≢ Subcommand.Upgrade)) }
+{
+    if matches.subcommand_matches("check").is_some() {
+        return Some(Subcommand::Check);
+    }
+    if matches.subcommand_matches("trace").is_some() {
+        return Some(Subcommand::Trace);
+    }
+    if matches.subcommand_matches("test").is_some() {
+        return Some(Subcommand::Test);
+    }
+    if matches.subcommand_matches("explain").is_some() {
+        return Some(Subcommand::Explain);
+    }
+    Some(Subcommand::Compute(asked_job(matches)?))
 }
 
 /// The job that the arguments ask for.
-fn asked_job(matches: &ArgMatches) -> Option<Subcommand>
-    ensures asked { IfSome result (λ a. IsAsked (subcommand_rows_of matches.now) a) }
-    ensures job { IfSome result (λ a. (a ≢ Subcommand.Replay) × (a ≢ Subcommand.Upgrade)) }
+fn asked_job(matches: &ArgMatches) -> Option<Job>
+    ensures { IfSome result (λ job. IsAskedJob (subcommand_rows_of matches.now) job) }
 {
     if let Some(given) = matches.subcommand_matches("sum") {
-        return Some(Subcommand::Sum(read_range(given)?));
+        return Some(Job::Sum(read_range(given)?));
     }
     if let Some(given) = matches.subcommand_matches("min") {
-        return Some(Subcommand::Min(read_range(given)?, read_function(given)?));
+        return Some(Job::Min(read_range(given)?, read_function(given)?));
     }
     if let Some(given) = matches.subcommand_matches("find") {
-        return Some(Subcommand::Find(read_range(given)?, read_function(given)?, read_want(given)?));
+        return Some(Job::Find(read_range(given)?, read_function(given)?, read_want(given)?));
     }
     if let Some(given) = matches.subcommand_matches("tree") {
-        return Some(Subcommand::Tree(read_workers(given)?));
-    }
-    if matches.subcommand_matches("check").is_some() {
-        return Some(Subcommand::Check);
+        return Some(Job::Tree(read_workers(given)?));
     }
     None
 }

@@ -20,7 +20,8 @@ use std::thread::Threads;
 /// The most blocks of a job; more are a usage error, since the events of more tasks might not fit into a history.
 pub const MAX_BLOCKS: u64 = 200_000;
 
-const TOO_MANY: &str = "too many leaves\n";
+/// The error where a job has more blocks.
+pub const TOO_MANY: &str = "too many leaves\n";
 
 /// Writes the sum of a range, and answers the exit status.
 pub fn run_sum<H: Threads + Wait + Sync, W: Write, E: Write>(
@@ -92,7 +93,7 @@ pub fn run_find<H: Threads + Wait + Sync, W: Write, E: Write>(
 }
 
 /// The range in blocks. None where they are more than [`MAX_BLOCKS`].
-fn blocks(options: RangeOptions) -> Option<BlockedRange>
+pub fn blocks(options: RangeOptions) -> Option<BlockedRange>
     ensures some { IfSome result (λ range. (range.numbers.from ≡ options.from) × (range.numbers.count ≡ count_of options) × (range.grain ≡ options.grain)) }
     ensures few { IfSome result (λ range. blocks_of options ≤ MAX_BLOCKS) }
     ensures many { IfNone result (MAX_BLOCKS < blocks_of options) }
@@ -104,7 +105,8 @@ fn blocks(options: RangeOptions) -> Option<BlockedRange>
     Some(range)
 }
 
-fn linear(function: FunctionOptions) -> LinearMod
+/// The function of these options.
+pub fn linear(function: FunctionOptions) -> LinearMod
     ensures { (result.mul ≡ function.mul) × (result.add ≡ function.add) × (result.modulus ≡ function.modulus) }
 {
     LinearMod::new(function.mul, function.add, function.modulus)
@@ -131,7 +133,7 @@ where
 }
 
 /// The limits of a pool with so many workers, one submitter, and the largest limits of tasks and events.
-fn limits_of(workers: Workers) -> Limits
+pub fn limits_of(workers: Workers) -> Limits
     ensures { result ≡ bounds workers.count 1 MAX_TASKS MAX_EVENTS }
 {
     let Ok(limits) = Limits::new(workers.count, 1, MAX_TASKS, MAX_EVENTS) else {

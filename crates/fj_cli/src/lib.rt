@@ -9,13 +9,19 @@
 mod answer;
 mod check_command;
 mod command_line;
+mod explain_command;
 mod job_commands;
 mod program;
+mod record_command;
 mod replay_command;
 mod script_end;
+mod test_command;
+mod trace_command;
 mod tree_command;
 mod upgrade_command;
 
+pub use fj_expect::{Mismatch, TestFault, test};
+pub use fj_explain::{ExplainFault, Flaw, LimitFlaw, explain};
 pub use fj_fold::{Family, NamedTree, Node, Nodes, TreeFault, TreeFold, fold_tree, read_tree};
 pub use fj_invoke::{
     BlockedRange, Divide, FirstHit, Interval, Limits, LinearMod, Mode, Open, RangeMin, RangeSum,
@@ -23,5 +29,5 @@ pub use fj_invoke::{
 };
 pub use fj_replay::{ReplayFault, replay, replayed, upgrade, upgraded};
 pub use fj_streams::{Sink, Source, Watched};
-pub use fj_trace::{CheckFault, check};
+pub use fj_trace::{CheckFault, check, trace};
 pub use program::{fj, without_words};

@@ -3,13 +3,17 @@ ghost use Rattle.clap.specs.Walk.{texts};
 ghost use Rattle.clap.specs.Words.{kind_of};
 ghost use Rattle.std.specs.IoError.{error_kind};
 ghost use Rattle.fj_cli.specs.Commands.{IsForScript, TellsOfFault};
-ghost use Rattle.fj_cli.specs.Statuses.{EndsCommand, EndsKnown, EndsProgram, StatusOfNoWords};
+ghost use Rattle.fj_cli.specs.Statuses.{EndsCommand, EndsCompute, EndsKnown, EndsProgram, StatusOfNoWords};
 
 use crate::answer::told;
 use crate::check_command::run_check;
-use crate::command_line::{Subcommand, read};
+use crate::command_line::{Job, Subcommand, read};
+use crate::explain_command::run_explain;
 use crate::job_commands::{run_find, run_min, run_sum};
+use crate::record_command::run_record;
 use crate::replay_command::run_replay;
+use crate::test_command::run_test;
+use crate::trace_command::run_trace;
 use crate::tree_command::run_tree;
 use crate::upgrade_command::run_upgrade;
 use clap::Error;
@@ -22,7 +26,8 @@ use std::thread::Threads;
 
 /// Runs a command, and answers the exit status. `words` are the arguments, the first being the program's name.
 ///
-/// 0: it was run, or help or the version was asked for and written to `out`. 1: the history has a line that may not stand there. 2: a usage error. 3: a fault of the input, or a job that
+/// 0: it was run, or help or the version was asked for and written to `out`. 1: a line of a history may not stand there, or a line of a
+/// script has another reply than the one behind it. 2: a usage error. 3: a fault of the input, or a job that
 /// the pool refused. 4: out of memory. 5: a read or a write failed. For all but 0 a text is sent to `err`, which may fail. `out` is
 /// flushed after a command, and after help or the version; a failed flush gives 5.
 #[tactic(auto, using(crate::proofs::Answered::shown_asks, crate::proofs::Answered::else_at_fault, crate::proofs::Ended::status_of_command, crate::proofs::Ended::known_of_replay))]
@@ -62,13 +67,33 @@ fn run<H: Threads + Wait + Sync, R: Read, W: Write, E: Write>(
     match asked {
         Subcommand::Replay => run_replay(alloc, input, out, err),
         Subcommand::Upgrade => run_upgrade(alloc, input, out, err),
-        Subcommand::Sum(options) => run_sum(rt, alloc, options, out, err),
-        Subcommand::Min(options, function) => run_min(rt, alloc, options, function, out, err),
-        Subcommand::Find(options, function, want) => {
+        Subcommand::Compute(job) => compute(rt, alloc, job, input, out, err),
+        Subcommand::Record(job) => run_record(rt, alloc, job, input, out, err),
+        Subcommand::Check => run_check(alloc, input, out, err),
+        Subcommand::Trace => run_trace(alloc, input, out, err),
+        Subcommand::Test => run_test(alloc, input, out, err),
+        Subcommand::Explain => run_explain(alloc, input, out, err),
+    }
+}
+
+/// Runs a job, and writes its value.
+fn compute<H: Threads + Wait + Sync, R: Read, W: Write, E: Write>(
+    rt: &H,
+    alloc: Global,
+    job: Job,
+    input: &mut R,
+    out: &mut W,
+    err: &mut E,
+) -> u8
+    ensures { EndsCompute job result (R.remaining input.old) (R.remaining input.new) (W.contents out.old) (W.contents out.new) }
+{
+    match job {
+        Job::Sum(options) => run_sum(rt, alloc, options, out, err),
+        Job::Min(options, function) => run_min(rt, alloc, options, function, out, err),
+        Job::Find(options, function, want) => {
             run_find(rt, alloc, options, function, want, out, err)
         }
-        Subcommand::Tree(workers) => run_tree(rt, alloc, workers, input, out, err),
-        Subcommand::Check => run_check(alloc, input, out, err),
+        Job::Tree(workers) => run_tree(rt, alloc, workers, input, out, err),
     }
 }
 

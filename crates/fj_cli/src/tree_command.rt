@@ -3,6 +3,7 @@ ghost use Rattle.std.specs.Prelude.{◌≡◌};
 ghost use Rattle.fj_trees.specs.Trees.{IsTree};
 ghost use Rattle.fj_trees.specs.TreeValues.{node_value};
 ghost use Rattle.fj_cli.specs.Answers.{EndsJob, EndsTree, number_line, status_of_fault};
+ghost use Rattle.fj_cli.specs.Statuses.{IsOfFailure};
 
 use crate::answer::{answered, refused};
 use crate::command_line::Workers;
@@ -50,8 +51,9 @@ fn fold<H: Threads + Wait + Sync, W: Write, E: Write>(
 }
 
 /// Writes why no tree was read, and answers the exit status.
-fn told_of_fault<E: Write>(fault: TreeFault, err: &mut E) -> u8
-    ensures { result ≡ status_of_fault fault }
+pub fn told_of_fault<E: Write>(fault: TreeFault, err: &mut E) -> u8
+    ensures status { result ≡ status_of_fault fault }
+    ensures fails { IsOfFailure result }
 {
     let _ = writeln!(err, "{fault}");
     match fault {

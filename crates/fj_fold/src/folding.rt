@@ -1,6 +1,8 @@
-ghost use Rattle.std.specs.Prelude.{◌≡◌, ◌<◌, ◌≤◌, IfErr, IfOk, length};
+ghost use Rattle.std.specs.Prelude.{◌≡◌, ◌<◌, ◌≤◌, ◌++◌, IfErr, IfOk, length};
+ghost use Rattle.fj_core.specs.Cores.{AreParts};
 ghost use Rattle.fj_rules.specs.declared.limits.TheConstants.{MAX_EVENTS, MAX_TASKS, MAX_WORKERS};
 ghost use Rattle.fj_rules.specs.Bounds.{bounds};
+ghost use Rattle.fj_rules.specs.Epochs.{IsPast};
 ghost use Rattle.fj_trees.specs.TreeValues.{node_value};
 ghost use Rattle.fj_run.specs.Runs.{RefusesRun};
 
@@ -8,7 +10,10 @@ use crate::family::Family;
 use crate::named_tree::NamedTree;
 use crate::tree_fold::TreeFold;
 use fj_rules::{Limits, MAX_EVENTS, MAX_TASKS, Mode, Refusal};
-use fj_run::{Settings, Turnstile, result_in, run_alone};
+use fj_run::{
+    Outcome, Record, Recorded, RecordedValue, Settings, Turnstile, record_alone, result_in,
+    run_alone,
+};
 use fj_trees::Nodes;
 use std::alloc::{AllocError, Global};
 use std::marker::Brand;
@@ -55,16 +60,91 @@ fn fold_in<F: NamedTree + Send, R: Threads + Wait + Sync, T: Turnstile + Sync>(
     ensures ok { IfOk result (λ value. value ≡ node_value F.nodes 0) }
     ensures err { IfErr result RefusesRun }
 {
-    let limits = limits_of(workers);
     let made: Result<TreeFold<F>, AllocError> = TreeFold::new(alloc, family, 0);
     let Ok(body) = made else {
         return Err(Refusal::OutOfMemory);
     };
-    let settings = Settings::with_limits(limits).in_mode(Mode::Async);
-    let outcome = match run_alone(rt, alloc, settings, body, turnstile) {
-        Ok(outcome) => outcome,
-        Err(refusal) => return Err(refusal),
+    match run_alone(rt, alloc, settings_of(workers), body, turnstile) {
+        Ok(outcome) => value_of(outcome),
+        Err(refusal) => Err(refusal),
+    }
+}
+
+/// Folds a tree as [`fold_tree`], and hands out the history of the run: in async mode, with one submitter and the largest limits. Precondition:
+/// 1 to 32 workers.
+///
+/// `OutOfMemory` where an allocation fails or a thread cannot be started before the root is submitted. The value is refused as by `fold_tree`.
+pub fn record_fold<R: Threads + Wait + Sync, T: Turnstile + Sync>(
+    rt: &R,
+    alloc: Global,
+    workers: u32,
+    nodes: &Nodes,
+    turnstile: &T,
+) -> Result<RecordedValue<u64>, Refusal>
+    requires some { 0 < workers }
+    requires few { workers ≤ MAX_WORKERS }
+    ensures ok { IfOk result (λ r. IfOk r.value (λ value. value ≡ node_value nodes.now 0)) }
+    ensures refused { IfOk result (λ r. IfErr r.value RefusesRun) }
+    ensures run { IfOk result (λ r. IsPast r.machine) }
+    ensures pool { IfOk result (λ r. r.machine.pool ≡ record { mode = Mode.Async; limits = bounds workers 1 MAX_TASKS MAX_EVENTS }) }
+    // The parts that were handed out, and then those of the archive, are the history up to the last seal.
+    ensures history { IfOk result (λ r. AreParts (r.archive.handed ++ r.archive.kept) r.machine) }
+    ensures err { IfErr result (λ refusal. refusal ≡ Refusal.OutOfMemory) }
+{
+    // For the proof: a tree has a root.
+    let _nodes = nodes.as_slice();
+    match Family::new(alloc, nodes) {
+        Ok(family) => record_in::<Brand, R, T>(rt, alloc, workers, &family, turnstile),
+        Err(_) => Err(Refusal::OutOfMemory),
+    }
+}
+
+/// The same for the family of a tree. Preconditions: it is that of the tree that the type names, which has a root; 1 to 32 workers.
+fn record_in<F: NamedTree + Send, R: Threads + Wait + Sync, T: Turnstile + Sync>(
+    rt: &R,
+    alloc: Global,
+    workers: u32,
+    family: &Family,
+    turnstile: &T,
+) -> Result<RecordedValue<u64>, Refusal>
+    requires same { family.now ≡ F.nodes }
+    requires there { 0 < length F.nodes }
+    requires some { 0 < workers }
+    requires few { workers ≤ MAX_WORKERS }
+    ensures ok { IfOk result (λ r. IfOk r.value (λ value. value ≡ node_value F.nodes 0)) }
+    ensures refused { IfOk result (λ r. IfErr r.value RefusesRun) }
+    ensures run { IfOk result (λ r. IsPast r.machine) }
+    ensures pool { IfOk result (λ r. r.machine.pool ≡ record { mode = Mode.Async; limits = bounds workers 1 MAX_TASKS MAX_EVENTS }) }
+    ensures history { IfOk result (λ r. AreParts (r.archive.handed ++ r.archive.kept) r.machine) }
+    ensures err { IfErr result (λ refusal. refusal ≡ Refusal.OutOfMemory) }
+{
+    let made: Result<TreeFold<F>, AllocError> = TreeFold::new(alloc, family, 0);
+    let Ok(body) = made else {
+        return Err(Refusal::OutOfMemory);
     };
+    let settings = settings_of(workers);
+    let Recorded { answer, record } = record_alone(rt, alloc, settings, body, turnstile)?;
+    let Record {
+        machine,
+        archive,
+        ..
+    } = record;
+    let value = match answer {
+        Ok(outcome) => value_of(outcome),
+        Err(refusal) => Err(refusal),
+    };
+    Ok(RecordedValue {
+        value,
+        machine,
+        archive,
+    })
+}
+
+/// The value in an outcome, if it is that of the root. A result of another node counts as none.
+fn value_of<F: NamedTree>(outcome: Outcome<TreeFold<F>>) -> Result<u64, Refusal>
+    ensures ok { IfOk result (λ value. value ≡ node_value F.nodes 0) }
+    ensures err { IfErr result RefusesRun }
+{
     match result_in(outcome) {
         Ok((key, value)) => {
             if key == 0 {
@@ -77,14 +157,15 @@ fn fold_in<F: NamedTree + Send, R: Threads + Wait + Sync, T: Turnstile + Sync>(
     }
 }
 
-/// The limits of a pool with so many workers, and otherwise as large as possible. Precondition: 1 to 32 workers.
-fn limits_of(workers: u32) -> Limits
+/// The settings of a pool with so many workers, and otherwise as large as possible. Precondition: 1 to 32 workers.
+fn settings_of(workers: u32) -> Settings
     requires some { 0 < workers }
     requires few { workers ≤ MAX_WORKERS }
-    ensures { result ≡ bounds workers 1 MAX_TASKS MAX_EVENTS }
+    ensures mode { result.mode ≡ Mode.Async }
+    ensures limits { result.limits ≡ bounds workers 1 MAX_TASKS MAX_EVENTS }
 {
     let Ok(limits) = Limits::new(workers, 1, MAX_TASKS, MAX_EVENTS) else {
         unreachable!()
     };
-    limits
+    Settings::with_limits(limits).in_mode(Mode::Async)
 }

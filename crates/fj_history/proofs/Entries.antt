@@ -10,3 +10,5 @@ pub mod EntryAgain
 pub mod LineLaws
 -- the line of an entry, both ways
 pub mod EntryLaws
+-- events that have codes of 32 bits
+pub mod CodeLaws

@@ -100,6 +100,20 @@ abbrev pub HasEntryLine : Entry → Type 0
 HasEntryLine (entry.Event e) = HasEventLine e
 HasEntryLine entry.Seal = Unit {0}
 
+-- the code of an event has 32 bits at most, if it has one
+abbrev pub HasCode : Event → Type 0
+HasCode (Settle t s) = HasSmallStatus s
+HasCode _ = Unit {0}
+
+abbrev pub HasEntryCode : Entry → Type 0
+HasEntryCode (entry.Event e) = HasCode e
+HasEntryCode entry.Seal = Unit {0}
+
+-- so have those of all these events
+abbrev pub AllHaveCodes : List Event → Type 0
+AllHaveCodes [] = Unit {0}
+AllHaveCodes (e ∷ es) = HasCode e × AllHaveCodes es
+
 -- the entry of a line, if it has one: the result of the reader
 unfoldable pub entry_in : List ℕ → Option Entry
 entry_in line = do

@@ -4,10 +4,12 @@
 #![tactic(auto)]
 
 mod entry;
+mod heading;
 mod read;
 mod write;
 
 pub use entry::Entry;
+pub use heading::push_heading;
 pub use read::{MAX_ENTRY, read_entry};
 pub use write::push_entries;
 

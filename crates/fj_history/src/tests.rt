@@ -1,6 +1,6 @@
 use super::*;
-use fj_lines::LineFault;
-use fj_rules::{Event, How, Kind, Owner, Serial, Status, SubId, WorkerId};
+use fj_lines::{LineFault, read_head};
+use fj_rules::{Event, How, Kind, Limits, Mode, Owner, Serial, Status, SubId, WorkerId};
 use std::alloc::{AllocError, Global};
 use std::test::*;
 
@@ -261,7 +261,7 @@ fn a_history_is_written(rt: HostRuntime) -> Result<(), Fail> {
         Event::Settle(Serial(0), Status::Normal),
     ];
     let mut text = String::new(rt.alloc());
-    text.push_str("async 1 2 4 8\n")?;
+    push_heading(Mode::Async, Limits::new(1, 2, 4, 8)?, &mut text)?;
     push_entries(&events, &mut text)?;
     Entry::Seal.push_line(&mut text)?;
     push_entries(&[Event::Rel(Serial(0)), Event::Close], &mut text)?;
@@ -279,5 +279,16 @@ rel 0
 close
 "
     );
+    Ok(())
+}
+
+#[test]
+fn a_heading_is_written_and_read(rt: HostRuntime) -> Result<(), Fail> {
+    let limits = Limits::new(32, 1, 4_096, 1_048_576)?;
+    let mut text = String::new(rt.alloc());
+    push_heading(Mode::Joining, limits, &mut text)?;
+    assert_eq!(rt; text.as_str(), "joining 32 1 4096 1048576\n");
+    let heading = read_head(text.as_str().trim_end().as_bytes());
+    assert_eq!(rt; heading, Ok((Mode::Joining, [32, 1, 4_096, 1_048_576])));
     Ok(())
 }

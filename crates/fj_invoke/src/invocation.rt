@@ -1,4 +1,6 @@
-ghost use Rattle.std.specs.Prelude.{◌≡◌, IfOk, IfErr};
+ghost use Rattle.std.specs.Prelude.{◌≡◌, ◌++◌, IfOk, IfErr};
+ghost use Rattle.fj_core.specs.Cores.{AreParts};
+ghost use Rattle.fj_rules.specs.Epochs.{IsPast};
 ghost use Rattle.fj_run.specs.Runs.{RefusesRun};
 ghost use Rattle.fj_invoke.specs.Answers.{RefusesOutcome};
 
@@ -6,7 +8,9 @@ use crate::recursive::Recursive;
 use fj_bodies::Outcome;
 use fj_jobs::Divide;
 use fj_rules::{Limits, Mode, Refusal};
-use fj_run::{Settings, Turnstile, result_in, run_alone};
+use fj_run::{
+    Record, Recorded, RecordedValue, Settings, Turnstile, record_alone, result_in, run_alone,
+};
 use std::alloc::Global;
 use std::sync::Wait;
 use std::thread::Threads;
@@ -44,6 +48,49 @@ where
         Ok(outcome) => answer_of(outcome, key),
         Err(refusal) => Err(refusal),
     }
+}
+
+/// Computes a job as `invoke`, in a pool with these settings, and hands out the history of the run.
+///
+/// `OutOfMemory` where an allocation fails or a thread cannot be started before the job is submitted. The value is refused as by `invoke`.
+pub fn record_job<J: Divide + Send, T: Turnstile + Sync, R: Threads + Wait + Sync>(
+    rt: &R,
+    alloc: Global,
+    settings: Settings,
+    job: J,
+    turnstile: &T,
+) -> Result<RecordedValue<J::Out>, Refusal>
+where
+    J::Key: Send,
+    J::Out: Send,
+    ensures ok { IfOk result (λ r. IfOk r.value (λ out. out ≡ J.value (J.key_of job))) }
+    ensures refused { IfOk result (λ r. IfErr r.value RefusesRun) }
+    ensures run { IfOk result (λ r. IsPast r.machine) }
+    // The machine has the mode and the limits of the settings.
+    ensures pool { IfOk result (λ r. r.machine.pool ≡ record { mode = settings.mode; limits = settings.limits }) }
+    // The parts that were handed out, and then those of the archive, are the history up to the last seal.
+    ensures history { IfOk result (λ r. AreParts (r.archive.handed ++ r.archive.kept) r.machine) }
+    ensures err { IfErr result (λ refusal. refusal ≡ Refusal.OutOfMemory) }
+{
+    let key = job.key();
+    let Ok(body) = Recursive::new(alloc, job) else {
+        return Err(Refusal::OutOfMemory);
+    };
+    let Recorded { answer, record } = record_alone(rt, alloc, settings, body, turnstile)?;
+    let Record {
+        machine,
+        archive,
+        ..
+    } = record;
+    let value = match answer {
+        Ok(outcome) => answer_of(outcome, key),
+        Err(refusal) => Err(refusal),
+    };
+    Ok(RecordedValue {
+        value,
+        machine,
+        archive,
+    })
 }
 
 /// The value in an outcome, if it is under this key. A result under another key counts as none.

@@ -18,7 +18,7 @@ pub use fj_jobs::{
     BlockedRange, Divide, FirstHit, Interval, LinearMod, RangeMin, RangeSum, compute,
 };
 pub use fj_rules::{Limits, Mode, Refusal, Serial, WorkerId};
-pub use fj_run::{Open, Settings, Turnstile};
-pub use invocation::invoke;
+pub use fj_run::{Open, RecordedValue, Settings, Turnstile};
+pub use invocation::{invoke, record_job};
 pub use lazily::{invoke_lazily, invoke_lazily_observed};
 pub use recursive::Recursive;

@@ -29,7 +29,7 @@ seal_past : (refusal : Option Refusal) (past : Past) → seal_refusal past ≡ r
 seal_past None past is run = past_more past move.Seal gives.Sealed (sealed_now past) run (is, refl)
 seal_past (Some refusal) past is run = run
 
-play_past : (play : Play) (asked : Asked) → IsPast play.past → IsPast (play_after play asked).past
+pub play_past : (play : Play) (asked : Asked) → IsPast play.past → IsPast (play_after play asked).past
 play_past play (ask.Step asked) run = step_past play.past asked run
 play_past play (ask.Accept name asked) run = accept_past _ play name asked run
 play_past play ask.Seal run = seal_past (seal_refusal play.past) play.past refl run

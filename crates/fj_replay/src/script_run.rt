@@ -15,8 +15,8 @@ use fj_filter::{FilterFault, filter};
 use fj_streams::{Sink, Source};
 use std::alloc::Global;
 
-/// The fault of a replay or an upgrade, by that of its filter.
-fn replay_fault(fault: FilterFault<ScriptStop>) -> ReplayFault
+/// The fault of a replay, or of what reads a script like one, by that of its filter.
+pub fn replay_fault(fault: FilterFault<ScriptStop>) -> ReplayFault
     ensures { result ≡ replay_fault fault }
 {
     match fault {

@@ -1,8 +1,11 @@
-ghost use Rattle.std.specs.Prelude.{◌≡◌, IfErr};
+ghost use Rattle.std.specs.Prelude.{◌≡◌, ◌++◌, IfErr, IfOk};
+ghost use Rattle.fj_core.specs.Cores.{AreParts};
+ghost use Rattle.fj_rules.specs.Epochs.{IsPast};
 ghost use Rattle.fj_run.specs.Runs.{RefusesRun, told_of};
 
 use crate::play::Play;
 use crate::playing::with_pool;
+use crate::recorded::Recorded;
 use crate::running::Running;
 use crate::settings::Settings;
 use fj_pool::{Body, Naming, Outcome, Turnstile};
@@ -52,9 +55,38 @@ where
     B::Out: Send,
     ensures { IfErr result RefusesRun }
 {
+    let recorded = record_alone(rt, alloc, settings, body, turnstile)?;
+    drop(recorded.record);
+    recorded.answer
+}
+
+/// Runs a body as [`run_alone`], and hands out what is left of the pool.
+///
+/// `OutOfMemory` if an allocation fails or a thread cannot be started before the body is submitted; then it is not run.
+pub fn record_alone<B: Body + Send, T: Turnstile + Sync, R: Threads + Wait + Sync>(
+    rt: &R,
+    alloc: Global,
+    settings: Settings,
+    body: B,
+    turnstile: &T,
+) -> Result<Recorded<B>, Refusal>
+where
+    B::Key: Send,
+    B::Out: Send,
+    ensures run { IfOk result (λ r. IsPast r.record.machine) }
+    // The machine has the mode and the limits of the settings.
+    ensures pool { IfOk result (λ r. r.record.machine.pool ≡ record { mode = settings.mode; limits = settings.limits }) }
+    // The parts that were handed out, and then those of the record, are the history up to the last seal.
+    ensures history { IfOk result (λ r. AreParts (r.record.archive.handed ++ r.record.archive.kept) r.record.machine) }
+    ensures answer { IfOk result (λ r. IfErr r.answer RefusesRun) }
+    ensures err { IfErr result (λ refusal. refusal ≡ Refusal.OutOfMemory) }
+{
     let player = Alone { body: Some(body) };
     match with_pool(rt, alloc, settings.for_one(), player, turnstile) {
-        Ok(played) => told(played.out),
+        Ok(played) => Ok(Recorded {
+            answer: told(played.out),
+            record: played.record,
+        }),
         Err(_) => Err(Refusal::OutOfMemory),
     }
 }

@@ -9,18 +9,21 @@ mod alone;
 mod crew;
 mod play;
 mod playing;
+mod recorded;
 mod results;
 mod running;
 mod settings;
 mod submitters;
 
-pub use alone::run_alone;
+pub use alone::{record_alone, run_alone};
 pub use fj_pool::{
-    Ask, Body, Glance, Heard, KeptResult, Naming, Open, Outcome, Record, Ticket, Turnstile,
+    Archive, Ask, Body, Glance, Heard, KeptResult, Machine, Naming, Open, Outcome, Record, Ticket,
+    Turnstile,
 };
 pub use fj_rules::{Kind, Limits, Mode, Refusal, Sealed, Serial, SubId, WorkerId};
 pub use play::Play;
 pub use playing::{Played, with_pool};
+pub use recorded::{Recorded, RecordedValue};
 pub use results::{NoResult, result_in};
 pub use running::Running;
 pub use settings::Settings;

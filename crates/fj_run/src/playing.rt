@@ -44,6 +44,8 @@ where
     B::Key: Send,
     B::Out: Send,
     ensures run { IfOk result (λ r. IsPast r.record.machine) }
+    // The machine has the mode and the limits of the settings.
+    ensures pool { IfOk result (λ r. r.record.machine.pool ≡ record { mode = settings.mode; limits = settings.limits }) }
     // The parts that were handed out, and then those of the record, are the history up to the last seal.
     ensures history { IfOk result (λ r. AreParts (r.record.archive.handed ++ r.record.archive.kept) r.record.machine) }
     ensures at_close { IfOk result (λ r. IfSome r.record.closed (λ n. r.record.admitted ≡ n)) }
@@ -91,6 +93,7 @@ where
     requires pool { N.pool ≡ parts.core.store.past.pool }
     requires hands { N.hands ≡ parts.pairs }
     ensures run { IfOk result (λ r. IsPast r.record.machine) }
+    ensures pool { IfOk result (λ r. r.record.machine.pool ≡ N.pool) }
     ensures history { IfOk result (λ r. AreParts (r.record.archive.handed ++ r.record.archive.kept) r.record.machine) }
     ensures at_close { IfOk result (λ r. IfSome r.record.closed (λ n. r.record.admitted ≡ n)) }
     ensures taken_in { IfOk result (λ r. length r.record.bookings.bookings ≡ submissions r.record.machine) }

@@ -5,9 +5,13 @@ mod check_history;
 mod fault;
 mod history_check;
 mod history_stop;
+mod trace_script;
+mod trace_stage;
+mod tracer;
 
 pub use check_history::check;
 pub use fault::CheckFault;
+pub use trace_script::trace;
 
 #[cfg(test)]
 mod tests;

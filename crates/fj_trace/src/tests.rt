@@ -1,5 +1,6 @@
 use super::*;
 use fj_filter::InMemory;
+use std::str;
 use std::test::*;
 
 /// What a check answers to this text.
@@ -96,5 +97,128 @@ fn an_input_without_a_line_feed_is_faulty(rt: HostRuntime) -> Result<(), Fail> {
         checked(&rt, "async 1 1 1 1\nstop")?.as_str(),
         "fault: line 2"
     );
+    Ok(())
+}
+
+/// The history of a script's run; behind it the fault, if there is one.
+fn traced(rt: &HostRuntime, script: &str) -> Result<String, Fail> {
+    let mut input = InMemory::new(script.as_bytes());
+    let mut out = Vec::new(rt.alloc());
+    let ended = trace(rt.alloc(), &mut input, &mut out);
+    let text = str::from_utf8(out.as_slice())?;
+    match ended {
+        Ok(()) => Ok(format!(in rt.alloc(); "{text}")?),
+        Err(fault) => Ok(format!(in rt.alloc(); "{text}{fault}\n")?),
+    }
+}
+
+/// Scripts, each with the history of its run behind `>`, and a blank line behind that.
+fn scripts() -> &'static str {
+    "async 1 1 8 64
+submit 0
+poll 0 0
+end 0 ok
+release 0
+>async 1 1 8 64
+acc 0 sub 0 plain
+out 0 0
+end 0 0
+settle 0 normal
+rel 0
+
+fj 2
+joining 2 1 8 64
+submit root 0 1 relay
+poll 0 0
+fork leaf 0 root 0 stop
+submit leaf 0
+end 0 try
+poll 1 1
+end 1 try
+epoch
+hook 1
+seal
+hook 1
+seal
+epoch
+>joining 2 1 8 64
+acc 0 sub 0 completer - 1 relay
+out 0 0
+acc 1 work 0 completer 0 0 stop
+end 0 0
+dec 0
+out 1 1
+end 1 1
+fire 1 zero
+hooked 1
+fire 0 zero
+hooked 0
+settle 0 normal
+seal
+
+fj 2
+async 1 1 1 64
+submit a 0
+submit b 0
+seal
+cancel a
+poll 0 0
+stop
+seal
+>async 1 1 1 64
+acc 0 sub 0 plain
+settle 0 cancelled
+skip 0 0
+stop
+
+async 1 1 8 2
+submit 0
+poll 0 0
+end 0 fail 7
+>async 1 1 8 2
+acc 0 sub 0 plain
+out 0 0
+
+async 1 1 8 64
+submit 0
+fault 0 4294967295
+poll 0
+>async 1 1 8 64
+acc 0 sub 0 plain
+settle 0 exceptional 4294967295
+fault: line 4
+
+async 1 33 1 1
+>refused 13
+
+fj 2
+>fault: line 2
+"
+}
+
+#[test]
+fn scripts_are_traced(rt: HostRuntime) -> Result<(), Fail> {
+    let mut answers = String::new(rt.alloc());
+    for row in scripts().split("\n\n") {
+        let (script, _) = row.split_once(">").unwrap_or((row, ""));
+        answers.push_str(script)?;
+        answers.push_str(&format!(in rt.alloc(); ">{}\n", traced(&rt, script)?)?)?;
+    }
+    assert_eq!(rt; answers.as_str().trim_end(), scripts().trim_end());
+    Ok(())
+}
+
+#[test]
+fn what_a_trace_writes_is_checked(rt: HostRuntime) -> Result<(), Fail> {
+    let mut whole = 0u32;
+    for row in scripts().split("\n\n") {
+        let (script, _) = row.split_once(">").unwrap_or((row, ""));
+        let history = traced(&rt, script)?;
+        if !history.as_str().contains("fault") && !history.as_str().contains("refused") {
+            whole = whole.saturating_add(1);
+            assert!(rt; checked(&rt, history.as_str())?.as_str().starts_with("ok "));
+        }
+    }
+    assert_eq!(rt; whole, 4);
     Ok(())
 }

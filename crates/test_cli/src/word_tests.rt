@@ -9,7 +9,7 @@ use std::test::Fail;
 use std::thread::Threads;
 
 /// Command lines, and a part of the error message of each.
-const FAULTS: [&str; 22] = [
+const FAULTS: [&str; 29] = [
     " | Usage: fj",
     "add | unrecognized subcommand 'add'",
     "sum | --from <N>",
@@ -32,12 +32,19 @@ const FAULTS: [&str; 22] = [
     "replay file | Usage: fj replay < SCRIPT",
     "upgrade file | Usage: fj upgrade < SCRIPT",
     "check file | Usage: fj check < HISTORY",
+    "trace file | Usage: fj trace < SCRIPT",
+    "test file | Usage: fj test < SCRIPT",
+    "explain file | Usage: fj explain < SCRIPT",
+    "record | Usage: fj record",
+    "record add | unrecognized subcommand 'add'",
+    "record sum --from 1 | --to <N>",
+    "record find --from 1 --to 2 --mul 3 --add 4 --mod 5 | --want <N>",
 ];
 
 /// Command lines, and parts of their help: each option with its range and default, and each exit status.
-fn help() -> [&'static str; 9] {
+fn help() -> [&'static str; 14] {
     [
-        "--help | A fork-join pool | Usage: fj | replay   Runs the script | upgrade  Writes the script | sum      Writes the sum | min      Writes the least value | find     Writes the first number | tree     Writes the value | check    Tells whether the history | Each command has its help: fj replay --help | Example:\n  $ printf | $ fj sum --from | Exit status:\n  0  the command was run to its end, or help or the version was written\n  1  fj check: a line of the history may not stand there\n  2  a fault of the command line\n  3  a fault of the input, told by its line, or a refusal, told by its number\n  4  out of memory\n  5  a read or a write failed\n",
+        "--help | A fork-join pool | Usage: fj | replay   Runs the script | upgrade  Writes the script | sum      Writes the sum | min      Writes the least value | find     Writes the first number | tree     Writes the value | check    Tells whether the history | trace    Runs the script on standard input and writes its history | test     Compares a script's replies | explain  Writes the script with its replies | record   Runs a job by workers in threads | Each command has its help: fj replay --help | Example:\n  $ printf | $ fj sum --from | Exit status:\n  0  the command was run to its end, or help or the version was written\n  1  fj check: a line of the history may not stand there\n     fj test: a line of the script has another reply\n  2  a fault of the command line\n  3  a fault of the input, told by its line, or a refusal, told by its number\n  4  out of memory\n  5  a read or a write failed\n",
         "help replay | Usage: fj replay < SCRIPT | Input of fj replay: a script | Exit status:\n  0",
         "replay --help | Runs the script | Usage: fj replay < SCRIPT | Input of fj replay: a script | at\n                                           most 32, 32, 4096 and 1048576\n | Faulty: an empty line, a comment, a trailing space, CR LF, no last line feed. | has the reply refused N |    1  a shutdown or stop came before  |    6  the worker has no task, or hook   16  the name belongs to a task\n | Example:\n  $ printf | Exit status:\n  0  the whole script was replied to, also with refused steps, or help written\n  2  a fault of the command line\n  3  fault: line N, the first faulty line; or refused 13, a limit out of range\n  4  out of memory\n  5  a read or a write failed\n",
         "upgrade --help | Writes the script | Usage: fj upgrade < SCRIPT | Input of fj upgrade: a script as that of fj replay | Example:\n  $ printf | Exit status:\n  0  the whole script was written, or help was\n  2  a fault of the command line\n  3  fault: line N, the first faulty line; or refused 13, a limit out of range\n  4  out of memory\n  5  a read or a write failed\n",
@@ -46,6 +53,11 @@ fn help() -> [&'static str; 9] {
         "find --help | Writes the first number | Usage: fj find [OPTIONS] --from <N> --to <N>\n               --mul <N> --add <N> --mod <N> --want <N>\n | --from <N> | first number, 0 to 4294967295 | --to <N> | last number, 0 to 4294967295; | --grain <N> | a block has, 1 to 4294967295 [default: 1] | --workers <N> | there are, 1 to 32 [default: 1] | --eager | Forks at every split | --mul <N> | factor of the function, 0 to 4294967295 | --add <N> | summand of the function, 0 to 4294967295 | --mod <N> | divisor of the function, 1 to 4294967295 | --want <N> | looked for, 0 to 4294967295 | (MUL * x + ADD) mod MOD | Blocks behind an x that has the\nvalue are not begun once it is found; with --eager all blocks are computed.\n | At most 200000 blocks: a larger --grain gives fewer. | Example:\n  $ fj find | Exit status:\n  0  the number was written, or none where no number has the value\n  2  a fault of the command line, or too many blocks\n  3  the pool's history is full\n  4  out of memory, or a thread could not be started\n  5  a write failed\n",
         "tree --help | Writes the value of the tree | Usage: fj tree [OPTIONS] < TREE\n | --workers <N> | there are, 1 to 32 [default: 1] | Input of fj tree: a tree | modulo 1000000007 | Example:\n  $ printf | Exit status:\n  0  the value of node 0 was written\n  2  a fault of the command line\n  3  a faulty line, told by its number, or the pool's history is full\n  4  out of memory, or a thread could not be started\n  5  a read or a write failed\n",
         "check --help | Tells whether the history | Usage: fj check < HISTORY\n | Input of fj check: a history | Example:\n  $ printf | Exit status:\n  0  the input is a history, or help was written\n  1  line N: a line that may not stand there, and why, on standard output\n  2  a fault of the command line\n  3  fault: line N, no line of a history; or refused 13, a limit out of range\n  4  out of memory\n  5  a read or a write failed\n",
+        "trace --help | writes its history | Usage: fj trace < SCRIPT\n | Input of fj trace: a script as that of fj replay | Example:\n  $ printf | Exit status:\n  0  the history of the whole script was written, or help was\n  2  a fault of the command line\n  3  fault: line N, the first faulty line; or refused 13, a limit out of range\n  4  out of memory\n  5  a read or a write failed\n",
+        "test --help | Compares a script's replies | Usage: fj test < SCRIPT\n | the reply that is expected behind > | Example:\n  $ printf | Exit status:\n  0  all replies are as written, or help was\n  1  line N: a reply, and the one that was expected, on standard output\n  2  a fault of the command line\n  3  fault: line N, the first faulty line; or refused 13, a limit out of range\n  4  out of memory\n  5  a read or a write failed\n",
+        "explain --help | and why nothing was done | Usage: fj explain < SCRIPT\n | Input of fj explain: a script as that of fj replay | Example:\n  $ printf | Exit status:\n  0  the whole script was explained, or help was written\n  2  a fault of the command line\n  3  fault: line N, the first faulty line, and why; or refused 13, and which\n     limit is out of its range\n  4  out of memory\n  5  a read or a write failed\n",
+        "record --help | by workers in threads | Usage: fj record | sum | min | find | tree | A JOB is sum, min, find or tree, with its options | Example:\n  $ fj record sum | Exit status:\n  0  the history was written, or help was\n  2  a fault of the command line, or too many blocks\n  3  a faulty line of the tree, told by its number, or a full history\n  4  out of memory, or a thread could not be started\n  5  a read or a write failed\n",
+        "record find --help | Usage: fj record find [OPTIONS] --from <N> --to <N>\n                      --mul <N> --add <N> --mod <N> --want <N>\n | --workers <N>",
     ]
 }
 

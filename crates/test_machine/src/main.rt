@@ -28,7 +28,6 @@ mod tally;
 mod thread_tests;
 
 use crate::report::report_on;
-use crate::script::Form;
 use anyhow::{Result, bail};
 use std::{env, fs};
 
@@ -41,12 +40,7 @@ fn main(rt: HostRuntime) -> Result<()> {
     let mut is_well = true;
     for name in args.iter().skip(1) {
         let text = fs::read_to_string(&rt, name.as_str())?;
-        let form = if name.ends_with(".md") {
-            Form::Document
-        } else {
-            Form::Plain
-        };
-        let found = report_on(alloc, name, &text, form)?;
+        let found = report_on(alloc, name, &text)?;
         println!(rt; "scripts in {name}: {}", found.scripts)?;
         if !found.mismatches.is_empty() {
             eprint!(rt; "{}", found.mismatches)?;

@@ -1,5 +1,5 @@
 use crate::answers::{Way, heading, of_named};
-use crate::script::{Form, Line, Script, alternative, scripts};
+use crate::script::{Line, Script, alternative, scripts};
 use anyhow::Result;
 use std::alloc::Global;
 use std::fmt::Write;
@@ -12,8 +12,8 @@ pub struct Report {
 }
 
 /// Runs each script of a text, once for each of its headings, in each way. A text without scripts is a mismatch too.
-pub fn report_on(alloc: Global, file: &str, text: &str, form: Form) -> Result<Report> {
-    let all = scripts(alloc, text, form)?;
+pub fn report_on(alloc: Global, file: &str, text: &str) -> Result<Report> {
+    let all = scripts(alloc, text)?;
     let mut mismatches = String::new(alloc);
     if all.is_empty() {
         writeln!(mismatches, "{file}: no script")?;

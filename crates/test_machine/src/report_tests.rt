@@ -1,12 +1,12 @@
 use crate::answers::Way;
 use crate::report::{mismatch, report_on};
-use crate::script::{Form, Script, scripts};
+use crate::script::{Script, scripts};
 use std::alloc::Global;
 use std::test::Fail;
 
 /// How many scripts are reported of a text, and the mismatches.
-fn told(alloc: Global, text: &str, form: Form) -> Result<String, Fail> {
-    let report = report_on(alloc, "file", text, form)?;
+fn told(alloc: Global, text: &str) -> Result<String, Fail> {
+    let report = report_on(alloc, "file", text)?;
     Ok(format!(in alloc; "{} {}", report.scripts, report.mismatches)?)
 }
 
@@ -27,7 +27,7 @@ seal > sealed 0 events, gone none
 
 #[test]
 fn good_scripts_are_counted(rt: HostRuntime) -> Result<(), Fail> {
-    assert_eq!(rt; told(rt.alloc(), two(), Form::Plain)?.as_str(), "2 ");
+    assert_eq!(rt; told(rt.alloc(), two())?.as_str(), "2 ");
     Ok(())
 }
 
@@ -64,7 +64,7 @@ const FAULTY: [(&str, &str); 8] = [
 #[test]
 fn what_does_not_fit_is_told_with_its_place(rt: HostRuntime) -> Result<(), Fail> {
     for (text, expected) in FAULTY {
-        assert_eq!(rt; told(rt.alloc(), text, Form::Plain)?.as_str(), expected);
+        assert_eq!(rt; told(rt.alloc(), text)?.as_str(), expected);
     }
     Ok(())
 }
@@ -79,43 +79,11 @@ poll 0 0 > run 0 or refused 3
 
 #[test]
 fn each_heading_has_its_reply(rt: HostRuntime) -> Result<(), Fail> {
-    assert_eq!(rt;
-        told(rt.alloc(), alternatives(), Form::Plain)?.as_str(),
-        "1 "
-    );
+    assert_eq!(rt; told(rt.alloc(), alternatives())?.as_str(), "1 ");
     let text = "async 1 1 1 2 or async 1 1 1 1\nsubmit 0 > task 0\npoll 0 0 > run 0";
     assert_eq!(rt;
-        told(rt.alloc(), text, Form::Plain)?.as_str(),
+        told(rt.alloc(), text)?.as_str(),
         "1 file:3: : poll 0 0 > refused 3, and not run 0 (Machine at async 1 1 1 1)\n"
-    );
-    Ok(())
-}
-
-fn document() -> &'static str {
-    "# A page
-
-A line.
-
-```
-submit 0
-```
-
-## A section
-
-```script
-async 1 1 1 4
-submit 0 > task 1
-```
-
-async 1 1 1 4
-"
-}
-
-#[test]
-fn a_document_has_scripts_in_its_blocks_alone(rt: HostRuntime) -> Result<(), Fail> {
-    assert_eq!(rt;
-        told(rt.alloc(), document(), Form::Document)?.as_str(),
-        "2 file:13: A section: submit 0 > task 0, and not task 1 (Machine at async 1 1 1 4)\nfile:16: A section: no steps\n"
     );
     Ok(())
 }
@@ -130,7 +98,7 @@ fn is_told(alloc: Global, script: &Script<'_>, way: Way) -> Result<bool, Fail> {
 fn each_way_tells_a_wrong_reply(rt: HostRuntime) -> Result<(), Fail> {
     let alloc = rt.alloc();
     let text = "async 1 1 1 4\nopen > none\nsubmit 0 > task 0\nquiet > yes";
-    let all = scripts(alloc, text, Form::Plain)?;
+    let all = scripts(alloc, text)?;
     assert_eq!(rt; all.len(), 1);
     for way in [Way::Machine, Way::RunEpochs, Way::Replayed] {
         assert!(rt; is_told(alloc, &all[0], way)?, "{way:?}");

@@ -2,7 +2,7 @@
 ghost use Rattle.std.specs.Prelude.{◌≡◌, IfOk, codes, false};
 ghost use Rattle.clap.specs.Words.{app_of, new_app, with_subcommand};
 ghost use Rattle.clap.specs.declared.builder.command.Command.TheViews.{out-Command};
-ghost use Rattle.fj_cli.specs.Commands.{replay_line, whole_line};
+ghost use Rattle.fj_cli.specs.Commands.{record_line, replay_line, whole_line, with_jobs};
 ghost use Rattle.fj_cli.specs.Options.{find_line, min_line, sum_line, tree_line, with_function, with_numbers, with_range};
 
 use crate::command_line::arguments::{defaulted, flag, required};
@@ -11,9 +11,25 @@ use clap::Command;
 use fj_rules::MAX_WORKERS;
 use std::alloc::{AllocError, Global};
 
-/// On two lines, since one would have more than 80 columns.
-const FIND_USAGE: &str = "fj find [OPTIONS] --from <N> --to <N>
-               --mul <N> --add <N> --mod <N> --want <N>";
+/// How jobs are called, where the usage of `clap` does not say it well.
+#[derive(Clone, Copy)]
+struct Usages {
+    /// On two lines, since one would have more than 80 columns.
+    find: &'static str,
+    tree: &'static str,
+}
+
+const COMPUTED: Usages = Usages {
+    find: "fj find [OPTIONS] --from <N> --to <N>
+               --mul <N> --add <N> --mod <N> --want <N>",
+    tree: "fj tree [OPTIONS] < TREE",
+};
+
+const RECORDED: Usages = Usages {
+    find: "fj record find [OPTIONS] --from <N> --to <N>
+                      --mul <N> --add <N> --mod <N> --want <N>",
+    tree: "fj record tree [OPTIONS] < TREE",
+};
 
 /// The options of a range. Precondition: the command has no option that its subcommands share.
 fn over_numbers<'a>(alloc: Global, command: Command<'a>) -> Result<Command<'a>, AllocError>
@@ -104,13 +120,13 @@ fn min<'a>(alloc: Global) -> Result<Command<'a>, AllocError>
     of_function(alloc, over_range(alloc, min)?)
 }
 
-fn find<'a>(alloc: Global) -> Result<Command<'a>, AllocError>
+fn find<'a>(alloc: Global, usage: &'static str) -> Result<Command<'a>, AllocError>
     ensures app { IfOk result (λ c. app_of c ≡ find_line) }
     ensures local { IfOk result (λ c. (out-Command c).has_globals ≡ false) }
 {
     let find = Command::new(alloc, "find")
         .about("Writes the first number of a range at which a function has a value")
-        .override_usage(FIND_USAGE)
+        .override_usage(usage)
         .after_help(help::FIND);
     of_function(alloc, over_range(alloc, find)?)?.arg(required(
         alloc,
@@ -120,13 +136,13 @@ fn find<'a>(alloc: Global) -> Result<Command<'a>, AllocError>
     ))
 }
 
-fn tree<'a>(alloc: Global) -> Result<Command<'a>, AllocError>
+fn tree<'a>(alloc: Global, usage: &'static str) -> Result<Command<'a>, AllocError>
     ensures app { IfOk result (λ c. app_of c ≡ tree_line) }
     ensures local { IfOk result (λ c. (out-Command c).has_globals ≡ false) }
 {
     Command::new(alloc, "tree")
         .about("Writes the value of the tree on standard input")
-        .override_usage("fj tree [OPTIONS] < TREE")
+        .override_usage(usage)
         .after_help(help::TREE)
         .arg(defaulted(
             alloc,
@@ -166,6 +182,36 @@ fn check<'a>(alloc: Global) -> Command<'a>
         .after_help(help::CHECK)
 }
 
+fn trace<'a>(alloc: Global) -> Command<'a>
+    ensures app { app_of result ≡ new_app (codes "trace") }
+    ensures local { (out-Command result).has_globals ≡ false }
+{
+    Command::new(alloc, "trace")
+        .about("Runs the script on standard input and writes its history")
+        .override_usage("fj trace < SCRIPT")
+        .after_help(help::TRACE)
+}
+
+fn test<'a>(alloc: Global) -> Command<'a>
+    ensures app { app_of result ≡ new_app (codes "test") }
+    ensures local { (out-Command result).has_globals ≡ false }
+{
+    Command::new(alloc, "test")
+        .about("Compares a script's replies with those behind its lines")
+        .override_usage("fj test < SCRIPT")
+        .after_help(help::TEST)
+}
+
+fn explain<'a>(alloc: Global) -> Command<'a>
+    ensures app { app_of result ≡ new_app (codes "explain") }
+    ensures local { (out-Command result).has_globals ≡ false }
+{
+    Command::new(alloc, "explain")
+        .about("Writes the script with its replies, and why nothing was done")
+        .override_usage("fj explain < SCRIPT")
+        .after_help(help::EXPLAIN)
+}
+
 /// The program with its first command.
 fn program<'a>(alloc: Global) -> Result<Command<'a>, AllocError>
     ensures { IfOk result (λ c. app_of c ≡ replay_line) }
@@ -186,14 +232,51 @@ fn with_one<'a>(command: Command<'a>, sub: Command<'a>) -> Result<Command<'a>, A
     command.subcommand(sub)
 }
 
-/// The whole command line.
+/// A command with a job as each of four subcommands.
+fn with_jobs<'a>(
+    alloc: Global,
+    command: Command<'a>,
+    usages: Usages,
+) -> Result<Command<'a>, AllocError>
+    ensures { IfOk result (λ c. app_of c ≡ with_jobs (app_of command.entry)) }
+{
+    let with_sum = with_one(command, sum(alloc)?)?;
+    let with_min = with_one(with_sum, min(alloc)?)?;
+    let with_find = with_one(with_min, find(alloc, usages.find)?)?;
+    with_one(with_find, tree(alloc, usages.tree)?)
+}
+
+/// The whole command line, but for what stands behind `record`.
 pub fn command<'a>(alloc: Global) -> Result<Command<'a>, AllocError>
     ensures { IfOk result (λ command. app_of command ≡ whole_line) }
 {
     let with_upgrade = with_one(program(alloc)?, upgrade(alloc))?;
-    let with_sum = with_one(with_upgrade, sum(alloc)?)?;
-    let with_min = with_one(with_sum, min(alloc)?)?;
-    let with_find = with_one(with_min, find(alloc)?)?;
-    let with_tree = with_one(with_find, tree(alloc)?)?;
-    with_one(with_tree, check(alloc))
+    let with_computed = with_jobs(alloc, with_upgrade, COMPUTED)?;
+    let with_check = with_one(with_computed, check(alloc))?;
+    let with_trace = with_one(with_check, trace(alloc))?;
+    let with_test = with_one(with_trace, test(alloc))?;
+    let with_explain = with_one(with_test, explain(alloc))?;
+    with_one(with_explain, record(alloc))
+}
+
+fn record<'a>(alloc: Global) -> Command<'a>
+    ensures app { app_of result ≡ new_app (codes "record") }
+    ensures local { (out-Command result).has_globals ≡ false }
+{
+    Command::new(alloc, "record")
+        .about("Runs a job by workers in threads and writes its history")
+        .override_usage("fj record <JOB> [OPTIONS]")
+        .after_help(help::RECORD)
+}
+
+/// The command line from `record` on.
+pub fn record_command<'a>(alloc: Global) -> Result<Command<'a>, AllocError>
+    ensures { IfOk result (λ command. app_of command ≡ record_line) }
+{
+    let record = Command::new(alloc, "fj record")
+        .about("Runs a job by workers in threads and writes its history")
+        .override_usage("fj record <JOB> [OPTIONS]")
+        .after_help(help::RECORD)
+        .subcommand_required(true);
+    with_jobs(alloc, record, RECORDED)
 }

@@ -14,6 +14,7 @@ Example:
 Exit status:
   0  the command was run to its end, or help or the version was written
   1  fj check: a line of the history may not stand there
+     fj test: a line of the script has another reply
   2  a fault of the command line
   3  a fault of the input, told by its line, or a refusal, told by its number
   4  out of memory
@@ -164,5 +165,87 @@ Exit status:
   1  line N: a line that may not stand there, and why, on standard output
   2  a fault of the command line
   3  fault: line N, no line of a history; or refused 13, a limit out of range
+  4  out of memory
+  5  a read or a write failed";
+
+/// Of `fj trace`.
+pub const TRACE: &str = "Input of fj trace: a script as that of fj replay, of either version.
+
+Written is the history of its run, as fj check reads it: the heading, and then a
+line for each event, and seal at the end of each part.
+
+Example:
+  $ printf 'async 1 1 8 64\\nsubmit 0\\npoll 0 0\\nend 0 ok\\n' | fj trace
+  async 1 1 8 64
+  acc 0 sub 0 plain
+  out 0 0
+  end 0 0
+  settle 0 normal
+
+Exit status:
+  0  the history of the whole script was written, or help was
+  2  a fault of the command line
+  3  fault: line N, the first faulty line; or refused 13, a limit out of range
+  4  out of memory
+  5  a read or a write failed";
+
+/// Of `fj test`.
+pub const TEST: &str =
+    "Input of fj test: a script as that of fj replay, of either version, as people
+write it: with blank lines, comments behind #, any white space between words,
+CR LF, and the reply that is expected behind >. A line without it may have any.
+
+Nothing is written where all replies are as expected; otherwise the first line
+with another one.
+
+Example:
+  $ printf 'async 1 1 8 64\\nsubmit 0 > task 0\\npoll 0 0 > none\\n' | fj test
+  line 3: run 0, and not none
+
+Exit status:
+  0  all replies are as written, or help was
+  1  line N: a reply, and the one that was expected, on standard output
+  2  a fault of the command line
+  3  fault: line N, the first faulty line; or refused 13, a limit out of range
+  4  out of memory
+  5  a read or a write failed";
+
+/// Of `fj record`.
+pub const RECORD: &str = "A JOB is sum, min, find or tree, with its options: fj record sum --help
+It forks at every split, with or without --eager.
+
+Written is the history of that very run, as fj check reads it, and no value.
+A second run has another one, but by one worker.
+
+Example:
+  $ fj record sum --from 1 --to 8 --grain 4 | fj check
+  ok 11
+
+Exit status:
+  0  the history was written, or help was
+  2  a fault of the command line, or too many blocks
+  3  a faulty line of the tree, told by its number, or a full history
+  4  out of memory, or a thread could not be started
+  5  a read or a write failed";
+
+/// Of `fj explain`.
+pub const EXPLAIN: &str = "Input of fj explain: a script as that of fj replay, of either version.
+
+Written is each line with its reply, and below each refusal, and below spent,
+early, skip, none and no, who is in the way and where. fj test reads it.
+
+Example:
+  $ printf 'async 1 1 8 64\\nsubmit 0\\npoll 0 0\\njoin 0 0 0\\n' | fj explain
+  async 1 1 8 64
+  submit 0 > task 0
+  poll 0 0 > run 0
+  join 0 0 0 > refused 7
+    # refused 7: task 0 is on worker 0's own stack: it would wait for itself
+
+Exit status:
+  0  the whole script was explained, or help was written
+  2  a fault of the command line
+  3  fault: line N, the first faulty line, and why; or refused 13, and which
+     limit is out of its range
   4  out of memory
   5  a read or a write failed";

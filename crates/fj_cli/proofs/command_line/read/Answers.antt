@@ -1,79 +1,73 @@
-use Rattle.std.proofs.Common.{◌≡◌, ◌∙◌, sym, subst, ap, ap₂, refl, map, codes, true, Option, Some, None, option_map, List}
-use Rattle.clap.specs.Words.{App, HasKind, HasMatchesOf, Text, Row, fault_of, is_simple, is_simple_and_free, takes, subcommand_of, subcommand_rows_of, subcommand_rows, subcommand_name_of}
-use Rattle.clap.specs.declared.parser.matches.ArgMatches.{ArgMatches}
-use Rattle.clap.specs.declared.parser.matches.ArgMatches.TheViews.{out-ArgMatches, out-SubCommand}
-use Rattle.std.specs.Box.{box_value}
-use Rattle.std.specs.Prelude.{IfSome}
-use Rattle.clap.proofs.OnLiterals.{clap_on_literals}
-use Rattle.fj_cli.specs.Commands.{whole_line, replay_words, upgrade_words, command_in}
+use Rattle.std.proofs.Common.{ℕ, ◌≡◌, ◌↔◌, ◌∙◌, sym, ap, subst, refl, codes, Option, Some, None, List, [], ◌∷◌, arith}
+use Rattle.std.specs.Prelude.{IfOk, IfErr, IfSome, option_map}
+use Rattle.std.proofs.lemmas.Result.{MatchResult-weaker}
+use Rattle.clap.specs.Walk.{texts}
+use Rattle.clap.specs.Words.{HasKind, Row, Text}
+use Rattle.fj_cli.specs.declared.command_line.Subcommand.TheVariants.{Replay, Upgrade}
+use Rattle.fj_cli.specs.Commands.{command_by, faults_by, name_in, recorded_as, recorded_in, replay_words, upgrade_words}
 use Rattle.fj_cli.specs.Given.{IsAsked}
 use Rattle.fj_cli.proofs.command_line.read.Goals as goal
 
-replay_taken : takes whole_line replay_words ≡ true
-unfolding clap_on_literals
-replay_taken = refl
+-- a recorded job is no replay, and no upgrade
+no_replay : (o : Option (Text × List Row)) → name_in (option_map recorded_as o) ≡ Some (codes "replay") → ⊥
+no_replay None is = absurd cc
+no_replay (Some met) is = absurd cc
 
-upgrade_taken : takes whole_line upgrade_words ≡ true
-unfolding clap_on_literals
-upgrade_taken = refl
+abbrev first : Option Text → ℕ
+first None = 0
+first (Some []) = 0
+first (Some (x ∷ xs)) = x
 
-is_free : is_simple_and_free whole_line ≡ true
-unfolding clap_on_literals
-is_free = refl
+no_upgrade : (o : Option (Text × List Row)) → name_in (option_map recorded_as o) ≡ Some (codes "upgrade") → ⊥
+no_upgrade None is = absurd cc
+no_upgrade (Some met) is = let other : 114 ≡ 117 = ap first is in absurd (omega (arith, other))
 
-abbrev name_in : Option (Text × List Row) → Option Text
-name_in = option_map (λ met. met.0)
+-- the words of a replay or an upgrade record nothing
+replay_plain : recorded_in replay_words ≡ None
+replay_plain = refl
 
-replay_met : name_in (command_in replay_words) ≡ Some (codes "replay")
-unfolding clap_on_literals
-replay_met = refl
+upgrade_plain : recorded_in upgrade_words ≡ None
+upgrade_plain = refl
 
-upgrade_met : name_in (command_in upgrade_words) ≡ Some (codes "upgrade")
-unfolding clap_on_literals
-upgrade_met = refl
+none_or_some : (o : Option (List Text)) (job : List Text) → o ≡ None → o ≡ Some job → ⊥
+none_or_some o job none some = let is : None ≡ Some job = sym none ∙ some in absurd cc
 
--- the name of the rows is the name
-names : (m : ArgMatches) → name_in (subcommand_rows_of m) ≡ subcommand_name_of m
-names m =
-    elim ((out-ArgMatches m).subcommand) as (λ o. name_in (subcommand_rows o) ≡ option_map (λ b. (out-SubCommand (box_value b)).name.now) o) [
-      | None ↦ refl
-      | Some b ↦ refl
-    ]
+pub returns-in-Some-clause-asked : goal.returns-in-Some-clause-asked
+returns-in-Some-clause-asked c =
+    subst (λ (o : Option (List Text)). IfOk c.read_recorded.result (λ asked. IfSome asked (λ a. IsAsked (command_by o (texts c.args.words.now)) a))) (sym c.in-Some.ensures.some) c.read_recorded.ensures.asked
 
--- the command that the matches have is the one in the words
-met : (m : ArgMatches) (line : App) (words : List Text) → line ≡ whole_line → HasMatchesOf line words m → subcommand_rows_of m ≡ command_in words
-met m line words is has = (has (ap is_simple is)).1 ∙ ap (λ a. subcommand_of a words) is
+pub returns-in-Some-clause-replay : goal.returns-in-Some-clause-replay
+returns-in-Some-clause-replay c =
+    subst (λ (o : Option (List Text)). IfOk c.read_recorded.result (λ asked. (asked ≡ Some Replay) ↔ (name_in (command_by o (texts c.args.words.now)) ≡ Some (codes "replay")))) (sym c.in-Some.ensures.some)
+    (MatchResult-weaker c.read_recorded.result c.read_recorded.ensures.job (λ asked other. (λ is. absurd (other.0 is), λ named. absurd (no_replay _ named))) (λ _ same. same))
 
-named : (m : ArgMatches) (line : App) (words : List Text) → line ≡ whole_line → HasMatchesOf line words m → subcommand_name_of m ≡ name_in (command_in words)
-named m line words is has = sym (names m) ∙ ap name_in (met m line words is has)
+pub returns-in-Some-clause-upgrade : goal.returns-in-Some-clause-upgrade
+returns-in-Some-clause-upgrade c =
+    subst (λ (o : Option (List Text)). IfOk c.read_recorded.result (λ asked. (asked ≡ Some Upgrade) ↔ (name_in (command_by o (texts c.args.words.now)) ≡ Some (codes "upgrade")))) (sym c.in-Some.ensures.some)
+    (MatchResult-weaker c.read_recorded.result c.read_recorded.ensures.job (λ asked other. (λ is. absurd (other.1 is), λ named. absurd (no_upgrade _ named))) (λ _ same. same))
 
-pub returns-in-Ok-clause-asked : goal.returns-in-Ok-clause-asked
-returns-in-Ok-clause-asked c =
-    subst (λ there. IfSome c.asked.result (λ a. IsAsked there a)) (met c.in-Ok.matches _ _ c.in_ok-command.ensures c.in-Ok.ensures.matches) c.asked.ensures.asked
+pub returns-in-Some-clause-fault : goal.returns-in-Some-clause-fault
+returns-in-Some-clause-fault c =
+    subst (λ (o : Option (List Text)). IfErr c.read_recorded.result (λ error. HasKind (faults_by o (texts c.args.words.now)) error)) (sym c.in-Some.ensures.some) c.read_recorded.ensures.fault
 
-pub returns-in-Ok-clause-replay : goal.returns-in-Ok-clause-replay
-returns-in-Ok-clause-replay c =
-    let name = named c.in-Ok.matches _ _ c.in_ok-command.ensures c.in-Ok.ensures.matches in
-    (λ e. sym name ∙ c.asked.ensures.replay.0 e, λ there. c.asked.ensures.replay.1 (name ∙ there))
+pub returns-in-Some-clause-known : goal.returns-in-Some-clause-known
+returns-in-Some-clause-known c = (
+  λ are. absurd (none_or_some _ _ (ap recorded_in are ∙ replay_plain) c.in-Some.ensures.some),
+  λ are. absurd (none_or_some _ _ (ap recorded_in are ∙ upgrade_plain) c.in-Some.ensures.some),
+)
 
-pub returns-in-Ok-clause-upgrade : goal.returns-in-Ok-clause-upgrade
-returns-in-Ok-clause-upgrade c =
-    let name = named c.in-Ok.matches _ _ c.in_ok-command.ensures c.in-Ok.ensures.matches in
-    (λ e. sym name ∙ c.asked.ensures.upgrade.0 e, λ there. c.asked.ensures.upgrade.1 (name ∙ there))
+pub returns-in-None-clause-asked : goal.returns-in-None-clause-asked
+returns-in-None-clause-asked c =
+    subst (λ (o : Option (List Text)). IfOk c.read_plain.result (λ asked. IfSome asked (λ a. IsAsked (command_by o (texts c.args.words.now)) a))) (sym c.in-None.ensures.none) c.read_plain.ensures.asked
 
-pub returns-in-Ok-clause-known : goal.returns-in-Ok-clause-known
-returns-in-Ok-clause-known c =
-    let name = named c.in-Ok.matches _ _ c.in_ok-command.ensures c.in-Ok.ensures.matches in (
-      λ are. c.asked.ensures.replay.1 (name ∙ (ap (λ words. name_in (command_in words)) are ∙ replay_met)),
-      λ are. c.asked.ensures.upgrade.1 (name ∙ (ap (λ words. name_in (command_in words)) are ∙ upgrade_met)),
-    )
+pub returns-in-None-clause-replay : goal.returns-in-None-clause-replay
+returns-in-None-clause-replay c =
+    subst (λ (o : Option (List Text)). IfOk c.read_plain.result (λ asked. (asked ≡ Some Replay) ↔ (name_in (command_by o (texts c.args.words.now)) ≡ Some (codes "replay")))) (sym c.in-None.ensures.none) c.read_plain.ensures.replay
 
-pub returns-in-Err-clause-known : goal.returns-in-Err-clause-known
-returns-in-Err-clause-known c =
-    let is = c.in_ok-command.ensures in
-    (λ are. c.in-Err.ensures.passes (ap₂ takes is are ∙ replay_taken), λ are. c.in-Err.ensures.passes (ap₂ takes is are ∙ upgrade_taken))
+pub returns-in-None-clause-upgrade : goal.returns-in-None-clause-upgrade
+returns-in-None-clause-upgrade c =
+    subst (λ (o : Option (List Text)). IfOk c.read_plain.result (λ asked. (asked ≡ Some Upgrade) ↔ (name_in (command_by o (texts c.args.words.now)) ≡ Some (codes "upgrade")))) (sym c.in-None.ensures.none) c.read_plain.ensures.upgrade
 
-pub returns-in-Err-clause-fault : goal.returns-in-Err-clause-fault
-returns-in-Err-clause-fault c =
-    let is = c.in_ok-command.ensures in
-    subst (λ line. HasKind (fault_of line (map (λ word. word.now) c.args.words.now)) c.in-Err.error) is (c.in-Err.ensures.kinds (ap is_simple_and_free is ∙ is_free))
+pub returns-in-None-clause-fault : goal.returns-in-None-clause-fault
+returns-in-None-clause-fault c =
+    subst (λ (o : Option (List Text)). IfErr c.read_plain.result (λ error. HasKind (faults_by o (texts c.args.words.now)) error)) (sym c.in-None.ensures.none) c.read_plain.ensures.fault

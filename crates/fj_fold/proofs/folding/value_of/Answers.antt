@@ -2,8 +2,8 @@ use Rattle.std.proofs.Common.{◌∙◌, ap}
 use Rattle.std.proofs.Math.Logic.{∥∥₁_elim}
 use Rattle.std.specs.Coded.{Coded-set, coded_ℕ}
 use Rattle.fj_trees.specs.TreeValues.{node_value}
-use Rattle.fj_fold.proofs.folding.fold_in.Goals as goal
+use Rattle.fj_fold.proofs.folding.value_of.Goals as goal
 
 pub returns-then-key-eq0-clause-ok : goal.returns-then-key-eq0-clause-ok
 returns-then-key-eq0-clause-ok g c =
-    ∥∥₁_elim c.in-Ok-result_in.ensures.right (Coded-set coded_ℕ _ _) (λ e. e ∙ ap (λ k. node_value g.F.NamedTree.nodes k) c.if-key-eq0.true)
+    ∥∥₁_elim c.in-Ok.ensures.right (Coded-set coded_ℕ _ _) (λ e. e ∙ ap (λ k. node_value g.F.NamedTree.nodes k) c.if-key-eq0.true)

@@ -1,0 +1,74 @@
+use crate::annotated::{Annotated, Written};
+use crate::fault::TestFault;
+use crate::mismatch::Mismatch;
+use fj_filter::InMemory;
+use fj_replay::{ReplayFault, replay};
+use std::alloc::{AllocError, Global};
+use std::str;
+
+/// Runs a script, and compares its replies with those that stand behind its lines. Gives the first line that has another one.
+///
+/// A line may have a reply behind `>`, a comment behind `#`, and any white space between its words. A line without a reply may have any. A
+/// heading has none, or `refused 13`.
+///
+/// `Line` at the first line that is faulty, has a reply and no step, or is missing, and `Limits` where a limit is out of its range, if no
+/// line before has another reply. `Memory` if out of memory.
+pub fn test(alloc: Global, text: &str) -> Result<Option<Mismatch>, TestFault> {
+    let annotated = Annotated::read(alloc, text)?;
+    let mut rest = InMemory::new(annotated.script.as_bytes());
+    let mut replies = Vec::new(alloc);
+    let ended = replay(alloc, &mut rest, &mut replies);
+    let refused = ended == Err(ReplayFault::Limits);
+    let answers = answers(alloc, annotated.is_titled(), refused, replies.as_slice())?;
+    let mismatch = first_mismatch(alloc, annotated.lines.as_slice(), &answers)?;
+    match ended {
+        _ if mismatch.is_some() => Ok(mismatch),
+        Err(ReplayFault::Limits) if annotated.foresees_refusal() => Ok(None),
+        Err(fault) => Err(annotated.fault(fault)),
+        Ok(()) => Ok(None),
+    }
+}
+
+/// A line for each line of a script, as far as it was replied to.
+fn answers(
+    alloc: Global,
+    is_titled: bool,
+    refused: bool,
+    replies: &[u8],
+) -> Result<String, AllocError> {
+    let mut answers = String::new(alloc);
+    if is_titled {
+        answers.push_str("no reply\n")?;
+    }
+    answers.push_str(if refused {
+        "refused 13\n"
+    } else {
+        "no reply\n"
+    })?;
+    // Replies are ASCII.
+    answers.push_str(str::from_utf8(replies).unwrap_or(""))?;
+    Ok(answers)
+}
+
+/// The first line with another answer than the reply behind it.
+fn first_mismatch(
+    alloc: Global,
+    lines: &[Written<'_>],
+    answers: &str,
+) -> Result<Option<Mismatch>, AllocError> {
+    for (line, answer) in lines.iter().zip(answers.lines()) {
+        let expected = line.reply.unwrap_or(answer);
+        if !has_same_words(answer, expected) {
+            return Ok(Some(Mismatch {
+                line: line.number,
+                reply: String::from_str(alloc, answer)?,
+                expected: String::from_str(alloc, expected)?,
+            }));
+        }
+    }
+    Ok(None)
+}
+
+fn has_same_words(a: &str, b: &str) -> bool {
+    a.split_whitespace().eq(b.split_whitespace())
+}

@@ -1,0 +1,235 @@
+//! Who is in the way of a step, and where.
+use crate::reason::Reason;
+use crate::tasks::{QueueOf, Tasks};
+use fj_machine::Machine;
+use fj_rules::{Ending, InnerTypes, Owner, Place, Refusal, Said, Serial, Step, SubId, WorkerId};
+
+/// What the reason of a reply is found in: the machine behind the step, and what was accepted.
+#[derive(Clone, Copy)]
+pub struct Facts<'a> {
+    pub machine: &'a Machine,
+    pub tasks: &'a Tasks,
+    pub is_stopped: bool,
+}
+
+impl<'a> Facts<'a> {
+    /// The reason of a reply that says that nothing was done, or not all.
+    pub fn of_reply(self, step: &Step, said: &Said) -> Option<Reason<'a>> {
+        let _inside: Option<InnerTypes> = None;
+        match said {
+            Said::Refused(refusal) => self.of_refusal(step, *refusal),
+            Said::Spent(c) => Some(self.of_spent(*c)),
+            Said::Early(c) => Some(Reason::Early(self.tasks.name(*c), self.machine.place(*c)?)),
+            Said::Skip(t) => Some(Reason::NotRun(self.tasks.name(*t), self.machine.status(*t)?)),
+            Said::None => Some(Reason::NothingQueued),
+            Said::No => self.of_no(step),
+            _ => None,
+        }
+    }
+
+    /// The reason of a refusal of a step.
+    fn of_refusal(self, step: &Step, refusal: Refusal) -> Option<Reason<'a>> {
+        match refusal {
+            Refusal::NoSuch => Some(self.of_no_such(step)),
+            Refusal::NotIdle => self.of_not_idle(worker_of(step)?),
+            Refusal::NotRunning => Some(of_not_running(step, worker_of(step)?)),
+            Refusal::Unknown => Some(self.of_unknown(named_by(step)?)),
+            Refusal::NotCompleter => self.of_kind(step),
+            Refusal::NotDone => self.of_not_done(named_by(step)?),
+            Refusal::OwnStack => Some(Reason::OnOwnStack(
+                self.tasks.name(named_by(step)?),
+                worker_of(step)?,
+            )),
+            Refusal::Closed => Some(self.of_closed()),
+            Refusal::CountTooLarge => Some(Reason::CountTooLarge),
+            Refusal::TooManyTasks => Some(Reason::NoRoom(self.machine.live())),
+            Refusal::LogFull => Some(Reason::Full(
+                self.machine.history().len(),
+                self.machine.limits().events(),
+            )),
+            Refusal::LaneSpent | Refusal::OutOfMemory | Refusal::BadLimits => None,
+        }
+    }
+
+    /// The reason of a refusal of a seal.
+    pub fn of_seal(self, refusal: Refusal) -> Option<Reason<'a>> {
+        match refusal {
+            Refusal::NotIdle => self.of_busy(),
+            Refusal::Closed => Some(self.of_closed()),
+            _ => None,
+        }
+    }
+
+    fn of_no_such(self, step: &Step) -> Reason<'a> {
+        let limits = self.machine.limits();
+        match step {
+            Step::Submit { s, .. } => Reason::NoSubmitter(*s, limits.submitters()),
+            _ => Reason::NoWorker(worker_of(step).unwrap_or(WorkerId(0)), limits.workers()),
+        }
+    }
+
+    fn of_not_idle(self, w: WorkerId) -> Option<Reason<'a>> {
+        match self.hook(w) {
+            Some(c) => Some(Reason::HasHook(w, self.tasks.name(c))),
+            None => Some(Reason::Polls(w, self.tasks.name(self.running(w)?))),
+        }
+    }
+
+    fn of_unknown(self, t: Serial) -> Reason<'a> {
+        let task = self.tasks.name(t);
+        if t.0 < self.tasks.accepted {
+            Reason::Released(task)
+        } else if self.tasks.names.is_empty() {
+            Reason::NeverAccepted(task, self.tasks.accepted)
+        } else {
+            Reason::Unnamed
+        }
+    }
+
+    /// Why a task is of the wrong kind: the running one, or the one that is named.
+    fn of_kind(self, step: &Step) -> Option<Reason<'a>> {
+        match step {
+            Step::End { w, ending } => {
+                let task = self.tasks.name(self.running(*w)?);
+                Some(match ending {
+                    Ending::Ok => Reason::IsCompleter(task),
+                    _ => Reason::IsPlain(task),
+                })
+            }
+            _ => Some(Reason::NoCompleter(self.tasks.name(named_by(step)?))),
+        }
+    }
+
+    /// Why a task cannot be released: it is not gone, or has a child.
+    fn of_not_done(self, t: Serial) -> Option<Reason<'a>> {
+        let task = self.tasks.name(t);
+        match self.machine.place(t)? {
+            Place::Gone => Some(Reason::HasChild(task, self.tasks.name(self.child_of(t)?))),
+            place => Some(Reason::NotGone(task, place)),
+        }
+    }
+
+    fn of_closed(self) -> Reason<'a> {
+        if self.is_stopped {
+            Reason::Stopped
+        } else {
+            Reason::Closed
+        }
+    }
+
+    fn of_spent(self, c: Serial) -> Reason<'a> {
+        let task = self.tasks.name(c);
+        match self.machine.status(c) {
+            None => Reason::SpentAsReleased(task),
+            Some(status) if status.is_undone() => Reason::Fired(task),
+            Some(status) => Reason::IsDone(task, status),
+        }
+    }
+
+    fn of_no(self, step: &Step) -> Option<Reason<'a>> {
+        match step {
+            Step::IsQuiescent => self.of_busy(),
+            _ => {
+                let t = named_by(step)?;
+                Some(Reason::IsDone(self.tasks.name(t), self.machine.status(t)?))
+            }
+        }
+    }
+
+    /// The running task of a worker.
+    fn running(self, w: WorkerId) -> Option<Serial> {
+        self.machine.stack(w).last().copied()
+    }
+
+    /// The completer whose action is in a worker's hand.
+    fn hook(self, w: WorkerId) -> Option<Serial> {
+        if w.0 < self.machine.limits().workers() {
+            self.machine.hook(w)
+        } else {
+            None
+        }
+    }
+
+    /// The first kept task with this parent.
+    fn child_of(self, t: Serial) -> Option<Serial> {
+        for k in 0..self.tasks.accepted {
+            if self.machine.parent(Serial(k)) == Some(t) {
+                return Some(Serial(k));
+            }
+        }
+        None
+    }
+
+    /// The first that keeps the pool from being quiescent.
+    fn of_busy(self) -> Option<Reason<'a>> {
+        let limits = self.machine.limits();
+        for k in 0..limits.workers() {
+            if let Some(reason) = self.of_busy_worker(WorkerId(k)) {
+                return Some(reason);
+            }
+        }
+        for k in 0..limits.submitters() {
+            if let Some(reason) = self.of_waiting(&Owner::Sub(SubId(k))) {
+                return Some(reason);
+            }
+        }
+        for k in 0..limits.workers() {
+            if let Some(reason) = self.of_waiting(&Owner::Work(WorkerId(k))) {
+                return Some(reason);
+            }
+        }
+        None
+    }
+
+    fn of_busy_worker(self, w: WorkerId) -> Option<Reason<'a>> {
+        match (self.running(w), self.hook(w)) {
+            (Some(t), _) => Some(Reason::Runs(w, self.tasks.name(t))),
+            (None, Some(c)) => Some(Reason::Acts(w, self.tasks.name(c))),
+            (None, None) => None,
+        }
+    }
+
+    /// The oldest task in a queue.
+    fn of_waiting(self, owner: &Owner) -> Option<Reason<'a>> {
+        let t = self.machine.queue(*owner).next()?;
+        Some(Reason::Waits(self.tasks.name(t), QueueOf(*owner)))
+    }
+}
+
+fn of_not_running<'a>(step: &Step, w: WorkerId) -> Reason<'a> {
+    match step {
+        Step::HookDone { .. } => Reason::NoHook(w),
+        _ => Reason::RunsNothing(w),
+    }
+}
+
+/// The worker of a step.
+fn worker_of(step: &Step) -> Option<WorkerId> {
+    match step {
+        Step::Fork { w, .. }
+        | Step::Trigger { w, .. }
+        | Step::Poll { w, .. }
+        | Step::Help { w, .. }
+        | Step::Join { w, .. }
+        | Step::End { w, .. }
+        | Step::HookDone { w }
+        | Step::Add { w, .. }
+        | Step::QuietRoot { w, .. } => Some(*w),
+        _ => None,
+    }
+}
+
+/// The task that a step names, or the parent.
+fn named_by(step: &Step) -> Option<Serial> {
+    match step {
+        Step::Fork { kind, .. } => kind.parent(),
+        Step::Join { t, .. }
+        | Step::QuietRoot { t, .. }
+        | Step::Fault { t, .. }
+        | Step::Cancel { t }
+        | Step::State { t }
+        | Step::Release { t } => Some(*t),
+        Step::Add { c, .. } => Some(*c),
+        _ => None,
+    }
+}

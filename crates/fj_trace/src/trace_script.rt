@@ -1,0 +1,28 @@
+ghost use Rattle.std.specs.Prelude.{OnOk, IfErr};
+ghost use Rattle.fj_streams.specs.Calls.{IsFine};
+ghost use Rattle.fj_filter.specs.Tells.{seen};
+ghost use Rattle.fj_trace.specs.Traced.{PrintsHistories, StopsTrace, Traces};
+
+use crate::trace_stage::TraceStage;
+use fj_filter::filter;
+use fj_replay::{ReplayFault, replay_fault};
+use fj_streams::{Sink, Source};
+use std::alloc::Global;
+
+/// Reads a script of either version, makes its steps and writes the history of its run, as it goes: the heading, and then for each line
+/// the events that it adds, or `seal`.
+///
+/// It fails as `replay` does. The writer is flushed before each further read.
+pub fn trace<R: Source, W: Sink>(alloc: Global, r: &mut R, w: &mut W) -> Result<(), ReplayFault>
+    ensures ok { OnOk result (Traces (R.remaining r.old) (R.remaining r.new) (W.contents w.old) (W.contents w.new)) }
+    ensures fine { OnOk result (IsFine (R.calls r.old) (R.calls r.new) × IsFine (W.calls w.old) (W.calls w.new)) }
+    ensures err { IfErr result (StopsTrace (seen R.remaining R.calls r.old r.new) (seen W.contents W.calls w.old w.new)) }
+    // What is written is a history.
+    ensures history { PrintsHistories }
+{
+    let mut stage = TraceStage::Start;
+    match filter(alloc, &mut stage, r, w) {
+        Ok(()) => Ok(()),
+        Err(fault) => Err(replay_fault(fault)),
+    }
+}
