@@ -1,4 +1,4 @@
-//! The command that compares a script's replies with those that stand behind its lines.
+//! The command that compares a script's replies with the expected ones.
 ghost use Rattle.std.specs.Prelude.{◌≡◌, ◌⊎◌};
 ghost use Rattle.fj_cli.specs.Statuses.{EndsTest, IsOfFailure};
 

@@ -65,7 +65,7 @@ impl<'a> Annotated<'a> {
         self.script.as_str().starts_with(TITLE)
     }
 
-    /// Whether a reply stands behind its heading.
+    /// Whether a reply is expected of its heading.
     pub fn foresees_refusal(&self) -> bool {
         let heading = self.lines.get(usize::from(self.is_titled()));
         heading.is_some_and(|line| line.reply.is_some())

@@ -1,13 +1,13 @@
 use std::fmt::{self, Display, Formatter, Write};
 
-/// A line whose reply is another one than the reply behind it.
+/// A line whose reply is not the expected one.
 #[derive(Drop, Debug, PartialEq)]
 pub struct Mismatch {
     /// The number of the line, counted from 1.
     pub line: u64,
     /// Its reply.
     pub reply: String,
-    /// The reply that stands behind it.
+    /// The expected reply.
     pub expected: String,
 }
 

@@ -6,7 +6,7 @@ use fj_replay::{ReplayFault, replay};
 use std::alloc::{AllocError, Global};
 use std::str;
 
-/// Runs a script, and compares its replies with those that stand behind its lines. Gives the first line that has another one.
+/// Runs a script, and compares its replies with the expected ones, which its lines name. Gives the first line that differs.
 ///
 /// A line may have a reply behind `>`, a comment behind `#`, and any white space between its words. A line without a reply may have any. A
 /// heading has none, or `refused 13`.

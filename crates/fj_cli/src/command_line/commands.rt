@@ -246,7 +246,7 @@ fn with_jobs<'a>(
     with_one(with_find, tree(alloc, usages.tree)?)
 }
 
-/// The whole command line, but for what stands behind `record`.
+/// The whole command line, without the arguments of `record`.
 pub fn command<'a>(alloc: Global) -> Result<Command<'a>, AllocError>
     ensures { IfOk result (λ command. app_of command ≡ whole_line) }
 {
