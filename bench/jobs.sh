@@ -3,7 +3,19 @@
 # thread; a pool in plain C with one lock; those of the JDK, of rayon and of oneTBB. Each is timed as a whole process, by turns, and all must
 # give the same answer.
 # Usage: bench/jobs.sh [LOAD..]
-#   LOAD is leaves, blocks, primes, min, find, oversubscribed, started, chain, tree, submit or locks (default: all of them), or, where valgrind is there, profile
+#   LOAD is (default: all of them)
+#     leaves           the sums of 1 to 200,000 and to 20,000,000, each number a leaf
+#     blocks           the sum of 1 to 100,000,000, a leaf for each 100,000. The compiler makes ours a formula, so it says nothing of the work
+#     primes           primes, by dividing each number by all up to it: up to 6,700, leaves of 10 µs in the mean; up to 10,000, of 100 µs
+#     min              the least of 48271 * x mod 2,147,483,647 for x of 1 to 20,000,000, by leaves of about 1, 10 and 100 µs
+#     find             the first of these x with the value of the first one, and of number 12,000,000
+#     oversubscribed   the larger sum, and primes of 10 µs, by 32 workers
+#     tree             the value of a tree of 4,000 nodes, three children each, by completers
+#     submit           200,000 bodies that do nothing. Ours hears each outcome, the others only count
+#     started          ours alone: how long until each worker has begun
+#     chain            ours alone: leaves split off one by one
+#     locks            ours alone: locks for a task, and how long they are held
+#   or, where valgrind is there, profile: where the instructions go
 # RUNS=N bench/jobs.sh ..     the least and the median of N runs of each program are told (default: 5)
 # PROVED=1 bench/jobs.sh ..   ours is proved, which takes half an hour and more; else it is built as unproved.sh does
 set -euo pipefail

@@ -1,8 +1,16 @@
 #!/usr/bin/env bash
 # Times a pool by threads: submissions and tasks in a second, the locks of a task, the delay of a body in an idle pool, and what that takes.
 # Usage: bench/pool.sh [LOAD..]
-#   LOAD is submit, outside, forked, delay or idle (default: all of them), or, with OPTIMISED=1 and as the only one, days: the peak memory of
-#   a pool through which 131,072 and 2,097,152 submissions pass
+#   LOAD is (default: all of them)
+#     submit    1 or 4 threads hand in 65,536 bodies each while no worker works, or 4,000 in all while 4 work: submissions a second
+#     outside   4,000 bodies are handed in; then 1, 2 or 4 workers run them: tasks a second; locks for a task
+#     forked    1,000 bodies fork 64 leaves each and join them, the last one first: the same for the leaves
+#     delay     200 bodies one by one to 4 workers: ms until a body begins
+#     idle      4 workers find nothing for 5 seconds: share of one core
+#   or, with OPTIMISED=1 and as the only one, days: seconds and peak memory of 32 submitters with 4,096 and then 65,536 bodies each; outcomes
+#   are heard, parts dropped
+#   A body, or a leaf, takes 0, 1, 3, 10 or 100 µs: as many rounds of a loop as took so long, alone, just before. The time includes the start of
+#   the threads.
 # OPTIMISED=1 bench/pool.sh ..   compiles the loader without checks and with optimisation; else it is run as `rt try` runs it, which is far slower
 # RUNS=N bench/pool.sh ..        the least time of N runs counts, the median is told beside it (default: 1, OPTIMISED 5); of delay and idle there
 #   is one run

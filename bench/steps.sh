@@ -1,7 +1,13 @@
 #!/usr/bin/env bash
 # Times steps of a machine by Machine::step, and those of the same structures in plain C: nanoseconds a step.
 # Usage: bench/steps.sh [LOAD [KEEP [ROUNDS]]]
-#   LOAD is plain, join, middle, first or random; all are run if there is none. KEEP tasks are kept all the time, at most 4,095, in join 4,094
+#   LOAD is (all are run if there is none)
+#     plain    a task is submitted, polled, ended and released
+#     join     the running task forks one, joins it, and releases it, above KEEP held tasks
+#     middle   a random one of KEEP gone tasks is released, another comes
+#     first    the first of KEEP open triggers is cancelled and released, another is made
+#     random   the same with a random one
+#   KEEP tasks are kept all the time, at most 4,095, in join 4,094
 #   (default: 0 for plain, 17 for join, else 4,000). ROUNDS rounds are made (default: those of 5,000,000 steps or some more).
 # RUNS=N bench/steps.sh ..       the least time of N runs of each program counts (default: 5)
 # WORKERS=N bench/steps.sh ..    the machine has N workers (default: 4)

@@ -1,5 +1,5 @@
 #!/usr/bin/env python3
-"""Counts what the documents and the help count: samples, scripts, limits; the tests by threads beside their table, the crates of others beside what is
+"""Counts what the documents and the help count: samples, scripts, limits; the files of tests by threads beside their table, the crates of others beside what is
 trusted, our own in the tables that have one for each and in the scripts that copy some. Tells what differs; the exit status is 1 if anything does. Usage: tests/documents/counts.py
 """
 import glob
@@ -58,8 +58,8 @@ def differing_numbers():
 
 def missing_names():
     """What should stand in a table, and does not; and what stands there alone."""
-    tests = {it for path in glob.glob("tests/threads/*_tests.rt.in") for it in re.findall(r"#\[test\]\nfn (\w+)", text_of(path))}
-    told = set(re.findall(r"^\| [^|]*\| `(\w+)` \|", text_of("tests/threads/README.md"), flags=re.M))
+    tests = {os.path.basename(it).removesuffix(".rt.in") for it in glob.glob("tests/threads/*_tests.rt.in")}
+    told = set(re.findall(r"^\| `(\w+)` \|", text_of("tests/threads/README.md").partition("## What they refuse")[0], flags=re.M))
     yield from (f"tests/threads/README.md: {it}" for it in sorted(tests ^ told))
     names = re.findall(r"^(\w+): ?(.*)$", text_of("crates.txt"), flags=re.M)
     foreign = {it for _, below in names for it in below.split() if it not in dict(names)}

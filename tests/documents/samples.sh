@@ -11,9 +11,7 @@ PATH=$PWD/crates/fj/out:$PATH
 
 # The documents that have scripts, and no others.
 expected="README.md: 1
-crates/fj/README.md: 1
-docs/MANUAL.md: 19
-docs/SCRIPT.md: 2"
+docs/MANUAL.md: 13"
 
 # documents PATTERN: those with such a line.
 documents() {

@@ -1,6 +1,7 @@
 #!/usr/bin/env bash
-# Refuses each allocation of the commands that do a job in turn. Each run must give the value with status 0, or end with status 4 and
-# `out of memory` and write nothing. Then refuses the start of each thread in turn, with the second of these ends every time. Needs a C compiler, and the built program: cd crates/fj && rt run -- replay < stdin
+# Refuses each allocation of the commands that do a job, and of those that read a history, in turn. Each run must give the value with status 0, or
+# end with status 4 and `out of memory` and write nothing. Then refuses the start of each thread in turn, with the second of these ends every time.
+# Needs a C compiler, and the built program: cd crates/fj && rt run -- replay < stdin
 set -euo pipefail
 . "$(dirname "${BASH_SOURCE[0]}")/trial.bash"
 fj=$crates/fj/out/fj
@@ -38,6 +39,12 @@ for way in '' --eager; do
     }
 done
 try 17 '- 5\n0 2\n0 3\n1 4\n' tree --workers 2
+
+history='async 1 1 8 64\nacc 0 sub 0 completer - 0 relay\nout 0 0\nend 0 0\nfire 0 zero\nhooked 0\nsettle 0 normal\n'
+try 'ok 6' "$history" check
+for view in tasks stats path dot chrome svg; do
+    try "$(printf %b "$history" | "$fj" view --as "$view")" "$history" view --as "$view"
+done
 
 # refuse_starts VALUE INPUT WORKERS ARGUMENT..: one command, which starts a thread for each worker and no other.
 refuse_starts() {

@@ -5,7 +5,17 @@ use Rattle.fj_trace.specs.declared.fault.CheckFault.{CheckFault}
 use Rattle.fj_trace.specs.declared.fault.CheckFault.TheVariants.{Objection, Line, Limits, Memory, Read}
 use Rattle.fj_trace.specs.Checks.{IsChecked, StopsCheck}
 use Rattle.fj_cli.specs.Answers.{EndsJob, number_line}
-use Rattle.fj_cli.specs.Statuses.{EndsCheck, IsEndOfCheck}
+use Rattle.fj_cli.specs.Statuses.{EndsCheck, EndsHistory, IsEndOfCheck, IsWritten}
+
+-- a view is written after a whole history
+pub view_ended : (n status : ℕ) (before ahead start now : Option (List ℕ)) → IsChecked n before ahead → (status ≡ 0 → IsWritten start now) → (status ≡ 0) ⊎ ((status ≡ 4) ⊎ (status ≡ 5))
+    → EndsHistory (λ k. IsWritten start now) status before ahead start now
+view_ended n status before ahead start now checked written known = record {
+  known = ⊎_elim (λ zero. inl zero) (λ others. inr (inr (inr others))) known;
+  good = λ zero. (n, checked, written zero);
+  barred = λ one. absurd (⊎_elim (λ a. omega (arith, a, one)) (⊎_elim (λ b. omega (arith, b, one)) (λ c. omega (arith, c, one))) known);
+  faulty = λ three. absurd (⊎_elim (λ a. omega (arith, a, three)) (⊎_elim (λ b. omega (arith, b, three)) (λ c. omega (arith, c, three))) known);
+}
 
 -- the answer is written after a whole history
 pub good_ended : (n status : ℕ) (before ahead start now : Option (List ℕ)) → IsChecked n before ahead → EndsJob status (codes "ok " ++ number_line n) start now → (status ≡ 0) ⊎ ((status ≡ 4) ⊎ (status ≡ 5))
@@ -18,7 +28,7 @@ good_ended n status before ahead start now checked job known = record {
 }
 
 -- the fault is told
-pub fault_ended : (fault : CheckFault) (status : ℕ) (before ahead start now : Option (List ℕ)) → StopsCheck before ahead fault → IsEndOfCheck fault status start now → EndsCheck status before ahead start now
+pub fault_ended : {Done : ℕ → Type 0} (fault : CheckFault) (status : ℕ) (before ahead start now : Option (List ℕ)) → StopsCheck before ahead fault → IsEndOfCheck fault status start now → EndsHistory Done status before ahead start now
 fault_ended (Objection n why) status before ahead start now stops ended = record {
   known = inr (⊎_elim (λ one. inl one) (λ others. inr (inr others)) ended);
   good = λ zero. absurd (⊎_elim (λ a. omega (arith, a, zero)) (⊎_elim (λ b. omega (arith, b, zero)) (λ c. omega (arith, c, zero))) ended);

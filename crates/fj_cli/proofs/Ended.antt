@@ -4,11 +4,11 @@ use Rattle.fj_trees.specs.declared.tree_fault.TreeFault.{TreeFault}
 use Rattle.fj_trees.specs.declared.tree_fault.TreeFault.TheVariants.{Line, Memory, Read}
 use Rattle.fj_cli.specs.declared.command_line.options.RangeOptions.{RangeOptions}
 use Rattle.fj_cli.specs.declared.command_line.Subcommand.{Subcommand}
-use Rattle.fj_cli.specs.declared.command_line.Subcommand.TheVariants.{Replay, Upgrade, Compute, Record, Check, Trace, Test, Explain}
+use Rattle.fj_cli.specs.declared.command_line.Subcommand.TheVariants.{Replay, Upgrade, Compute, Record, Check, Trace, Test, Explain, View}
 use Rattle.fj_cli.specs.declared.command_line.Job.{Job}
 use Rattle.fj_cli.specs.declared.command_line.Job.TheVariants.{Sum, Min, Find, Tree}
 use Rattle.fj_cli.specs.Answers.{EndsRange, EndsTree, status_of_fault}
-use Rattle.fj_cli.specs.Statuses.{EndsCommand, EndsCompute, EndsReplay}
+use Rattle.fj_cli.specs.Statuses.{EndsCommand, EndsCompute, EndsHistory, EndsReplay}
 use Rattle.fj_replay.specs.Faults.{Replays}
 
 -- an exit status of a command that does not end by 2
@@ -42,15 +42,19 @@ module _ (status : ℕ) (before ahead start now : Option (List ℕ)) where
   of_job (Find o f want) ends = of_range o _ ends.1
   of_job (Tree workers) ends = with_two status (of_tree ends)
 
+  of_history : {Done : ℕ → Type 0} → EndsHistory Done status before ahead start now → IsOfProgram status
+  of_history ends = ⊎_elim (λ zero. inl zero) (λ others. inr (⊎_elim (λ one. inl one) (λ rest. inr (inr rest)) others)) ends.known
+
   pub status_of_command : (asked : Subcommand) → EndsCommand asked status before ahead start now → IsOfProgram status
   status_of_command Replay ends = with_two status ends.known
   status_of_command Upgrade ends = with_two status ends.known
   status_of_command (Compute job) ends = of_job job ends
   status_of_command (Record job) ends = ⊎_elim (λ zero. inl zero.0) (λ others. inr (inr others)) ends
-  status_of_command Check ends = ⊎_elim (λ zero. inl zero) (λ others. inr (⊎_elim (λ one. inl one) (λ rest. inr (inr rest)) others)) ends.known
+  status_of_command Check ends = of_history ends
   status_of_command Explain ends = with_two status ends
   status_of_command Trace ends = with_two status ends.known
   status_of_command Test ends = ⊎_elim (λ zero. inl zero.0) (λ others. inr (⊎_elim (λ one. inl one) (λ failed. inr (inr failed)) others)) ends
+  status_of_command (View o) ends = ⊎_elim (λ none. inr (inr (inl none.0))) (λ read. of_history read) ends
 
   -- a replay that is asked for does not end by 2, and at 0 the script was replayed
   pub known_of_replay : (asked : Subcommand) → EndsCommand asked status before ahead start now → asked ≡ Replay → (status ≢ 2) × (status ≡ 0 → Replays before ahead start now)

@@ -9,7 +9,7 @@ use Rattle.clap.specs.declared.error.kind.ErrorKind.TheVariants.{DisplayHelp, Di
 use Rattle.fj_cli.specs.declared.command_line.Subcommand.{Subcommand}
 use Rattle.fj_cli.specs.declared.command_line.Subcommand.TheVariants.{Replay, Upgrade}
 use Rattle.fj_cli.specs.Given.{IsAsked}
-use Rattle.fj_cli.specs.Options.{sum_line, min_line, find_line, tree_line}
+use Rattle.fj_cli.specs.Options.{sum_line, min_line, find_line, tree_line, view_line}
 
 -- the program with its first command
 abbrev pub replay_line : App
@@ -31,8 +31,9 @@ with_plain line name = with_subcommand line (new_app name).top
 -- the whole command line, as a parse sees it, but for what stands behind `record`
 abbrev pub whole_line : App
 whole_line =
-    with_plain (with_plain (with_plain (with_plain (with_plain (with_jobs script_line) (codes "check")) (codes "trace")) (codes "test")) (codes "explain"))
-    (codes "record")
+    with_subcommand
+    (with_plain (with_plain (with_plain (with_plain (with_plain (with_jobs script_line) (codes "check")) (codes "trace")) (codes "test")) (codes "explain")) (codes "record"))
+    view_line.top
 
 -- the command line from `record` on
 abbrev pub record_line : App

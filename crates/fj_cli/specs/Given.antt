@@ -1,14 +1,17 @@
 -- The values of a command's options in the arguments.
-use Rattle.std.specs.Prelude.{ℕ, ⊤, ◌≡◌, ◌↔◌, ◌++◌, Bool, true, List, Option, Some}
+use Rattle.std.specs.Prelude.{ℕ, ⊤, ◌≡◌, ◌≢◌, ◌↔◌, ◌++◌, Bool, true, List, Option, Some, None}
 use Rattle.std.specs.Prelude.{codes}
 use Rattle.std.specs.Str.Parse.{IsNumeral, digits_value, without_leading_plus}
-use Rattle.clap.specs.Words.{Row, Text, one_of}
+use Rattle.clap.specs.Words.{Row, Text, first_of, one_of}
 use Rattle.fj_cli.specs.declared.command_line.Subcommand.{Subcommand}
-use Rattle.fj_cli.specs.declared.command_line.Subcommand.TheVariants.{Replay, Upgrade, Compute, Record, Check, Trace, Test, Explain}
+use Rattle.fj_cli.specs.declared.command_line.Subcommand.TheVariants.{Replay, Upgrade, Compute, Record, Check, Trace, Test, Explain, View}
 use Rattle.fj_cli.specs.declared.command_line.Job.{Job}
 use Rattle.fj_cli.specs.declared.command_line.Job.TheVariants.{Sum, Min, Find, Tree}
 use Rattle.fj_cli.specs.declared.command_line.options.RangeOptions.{RangeOptions}
 use Rattle.fj_cli.specs.declared.command_line.options.FunctionOptions.{FunctionOptions}
+use Rattle.fj_cli.specs.declared.command_line.options.ViewName.{ViewName}
+use Rattle.fj_cli.specs.declared.command_line.options.ViewName.TheVariants as view
+use Rattle.fj_cli.specs.declared.command_line.options.ViewOptions.{ViewOptions}
 
 -- the text of an option, given or by default, is this number in decimal digits; a plus may stand before them
 abbrev pub Gives : List Row → Text → ℕ → Type 0
@@ -38,6 +41,26 @@ GivesJob rows (Min o f) = GivesRange rows o × GivesFunction rows f
 GivesJob rows (Find o f want) = GivesRange rows o × GivesFunction rows f × Gives rows (codes "want") want
 GivesJob rows (Tree workers) = Gives rows (codes "workers") workers.count
 
+-- the text names this view, or none
+abbrev pub NamesView : Text → Option ViewName → Type 0
+NamesView text (Some view.Tasks) = text ≡ codes "tasks"
+NamesView text (Some view.Stats) = text ≡ codes "stats"
+NamesView text (Some view.Path) = text ≡ codes "path"
+NamesView text (Some view.Chrome) = text ≡ codes "chrome"
+NamesView text (Some view.Dot) = text ≡ codes "dot"
+NamesView text (Some view.Svg) = text ≡ codes "svg"
+NamesView text None =
+    (text ≢ codes "tasks") × (text ≢ codes "stats") × (text ≢ codes "path") × (text ≢ codes "chrome") × (text ≢ codes "dot") × (text ≢ codes "svg")
+
+-- the text of the option names this view, or none
+abbrev pub GivesViewName : List Row → Option ViewName → Type 0
+GivesViewName rows name = (text : Text) × (first_of (codes "as") rows ≡ Some text) × NamesView text name
+
+pub record GivesView (rows : List Row) (o : ViewOptions) : Type 0 where
+  pub name : GivesViewName rows o.name
+  pub from : Gives rows (codes "from") o.from
+  pub to : Gives rows (codes "to") o.to
+
 -- the command to run has these values
 abbrev pub GivesOptions : List Row → Subcommand → Type 0
 GivesOptions rows Replay = ⊤
@@ -48,6 +71,7 @@ GivesOptions rows Check = ⊤
 GivesOptions rows Trace = ⊤
 GivesOptions rows Test = ⊤
 GivesOptions rows Explain = ⊤
+GivesOptions rows (View o) = GivesView rows o
 
 -- the name of a job
 abbrev pub job_name : Job → Text
@@ -66,6 +90,7 @@ name_of Check = codes "check"
 name_of Trace = codes "trace"
 name_of Test = codes "test"
 name_of Explain = codes "explain"
+name_of (View o) = codes "view"
 
 -- the command of this name, with these options, is the job
 abbrev pub IsAskedJob : Option (Text × List Row) → Job → Type 0

@@ -14,6 +14,14 @@ required_rule name least most required =
 abbrev pub defaulted_rule : Text → ℕ → Rule
 defaulted_rule name most = record (required_rule name 1 most false) { defaults = codes "1" ∷ [] }
 
+-- an option with a number from 1 on, 4,294,967,295 by default
+abbrev pub unbounded_rule : Text → Rule
+unbounded_rule name = record (required_rule name 1 4294967295 false) { defaults = codes "4294967295" ∷ [] }
+
+-- an option with a word
+abbrev pub word_rule : Text → Rule
+word_rule name = record (new_rule name) { long = Some name; action = Some Set; value_names = 1; required = true }
+
 -- an option without a value: its text is true where it is given, and else false
 abbrev pub flag_rule : Text → Rule
 flag_rule name = record (new_rule name) { long = Some name; action = Some SetTrue }
@@ -45,3 +53,6 @@ find_line = with_rule (with_function (with_range (new_app (codes "find")))) (req
 
 abbrev pub tree_line : App
 tree_line = with_rule (new_app (codes "tree")) (defaulted_rule (codes "workers") MAX_WORKERS)
+
+abbrev pub view_line : App
+view_line = with_rule (with_rule (with_rule (new_app (codes "view")) (word_rule (codes "as"))) (defaulted_rule (codes "from") 4294967295)) (unbounded_rule (codes "to"))

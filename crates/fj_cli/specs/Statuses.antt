@@ -1,5 +1,5 @@
 -- The meaning of exit statuses.
-use Rattle.std.specs.Prelude.{ℕ, ◌≡◌, ◌≢◌, ◌⊎◌, ◌++◌, List, Option, Result, MatchResult, codes}
+use Rattle.std.specs.Prelude.{ℕ, ◌≡◌, ◌≢◌, ◌⊎◌, ◌++◌, List, Option, Some, None, Result, MatchResult, codes}
 use Rattle.clap.specs.Words.{Text}
 use Rattle.std.specs.declared.io.ErrorKind.{ErrorKind}
 use Rattle.std.specs.declared.io.ErrorKind.TheVariants.{InvalidData}
@@ -17,8 +17,10 @@ use Rattle.fj_trace.specs.Histories.{IsHistory}
 use Rattle.fj_trace.specs.declared.fault.CheckFault.{CheckFault}
 use Rattle.fj_trace.specs.declared.fault.CheckFault.TheVariants as check
 use Rattle.fj_trace.specs.Checks.{IsChecked, IsBarred, IsFaulty, IsOpenedWrong}
+use Rattle.fj_cli.specs.declared.command_line.options.ViewName.TheVariants as view
+use Rattle.fj_cli.specs.declared.command_line.options.ViewOptions.{ViewOptions}
 use Rattle.fj_cli.specs.declared.command_line.Subcommand.{Subcommand}
-use Rattle.fj_cli.specs.declared.command_line.Subcommand.TheVariants.{Replay, Upgrade, Compute, Record, Check, Trace, Test, Explain}
+use Rattle.fj_cli.specs.declared.command_line.Subcommand.TheVariants.{Replay, Upgrade, Compute, Record, Check, Trace, Test, Explain, View}
 use Rattle.fj_cli.specs.declared.command_line.Job.{Job}
 use Rattle.fj_cli.specs.declared.command_line.Job.TheVariants.{Sum, Min, Find, Tree}
 use Rattle.fj_cli.specs.Answers.{EndsRange, EndsTree, hit_line, hit_of, least_line, least_of, number_line, sum_of}
@@ -80,13 +82,34 @@ IsEndOfCheck check.Limits status start now = (status ≡ 3) × (now ≡ start)
 IsEndOfCheck check.Memory status start now = (status ≡ 4) × (now ≡ start)
 IsEndOfCheck check.Read status start now = (status ≡ 5) × (now ≡ start)
 
--- a check ended with this exit status: 0 where the whole input is a history, and its number of events was written; 1 where some line is
--- that of an entry that may not come, as was written; 3 where it is at fault
-pub record EndsCheck (status : ℕ) (before ahead start now : Option (List ℕ)) : Type 0 where
+-- a command that reads a history ended with this exit status: 0 where the whole input is one, and this was done with its number of events;
+-- 1 where some line is that of an entry that may not come, as was written; 3 where it is at fault
+pub record EndsHistory (Done : ℕ → Type 0) (status : ℕ) (before ahead start now : Option (List ℕ)) : Type 0 where
   pub known : (status ≡ 0) ⊎ ((status ≡ 1) ⊎ ((status ≡ 3) ⊎ ((status ≡ 4) ⊎ (status ≡ 5))))
-  pub good : status ≡ 0 → (n : ℕ) × IsChecked n before ahead × Appends start now (codes "ok " ++ number_line n)
+  pub good : status ≡ 0 → (n : ℕ) × IsChecked n before ahead × Done n
   pub barred : status ≡ 1 → (n : ℕ) × (b : List ℕ) × Consumes before ahead b × IsBarred n b
   pub faulty : status ≡ 3 → (b : List ℕ) × Consumes before ahead b × (((n : ℕ) × IsFaulty n b ahead) ⊎ IsOpenedWrong b) × (now ≡ start)
+
+-- a check ended with this exit status: at 0 the number of events was written
+abbrev pub EndsCheck : ℕ → Option (List ℕ) → Option (List ℕ) → Option (List ℕ) → Option (List ℕ) → Type 0
+EndsCheck status before ahead start now = EndsHistory (λ n. Appends start now (codes "ok " ++ number_line n)) status before ahead start now
+
+-- a text was written, whatever it says
+abbrev pub IsWritten : Option (List ℕ) → Option (List ℕ) → Type 0
+IsWritten start now = (text : List ℕ) × Appends start now text
+
+-- they are not all events
+abbrev pub HasWindow : ViewOptions → Type 0
+HasWindow o = (o.from ≢ 1) ⊎ (o.to ≢ 4294967295)
+
+-- there is no view of this name, or a window of one that is no picture
+abbrev pub IsUnviewed : ViewOptions → Type 0
+IsUnviewed o = (o.name ≡ None) ⊎ ((o.name ≢ Some view.Svg) × HasWindow o)
+
+-- a view ended with this exit status: 2 where nothing was read or written, since there is no such view
+abbrev pub EndsView : ViewOptions → ℕ → Option (List ℕ) → Option (List ℕ) → Option (List ℕ) → Option (List ℕ) → Type 0
+EndsView o status before ahead start now =
+    ((status ≡ 2) × IsUnviewed o × (ahead ≡ before) × (now ≡ start)) ⊎ EndsHistory (λ n. IsWritten start now) status before ahead start now
 
 -- a trace ended by a fault of this status
 abbrev pub EndsTraceBy : ℕ → Option (List ℕ) → Option (List ℕ) → Option (List ℕ) → Option (List ℕ) → Type 0
@@ -137,6 +160,7 @@ EndsCommand Check status before ahead start now = EndsCheck status before ahead 
 EndsCommand Trace status before ahead start now = EndsTrace status before ahead start now
 EndsCommand Test status before ahead start now = EndsTest status start now
 EndsCommand Explain status before ahead start now = EndsExplain status
+EndsCommand (View o) status before ahead start now = EndsView o status before ahead start now
 
 -- no command was run, and nothing read: at 0 the words ask for help or the version, at 2 they have a usage error, or they name no
 -- command for scripts; at 2 and 4 nothing was written

@@ -22,8 +22,8 @@ pub fn run_check<R: Read, W: Write, E: Write>(
     }
 }
 
-/// Writes why the input is no history, and answers the exit status.
-fn told_of_fault<W: Write, E: Write>(
+/// Writes why the input is no history, and answers the exit status: 1 for an objection, which is an answer, otherwise 3 to 5.
+pub fn told_of_fault<W: Write, E: Write>(
     alloc: Global,
     fault: CheckFault,
     out: &mut W,

@@ -13,8 +13,8 @@ mod options;
 
 use clap::{ArgMatches, Error};
 use commands::{command, record_command};
-use given::{read_function, read_range, read_want, read_workers};
-pub use options::{FunctionOptions, RangeOptions, Workers};
+use given::{read_function, read_range, read_view, read_want, read_workers};
+pub use options::{FunctionOptions, RangeOptions, ViewName, ViewOptions, Workers};
 use std::alloc::Global;
 
 /// A job, with its options.
@@ -49,6 +49,8 @@ pub enum Subcommand {
     Test,
     /// The script on standard input, with its replies and their reasons.
     Explain,
+    /// A view of the history on standard input.
+    View(ViewOptions),
 }
 
 /// Parses the arguments, the first being the program's name. `None` if they ask for no command. An error for a usage error, for help or
@@ -137,6 +139,9 @@ fn asked_other(matches: &ArgMatches) -> Option<Subcommand>
     }
     if matches.subcommand_matches("explain").is_some() {
         return Some(Subcommand::Explain);
+    }
+    if let Some(given) = matches.subcommand_matches("view") {
+        return Some(Subcommand::View(read_view(given)?));
     }
     Some(Subcommand::Compute(asked_job(matches)?))
 }

@@ -19,6 +19,7 @@ mod test_command;
 mod trace_command;
 mod tree_command;
 mod upgrade_command;
+mod view_command;
 
 pub use fj_expect::{Mismatch, TestFault, test};
 pub use fj_explain::{ExplainFault, Flaw, LimitFlaw, explain};

@@ -16,6 +16,7 @@ use crate::test_command::run_test;
 use crate::trace_command::run_trace;
 use crate::tree_command::run_tree;
 use crate::upgrade_command::run_upgrade;
+use crate::view_command::run_view;
 use clap::Error;
 use clap::error::ErrorKind;
 use fj_streams::flush_whole;
@@ -73,6 +74,7 @@ fn run<H: Threads + Wait + Sync, R: Read, W: Write, E: Write>(
         Subcommand::Trace => run_trace(alloc, input, out, err),
         Subcommand::Test => run_test(alloc, input, out, err),
         Subcommand::Explain => run_explain(alloc, input, out, err),
+        Subcommand::View(options) => run_view(alloc, options, input, out, err),
     }
 }
 

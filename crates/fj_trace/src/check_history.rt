@@ -26,7 +26,7 @@ pub fn check<R: Source>(alloc: Global, r: &mut R) -> Result<u64, CheckFault>
     drop(nothing);
     match run {
         Ok(()) => Ok(events_in(&state)),
-        Err(fault) => Err(told(fault)),
+        Err(fault) => Err(check_fault(fault)),
     }
 }
 
@@ -41,7 +41,7 @@ fn events_in(state: &HistoryCheck) -> u64
 }
 
 /// The fault of a check, by that of its filter.
-fn told(fault: FilterFault<HistoryStop>) -> CheckFault
+pub fn check_fault(fault: FilterFault<HistoryStop>) -> CheckFault
     ensures { result ≡ check_fault fault }
 {
     match fault {

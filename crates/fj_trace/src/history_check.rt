@@ -10,7 +10,7 @@ use fj_checker::Checker;
 use fj_filter::{LineFilter, LineStop};
 use fj_history::{Entry, MAX_ENTRY, read_entry};
 use fj_lines::read_head;
-use fj_rules::{Event, Limits};
+use fj_rules::{Event, Limits, Mode};
 use fj_streams::Sink;
 use std::alloc::Global;
 
@@ -70,16 +70,25 @@ fn opened(alloc: Global, heading: &[u8]) -> Result<Checker, LineStop<HistoryStop
     ensures pool { IfOk result (λ c. (pool_in heading.now ≡ Some c.pool) × (c ≡ start c.pool)) }
     ensures err { IfErr result (IsHeadStop heading.now) }
 {
+    let (mode, limits) = read_heading(heading)?;
+    match Checker::new(alloc, mode, limits) {
+        Ok(checker) => Ok(checker),
+        Err(_) => Err(LineStop::Memory),
+    }
+}
+
+/// The mode and the limits in a heading: `Line` where it is none, `Limits` where one is out of its range.
+pub fn read_heading(heading: &[u8]) -> Result<(Mode, Limits), LineStop<HistoryStop>>
+    ensures pool { IfOk result (λ p. pool_in heading.now ≡ Some (record { mode = p.0; limits = p.1 })) }
+    ensures err { IfErr result (IsHeadStop heading.now) }
+{
     let Ok(head) = read_head(heading) else {
         return Err(LineStop::Stop(HistoryStop::Line));
     };
     let numbers = head.1;
-    let Ok(limits) = Limits::new(numbers[0], numbers[1], numbers[2], numbers[3]) else {
-        return Err(LineStop::Stop(HistoryStop::Limits));
-    };
-    match Checker::new(alloc, head.0, limits) {
-        Ok(checker) => Ok(checker),
-        Err(_) => Err(LineStop::Memory),
+    match Limits::new(numbers[0], numbers[1], numbers[2], numbers[3]) {
+        Ok(limits) => Ok((head.0, limits)),
+        Err(_) => Err(LineStop::Stop(HistoryStop::Limits)),
     }
 }
 
@@ -93,13 +102,30 @@ fn go_on(
     ensures next { OnOk result (after (HistoryCheck.Going checker.old events.old) line.now ≡ Some (HistoryCheck.Going checker.new events.new)) }
     ensures err { IfErr result (IsEntryStop checker.old line.now) }
 {
+    match check_line(alloc, checker, events, line) {
+        Ok(_) => Ok(()),
+        Err(stop) => Err(stop),
+    }
+}
+
+/// The same, and answers the entry of the line.
+pub fn check_line(
+    alloc: Global,
+    checker: &mut Checker,
+    events: &mut u64,
+    line: &[u8],
+) -> Result<Entry, LineStop<HistoryStop>>
+    ensures next { OnOk result (after (HistoryCheck.Going checker.old events.old) line.now ≡ Some (HistoryCheck.Going checker.new events.new)) }
+    ensures err { IfErr result (IsEntryStop checker.old line.now) }
+{
     let Ok(entry) = read_entry(line) else {
         return Err(LineStop::Stop(HistoryStop::Line));
     };
-    match entry {
-        Entry::Event(event) => append(checker, events, &event),
-        Entry::Seal => seal(alloc, checker),
+    match &entry {
+        Entry::Event(event) => append(checker, events, event)?,
+        Entry::Seal => seal(alloc, checker)?,
     }
+    Ok(entry)
 }
 
 /// Goes on by an event, if it follows.

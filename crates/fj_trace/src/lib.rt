@@ -9,8 +9,10 @@ mod trace_script;
 mod trace_stage;
 mod tracer;
 
-pub use check_history::check;
+pub use check_history::{check, check_fault};
 pub use fault::CheckFault;
+pub use history_check::{HistoryCheck, check_line, read_heading};
+pub use history_stop::HistoryStop;
 pub use trace_script::trace;
 
 #[cfg(test)]

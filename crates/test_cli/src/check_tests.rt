@@ -1,4 +1,4 @@
-//! Tests of the commands that check a history and write one.
+//! Tests of the commands that check a history, write one, and write its views.
 use crate::test_rows::{command, first_other_command, words};
 use std::test::*;
 
@@ -87,5 +87,23 @@ fn a_recorded_run_is_a_history(rt: HostRuntime) -> Result<(), Fail> {
         assert_eq!(rt; checked.status, 0);
         assert!(rt; checked.out.as_slice().starts_with(b"ok "));
     }
+    Ok(())
+}
+
+/// The same of a view.
+const VIEWS: [&str; 7] = [
+    "view --as path | async 1 1 8 64;acc 0 sub 0 plain;out 0 0;end 0 0; | links 2;runs 1;waits 1;others 0;1..2 task 0 waits in a queue, and begins;2..3 task 0 runs on worker 0, and ends;",
+    "view --as stats | async 1 1 1 1; | mode async;workers 1;events 0;tasks 0;submitted 0;forked 0;triggers 0;completers 0;undone 0;normal 0;exceptional 0;cancelled 0;bodies 0;nested 0;deepest 0;hooks 0;longest-queue 0 at 0;queued 0 at 0;steals 0;skipped 0;busy-workers 0.00;worker 0 ran 0 stole 0 lost 0 busy 0%;",
+    "view --as tasks | async 1 1 8 64;acc 0 sub 0 plain;end 0 0; | line 3: worker 0 runs nothing; |  | 1",
+    "view --as svg --from 2 --to 3 | async 1 1 8 64;poll 0 0; |  | fault: line 2; | 3",
+    "view --as chrome | async 1 1 4097 64; |  | refused 13; | 3",
+    "view --as stats --to 5 | async 1 1 1 1; |  | --from and --to are of svg alone; | 2",
+    "view --as text | async 1 1 1 1; |  | no such view: there are tasks, stats, path, chrome, dot and svg; | 2",
+];
+
+#[test]
+fn histories_have_views(rt: HostRuntime) -> Result<(), Fail> {
+    let other = first_other_command(&rt, rt.alloc(), VIEWS.as_slice(), "")?;
+    assert_eq!(rt; other.as_str(), "");
     Ok(())
 }

@@ -9,7 +9,7 @@ use std::test::Fail;
 use std::thread::Threads;
 
 /// Command lines, and a part of the error message of each.
-const FAULTS: [&str; 29] = [
+const FAULTS: [&str; 32] = [
     " | Usage: fj",
     "add | unrecognized subcommand 'add'",
     "sum | --from <N>",
@@ -39,12 +39,15 @@ const FAULTS: [&str; 29] = [
     "record add | unrecognized subcommand 'add'",
     "record sum --from 1 | --to <N>",
     "record find --from 1 --to 2 --mul 3 --add 4 --mod 5 | --want <N>",
+    "view | --as <VIEW>",
+    "view --as svg --from 0 | is not in 1..=4294967295",
+    "view --as svg file | Usage: fj view [OPTIONS] --as <VIEW> < HISTORY",
 ];
 
 /// Command lines, and parts of their help: each option with its range and default, and each exit status.
-fn help() -> [&'static str; 14] {
+fn help() -> [&'static str; 15] {
     [
-        "--help | A fork-join pool | Usage: fj | replay   Runs the script | upgrade  Writes the script | sum      Writes the sum | min      Writes the least value | find     Writes the first number | tree     Writes the value | check    Tells whether the history | trace    Runs the script on standard input and writes its history | test     Compares a script's replies | explain  Writes the script with its replies | record   Runs a job by workers in threads | Each command has its help: fj replay --help | Example:\n  $ printf | $ fj sum --from | Exit status:\n  0  the command was run to its end, or help or the version was written\n  1  fj check: a line of the history may not stand there\n     fj test: a line of the script has another reply\n  2  a fault of the command line\n  3  a fault of the input, told by its line, or a refusal, told by its number\n  4  out of memory\n  5  a read or a write failed\n",
+        "--help | A fork-join pool | Usage: fj | replay   Runs the script | upgrade  Writes the script | sum      Writes the sum | min      Writes the least value | find     Writes the first number | tree     Writes the value | check    Tells whether the history | trace    Runs the script on standard input and writes its history | test     Compares a script's replies | explain  Writes the script with its replies | record   Runs a job by workers in threads | view     Writes a view of the history | Each command has its help: fj replay --help | Example:\n  $ printf | $ fj sum --from | Exit status:\n  0  the command was run to its end, or help or the version was written\n  1  fj check, fj view: a line of the history may not stand there\n     fj test: a line of the script has another reply\n  2  a fault of the command line\n  3  a fault of the input, told by its line, or a refusal, told by its number\n  4  out of memory\n  5  a read or a write failed\n",
         "help replay | Usage: fj replay < SCRIPT | Input of fj replay: a script | Exit status:\n  0",
         "replay --help | Runs the script | Usage: fj replay < SCRIPT | Input of fj replay: a script | at\n                                           most 32, 32, 4096 and 1048576\n | Faulty: an empty line, a comment, a trailing space, CR LF, no last line feed. | has the reply refused N |    1  a shutdown or stop came before  |    6  the worker has no task, or hook   16  the name belongs to a task\n | Example:\n  $ printf | Exit status:\n  0  the whole script was replied to, also with refused steps, or help written\n  2  a fault of the command line\n  3  fault: line N, the first faulty line; or refused 13, a limit out of range\n  4  out of memory\n  5  a read or a write failed\n",
         "upgrade --help | Writes the script | Usage: fj upgrade < SCRIPT | Input of fj upgrade: a script as that of fj replay | Example:\n  $ printf | Exit status:\n  0  the whole script was written, or help was\n  2  a fault of the command line\n  3  fault: line N, the first faulty line; or refused 13, a limit out of range\n  4  out of memory\n  5  a read or a write failed\n",
@@ -58,6 +61,7 @@ fn help() -> [&'static str; 14] {
         "explain --help | and why nothing was done | Usage: fj explain < SCRIPT\n | Input of fj explain: a script as that of fj replay | Example:\n  $ printf | Exit status:\n  0  the whole script was explained, or help was written\n  2  a fault of the command line\n  3  fault: line N, the first faulty line, and why; or refused 13, and which\n     limit is out of its range\n  4  out of memory\n  5  a read or a write failed\n",
         "record --help | by workers in threads | Usage: fj record | sum | min | find | tree | A JOB is sum, min, find or tree, with its options | Example:\n  $ fj record sum | Exit status:\n  0  the history was written, or help was\n  2  a fault of the command line, or too many blocks\n  3  a faulty line of the tree, told by its number, or a full history\n  4  out of memory, or a thread could not be started\n  5  a read or a write failed\n",
         "record find --help | Usage: fj record find [OPTIONS] --from <N> --to <N>\n                      --mul <N> --add <N> --mod <N> --want <N>\n | --workers <N>",
+        "view --help | Writes a view of the history | Usage: fj view [OPTIONS] --as <VIEW> < HISTORY\n | --as <VIEW> | tasks, stats, path, chrome, dot or svg | --from <N> | first event of a picture, 1 to 4294967295 [default: 1] | --to <N> | last event of a picture, from 1 on [default: 4294967295] | Input of fj view: a history, as that of fj check | Example:\n  $ printf | Exit status:\n  0  the view was written, or help was\n  1  line N: a line that may not stand there, and why, on standard output\n  2  a fault of the command line, as a window of what is no picture\n  3  fault: line N, no line of a history; or refused 13, a limit out of range\n  4  out of memory\n  5  a read or a write failed\n",
     ]
 }
 
@@ -114,7 +118,10 @@ fn the_version(rt: HostRuntime) -> Result<(), Fail> {
     let words = ["fj", "--version"];
     let ran = command(&rt, rt.alloc(), words.as_slice(), &mut b"".as_slice());
     assert_eq!(rt; ran.status, 0);
-    assert_eq!(rt; ran.out.as_slice(), b"fj 0.1.0\n".as_slice());
+    assert_eq!(rt;
+        ran.out.as_slice(),
+        b"fj 0.1.0 (rattle-kit-13f logic dac8208d650f15bf)\n".as_slice()
+    );
     Ok(())
 }
 

@@ -39,7 +39,11 @@ fn writers() -> [(&'static [&'static str], &'static str, &'static str); 4] {
             "",
             "5050;",
         ),
-        (["fj", "--version"].as_slice(), "", "fj 0.1.0;"),
+        (
+            ["fj", "--version"].as_slice(),
+            "",
+            "fj 0.1.0 (rattle-kit-13f logic dac8208d650f15bf);",
+        ),
     ]
 }
 
@@ -141,7 +145,11 @@ fn a_flush_that_fails(rt: HostRuntime) -> Result<(), Fail> {
             "10;",
         ),
         (["fj", "tree"].as_slice(), "- 5;0 2;", "7;"),
-        (["fj", "--version"].as_slice(), "", "fj 0.1.0;"),
+        (
+            ["fj", "--version"].as_slice(),
+            "",
+            "fj 0.1.0 (rattle-kit-13f logic dac8208d650f15bf);",
+        ),
     ];
     for (words, script, text) in runs {
         assert!(rt;

@@ -1,6 +1,6 @@
 # Completion of fj in fish.
 
-set -l commands replay upgrade sum min find tree check trace test explain record help
+set -l commands replay upgrade sum min find tree check trace test explain record view help
 
 complete -c fj -f
 complete -c fj -l help -d 'write help'
@@ -16,6 +16,7 @@ complete -c fj -n "not __fish_seen_subcommand_from $commands" -a trace -d 'run a
 complete -c fj -n "not __fish_seen_subcommand_from $commands" -a test -d 'compare the replies of a script with those behind its lines'
 complete -c fj -n "not __fish_seen_subcommand_from $commands" -a explain -d 'write a script with its replies, and why nothing was done'
 complete -c fj -n "not __fish_seen_subcommand_from $commands" -a record -d 'run a job by workers in threads and write its history'
+complete -c fj -n "not __fish_seen_subcommand_from $commands" -a view -d 'write a view of a history'
 complete -c fj -n "not __fish_seen_subcommand_from $commands" -a help -d 'write the help of a command'
 
 complete -c fj -n '__fish_seen_subcommand_from record; and not __fish_seen_subcommand_from sum min find tree' -a 'sum min find tree'
@@ -28,3 +29,6 @@ complete -c fj -n '__fish_seen_subcommand_from min find' -x -l mul -d 'the facto
 complete -c fj -n '__fish_seen_subcommand_from min find' -x -l add -d 'the summand of the function'
 complete -c fj -n '__fish_seen_subcommand_from min find' -x -l mod -d 'the divisor of the function'
 complete -c fj -n '__fish_seen_subcommand_from find' -x -l want -d 'the value that is looked for'
+complete -c fj -n '__fish_seen_subcommand_from view' -x -l as -a 'tasks stats path chrome dot svg' -d 'which view'
+complete -c fj -n '__fish_seen_subcommand_from view' -x -l from -d 'the first event of a picture'
+complete -c fj -n '__fish_seen_subcommand_from view' -x -l to -d 'the last event of a picture'

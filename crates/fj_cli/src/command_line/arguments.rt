@@ -1,7 +1,7 @@
 //! The declarations of the options: each has a number, in a range, or is a flag.
 ghost use Rattle.std.specs.Prelude.{◌≡◌, true, false};
 ghost use Rattle.clap.specs.Walk.{rule_of};
-ghost use Rattle.fj_cli.specs.Options.{defaulted_rule, flag_rule, required_rule};
+ghost use Rattle.fj_cli.specs.Options.{defaulted_rule, flag_rule, required_rule, unbounded_rule, word_rule};
 
 use clap::builder::ValueParser;
 use clap::{Arg, ArgAction};
@@ -34,6 +34,27 @@ pub fn defaulted<'a>(alloc: Global, name: &'a str, most: u32, help: &'a str) -> 
     ensures local { result.global ≡ false }
 {
     option(alloc, name, 1, most, help).default_value("1")
+}
+
+/// An option that is 4,294,967,295 by default: a number from 1 on.
+pub fn unbounded<'a>(alloc: Global, name: &'a str, help: &'a str) -> Arg<'a>
+    ensures rule { rule_of result ≡ unbounded_rule name.entry.now }
+    ensures local { result.global ≡ false }
+{
+    option(alloc, name, 1, u32::MAX, help).default_value("4294967295")
+}
+
+/// A required option: a word.
+pub fn word<'a>(alloc: Global, name: &'a str, value: &'a str, help: &'a str) -> Arg<'a>
+    ensures rule { rule_of result ≡ word_rule name.entry.now }
+    ensures local { result.global ≡ false }
+{
+    Arg::new(alloc, name)
+        .long(name)
+        .value_name(value)
+        .action(ArgAction::Set)
+        .required(true)
+        .help(help)
 }
 
 /// An option without a value.

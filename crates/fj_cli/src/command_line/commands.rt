@@ -3,9 +3,9 @@ ghost use Rattle.std.specs.Prelude.{◌≡◌, IfOk, codes, false};
 ghost use Rattle.clap.specs.Words.{app_of, new_app, with_subcommand};
 ghost use Rattle.clap.specs.declared.builder.command.Command.TheViews.{out-Command};
 ghost use Rattle.fj_cli.specs.Commands.{record_line, replay_line, whole_line, with_jobs};
-ghost use Rattle.fj_cli.specs.Options.{find_line, min_line, sum_line, tree_line, with_function, with_numbers, with_range};
+ghost use Rattle.fj_cli.specs.Options.{find_line, min_line, sum_line, tree_line, view_line, with_function, with_numbers, with_range};
 
-use crate::command_line::arguments::{defaulted, flag, required};
+use crate::command_line::arguments::{defaulted, flag, required, unbounded, word};
 use crate::command_line::help;
 use clap::Command;
 use fj_rules::MAX_WORKERS;
@@ -152,6 +152,29 @@ fn tree<'a>(alloc: Global, usage: &'static str) -> Result<Command<'a>, AllocErro
         ))
 }
 
+fn view<'a>(alloc: Global) -> Result<Command<'a>, AllocError>
+    ensures app { IfOk result (λ c. app_of c ≡ view_line) }
+    ensures local { IfOk result (λ c. (out-Command c).has_globals ≡ false) }
+{
+    Command::new(alloc, "view")
+        .about("Writes a view of the history on standard input")
+        .override_usage("fj view [OPTIONS] --as <VIEW> < HISTORY")
+        .after_help(help::VIEW)
+        .arg(word(
+            alloc,
+            "as",
+            "VIEW",
+            "Which one: tasks, stats, path, chrome, dot or svg",
+        ))?
+        .arg(defaulted(
+            alloc,
+            "from",
+            u32::MAX,
+            "The first event of a picture, 1 to 4294967295",
+        ))?
+        .arg(unbounded(alloc, "to", "The last event of a picture, from 1 on"))
+}
+
 fn replay<'a>(alloc: Global) -> Command<'a>
     ensures app { app_of result ≡ new_app (codes "replay") }
     ensures local { (out-Command result).has_globals ≡ false }
@@ -217,7 +240,7 @@ fn program<'a>(alloc: Global) -> Result<Command<'a>, AllocError>
     ensures { IfOk result (λ c. app_of c ≡ replay_line) }
 {
     Command::new(alloc, "fj")
-        .version("0.1.0")
+        .version(help::VERSION)
         .about("A fork-join pool with counted completers")
         .after_help(help::WHOLE)
         .subcommand_required(true)
@@ -256,7 +279,8 @@ pub fn command<'a>(alloc: Global) -> Result<Command<'a>, AllocError>
     let with_trace = with_one(with_check, trace(alloc))?;
     let with_test = with_one(with_trace, test(alloc))?;
     let with_explain = with_one(with_test, explain(alloc))?;
-    with_one(with_explain, record(alloc))
+    let with_record = with_one(with_explain, record(alloc))?;
+    with_one(with_record, view(alloc)?)
 }
 
 fn record<'a>(alloc: Global) -> Command<'a>
@@ -277,6 +301,7 @@ pub fn record_command<'a>(alloc: Global) -> Result<Command<'a>, AllocError>
         .about("Runs a job by workers in threads and writes its history")
         .override_usage("fj record <JOB> [OPTIONS]")
         .after_help(help::RECORD)
-        .subcommand_required(true);
+        .subcommand_required(true)
+        .bin_name("fj record")?;
     with_jobs(alloc, record, RECORDED)
 }

@@ -1,9 +1,9 @@
 //! The values of the options.
 ghost use Rattle.std.specs.Prelude.{◌≤◌, IfSome, codes};
 ghost use Rattle.clap.specs.Words.{found_of, rows_of};
-ghost use Rattle.fj_cli.specs.Given.{Gives, GivesFlag, GivesFunction, GivesRange};
+ghost use Rattle.fj_cli.specs.Given.{Gives, GivesFlag, GivesFunction, GivesRange, GivesView, GivesViewName, NamesView};
 
-use crate::command_line::options::{FunctionOptions, RangeOptions, Workers};
+use crate::command_line::options::{FunctionOptions, RangeOptions, ViewName, ViewOptions, Workers};
 use clap::ArgMatches;
 use fj_rules::MAX_WORKERS;
 
@@ -67,4 +67,39 @@ pub fn read_want(matches: &ArgMatches) -> Option<u32>
     ensures { IfSome result (λ n. Gives (rows_of (found_of matches.now)) (codes "want") n) }
 {
     number(matches, "want", 0, u32::MAX)
+}
+
+/// The view of this name.
+fn view_named(name: &str) -> Option<ViewName>
+    ensures { NamesView name.now result }
+{
+    match name {
+        "tasks" => Some(ViewName::Tasks),
+        "stats" => Some(ViewName::Stats),
+        "path" => Some(ViewName::Path),
+        "chrome" => Some(ViewName::Chrome),
+        "dot" => Some(ViewName::Dot),
+        "svg" => Some(ViewName::Svg),
+        _ => None,
+    }
+}
+
+/// The view that is named, None if there is none of this name; None also without a name.
+fn read_view_name(matches: &ArgMatches) -> Option<Option<ViewName>>
+    ensures { IfSome result (λ name. GivesViewName (rows_of (found_of matches.now)) name) }
+{
+    match matches.get_str("as") {
+        Some(name) => Some(view_named(name)),
+        None => None,
+    }
+}
+
+/// The options of a view.
+pub fn read_view(matches: &ArgMatches) -> Option<ViewOptions>
+    ensures { IfSome result (λ o. GivesView (rows_of (found_of matches.now)) o) }
+{
+    let name = read_view_name(matches)?;
+    let from = number(matches, "from", 1, u32::MAX)?;
+    let to = number(matches, "to", 1, u32::MAX)?;
+    Some(ViewOptions { name, from, to })
 }

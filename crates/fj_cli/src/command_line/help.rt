@@ -1,4 +1,7 @@
-//! The ends of the help texts: the form of the input, an example, the exit statuses.
+//! The version, and the ends of the help texts: the form of the input, an example, the exit statuses.
+
+/// The version, and the toolchain by which it was proved, as `rt version` names it.
+pub const VERSION: &str = "0.1.0 (rattle-kit-13f logic dac8208d650f15bf)";
 
 /// Of the whole program.
 pub const WHOLE: &str = "Each command has its help: fj replay --help
@@ -13,7 +16,7 @@ Example:
 
 Exit status:
   0  the command was run to its end, or help or the version was written
-  1  fj check: a line of the history may not stand there
+  1  fj check, fj view: a line of the history may not stand there
      fj test: a line of the script has another reply
   2  a fault of the command line
   3  a fault of the input, told by its line, or a refusal, told by its number
@@ -247,5 +250,36 @@ Exit status:
   2  a fault of the command line
   3  fault: line N, the first faulty line, and why; or refused 13, and which
      limit is out of its range
+  4  out of memory
+  5  a read or a write failed";
+
+/// Of `fj view`.
+pub const VIEW: &str =
+    "Input of fj view: a history, as that of fj check. It is checked first: where it
+is none, fj view writes and answers what fj check does.
+
+Written is, of all events, by their numbers from 1:
+  tasks    a line for each task, with when it was queued, run and done
+  stats    one count a line: tasks, steals, queues, busy workers
+  path     the chain of runs and waits that decided the end
+  chrome   a trace for Perfetto and chrome://tracing, as JSON
+  dot      the trees of completers, for Graphviz
+  svg      a picture, which may have a window: --from and --to are of it alone
+
+Example:
+  $ printf 'async 1 1 8 64\\nacc 0 sub 0 plain\\nout 0 0\\nend 0 0\\n' |
+    fj view --as path
+  links 2
+  runs 1
+  waits 1
+  others 0
+  1..2 task 0 waits in a queue, and begins
+  2..3 task 0 runs on worker 0, and ends
+
+Exit status:
+  0  the view was written, or help was
+  1  line N: a line that may not stand there, and why, on standard output
+  2  a fault of the command line, as a window of what is no picture
+  3  fault: line N, no line of a history; or refused 13, a limit out of range
   4  out of memory
   5  a read or a write failed";

@@ -32,3 +32,25 @@ pub struct FunctionOptions {
     pub modulus: u32,
     ghost divisor: { 1 ≤ modulus },
 }
+
+/// A view of a history.
+#[derive(Clone, Copy)]
+pub enum ViewName {
+    Tasks,
+    Stats,
+    Path,
+    Chrome,
+    Dot,
+    Svg,
+}
+
+/// Which view, and the events that a picture has.
+#[derive(Clone, Copy)]
+pub struct ViewOptions {
+    /// None if there is no view of the name that is given.
+    pub name: Option<ViewName>,
+    /// The first event, 1 by default.
+    pub from: u32,
+    /// The last event, 4294967295 by default.
+    pub to: u32,
+}

@@ -5,4 +5,4 @@ pub returns-in-Ok-clause-ok : goal.returns-in-Ok-clause-ok
 returns-in-Ok-clause-ok g c = rw c.events_in.ensures (checked c.filter-run.new.state _ _ _ _ c.in-Ok.ensures.ok)
 
 pub returns-clause-err : goal.returns-clause-err
-returns-clause-err g c = rw c.told.ensures (stops c.in-Err.fault _ _ _ _ c.in-Err.ensures.err)
+returns-clause-err g c = rw c.check_fault.ensures (stops c.in-Err.fault _ _ _ _ c.in-Err.ensures.err)

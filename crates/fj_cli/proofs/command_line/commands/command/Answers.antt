@@ -16,4 +16,5 @@ returns c =
     let traced = c.in_ok-with_trace.ensures ∙ ap₂ with_shape checked c.trace.ensures.app in
     let tested = c.in_ok-with_test.ensures ∙ ap₂ with_shape traced c.test.ensures.app in
     let explained = c.in_ok-with_explain.ensures ∙ ap₂ with_shape tested c.explain.ensures.app in
-    subst (λ a. IfOk c.with_one-6.result (λ command. app_of command ≡ a)) (ap₂ with_shape explained c.record.ensures.app) c.with_one-6.ensures
+    let recorded = c.in_ok-with_record.ensures ∙ ap₂ with_shape explained c.record.ensures.app in
+    subst (λ a. IfOk c.with_one-7.result (λ command. app_of command ≡ a)) (ap₂ with_shape recorded c.in_ok-view.ensures.app) c.with_one-7.ensures

@@ -1,0 +1,11 @@
+use Rattle.std.proofs.Common.{◌≡◌, ◌∙◌, ap, sym, Some}
+use Rattle.std.specs.Option.{option_map}
+use Rattle.clap.specs.Words.{found_of, rows_of, first_of}
+use Rattle.clap.proofs.WalkLemmas.{first_value-rows}
+use Rattle.std.specs.Prelude.{codes}
+use Rattle.fj_cli.proofs.command_line.given.read_view_name.Goals as goal
+
+pub returns-in-Some : goal.returns-in-Some
+returns-in-Some c =
+    let found = sym (first_value-rows (found_of c.args.matches.now) (codes "as")) ∙ sym c.get_str.ensures in
+    (_, found ∙ ap (option_map (λ s. s.now)) c.in-Some.is, c.view_named.ensures)

@@ -1,0 +1,124 @@
+ghost use Rattle.std.specs.Prelude.{◌≡◌, Some, OnOk, IfErr, true};
+ghost use Rattle.fj_history.specs.declared.read.TheConstants.{MAX_ENTRY};
+ghost use Rattle.fj_trace.specs.declared.history_check.HistoryCheck.TheVariants as check;
+ghost use Rattle.fj_trace.specs.LongLines.{too_long};
+ghost use Rattle.fj_trace.specs.Rules.{IsEntryStop, IsHeadStop, after, check_rules, has_heading};
+
+use crate::story::Story;
+use fj_checker::Checker;
+use fj_filter::{LineFilter, LineStop};
+use fj_history::MAX_ENTRY;
+use fj_streams::Sink;
+use fj_trace::{HistoryStop, check_line, read_heading};
+use std::alloc::Global;
+use std::marker::Model;
+
+/// Behind the heading of a history: what has happened so far, how many events that are, and its story.
+#[derive(Drop)]
+struct Seen {
+    checker: Checker,
+    events: u64,
+    story: Story,
+}
+
+impl Seen {
+    /// Handles a line behind the heading.
+    fn go_on(&mut self, alloc: Global, line: &[u8]) -> Result<(), LineStop<HistoryStop>>
+        ensures next { OnOk result (after (check.Going self.old.checker self.old.events) line.now ≡ Some (check.Going self.new.checker self.new.events)) }
+        ensures err { IfErr result (IsEntryStop self.old.checker line.now) }
+    {
+        match check_line(alloc, &mut self.checker, &mut self.events, line) {
+            Ok(entry) => match self.story.tell(&entry) {
+                Ok(()) => Ok(()),
+                Err(_) => Err(LineStop::Memory),
+            },
+            Err(stop) => Err(stop),
+        }
+    }
+}
+
+/// The state of reading a history. Contracts see the state of its check.
+#[derive(Drop)]
+pub struct Looking {
+    /// None before the heading.
+    seen: Option<Seen>,
+}
+
+impl Model for Looking {
+    ghost use Rattle.std.specs.Option.{option_map_or};
+    ghost use Rattle.fj_trace.specs.declared.history_check.HistoryCheck.{HistoryCheck};
+    ghost use Rattle.fj_trace.specs.declared.history_check.HistoryCheck.TheVariants.{Start, Going};
+
+    ghost Value = { HistoryCheck };
+
+    ghost view = { λ s. option_map_or (λ seen. Going seen.checker seen.events) s.seen Start };
+}
+
+impl LineFilter for Looking {
+    type Stop = HistoryStop;
+
+    ghost rules = { check_rules };
+
+    ghost too_long = { too_long };
+
+    fn longest() -> usize {
+        MAX_ENTRY
+    }
+
+    fn advance<W: Sink>(
+        &mut self,
+        alloc: Global,
+        line: &[u8],
+        w: &mut W,
+    ) -> Result<(), LineStop<HistoryStop>> {
+        // Nothing is written.
+        let _ = w;
+        let Some(seen) = &mut self.seen else {
+            return self.begin(alloc, line);
+        };
+        seen.go_on(alloc, line)
+    }
+
+    fn has_heading(&self) -> bool {
+        self.seen.is_some()
+    }
+}
+
+impl Looking {
+    /// Before the heading.
+    pub fn new() -> Looking
+        ensures { result ≡ check.Start }
+    {
+        Looking { seen: None }
+    }
+
+    /// Handles the heading.
+    fn begin(&mut self, alloc: Global, line: &[u8]) -> Result<(), LineStop<HistoryStop>>
+        ensures next { OnOk result (after check.Start line.now ≡ Some self.new) }
+        ensures err { IfErr result (IsHeadStop line.now) }
+    {
+        let (mode, limits) = read_heading(line)?;
+        let Ok(checker) = Checker::new(alloc, mode, limits) else {
+            return Err(LineStop::Memory);
+        };
+        let Ok(story) = Story::new(alloc, mode, limits) else {
+            return Err(LineStop::Memory);
+        };
+        self.seen = Some(Seen {
+            checker,
+            events: 0,
+            story,
+        });
+        Ok(())
+    }
+
+    /// The story, behind the heading.
+    pub fn into_story(self) -> Story
+        requires { has_heading self ≡ true }
+    {
+        match self.seen {
+            Some(seen) => seen.story,
+            None => unreachable!(),
+        }
+    }
+}

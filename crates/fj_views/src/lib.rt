@@ -1,0 +1,29 @@
+//! Views of a history: a table of its tasks, counts, the path that decided its end, a trace for Perfetto and Chrome, the trees of its
+//! completers, and the picture of `fj_picture`.
+//!
+//! Each is written of a [`Story`], which is told the entries of the history.
+//!
+//! ```
+//! story.tell(&entry)?;
+//! write_stats(&story, &mut text)?;
+//! ```
+#![tactic(auto)]
+
+mod chrome;
+mod dot;
+mod path;
+mod stats;
+mod tasks;
+mod view;
+
+pub use chrome::write_chrome;
+pub use dot::write_dot;
+pub use fj_picture::{Window, write_svg};
+pub use fj_story::{Moment, Story};
+pub use path::write_path;
+pub use stats::write_stats;
+pub use tasks::write_tasks;
+pub use view::{View, write_view};
+
+#[cfg(test)]
+mod tests;

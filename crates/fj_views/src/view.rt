@@ -1,0 +1,43 @@
+use crate::chrome::write_chrome;
+use crate::dot::write_dot;
+use crate::path::write_path;
+use crate::stats::write_stats;
+use crate::tasks::write_tasks;
+use fj_picture::{Window, write_svg};
+use fj_story::Story;
+use std::alloc::Global;
+use std::fmt;
+
+/// Which view.
+#[derive(Clone, Copy, Debug)]
+pub enum View {
+    /// A line for each task.
+    Tasks,
+    /// Counts, one fact a line.
+    Stats,
+    /// The path that decided the end.
+    Path,
+    /// A trace for Perfetto and Chrome.
+    Chrome,
+    /// The trees of completers, for Graphviz.
+    Dot,
+    /// A picture, of all events or of a window of them.
+    Svg(Option<Window>),
+}
+
+/// Writes this view. An error where the writer fails, or if out of memory.
+pub fn write_view<W: fmt::Write>(
+    alloc: Global,
+    story: &Story,
+    view: View,
+    out: &mut W,
+) -> fmt::Result {
+    match view {
+        View::Tasks => write_tasks(story, out),
+        View::Stats => write_stats(story, out),
+        View::Path => write_path(alloc, story, out),
+        View::Chrome => write_chrome(alloc, story, out),
+        View::Dot => write_dot(story, out),
+        View::Svg(window) => write_svg(alloc, story, window, out),
+    }
+}
