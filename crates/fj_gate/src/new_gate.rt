@@ -27,6 +27,7 @@ pub fn gate(
 ) -> Result<(Vec<Entrant>, Closer), OutOfMemory>
     requires submitters { (1 ≤ submitters) × (submitters ≤ MAX_SUBMITTERS) }
     requires each { (1 ≤ each) × (each ≤ MAX_TICKETS) }
+    ensures most { MAX_TICKETS ≡ 65_536 }
     ensures closer { IfOk result (λ r. r.1 ≡ new_closer r.1.gate submitters) }
     ensures entrants { IfOk result (λ r. (vec_len r.0 ≡ submitters) × All (λ e. e ≡ new_entrant r.1.gate each) r.0.items) }
 {

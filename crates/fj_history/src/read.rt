@@ -24,6 +24,7 @@ pub fn read_entry(line: &[u8]) -> Result<Entry, LineFault>
     // Each entry's line is read as that entry.
     ensures read { (entry : Entry) → HasEntryLine entry → line.now ≡ entry_line entry → result ≡ Ok entry }
     ensures short { OnOk result (length line.now ≤ MAX_ENTRY) }
+    ensures longest { MAX_ENTRY ≡ 68 }
     // The definition reads each entry's line as that entry.
     ensures again { (entry : Entry) → HasEntryLine entry → entry_in (entry_line entry) ≡ Some entry }
 {

@@ -20,6 +20,7 @@ pub const MAX_CAPACITY: u32 = 65_536;
 /// Precondition: `capacity`, the number of parcels that may be pushed in all, is from 1 to [`MAX_CAPACITY`].
 pub fn lane<B: Drop>(alloc: Global, capacity: u32) -> Result<(Feed<B>, Drain<B>), OutOfMemory>
     requires capacity { (1 ≤ capacity) × (capacity ≤ MAX_CAPACITY) }
+    ensures most { MAX_CAPACITY ≡ 65_536 }
     ensures feed { IfOk result (λ r. r.0 ≡ new_feed r.1.lane capacity) }
     ensures drain { IfOk result (λ r. r.1 ≡ new_drain r.1.lane capacity) }
 {

@@ -6,3 +6,5 @@ pub mod ByStep
 pub mod MoreSteps
 -- That it may go to another thread.
 pub mod Crossing
+-- Sample runs with seals, computed by the definitions.
+pub mod Samples

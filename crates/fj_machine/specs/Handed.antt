@@ -1,5 +1,5 @@
 -- Which events and which gone tasks are in which part of a run with seals.
-use Rattle.std.specs.Prelude.{ℕ, List, [], ◌∷◌}
+use Rattle.std.specs.Prelude.{ℕ, Bool, true, false, List, [], ◌∷◌, length, filter}
 use Rattle.fj_rules.specs.declared.event.Event.{Event}
 use Rattle.fj_rules.specs.declared.epoch.Sealed.{Sealed as Part}
 use Rattle.fj_rules.specs.declared.epoch.Move.{Move}
@@ -8,6 +8,15 @@ use Rattle.fj_rules.specs.declared.epoch.Answer.{Answer}
 use Rattle.fj_rules.specs.declared.epoch.Answer.TheVariants.{Said, Sealed, Refused}
 use Rattle.fj_rules.specs.Answers.{answer}
 use Rattle.fj_rules.specs.Pasts.{Past, grown, present, gone_since, sealed_now}
+
+-- whether a move is a seal
+abbrev pub is_seal : Move → Bool
+is_seal (Step asked) = false
+is_seal Seal = true
+
+-- how many of the moves are seals
+abbrev pub seals_in : List Move → ℕ
+seals_in moves = length (filter is_seal moves)
 
 -- what a part has: its events, and its gone tasks
 abbrev pub shown : Part → List Event × List ℕ

@@ -1,11 +1,11 @@
-ghost use Rattle.std.specs.Prelude.{◌≡◌, ◌++◌, ◌∷◌, [], length, map, IfOk, OnOk};
+ghost use Rattle.std.specs.Prelude.{◌≡◌, ◌+◌, ◌≤◌, ◌++◌, ◌∷◌, [], length, map, IfOk, vec_capacity, vec_len};
 ghost use Rattle.std.specs.List.{filter_map};
 ghost use Rattle.fj_rules.specs.Places.{gone};
 ghost use Rattle.fj_rules.specs.Pasts.{fresh, present, gone_since};
 ghost use Rattle.fj_rules.specs.Epochs.{Moves, MovesFrom, reply_in};
 ghost use Rattle.fj_rules.specs.Headline.{IsInOnePlace, IsHandedOutOnce, LeftInOrder, NoneAfterShutdown, IsFiredOnce, FiredAtZero, FiresByCompleteOnlyOwn, RepliesTell};
 ghost use Rattle.fj_rules.specs.Parts.{Fits, events_in, gone_in};
-ghost use Rattle.fj_machine.specs.Handed.{handed, shown};
+ghost use Rattle.fj_machine.specs.Handed.{handed, seals_in, shown};
 
 use crate::machine::Machine;
 use fj_rules::{Answer, InnerTypes, Limits, Mode, Move, OutOfMemory, Sealed};
@@ -14,7 +14,7 @@ use std::alloc::Global;
 /// Runs steps and seals from the start: the machine after them, the parts that were handed out, and the answer to each move.
 ///
 /// For every list of steps and seals the headline of the pool holds, of all parts together with the present one. The only error is
-/// `OutOfMemory`; that of a seal is the answer to it.
+/// `OutOfMemory`, before the first move; that of a seal is the answer to it, and the list goes on: see [`make_moves`].
 pub fn run_epochs(
     alloc: Global,
     mode: Mode,
@@ -49,61 +49,73 @@ pub fn run_epochs(
     // The replies `task` are the tasks accepted, one for one and in order; so are `run` the tasks handed out, `hook` the `onCompletion`s.
     ensures replies { IfOk result (λ r. RepliesTell r.0.events (filter_map reply_in r.2.items)) }
 {
-    let seals = moves
-        .iter()
-        .filter(|asked| matches!(asked, Move::Seal))
-        .count();
-    let mut parts = Vec::with_capacity(alloc, seals)?;
+    let mut parts = Vec::with_capacity(alloc, seals_in(moves))?;
     let mut answers = Vec::with_capacity(alloc, moves.len())?;
     let Ok(mut machine) = Machine::new(alloc, mode, limits) else {
         return Err(OutOfMemory);
     };
-    move_all(alloc, &mut machine, moves, &mut parts, &mut answers)?;
+    make_moves(alloc, &mut machine, moves, &mut parts, &mut answers);
     Ok((machine, parts, answers))
 }
 
-/// Makes all moves. Preconditions: nothing has happened to the machine, and the lists are empty.
-fn move_all(
+/// How many of the moves are seals.
+fn seals_in(moves: &[Move]) -> usize
+    ensures { result ≡ seals_in moves.now }
+{
+    moves
+        .iter()
+        .filter(|asked| matches!(asked, Move::Seal))
+        .count()
+}
+
+/// Makes steps and seals one after another, from where the machine is. Puts the answer to each into `answers`, and the parts that are
+/// handed out behind those in `parts`.
+///
+/// It cannot fail: a seal that is refused, also one without memory, has that answer and hands nothing out, and the list goes on.
+///
+/// Preconditions: `answers` is empty, and has room for as many as there are moves; `parts` has room for as many more as there are seals.
+pub fn make_moves(
     alloc: Global,
     machine: &mut Machine,
     moves: &[Move],
     parts: &mut Vec<Sealed>,
     answers: &mut Vec<Answer>,
-) -> Result<(), OutOfMemory>
-    requires nothing { machine.old ≡ fresh machine.old.pool.mode machine.old.pool.limits }
-    requires none { (parts.old.items ≡ []) × (answers.old.items ≡ []) }
-    ensures pool { OnOk result (machine.new.pool ≡ machine.old.pool) }
-    ensures runs { OnOk result (MovesFrom machine.old moves.now answers.new.items machine.new) }
-    ensures parts { OnOk result (Fits parts.new.items machine.new) }
-    ensures handed { OnOk result (map shown parts.new.items ≡ handed machine.old moves.now answers.new.items) }
+)
+    requires empty { answers.old.items ≡ [] }
+    requires room { length moves.now ≤ vec_capacity answers.old }
+    requires part_room { vec_len parts.old + seals_in moves.now ≤ vec_capacity parts.old }
+    // Each step and each seal, refused or not, has its defined answer.
+    ensures runs { MovesFrom machine.old moves.now answers.new.items machine.new }
+    ensures pool { machine.new.pool ≡ machine.old.pool }
+    // If the parts before were those of the history, then all are those of the new one.
+    ensures parts { Fits parts.old.items machine.old → Fits parts.new.items machine.new }
+    // Each part has the events between its seal and the seal before it, and the tasks that became gone there.
+    ensures handed { map shown parts.new.items ≡ map shown parts.old.items ++ handed machine.old moves.now answers.new.items }
 {
     // For the proof: see `InnerTypes`.
     let _inside: Option<InnerTypes> = None;
     for asked in moves {
-        answers.push(make_move(alloc, machine, parts, asked)?)?;
+        answers.push_reserved(make_move(alloc, machine, parts, asked));
     }
-    Ok(())
 }
 
-/// Makes one move. A part that is handed out is appended to `parts`.
-fn make_move(
-    alloc: Global,
-    machine: &mut Machine,
-    parts: &mut Vec<Sealed>,
-    asked: &Move,
-) -> Result<Answer, OutOfMemory>
-    ensures made { IfOk result (λ answer. Moves machine.old asked.now answer machine.new) }
-    ensures parts { OnOk result (Fits parts.old.items machine.old → Fits parts.new.items machine.new) }
-    ensures handed { IfOk result (λ answer. map shown parts.new.items ≡ map shown parts.old.items ++ handed machine.old (asked.now ∷ []) (answer ∷ [])) }
+/// Makes one move. A part that is handed out is put behind those in `parts`. Precondition: at a seal there is room for it.
+fn make_move(alloc: Global, machine: &mut Machine, parts: &mut Vec<Sealed>, asked: &Move) -> Answer
+    requires room { vec_len parts.old + seals_in (asked.now ∷ []) ≤ vec_capacity parts.old }
+    ensures made { Moves machine.old asked.now result machine.new }
+    ensures parts { Fits parts.old.items machine.old → Fits parts.new.items machine.new }
+    ensures handed { map shown parts.new.items ≡ map shown parts.old.items ++ handed machine.old (asked.now ∷ []) (result ∷ []) }
+    ensures grows { vec_len parts.new ≤ vec_len parts.old + seals_in (asked.now ∷ []) }
+    ensures capacity { vec_capacity parts.new ≡ vec_capacity parts.old }
 {
     match asked {
-        Move::Step(step) => Ok(Answer::Said(machine.step(step))),
+        Move::Step(step) => Answer::Said(machine.step(step)),
         Move::Seal => match machine.seal(alloc) {
             Ok(part) => {
-                parts.push(part)?;
-                Ok(Answer::Sealed)
+                parts.push_reserved(part);
+                Answer::Sealed
             }
-            Err(refusal) => Ok(Answer::Refused(refusal)),
+            Err(refusal) => Answer::Refused(refusal),
         },
     }
 }

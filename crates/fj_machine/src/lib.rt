@@ -11,6 +11,6 @@ mod machine;
 mod runs;
 mod steps;
 
-pub use epochs::run_epochs;
+pub use epochs::{make_moves, run_epochs};
 pub use machine::Machine;
-pub use runs::run;
+pub use runs::{make_steps, run};

@@ -4,6 +4,8 @@ pub mod Stages
 pub mod NameTables
 -- what is replied to a script of version 1, by itself
 pub mod Version1
+-- what is replied to a script of version 2, by itself
+pub mod NamedText
 -- what each line keeps, every play has
 pub mod Kept
 -- what has happened in a play is the history of a run
@@ -22,3 +24,5 @@ pub mod Begun
 pub mod Version2
 -- a reader of bytes in memory does not fail
 pub mod NeverRead
+-- samples of version 2, computed by the definitions
+pub mod Samples

@@ -64,7 +64,7 @@ own_place : (name : List ℕ) → bytes_eq name name ≡ true
 own_place name = (bytes_eq-Decides name name).1 refl
 
 -- each name in the table stands for its own place
-abbrev Own : List (List ℕ) → Type 0
+abbrev pub Own : List (List ℕ) → Type 0
 Own names = (t : ℕ) → t < length names → number_of names (get_or names t []) ≡ t
 
 -- with a name that was free
@@ -92,14 +92,14 @@ own_more names name free own t low = ⊎_elim before last (cases_lt t (length na
 -- ---- a line
 
 -- a table has a name for each of so many tasks
-abbrev Fits : TaskNaming → ℕ → Type 0
+abbrev pub Fits : TaskNaming → ℕ → Type 0
 Fits Numbers n = Unit {0}
 Fits (Names names) n = (length names ≡ n) × Own names
 
 -- so has the table of a play
-record IsFit (play : Play) : Type 0 where
-  run : IsPast play.past
-  fits : Fits play.naming (accepted play.past.events)
+pub record IsFit (play : Play) : Type 0 where
+  pub run : IsPast play.past
+  pub fits : Fits play.naming (accepted play.past.events)
 
 next_accepted : (past : Past) (asked : Step) (told : Bool) → is_task (answer past asked).0 ≡ told → accepted (past.events ++ (answer past asked).1) ≡ (if told then accepted past.events + 1 else accepted past.events)
 next_accepted past asked told is = accepted_after past.events (answer past asked).1 (answer past asked).0 (answer_tells past asked) ∙ rw is refl
@@ -113,7 +113,7 @@ accept_fits names past name asked true is free fits = (length-append names (name
 accept_fits names past name asked false is free fits = (fits.0 ∙ sym (next_accepted past asked false is), fits.1)
 
 -- a play by these names
-abbrev by : List (List ℕ) → Past → Play
+abbrev pub by : List (List ℕ) → Past → Play
 by names past = record { past = past; naming = Names names }
 
 FitsAfter : List (List ℕ) → Past → Asked → Type 0
@@ -171,7 +171,7 @@ unfolding FitsAfter
 more_fits Numbers past text asked is run fits = numbered_fits past (step_in text) asked is
 more_fits (Names names) past text asked is run fits = found_fits names past (line2_in text) asked is run fits
 
-fit_kept : IsKept IsFit
+pub fit_kept : IsKept IsFit
 fit_kept = record {
   numbers = λ p. record { run = run_kept.numbers p; fits = tt };
   names = λ p. record { run = run_kept.names p; fits = (sym none_accepted, λ t low. absurd (omega (arith, low))) };
@@ -183,7 +183,7 @@ fit_kept = record {
 fits_there : (b : List ℕ) (names : List (List ℕ)) (past : Past) → LeadsBy b names past → IsFit (by names past)
 fits_there b names past leads = holds_of IsFit (Plays (by names past)) (lines b) fit_kept leads
 
-name_at : (names : List (List ℕ)) (t : ℕ) → name_of (Names names) t ≡ get_or names t []
+pub name_at : (names : List (List ℕ)) (t : ℕ) → name_of (Names names) t ≡ get_or names t []
 name_at names t = unwrap_or-slice_get names t []
 
 -- the names to which a script leads are those of its tasks
@@ -256,7 +256,7 @@ stands_stays name t play l ask.Seal is stands = stands
 stands_stays name t play l ask.Epoch is stands = stands
 
 -- the next task has the next number
-next_number : (past : Past) (asked : Step) (t : ℕ) → IsPast past → (answer past asked).0 ≡ says.Task t → t ≡ accepted past.events
+pub next_number : (past : Past) (asked : Step) (t : ℕ) → IsPast past → (answer past asked).0 ≡ says.Task t → t ≡ accepted past.events
 unfolding tasks
 next_number past asked t run told =
     let one : tasks (answer past asked).1 ≡ t ∷ [] = (answer_tells past asked).accepts ∙ rw told refl in

@@ -6,6 +6,7 @@ pub mod TaskNames
 pub mod Stages
 pub mod LongLines
 pub mod Scripts
+pub mod NamedText
 pub mod Faults
 pub mod Upgrades
 pub mod Tells

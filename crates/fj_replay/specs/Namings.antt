@@ -1,5 +1,5 @@
 -- How a script names its tasks: by numbers, or by names.
-use Rattle.std.specs.Prelude.{ℕ, ◌≡◌, Bool, true, false, List, [], ◌∷◌, ◌++◌, length, Option, Some, None, unwrap_or, slice_get, codes, decimal}
+use Rattle.std.specs.Prelude.{ℕ, ◌≡◌, Bool, true, false, List, [], ◌∷◌, ◌++◌, length, Option, Some, None, option_map, unwrap_or, slice_get, codes, decimal}
 use Rattle.std.specs.List.{list_any, position_or_len}
 use Rattle.std.specs.Str.{bytes_eq}
 use Rattle.fj_lines.specs.declared.read.TheConstants.{LINE_FEED}
@@ -30,14 +30,17 @@ number_of names name = position_or_len (bytes_eq name) names
 abbrev pub is_taken : List (List ℕ) → List ℕ → Bool
 is_taken names name = list_any (bytes_eq name) names
 
-abbrev pub numbered_parent : List (List ℕ) → Option (List ℕ) → Option ℕ
-numbered_parent names None = None
-numbered_parent names (Some name) = Some (number_of names name)
+-- the kind, with the number of its parent, where this tells the number of a name
+abbrev pub kind_by : (List ℕ → ℕ) → NamedKind → Kind
+kind_by number named.Plain = kind.Plain
+kind_by number (named.Completer relay count parent) = kind.Completer relay count (option_map number parent)
 
--- the kind, with the number of its parent
+-- the same by the names so far
+abbrev pub numbered_parent : List (List ℕ) → Option (List ℕ) → Option ℕ
+numbered_parent names parent = option_map (number_of names) parent
+
 abbrev pub numbered_kind : List (List ℕ) → NamedKind → Kind
-numbered_kind names named.Plain = kind.Plain
-numbered_kind names (named.Completer relay count parent) = kind.Completer relay count (numbered_parent names parent)
+numbered_kind names kind = kind_by (number_of names) kind
 
 -- whether the name belongs to a task, by this naming
 abbrev pub is_named : TaskNaming → List ℕ → Bool

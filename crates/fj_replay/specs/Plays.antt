@@ -23,7 +23,7 @@ use Rattle.fj_replay.specs.declared.replied.Replied.{Replied}
 use Rattle.fj_replay.specs.declared.replied.Replied.TheVariants.{Said as Says, NameTaken, Sealed, Epoch}
 use Rattle.fj_replay.specs.declared.asked.Asked.{Asked}
 use Rattle.fj_replay.specs.declared.asked.Asked.TheVariants as ask
-use Rattle.fj_replay.specs.Namings.{number_of, numbered_kind, is_named, with_name, replied_line}
+use Rattle.fj_replay.specs.Namings.{number_of, kind_by, is_named, with_name, replied_line}
 
 -- the state of a script: the past of its machine, and the naming of its tasks
 pub record Play : Type 0 where
@@ -32,36 +32,40 @@ pub record Play : Type 0 where
 
 -- ---- what a line asks for
 
--- what a line of version 2 asks for, where these are the names so far
-abbrev pub asked_by : List (List ℕ) → Line2 → Asked
+-- what a line of version 2 asks for, where this tells the number of a name
+abbrev pub asked_with : (List ℕ → ℕ) → Line2 → Asked
 -- accept
-asked_by names (line.Submit name s kind) = ask.Accept name (step.Submit s kind)
-asked_by names (line.Fork name w kind) = ask.Accept name (step.Fork w (numbered_kind names kind))
-asked_by names (line.Trigger name w count) = ask.Accept name (step.Trigger w count)
+asked_with number (line.Submit name s kind) = ask.Accept name (step.Submit s kind)
+asked_with number (line.Fork name w kind) = ask.Accept name (step.Fork w (kind_by number kind))
+asked_with number (line.Trigger name w count) = ask.Accept name (step.Trigger w count)
 -- take
-asked_by names (line.Poll w r) = ask.Step (step.Poll w r)
-asked_by names (line.Help w r) = ask.Step (step.Help w r)
-asked_by names (line.Join w t r) = ask.Step (step.Join w (number_of names t) r)
+asked_with number (line.Poll w r) = ask.Step (step.Poll w r)
+asked_with number (line.Help w r) = ask.Step (step.Help w r)
+asked_with number (line.Join w t r) = ask.Step (step.Join w (number t) r)
 -- end
-asked_by names (line.End w ending) = ask.Step (step.End w ending)
-asked_by names (line.HookDone w) = ask.Step (step.HookDone w)
+asked_with number (line.End w ending) = ask.Step (step.End w ending)
+asked_with number (line.HookDone w) = ask.Step (step.HookDone w)
 -- completer
-asked_by names (line.Add w c n) = ask.Step (step.Add w (number_of names c) n)
-asked_by names (line.QuietRoot w t) = ask.Step (step.QuietRoot w (number_of names t))
+asked_with number (line.Add w c n) = ask.Step (step.Add w (number c) n)
+asked_with number (line.QuietRoot w t) = ask.Step (step.QuietRoot w (number t))
 -- settle
-asked_by names (line.Fault t code) = ask.Step (step.Fault (number_of names t) code)
-asked_by names (line.Cancel t) = ask.Step (step.Cancel (number_of names t))
+asked_with number (line.Fault t code) = ask.Step (step.Fault (number t) code)
+asked_with number (line.Cancel t) = ask.Step (step.Cancel (number t))
 -- shut
-asked_by names line.Shutdown = ask.Step step.Shutdown
-asked_by names line.Stop = ask.Step step.Stop
+asked_with number line.Shutdown = ask.Step step.Shutdown
+asked_with number line.Stop = ask.Step step.Stop
 -- query
-asked_by names line.IsQuiescent = ask.Step step.IsQuiescent
-asked_by names (line.State t) = ask.Step (step.State (number_of names t))
+asked_with number line.IsQuiescent = ask.Step step.IsQuiescent
+asked_with number (line.State t) = ask.Step (step.State (number t))
 -- release
-asked_by names (line.Release t) = ask.Step (step.Release (number_of names t))
+asked_with number (line.Release t) = ask.Step (step.Release (number t))
 -- epoch
-asked_by names line.Seal = ask.Seal
-asked_by names line.Epoch = ask.Epoch
+asked_with number line.Seal = ask.Seal
+asked_with number line.Epoch = ask.Epoch
+
+-- the same by the names so far
+abbrev pub asked_by : List (List ℕ) → Line2 → Asked
+asked_by names line = asked_with (number_of names) line
 
 -- what a line asks for, if it is one: of version 1 by numbers, of version 2 by names
 abbrev pub asked_in : TaskNaming → List ℕ → Option Asked

@@ -1,9 +1,10 @@
 //! The replay of a script, from a reader to a writer or in memory.
-ghost use Rattle.std.specs.Prelude.{◌≡◌, ◌≢◌, ℕ, OnOk, IfOk, IfErr, List, [], Option, Some, false};
+ghost use Rattle.std.specs.Prelude.{◌≡◌, ◌≢◌, ℕ, OnOk, IfOk, IfErr, List, [], Option, Some, false, true};
 ghost use Rattle.fj_streams.specs.Calls.{IsFine};
 ghost use Rattle.fj_replay.specs.Tells.{Stops, seen};
 ghost use Rattle.fj_filter.specs.Cuts.{lines};
 ghost use Rattle.fj_replay.specs.Scripts.{AreRun, KeepsNames, MakesMoves, NamesTasks, is_titled, numbered_text, text};
+ghost use Rattle.fj_replay.specs.NamedText.{named_text};
 ghost use Rattle.fj_replay.specs.Faults.{IsScript, Replays, Ends};
 ghost use Rattle.fj_rules.specs.Bounds.{Pool};
 ghost use Rattle.fj_rules.specs.declared.step.Step.{Step};
@@ -28,6 +29,8 @@ pub fn replay<R: Source, W: Sink>(alloc: Global, r: &mut R, w: &mut W) -> Result
     ensures err { IfErr result (Stops (seen R.remaining R.calls r.old r.new) (seen W.contents W.calls w.old w.new)) }
     // For version 1 the text is the lines of the replies to the steps, and these are a run.
     ensures numbered { (b : List ℕ) → is_titled (lines b) ≡ false → text b ≡ numbered_text (lines b) }
+    // For version 2 it is the lines of the replies to the steps and seals, each task by the name that was given to it.
+    ensures named { (b : List ℕ) → is_titled (lines b) ≡ true → text b ≡ named_text (lines b) }
     ensures runs { (p : Pool) (asked : List Step) → AreRun p asked }
     // For both versions: the moves that lines ask for have the answers in the replies.
     ensures moves { (ls : List (List ℕ)) → MakesMoves ls }

@@ -1,7 +1,8 @@
 -- The parameters of a pool.
-use Rattle.std.specs.Prelude.{ℕ, ◌+◌, ◌-◌, ◌≤◌, ◌<◌, nat_lt, if◌then◌else◌, List, map}
+use Rattle.std.specs.Prelude.{ℕ, ◌≡◌, ◌+◌, ◌-◌, ◌^◌, ◌≤◌, ◌<◌, nat_lt, if◌then◌else◌, List, map}
 use Rattle.std.specs.List.{range_with_len}
-use Rattle.fj_rules.specs.declared.limits.TheConstants.{MAX_WORKERS, MAX_SUBMITTERS, MAX_TASKS, MAX_EVENTS}
+use Rattle.fj_rules.specs.declared.epoch.TheConstants.{MAX_EVENTS_AND_SEALS}
+use Rattle.fj_rules.specs.declared.limits.TheConstants.{MAX_WORKERS, MAX_SUBMITTERS, MAX_TASKS, MAX_EVENTS, MAX_PENDING}
 use Rattle.fj_rules.specs.declared.mode.Mode.{Mode}
 use Rattle.fj_rules.specs.declared.owner.Owner.{Owner}
 use Rattle.fj_rules.specs.declared.owner.Owner.TheVariants.{Sub, Work}
@@ -26,6 +27,15 @@ pub record IsWithin (workers submitters tasks events : ℕ) : Type 0 where
   pub few_tasks : tasks ≤ MAX_TASKS
   pub some_events : 1 ≤ events
   pub few_events : events ≤ MAX_EVENTS
+
+-- the limits that definitions and code name, as numbers
+pub record AreNumbers : Type 0 where
+  pub workers : MAX_WORKERS ≡ 32
+  pub submitters : MAX_SUBMITTERS ≡ 32
+  pub tasks : MAX_TASKS ≡ 4096
+  pub events : MAX_EVENTS ≡ 1048576
+  pub pending : MAX_PENDING ≡ 65535
+  pub sealed : MAX_EVENTS_AND_SEALS ≡ 2 ^ 62
 
 -- a pool: the order in which a worker takes its own tasks, and the limits
 pub record Pool : Type 0 where

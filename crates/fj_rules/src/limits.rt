@@ -1,4 +1,5 @@
 ghost use Rattle.std.specs.Prelude.{◌≡◌, ◌↔◌, IsOk, IfOk, OnErr, MatchOption};
+ghost use Rattle.fj_rules.specs.Bounds.{AreNumbers};
 
 use crate::owner::Owner;
 use crate::refusal::Refusal;
@@ -58,6 +59,8 @@ impl Limits {
         ensures valid { IsOk result ↔ IsWithin workers submitters tasks events }
         ensures value { IfOk result (λ l. l ≡ bounds workers submitters tasks events) }
         ensures err { OnErr result (result ≡ Err Refusal.BadLimits) }
+        // The largest of each, written out.
+        ensures numbers { AreNumbers }
     {
         if (1..=MAX_WORKERS).contains(&workers)
             && (1..=MAX_SUBMITTERS).contains(&submitters)

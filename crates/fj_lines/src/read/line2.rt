@@ -19,6 +19,7 @@ pub fn read_line2(line: &[u8]) -> Result<Line2, LineFault>
     // Each line is read as what it asks for.
     ensures read { (asked : Line2) → HasLine2 asked → line.now ≡ line2_text asked → result ≡ Ok asked }
     ensures short { OnOk result (length line.now ≤ MAX_LINE2) }
+    ensures longest { MAX_LINE2 ≡ 66 }
     // The definition reads each such line as what it asks for.
     ensures again { (asked : Line2) → HasLine2 asked → line2_in (line2_text asked) ≡ Some asked }
 {

@@ -18,6 +18,7 @@ pub fn read_step(line: &[u8]) -> Result<Step, LineFault>
     // Each step's line is read as that step.
     ensures read { (step : Step) → HasLine step → line.now ≡ step_line step → result ≡ Ok step }
     ensures short { OnOk result (length line.now ≤ MAX_LINE) }
+    ensures longest { MAX_LINE ≡ 64 }
     // The definition reads each step's line as that step.
     ensures again { (step : Step) → HasLine step → step_in (step_line step) ≡ Some step }
 {

@@ -1,8 +1,7 @@
 -- What one more move of a run with seals hands out.
-use Rattle.std.proofs.Common.{ℕ, ◌≡◌, ◌+◌, ◌<◌, List, [], ◌∷◌, ◌++◌, length, map, take, get_or, refl, ap, sym, ◌∙◌, append-nil}
-use Rattle.std.proofs.lemmas.List.{map-append, take_more}
+use Rattle.std.proofs.Common.{ℕ, ◌≡◌, ◌+◌, ◌<◌, List, [], ◌∷◌, ◌++◌, length, map, take, drop, get_or, refl, ap, sym, ◌∙◌, arith, append-nil, append_assoc}
+use Rattle.std.proofs.lemmas.List.{map-append, take_more, drop_more}
 use Rattle.fj_rules.specs.declared.event.Event.{Event}
-use Rattle.fj_rules.specs.declared.mode.Mode.{Mode}
 use Rattle.fj_rules.specs.declared.step.Step.{Step}
 use Rattle.fj_rules.specs.declared.said.Said.{Said}
 use Rattle.fj_rules.specs.declared.refusal.Refusal.{Refusal}
@@ -11,11 +10,10 @@ use Rattle.fj_rules.specs.declared.epoch.Move.{Move}
 use Rattle.fj_rules.specs.declared.epoch.Move.TheVariants as move
 use Rattle.fj_rules.specs.declared.epoch.Answer.{Answer}
 use Rattle.fj_rules.specs.declared.epoch.Answer.TheVariants as gives
-use Rattle.fj_rules.specs.Bounds.{Bounds}
 use Rattle.fj_rules.specs.Answers.{answer}
-use Rattle.fj_rules.specs.Pasts.{Past, fresh, grown, present, gone_since, sealed_now}
+use Rattle.fj_rules.specs.Pasts.{Past, grown, present, gone_since, sealed_now}
 use Rattle.fj_rules.specs.Epochs.{MovesFrom}
-use Rattle.fj_machine.specs.Handed.{handed, shown}
+use Rattle.fj_machine.specs.Handed.{handed, seals_in, shown}
 
 -- ---- the law
 
@@ -56,15 +54,27 @@ seal_hands past parts part events gones = rw (sym events, sym gones) (map-append
 
 -- ---- all moves so far
 
-pub none_handed : (past : Past) → [] ≡ handed past [] []
+pub none_handed : (past : Past) (shows : List (List Event × List ℕ)) → shows ≡ shows ++ handed past [] []
 unfolding handed
-none_handed past = refl
+none_handed past shows = sym (append-nil shows)
 
 -- the move at this place of a list is made, and its part is put behind the parts before it
-pub run_hands : (mode : Mode) (limits : Bounds) (moves : List Move) (i : ℕ) (answers : List Answer) (parts now : List Sealed) (old : Past) (asked : Move) (given : Answer)
-    → MovesFrom (fresh mode limits) (take i moves) answers old → i < length moves → asked ≡ get_or moves i asked
-    → map shown parts ≡ handed (fresh mode limits) (take i moves) answers → map shown now ≡ map shown parts ++ handed old (asked ∷ []) (given ∷ [])
-    → map shown now ≡ handed (fresh mode limits) (take (i + 1) moves) (answers ++ given ∷ [])
-run_hands mode limits moves i answers parts now old asked given run within next before is =
-    rw (take_more moves i asked within, sym next) (is ∙ ap (λ first. first ++ handed old (asked ∷ []) (given ∷ [])) before
-    ∙ sym (handed_more (fresh mode limits) (take i moves) answers old asked given run))
+pub run_hands : (start : Past) (moves : List Move) (i : ℕ) (answers : List Answer) (first parts now : List Sealed) (old : Past) (asked : Move) (given : Answer)
+    → MovesFrom start (take i moves) answers old → i < length moves → asked ≡ get_or moves i asked
+    → map shown parts ≡ map shown first ++ handed start (take i moves) answers → map shown now ≡ map shown parts ++ handed old (asked ∷ []) (given ∷ [])
+    → map shown now ≡ map shown first ++ handed start (take (i + 1) moves) (answers ++ given ∷ [])
+run_hands start moves i answers first parts now old asked given run within next before is =
+    let made = handed start (take i moves) answers in
+    let more = handed old (asked ∷ []) (given ∷ []) in
+    rw (take_more moves i asked within, sym next) (is ∙ ap (λ shows. shows ++ more) before ∙ append_assoc (map shown first) made more
+    ∙ ap (λ shows. map shown first ++ shows) (sym (handed_more start (take i moves) answers old asked given run)))
+
+-- ---- room for the parts
+
+counted : (asked : Move) (later : List Move) → seals_in (asked ∷ later) ≡ seals_in (asked ∷ []) + seals_in later
+counted (move.Step wanted) later = omega arith
+counted move.Seal later = omega arith
+
+-- the seals from this place on: the one there, if it is one, and those behind it
+pub seals_left : (moves : List Move) (i : ℕ) (asked : Move) → i < length moves → asked ≡ get_or moves i asked → seals_in (drop i moves) ≡ seals_in (asked ∷ []) + seals_in (drop (i + 1) moves)
+seals_left moves i asked within next = rw (drop_more moves i asked within, sym next) (counted asked (drop (i + 1) moves))

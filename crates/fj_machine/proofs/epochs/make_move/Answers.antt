@@ -6,9 +6,9 @@ use Rattle.fj_machine.proofs.epochs.make_move.Goals as goal
 pub returns-in-Step-clause-handed : goal.returns-in-Step-clause-handed
 returns-in-Step-clause-handed c = rw c.in-Step.is (step_hands c.args.machine.now c.in-Step.step c.step.result (map shown c.args.parts.now.items))
 
-pub returns-in_ok-push-in-Ok-clause-handed : goal.returns-in_ok-push-in-Ok-clause-handed
-returns-in_ok-push-in-Ok-clause-handed c =
-    rw (c.in_ok-push-in-Ok.ensures.items, c.in-Seal.is) (seal_hands c.args.machine.now c.args.parts.now.items c.in-Ok.part c.in-Ok.ensures.events c.in-Ok.ensures.gone)
+pub returns-in-Ok-clause-handed : goal.returns-in-Ok-clause-handed
+returns-in-Ok-clause-handed c =
+    rw (c.push_reserved.ensures.items, c.in-Seal.is) (seal_hands c.args.machine.now c.args.parts.now.items c.in-Ok.part c.in-Ok.ensures.events c.in-Ok.ensures.gone)
 
 pub returns-in-Err-clause-handed : goal.returns-in-Err-clause-handed
 returns-in-Err-clause-handed c = rw c.in-Seal.is (refusal_hands c.args.machine.now c.in-Err.refusal (map shown c.args.parts.now.items))

@@ -1,6 +1,7 @@
 use Rattle.std.proofs.lemmas.Result.{on_ok_weaker}
 use Rattle.fj_replay.proofs.Moves.{are_moves}
 use Rattle.fj_replay.proofs.Named.{are_names, given_name}
+use Rattle.fj_replay.proofs.NamedText.{text_named}
 use Rattle.fj_replay.proofs.Version1.{are_run, text_numbered}
 use Rattle.fj_replay.proofs.Whole.{replays}
 use Rattle.fj_replay.proofs.replay_script.replay.Goals as goal
@@ -10,6 +11,9 @@ returns-clause-ok g c = on_ok_weaker c.run.result (λ done. replays done.0 _ _ _
 
 pub returns-clause-numbered : goal.returns-clause-numbered
 returns-clause-numbered g c = text_numbered
+
+pub returns-clause-named : goal.returns-clause-named
+returns-clause-named g c = text_named
 
 pub returns-clause-runs : goal.returns-clause-runs
 returns-clause-runs g c = are_run
