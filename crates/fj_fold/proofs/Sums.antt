@@ -59,6 +59,13 @@ product_small k v few small =
     let more : k * v ≤ 4000 * v = mul-le-mul_right v (omega arith) in
     omega arith
 
+-- behind it the next child of the same node comes
+pub next_after : (nodes : List Node) (t : ChildSum) (c : ℕ) (next : Option ℕ) → IsTally nodes t → t.child ≡ Some c → ((p : ℕ) → (node_at nodes c).parent ≡ Some p → next ≡ child_from nodes (c + 1) p)
+    → next ≡ child_from nodes (c + 1) t.node
+next_after nodes t c next tally is behind =
+    let child : IsChild nodes t.node c × (t.weight ≤ c) = rw is at tally.child in
+    behind t.node child.0.1
+
 -- behind it fewer are left
 pub fewer_left : (nodes : List Node) (t : ChildSum) (c : ℕ) (next : Option ℕ) → IsTally nodes t → t.child ≡ Some c → ((p : ℕ) → (node_at nodes c).parent ≡ Some p → next ≡ child_from nodes (c + 1) p)
     → numbers_from (length nodes) next < numbers_from (length nodes) t.child

@@ -42,8 +42,8 @@ forks_fewer ns nodes old c next same course is behind =
 
 -- what is forked after a child is the next one of the same parent
 pub next_in_turn : (ns nodes : List Node) (old : FoldProgress) (c : ℕ) (next : Option ℕ) → ns ≡ nodes → IsCourse nodes old → old.next ≡ Some c → ((q : ℕ) → (node_at ns c).parent ≡ Some q → next ≡ child_from ns (c + 1) q)
-    → IfSome old.next (λ d. next ≡ child_from nodes (d + 1) old.tally.node)
+    → next ≡ child_from nodes (c + 1) old.tally.node
 next_in_turn ns nodes old c next same course is behind =
     let child : IsChild nodes old.tally.node c = rw is at course.next in
     let all = rw same at behind in
-    rw is (all old.tally.node child.1)
+    all old.tally.node child.1

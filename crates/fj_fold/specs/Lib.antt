@@ -4,5 +4,7 @@ pub mod Families
 pub mod Tallies
 -- how far a body that folds a node has come
 pub mod Courses
--- what the body of a node asks
-pub mod Asks
+-- what the body of a node asks next, by its stage and what it hears
+pub mod Stages
+-- the answer of a fold, by what came of the root's body
+pub mod Answers

@@ -1,6 +1,7 @@
-ghost use Rattle.std.specs.Prelude.{◌≡◌, ◌<◌, length, Some, None};
+ghost use Rattle.std.specs.Prelude.{◌≡◌, ◌+◌, ◌<◌, length, Some, None};
 ghost use Rattle.fj_trees.specs.Trees.{IsTree};
 ghost use Rattle.fj_trees.specs.TreeValues.{node_value};
+ghost use Rattle.fj_fold.specs.Families.{child_from};
 ghost use Rattle.fj_fold.specs.Tallies.{IsTally, numbers_from};
 
 use crate::family::Family;
@@ -26,6 +27,8 @@ impl ChildSum {
         requires { node < length family.now }
         ensures tally { IsTally family.now result }
         ensures node { result.node ≡ node }
+        ensures child { result.child ≡ child_from family.now 0 node }
+        ensures weight { result.weight ≡ 1 }
         ensures tree { IsTree family.now }
     {
         ChildSum {
@@ -43,6 +46,8 @@ impl ChildSum {
         requires value { value ≡ node_value family.now child }
         ensures tally { IsTally family.now result }
         ensures node { result.node ≡ self.node }
+        ensures child { result.child ≡ child_from family.now (child + 1) self.node }
+        ensures weight { result.weight ≡ self.weight + 1 }
         ensures nearer { numbers_from (length family.now) result.child < numbers_from (length family.now) self.child }
     {
         ChildSum {

@@ -5,6 +5,7 @@ ghost use Rattle.fj_rules.specs.Bounds.{bounds};
 ghost use Rattle.fj_rules.specs.Epochs.{IsPast};
 ghost use Rattle.fj_trees.specs.TreeValues.{node_value};
 ghost use Rattle.fj_run.specs.Runs.{RefusesRun};
+ghost use Rattle.fj_fold.specs.Answers.{RefusesAnswer, RefusesOutcome};
 
 use crate::family::Family;
 use crate::named_tree::NamedTree;
@@ -64,10 +65,10 @@ fn fold_in<F: NamedTree + Send, R: Threads + Wait + Sync, T: Turnstile + Sync>(
     let Ok(body) = made else {
         return Err(Refusal::OutOfMemory);
     };
-    match run_alone(rt, alloc, settings_of(workers), body, turnstile) {
-        Ok(outcome) => value_of(outcome),
-        Err(refusal) => Err(refusal),
-    }
+    TreeFold::value_in(
+        run_alone(rt, alloc, settings_of(workers), body, turnstile),
+        0,
+    )
 }
 
 /// Folds a tree as [`fold_tree`], and hands out the history of the run: in async mode, with one submitter and the largest limits. Precondition:
@@ -129,25 +130,43 @@ fn record_in<F: NamedTree + Send, R: Threads + Wait + Sync, T: Turnstile + Sync>
         archive,
         ..
     } = record;
-    let value = match answer {
-        Ok(outcome) => value_of(outcome),
-        Err(refusal) => Err(refusal),
-    };
     Ok(RecordedValue {
-        value,
+        value: TreeFold::value_in(answer, 0),
         machine,
         archive,
     })
 }
 
-/// The value in an outcome, if it is that of the root. A result of another node counts as none.
-fn value_of<F: NamedTree>(outcome: Outcome<TreeFold<F>>) -> Result<u64, Refusal>
-    ensures ok { IfOk result (λ value. value ≡ node_value F.nodes 0) }
+impl<'a, F: NamedTree> TreeFold<'a, F> {
+    /// The value of a node, from what came of its body: the answer of [`run_alone`], or of a pool to which it was submitted.
+    ///
+    /// `LogFull` if the answer is that refusal, or the body failed with its number. `OutOfMemory` if there is no result of this node for any
+    /// other reason.
+    pub fn value_in(
+        answer: Result<Outcome<TreeFold<'a, F>>, Refusal>,
+        number: u32,
+    ) -> Result<u64, Refusal>
+        ensures ok { IfOk result (λ value. value ≡ node_value F.nodes number) }
+        ensures refused { IfErr result (λ refusal. RefusesAnswer number answer.entry refusal) }
+        ensures err { IfErr result RefusesRun }
+    {
+        match answer {
+            Ok(outcome) => value_of(outcome, number),
+            Err(Refusal::LogFull) => Err(Refusal::LogFull),
+            Err(_) => Err(Refusal::OutOfMemory),
+        }
+    }
+}
+
+/// The value in an outcome, if it is that of this node. A result of another node counts as none.
+fn value_of<F: NamedTree>(outcome: Outcome<TreeFold<F>>, number: u32) -> Result<u64, Refusal>
+    ensures ok { IfOk result (λ value. value ≡ node_value F.nodes number) }
+    ensures refused { IfErr result (λ refusal. RefusesOutcome number outcome.entry refusal) }
     ensures err { IfErr result RefusesRun }
 {
     match result_in(outcome) {
         Ok((key, value)) => {
-            if key == 0 {
+            if key == number {
                 Ok(value)
             } else {
                 Err(Refusal::OutOfMemory)

@@ -1,11 +1,8 @@
-ghost use Rattle.std.specs.Prelude.{◌≡◌, ◌⊎◌, ◌+◌, ◌-◌, ◌<◌, ℕ, Option, Some, None, IfOk, IfSome, length, slice_get};
-ghost use Rattle.fj_rules.specs.Refusals.{refusal_number};
+ghost use Rattle.std.specs.Prelude.{◌≡◌, ◌+◌, ◌<◌, ℕ, Option, Some, None, IfOk, length, vec_len, vec_capacity};
 ghost use Rattle.fj_trees.specs.TreeValues.{node_value};
 ghost use Rattle.fj_bodies.specs.Turns.{AskRight, HeardRight, Nearer};
-ghost use Rattle.fj_run.specs.Asks.{AsksUnder};
-ghost use Rattle.fj_fold.specs.Asks.{AsksAsNode, ForksNext, HasTask, own_task, task_in};
-ghost use Rattle.fj_fold.specs.Families.{child_from};
-ghost use Rattle.fj_fold.specs.Courses.{IsCourse, turns_left};
+ghost use Rattle.fj_fold.specs.Courses.{HasRoom, IsCourse, IsNew, turns_left};
+ghost use Rattle.fj_fold.specs.Stages.{Adds, AsksNext, Fails, ForksNext, GoesOnWithout, TakesNext, tasks_by, with_task};
 ghost use Rattle.fj_fold.specs.Tallies.{numbers_from};
 ghost use Rattle.std.proofs.Props.{props};
 
@@ -37,6 +34,7 @@ pub struct FoldState<'a, F: NamedTree> {
     of: PhantomData<F>,
     ghost same: { family.now ≡ F.nodes },
     ghost right: { IsCourse F.nodes course } by { Prim.hlevel props },
+    ghost room: { ∥ HasRoom course.stage (vec_len forked < vec_capacity forked) ∥₁ },
 }
 
 impl<'a, F: NamedTree> TreeFold<'a, F> {
@@ -49,7 +47,7 @@ impl<'a, F: NamedTree> TreeFold<'a, F> {
     ) -> Result<TreeFold<'a, F>, AllocError>
         requires same { family.now ≡ F.nodes }
         requires there { number < length F.nodes }
-        ensures { IfOk result (λ body. body.inside.value.course.tally.node ≡ number) }
+        ensures { IfOk result (λ body. IsNew F.nodes number body.inside.value.course body.inside.value.forked.items) }
     {
         let course = FoldProgress {
             stage: FoldStage::New,
@@ -75,9 +73,8 @@ impl<'a, F: NamedTree> FoldState<'a, F> {
         ensures key { self.new.course.tally.node ≡ self.old.course.tally.node }
         ensures right { AskRight (λ k o. o ≡ node_value F.nodes k) self.old.course.tally.node result }
         ensures nearer { Nearer (turns_left (length F.nodes) self.new.course) (turns_left (length F.nodes) self.old.course) result }
-        ensures asks { AsksAsNode F.nodes self.old.course.tally.node result }
-        ensures own { AsksUnder (Some me) result }
-        ensures stays { HasTask (Some me) self.new.course.stage }
+        ensures next { AsksNext F.nodes (λ b. b.inside.value.course) (λ b. b.inside.value.forked.items) self.old.course self.old.forked.items (Heard.Start me) self.new.course result }
+        ensures tasks { self.new.forked.items ≡ self.old.forked.items }
     {
         let FoldStage::New = self.course.stage else {
             return self.go_on_without();
@@ -91,9 +88,8 @@ impl<'a, F: NamedTree> FoldState<'a, F> {
         ensures key { self.new.course.tally.node ≡ self.old.course.tally.node }
         ensures right { AskRight (λ k o. o ≡ node_value F.nodes k) self.old.course.tally.node result }
         ensures nearer { Nearer (turns_left (length F.nodes) self.new.course) (turns_left (length F.nodes) self.old.course) result }
-        ensures asks { AsksAsNode F.nodes self.old.course.tally.node result }
-        ensures own { AsksUnder (task_in self.old.course.stage) result }
-        ensures stays { HasTask (task_in self.old.course.stage) self.new.course.stage }
+        ensures next { (count : ℕ) → AsksNext F.nodes (λ b. b.inside.value.course) (λ b. b.inside.value.forked.items) self.old.course self.old.forked.items (Heard.Count count) self.new.course result }
+        ensures tasks { self.new.forked.items ≡ self.old.forked.items }
     {
         let FoldStage::Adding(me) = self.course.stage else {
             return self.go_on_without();
@@ -106,17 +102,15 @@ impl<'a, F: NamedTree> FoldState<'a, F> {
         ensures key { self.new.course.tally.node ≡ self.old.course.tally.node }
         ensures right { AskRight (λ k o. o ≡ node_value F.nodes k) self.old.course.tally.node result }
         ensures nearer { Nearer (turns_left (length F.nodes) self.new.course) (turns_left (length F.nodes) self.old.course) result }
-        ensures asks { AsksAsNode F.nodes self.old.course.tally.node result }
-        ensures own { AsksUnder (task_in self.old.course.stage) result }
-        ensures stays { HasTask (task_in self.old.course.stage) self.new.course.stage }
+        ensures next { AsksNext F.nodes (λ b. b.inside.value.course) (λ b. b.inside.value.forked.items) self.old.course self.old.forked.items (Heard.Task child) self.new.course result }
+        ensures tasks { self.new.forked.items ≡ with_task self.old.course.stage child self.old.forked.items }
     {
         let FoldStage::Forking(me) = self.course.stage else {
             return self.go_on_without();
         };
-        match self.forked.push(child) {
-            Ok(()) => self.fork(me),
-            Err(_) => self.fail(),
-        }
+        self.course.stage = FoldStage::Ended;
+        self.forked.push_reserved(child);
+        self.fork(me)
     }
 
     /// The completion action begins.
@@ -124,9 +118,8 @@ impl<'a, F: NamedTree> FoldState<'a, F> {
         ensures key { self.new.course.tally.node ≡ self.old.course.tally.node }
         ensures right { AskRight (λ k o. o ≡ node_value F.nodes k) self.old.course.tally.node result }
         ensures nearer { Nearer (turns_left (length F.nodes) self.new.course) (turns_left (length F.nodes) self.old.course) result }
-        ensures asks { AsksAsNode F.nodes self.old.course.tally.node result }
-        ensures own { AsksUnder None result }
-        ensures stays { HasTask None self.new.course.stage }
+        ensures next { (caller : ℕ) → AsksNext F.nodes (λ b. b.inside.value.course) (λ b. b.inside.value.forked.items) self.old.course self.old.forked.items (Heard.Hook caller) self.new.course result }
+        ensures tasks { self.new.forked.items ≡ self.old.forked.items }
     {
         if let FoldStage::Taking = self.course.stage {
             return self.go_on_without();
@@ -141,9 +134,8 @@ impl<'a, F: NamedTree> FoldState<'a, F> {
         ensures key { self.new.course.tally.node ≡ self.old.course.tally.node }
         ensures right { AskRight (λ k o. o ≡ node_value F.nodes k) self.old.course.tally.node result }
         ensures nearer { Nearer (turns_left (length F.nodes) self.new.course) (turns_left (length F.nodes) self.old.course) result }
-        ensures asks { AsksAsNode F.nodes self.old.course.tally.node result }
-        ensures own { AsksUnder None result }
-        ensures stays { HasTask None self.new.course.stage }
+        ensures next { AsksNext F.nodes (λ b. b.inside.value.course) (λ b. b.inside.value.forked.items) self.old.course self.old.forked.items (Heard.Got key value) self.new.course result }
+        ensures tasks { self.new.forked.items ≡ self.old.forked.items }
     {
         let FoldStage::Taking = self.course.stage else {
             return self.go_on_without();
@@ -163,9 +155,8 @@ impl<'a, F: NamedTree> FoldState<'a, F> {
         ensures key { self.new.course.tally.node ≡ self.old.course.tally.node }
         ensures right { AskRight (λ k o. o ≡ node_value F.nodes k) self.old.course.tally.node result }
         ensures nearer { Nearer (turns_left (length F.nodes) self.new.course) (turns_left (length F.nodes) self.old.course) result }
-        ensures asks { AsksAsNode F.nodes self.old.course.tally.node result }
-        ensures own { AsksUnder None result }
-        ensures stays { HasTask None self.new.course.stage }
+        ensures without { GoesOnWithout F.nodes self.old.course.stage self.old.course self.old.forked.items self.new.course result }
+        ensures tasks { self.new.forked.items ≡ self.old.forked.items }
     {
         let FoldStage::Taking = self.course.stage else {
             return self.fail();
@@ -182,33 +173,33 @@ impl<'a, F: NamedTree> FoldState<'a, F> {
         ensures key { self.new.course.tally.node ≡ self.old.course.tally.node }
         ensures right { AskRight (λ k o. o ≡ node_value F.nodes k) self.old.course.tally.node result }
         ensures nearer { Nearer (turns_left (length F.nodes) self.new.course) (length F.nodes + 1 + numbers_from (length F.nodes) self.old.course.next) result }
-        ensures asks { AsksAsNode F.nodes self.old.course.tally.node result }
-        ensures own { AsksUnder (Some me) result }
-        ensures stays { HasTask (Some me) self.new.course.stage }
-        ensures next { (result ≡ Ask.Fail (refusal_number Refusal.OutOfMemory)) ⊎ ForksNext (λ b. b.inside.value.course.tally.node) self.old.course.next result }
+        ensures forks { ForksNext F.nodes (λ b. b.inside.value.course) (λ b. b.inside.value.forked.items) me self.old.course.next self.old.course self.new.course result }
+        ensures tasks { self.new.forked.items ≡ self.old.forked.items }
     {
         let Some(child) = self.course.next else {
             self.course.stage = FoldStage::Ended;
             return Ask::Try;
         };
+        self.course.stage = FoldStage::Ended;
+        if self.forked.reserve(1).is_err() {
+            return self.fail();
+        }
         match TreeFold::new(*self.forked.allocator(), self.family, child) {
             Ok(body) => self.fork_child(me, child, body),
             Err(_) => self.fail(),
         }
     }
 
-    /// Forks the next child. Preconditions: `child` is the next one, and `body` is its body.
+    /// Forks the next child. Preconditions: `child` is the next one, `body` is its body, and there is room for its task.
     fn fork_child(&mut self, me: u64, child: u32, body: TreeFold<'a, F>) -> Ask<TreeFold<'a, F>>
         requires next { self.old.course.next ≡ Some child }
-        requires body { body.inside.value.course.tally.node ≡ child }
+        requires body { IsNew F.nodes child body.inside.value.course body.inside.value.forked.items }
+        requires room { vec_len self.old.forked < vec_capacity self.old.forked }
         ensures key { self.new.course.tally.node ≡ self.old.course.tally.node }
         ensures right { AskRight (λ k o. o ≡ node_value F.nodes k) self.old.course.tally.node result }
         ensures nearer { Nearer (turns_left (length F.nodes) self.new.course) (length F.nodes + 1 + numbers_from (length F.nodes) self.old.course.next) result }
-        ensures asks { AsksAsNode F.nodes self.old.course.tally.node result }
-        ensures own { AsksUnder (Some me) result }
-        ensures stays { HasTask (Some me) self.new.course.stage }
-        ensures next { ForksNext (λ b. b.inside.value.course.tally.node) self.old.course.next result }
-        ensures goes_on { IfSome self.old.course.next (λ c. self.new.course.next ≡ child_from F.nodes (c + 1) self.old.course.tally.node) }
+        ensures forks { ForksNext F.nodes (λ b. b.inside.value.course) (λ b. b.inside.value.forked.items) me self.old.course.next self.old.course self.new.course result }
+        ensures tasks { self.new.forked.items ≡ self.old.forked.items }
     {
         self.course.stage = FoldStage::Forking(me);
         self.course.next = self.family.next_sibling(child);
@@ -226,10 +217,9 @@ impl<'a, F: NamedTree> FoldState<'a, F> {
         ensures key { self.new.course.tally.node ≡ self.old.course.tally.node }
         ensures right { AskRight (λ k o. o ≡ node_value F.nodes k) self.old.course.tally.node result }
         ensures nearer { Nearer (turns_left (length F.nodes) self.new.course) (numbers_from (length F.nodes) self.old.course.tally.child + 1) result }
-        ensures asks { AsksAsNode F.nodes self.old.course.tally.node result }
-        ensures own { AsksUnder None result }
-        ensures stays { HasTask None self.new.course.stage }
-        ensures taken { IfSome self.old.course.tally.child (λ c. IfSome (slice_get self.old.forked.items (self.old.course.tally.weight - 1)) (λ t. result ≡ Ask.Take t)) }
+        ensures takes { TakesNext self.old.course.tally self.old.forked.items result }
+        ensures course { self.new.course ≡ self.old.course }
+        ensures tasks { self.new.forked.items ≡ self.old.forked.items }
     {
         let Some(_child) = self.course.tally.child else {
             return Ask::HookDone(self.course.tally.sum);
@@ -251,9 +241,9 @@ impl<'a, F: NamedTree> FoldState<'a, F> {
         ensures key { self.new.course.tally.node ≡ self.old.course.tally.node }
         ensures right { AskRight (λ k o. o ≡ node_value F.nodes k) self.old.course.tally.node result }
         ensures nearer { Nearer (turns_left (length F.nodes) self.new.course) (turns_left (length F.nodes) self.old.course) result }
-        ensures asks { AsksAsNode F.nodes self.old.course.tally.node result }
-        ensures own { AsksUnder None result }
-        ensures stays { HasTask None self.new.course.stage }
+        ensures adds { Adds F.nodes child self.old.course self.new.course }
+        ensures takes { TakesNext self.new.course.tally self.old.forked.items result }
+        ensures tasks { self.new.forked.items ≡ self.old.forked.items }
     {
         self.course.tally = self.course.tally.add(self.family, child, value);
         self.take()
@@ -264,10 +254,8 @@ impl<'a, F: NamedTree> FoldState<'a, F> {
         ensures key { self.new.course.tally.node ≡ self.old.course.tally.node }
         ensures right { AskRight (λ k o. o ≡ node_value F.nodes k) self.old.course.tally.node result }
         ensures nearer { Nearer 0 0 result }
-        ensures asks { AsksAsNode F.nodes self.old.course.tally.node result }
-        ensures own { AsksUnder None result }
-        ensures stays { HasTask None self.new.course.stage }
-        ensures fails { result ≡ Ask.Fail (refusal_number Refusal.OutOfMemory) }
+        ensures fails { Fails self.old.course self.new.course result }
+        ensures tasks { self.new.forked.items ≡ self.old.forked.items }
     {
         self.course.stage = FoldStage::Ended;
         Ask::Fail(Refusal::OutOfMemory.number())
@@ -279,9 +267,8 @@ impl<'a, F: NamedTree> FoldState<'a, F> {
         ensures key { self.new.course.tally.node ≡ self.old.course.tally.node }
         ensures right { AskRight (λ k o. o ≡ node_value F.nodes k) self.old.course.tally.node result }
         ensures nearer { Nearer (turns_left (length F.nodes) self.new.course) (turns_left (length F.nodes) self.old.course) result }
-        ensures asks { AsksAsNode F.nodes self.old.course.tally.node result }
-        ensures own { AsksUnder (own_task self.old.course.stage heard.entry) result }
-        ensures stays { HasTask (own_task self.old.course.stage heard.entry) self.new.course.stage }
+        ensures next { AsksNext F.nodes (λ b. b.inside.value.course) (λ b. b.inside.value.forked.items) self.old.course self.old.forked.items heard.entry self.new.course result }
+        ensures tasks { self.new.forked.items ≡ tasks_by self.old.course.stage heard.entry self.old.forked.items }
     {
         // Matched by reference: the prover does not take apart an enum with a `Serial` in a type that holds a reference.
         match &heard {
@@ -326,9 +313,8 @@ impl<'a, F: NamedTree> Body for TreeFold<'a, F> {
         ensures rooted { ◌≡◌ {A = Option ℕ} (Some 0) (Some 0) }
         ensures right { AskRight (λ k o. o ≡ node_value F.nodes k) self.old.inside.value.course.tally.node result }
         ensures nearer { Nearer (turns_left (length F.nodes) self.new.inside.value.course) (turns_left (length F.nodes) self.old.inside.value.course) result }
-        ensures asks { AsksAsNode F.nodes self.old.inside.value.course.tally.node result }
-        ensures own { AsksUnder (own_task self.old.inside.value.course.stage heard.entry) result }
-        ensures stays { HasTask (own_task self.old.inside.value.course.stage heard.entry) self.new.inside.value.course.stage }
+        ensures next { AsksNext F.nodes (λ b. b.inside.value.course) (λ b. b.inside.value.forked.items) self.old.inside.value.course self.old.inside.value.forked.items heard.entry self.new.inside.value.course result }
+        ensures tasks { self.new.inside.value.forked.items ≡ tasks_by self.old.inside.value.course.stage heard.entry self.old.inside.value.forked.items }
     {
         self.inside.turn(heard)
     }

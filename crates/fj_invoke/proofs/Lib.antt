@@ -2,3 +2,5 @@
 pub mod Tails
 -- The tasks of the left halves.
 pub mod Joins
+-- What a body asks next.
+pub mod Stages

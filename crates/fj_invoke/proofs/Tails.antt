@@ -19,6 +19,10 @@ fold_step combined value all xs x v y e k = tail_more combined value all xs x v 
 pub rest_gives : {O : Type 0} (f : O → O) (w x : O) (o : Option O) → IsProp (f x ≡ w) → ∥ MatchOption o ⊤ (λ v. f v ≡ w) ∥₁ → o ≡ Some x → f x ≡ w
 rest_gives f w x o p h e = ∥∥₁_elim h p (λ k. rw e at k)
 
+-- what holds at one stage holds at the same one
+pub holds_at : {S : Type 0} (Holds : S → Type 0) (s t : S) → IsProp (Holds t) → ∥ Holds s ∥₁ → s ≡ t → Holds t
+holds_at Holds s t p h e = ∥∥₁_elim h p (λ k. rw e at k)
+
 pub not_false : (b : Bool) → not b ≡ false → b ≡ true
 not_false true e = refl
 not_false false e = sym e

@@ -1,9 +1,7 @@
--- What the body of a job joins and releases.
-use Rattle.std.specs.Prelude.{ℕ, ◌≡◌, ⊤, List, [], ◌∷◌, ◌++◌, Option, Some, None, filter_map}
+-- The tasks that a recursive body has forked.
+use Rattle.std.specs.Prelude.{ℕ, List, [], ◌∷◌, ◌++◌, Option, Some, None, filter_map}
 use Rattle.fj_bodies.specs.declared.body.Heard.{Heard}
 use Rattle.fj_bodies.specs.declared.body.Heard.TheVariants as hears
-use Rattle.fj_bodies.specs.declared.body.Ask.{Ask}
-use Rattle.fj_bodies.specs.declared.body.Ask.TheVariants.{Join, Release, Ok as AskOk, Fail}
 use Rattle.fj_invoke.specs.declared.recursive_stage.Left.{Left}
 use Rattle.fj_invoke.specs.declared.recursive_stage.Left.TheVariants.{Forked, Done}
 use Rattle.fj_invoke.specs.declared.recursive_stage.RecursiveStage.{RecursiveStage}
@@ -24,11 +22,3 @@ forked_by lefts (Forking j k) (hears.Task t) = forked_in lefts ++ t ∷ []
 forked_by lefts (Waiting t k v) (hears.Got heard out) = forked_in lefts
 forked_by lefts (Waiting t k v) _ = forked_in lefts ++ t ∷ []
 forked_by lefts _ _ = forked_in lefts
-
--- of these tasks it joins or releases the last one, and no other; it ends only where there is none
-abbrev pub JoinsLast : {B K O : Type 0} → List ℕ → Ask B K O → Type 0
-JoinsLast tasks (Join t) = (others : List ℕ) × (tasks ≡ others ++ t ∷ [])
-JoinsLast tasks (Release t) = (others : List ℕ) × (tasks ≡ others ++ t ∷ [])
-JoinsLast tasks (AskOk out) = tasks ≡ []
-JoinsLast tasks (Fail code) = tasks ≡ []
-JoinsLast tasks _ = ⊤

@@ -1,8 +1,8 @@
 -- What a body of a job still has to do.
 pub mod Recursions
--- What it joins and releases.
+-- The tasks that it has forked.
 pub mod Asks
--- How it ends where it cannot go on.
-pub mod Failures
+-- What it asks next, by its stage and what it hears.
+pub mod Stages
 -- The answer of a job, by the outcome of its body.
 pub mod Answers

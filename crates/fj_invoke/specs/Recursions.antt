@@ -1,5 +1,5 @@
 -- What a body of a job still has to do.
-use Rattle.std.specs.Prelude.{ℕ, Bool, false, ◌≡◌, ◌+◌, ◌*◌, ⊤, List, [], ◌∷◌, Option, None, Some, map, MatchOption}
+use Rattle.std.specs.Prelude.{ℕ, ◌≡◌, ◌+◌, ◌*◌, ⊤, List, [], ◌∷◌, Option, None, Some, map, MatchOption}
 use Rattle.fj_invoke.specs.declared.recursive_stage.Left.{Left}
 use Rattle.fj_invoke.specs.declared.recursive_stage.Left.TheVariants.{Forked, Done}
 use Rattle.fj_invoke.specs.declared.recursive_stage.RecursiveStage.{RecursiveStage}
@@ -28,10 +28,10 @@ abbrev pub Gives : {J K O : Type 0} → (J → K) → (K → O) → (O → O →
 Gives key_of value combined lefts stage w =
     MatchOption (rest_value key_of value combined stage) ⊤ (λ v. tail_value combined (map (left_value value) lefts) v ≡ w)
 
--- no job with this key is still to be begun
-abbrev pub NotUnder : {J K O : Type 0} → (J → K) → (K → K → Bool) → RecursiveStage J K O → K → Type 0
-NotUnder key_of eq (Going j) key = eq (key_of j) key ≡ false
-NotUnder key_of eq _ key = ⊤
+-- while a left half is forked there is room for it, whether it is forked or handed back
+abbrev pub HasRoom : {J K O : Type 0} → RecursiveStage J K O → Type 0 → Type 0
+HasRoom (Forking j k) room = room
+HasRoom _ room = ⊤
 
 -- how many turns are left, at most
 abbrev pub turns_of : {J K O : Type 0} → (J → ℕ) → ℕ → RecursiveStage J K O → ℕ

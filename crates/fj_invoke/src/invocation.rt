@@ -2,7 +2,7 @@ ghost use Rattle.std.specs.Prelude.{◌≡◌, ◌++◌, IfOk, IfErr};
 ghost use Rattle.fj_core.specs.Cores.{AreParts};
 ghost use Rattle.fj_rules.specs.Epochs.{IsPast};
 ghost use Rattle.fj_run.specs.Runs.{RefusesRun};
-ghost use Rattle.fj_invoke.specs.Answers.{RefusesOutcome};
+ghost use Rattle.fj_invoke.specs.Answers.{RefusesAnswer, RefusesOutcome};
 
 use crate::recursive::Recursive;
 use fj_bodies::Outcome;
@@ -44,10 +44,7 @@ where
     let settings = Settings::with_limits(limits)
         .in_mode(mode)
         .starting_at(start);
-    match run_alone(rt, alloc, settings, body, turnstile) {
-        Ok(outcome) => answer_of(outcome, key),
-        Err(refusal) => Err(refusal),
-    }
+    Recursive::value_in(run_alone(rt, alloc, settings, body, turnstile), key)
 }
 
 /// Computes a job as `invoke`, in a pool with these settings, and hands out the history of the run.
@@ -82,15 +79,33 @@ where
         archive,
         ..
     } = record;
-    let value = match answer {
-        Ok(outcome) => answer_of(outcome, key),
-        Err(refusal) => Err(refusal),
-    };
     Ok(RecordedValue {
-        value,
+        value: Recursive::value_in(answer, key),
         machine,
         archive,
     })
+}
+
+impl<J: Divide> Recursive<J> {
+    /// The value of the jobs with this key, from what came of a body of one: the answer of [`run_alone`], or of a pool to which it was
+    /// submitted.
+    ///
+    /// `LogFull` if the answer is that refusal, or the body failed with its number. `OutOfMemory` if there is no result under this key for any
+    /// other reason.
+    pub fn value_in(
+        answer: Result<Outcome<Recursive<J>>, Refusal>,
+        key: J::Key,
+    ) -> Result<J::Out, Refusal>
+        ensures value { IfOk result (λ out. out ≡ J.value key) }
+        ensures refused { IfErr result (λ refusal. RefusesAnswer J.Key.eq key answer refusal) }
+        ensures err { IfErr result RefusesRun }
+    {
+        match answer {
+            Ok(outcome) => answer_of(outcome, key),
+            Err(Refusal::LogFull) => Err(Refusal::LogFull),
+            Err(_) => Err(Refusal::OutOfMemory),
+        }
+    }
 }
 
 /// The value in an outcome, if it is under this key. A result under another key counts as none.

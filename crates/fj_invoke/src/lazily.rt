@@ -1,6 +1,6 @@
 ghost use Rattle.std.specs.Prelude.{◌≡◌, IfOk, IfErr};
 ghost use Rattle.fj_run.specs.Runs.{RefusesRun};
-ghost use Rattle.fj_invoke.specs.Answers.{RefusesOutcome};
+ghost use Rattle.fj_invoke.specs.Answers.{RefusesAnswer, RefusesOutcome};
 
 use crate::idle::IdleWorkers;
 use fj_bodies::Outcome;
@@ -67,9 +67,22 @@ where
     let Ok(body) = Lazy::new(alloc, job, &signals) else {
         return Err(Refusal::OutOfMemory);
     };
-    match run_alone(rt, alloc, settings, body, &idle) {
+    value_in(run_alone(rt, alloc, settings, body, &idle), key)
+}
+
+/// The value of the jobs with this key, from what came of a lazy body of one: as `Recursive::value_in`.
+fn value_in<J: Divide>(
+    answer: Result<Outcome<Lazy<'_, J>>, Refusal>,
+    key: J::Key,
+) -> Result<J::Out, Refusal>
+    ensures value { IfOk result (λ out. out ≡ J.value key) }
+    ensures refused { IfErr result (λ refusal. RefusesAnswer J.Key.eq key answer.entry refusal) }
+    ensures err { IfErr result RefusesRun }
+{
+    match answer {
         Ok(outcome) => answer_of(outcome, key),
-        Err(refusal) => Err(refusal),
+        Err(Refusal::LogFull) => Err(Refusal::LogFull),
+        Err(_) => Err(Refusal::OutOfMemory),
     }
 }
 

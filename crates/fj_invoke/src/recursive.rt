@@ -1,11 +1,11 @@
-ghost use Rattle.std.specs.Prelude.{◌≡◌, ◌⊎◌, ℕ, ◌+◌, ◌*◌, ◌<◌, ◌≤◌, ◌++◌, ◌∷◌, [], Option, None, IfOk, IfSome, IfNone, true, false, map, vec_len};
+ghost use Rattle.std.specs.Prelude.{◌≡◌, ℕ, ◌+◌, ◌*◌, ◌<◌, ◌++◌, ◌∷◌, [], Option, None, IfOk, IfSome, is_some, map, vec_len, vec_capacity};
 ghost use Rattle.fj_rules.specs.Refusals.{refusal_number};
 ghost use Rattle.fj_bodies.specs.Turns.{HeardRight, AskRight, Nearer};
-ghost use Rattle.fj_invoke.specs.Recursions.{Gives, NotUnder, turns_of, left_value, tail_value};
-ghost use Rattle.fj_lazy.specs.Asks.{AsksAsJob};
+ghost use Rattle.fj_invoke.specs.Recursions.{Gives, HasRoom, turns_of, left_value, tail_value};
+ghost use Rattle.fj_lazy.specs.Asks.{AsksAsJob, JoinsOwn};
 ghost use Rattle.fj_lazy.specs.Failures.{code_heard, is_want_of_room};
-ghost use Rattle.fj_invoke.specs.Asks.{JoinsLast, forked_by, forked_in};
-ghost use Rattle.fj_invoke.specs.Failures.{AsksFailing, Leaves};
+ghost use Rattle.fj_invoke.specs.Asks.{forked_by, forked_in};
+ghost use Rattle.fj_invoke.specs.Stages.{AsksNext, Finishes, Forks, GoesOn, Leaves, is_in_place, is_under};
 
 use crate::lefts::{fold_done, last_forked};
 use crate::recursive_stage::{Left, RecursiveStage};
@@ -30,6 +30,7 @@ pub struct RecursiveState<J: Divide> {
     lefts: Vec<Left<J>>,
     stage: RecursiveStage<J>,
     ghost total: { ∥ Gives J.key_of J.value J.combined lefts.items stage (J.value key) ∥₁ },
+    ghost room: { ∥ HasRoom stage (vec_len lefts < vec_capacity lefts) ∥₁ },
 }
 
 /// Whether a fork was refused for lack of room: then its job may be computed in place.
@@ -53,8 +54,7 @@ fn failure_code<J: Divide>(heard: &Heard<Recursive<J>>) -> u32
 /// The value of a body that was not forked, if it has this key and was refused for lack of room.
 fn in_place<J: Divide>(body: Recursive<J>, refusal: Refusal, key: J::Key) -> Option<J::Out>
     ensures value { IfSome result (λ v. v ≡ J.value key) }
-    ensures room { IfSome result (λ v. is_want_of_room refusal ≡ true) }
-    ensures none { IfNone result ((is_want_of_room refusal ≡ false) ⊎ NotUnder J.key_of J.Key.eq body.inside.value.stage key) }
+    ensures some { is_some result ≡ is_in_place J.key_of J.Key.eq key refusal body.inside.value.stage }
 {
     if is_want_of_room(refusal) {
         body.value_at(key)
@@ -66,7 +66,9 @@ fn in_place<J: Divide>(body: Recursive<J>, refusal: Refusal, key: J::Key) -> Opt
 impl<J: Divide> Recursive<J> {
     /// A body for this job, before its first turn. `AllocError` where out of memory.
     pub fn new(alloc: Global, job: J) -> Result<Recursive<J>, AllocError>
-        ensures { IfOk result (λ body. body.inside.value.key ≡ J.key_of job) }
+        ensures key { IfOk result (λ body. body.inside.value.key ≡ J.key_of job) }
+        ensures begins { IfOk result (λ body. body.inside.value.stage ≡ RecursiveStage.Going job) }
+        ensures none { IfOk result (λ body. body.inside.value.lefts.items ≡ []) }
     {
         let inside = RecursiveState {
             key: job.key(),
@@ -82,7 +84,7 @@ impl<J: Divide> Recursive<J> {
     /// The value of the job with which it begins, if its key is this one.
     fn value_at(self, key: J::Key) -> Option<J::Out>
         ensures value { IfSome result (λ v. v ≡ J.value key) }
-        ensures none { IfNone result (NotUnder J.key_of J.Key.eq self.inside.value.stage key) }
+        ensures some { is_some result ≡ is_under J.key_of J.Key.eq key self.inside.value.stage }
     {
         let Recursive { inside } = self;
         let RecursiveState {
@@ -108,7 +110,7 @@ impl<J: Divide> RecursiveState<J> {
         ensures nearer { Nearer (turns_of J.size (vec_len self.new.lefts) self.new.stage) (vec_len self.old.lefts) result }
         ensures leaves { Leaves code self.new.stage result }
         ensures asks { AsksAsJob result }
-        ensures joins { JoinsLast (forked_in self.old.lefts.items) result }
+        ensures joins { JoinsOwn (forked_in self.old.lefts.items) (forked_in self.new.lefts.items) result }
     {
         self.stage = RecursiveStage::Leaving(code);
         match last_forked(&mut self.lefts) {
@@ -124,26 +126,9 @@ impl<J: Divide> RecursiveState<J> {
         ensures nearer { Nearer (turns_of J.size (vec_len self.new.lefts) self.new.stage) (2 * vec_len self.old.lefts + 1) result }
         ensures leaves { Leaves (refusal_number Refusal.OutOfMemory) self.new.stage result }
         ensures asks { AsksAsJob result }
-        ensures joins { JoinsLast (forked_in self.old.lefts.items) result }
+        ensures joins { JoinsOwn (forked_in self.old.lefts.items) (forked_in self.new.lefts.items) result }
     {
         self.leave(Refusal::OutOfMemory.number())
-    }
-
-    /// The same with one more left half.
-    fn give_up_with(&mut self, left: Left<J>) -> Ask<Recursive<J>>
-        ensures key { self.new.key ≡ self.old.key }
-        ensures right { AskRight (λ k o. o ≡ J.value k) self.new.key result }
-        ensures nearer { Nearer (turns_of J.size (vec_len self.new.lefts) self.new.stage) (2 * vec_len self.old.lefts + 1) result }
-        ensures asks { AsksAsJob result }
-        ensures joins { JoinsLast (forked_in (self.old.lefts.items ++ left ∷ [])) result }
-    {
-        match left {
-            Left::Forked(task, _) => {
-                self.stage = RecursiveStage::Leaving(Refusal::OutOfMemory.number());
-                Ask::Release(task)
-            }
-            Left::Done(_) => self.give_up(),
-        }
     }
 }
 
@@ -155,8 +140,9 @@ impl<J: Divide> RecursiveState<J> {
         ensures key { self.new.key ≡ self.old.key }
         ensures right { AskRight (λ k o. o ≡ J.value k) self.new.key result }
         ensures nearer { Nearer (turns_of J.size (vec_len self.new.lefts) self.new.stage) (2 * vec_len self.old.lefts) result }
+        ensures finishes { Finishes self.new.stage result }
         ensures asks { AsksAsJob result }
-        ensures joins { JoinsLast (forked_in self.old.lefts.items) result }
+        ensures joins { JoinsOwn (forked_in self.old.lefts.items) (forked_in self.new.lefts.items) result }
     {
         self.stage = RecursiveStage::Over;
         match fold_done(&mut self.lefts, tail) {
@@ -168,6 +154,32 @@ impl<J: Divide> RecursiveState<J> {
         }
     }
 
+    /// Forks a left half, and then goes on with the right one. Leaves where out of memory. Precondition: with the left halves they give the
+    /// value of the whole.
+    #[inline(always)]
+    fn fork(&mut self, left: J, right: J) -> Ask<Recursive<J>>
+        requires { tail_value J.combined (map (left_value J.value) self.old.lefts.items) (J.combined (J.value (J.key_of left)) (J.value (J.key_of right))) ≡ J.value self.old.key }
+        ensures key { self.new.key ≡ self.old.key }
+        ensures right { AskRight (λ k o. o ≡ J.value k) self.new.key result }
+        ensures nearer { Nearer (turns_of J.size (vec_len self.new.lefts) self.new.stage) (4 * J.size right + 2 * vec_len self.old.lefts + 6) result }
+        ensures forks { Forks J.key_of (λ b. b.inside.value.stage) (λ b. b.inside.value.lefts.items) left right self.new.stage result }
+        ensures asks { AsksAsJob result }
+        ensures joins { JoinsOwn (forked_in self.old.lefts.items) (forked_in self.new.lefts.items) result }
+    {
+        self.stage = RecursiveStage::Over;
+        if self.lefts.reserve(1).is_err() {
+            return self.give_up();
+        }
+        let key = left.key();
+        match Recursive::new(*self.lefts.allocator(), left) {
+            Ok(body) => {
+                self.stage = RecursiveStage::Forking(right, key);
+                Ask::Fork(body, Kind::Plain)
+            }
+            Err(_) => self.give_up(),
+        }
+    }
+
     /// Splits a job, or computes it as a leaf. Precondition: with the left halves it gives the value of the whole.
     #[inline(always)]
     fn go_on(&mut self, job: J) -> Ask<Recursive<J>>
@@ -175,21 +187,12 @@ impl<J: Divide> RecursiveState<J> {
         ensures key { self.new.key ≡ self.old.key }
         ensures right { AskRight (λ k o. o ≡ J.value k) self.new.key result }
         ensures nearer { Nearer (turns_of J.size (vec_len self.new.lefts) self.new.stage) (4 * J.size job + 2 * vec_len self.old.lefts + 2) result }
+        ensures next { GoesOn J.key_of J.value J.leaf_of J.combined J.size (λ b. b.inside.value.stage) (λ b. b.inside.value.lefts.items) job self.new.stage result }
         ensures asks { AsksAsJob result }
-        ensures joins { JoinsLast (forked_in self.old.lefts.items) result }
+        ensures joins { JoinsOwn (forked_in self.old.lefts.items) (forked_in self.new.lefts.items) result }
     {
-        self.stage = RecursiveStage::Over;
         match job.split() {
-            Ok((left, right)) => {
-                let key = left.key();
-                match Recursive::new(*self.lefts.allocator(), left) {
-                    Ok(body) => {
-                        self.stage = RecursiveStage::Forking(right, key);
-                        Ask::Fork(body, Kind::Plain)
-                    }
-                    Err(_) => self.give_up(),
-                }
-            }
+            Ok((left, right)) => self.fork(left, right),
             Err(leaf) => {
                 let tail = leaf.leaf();
                 self.finish(tail)
@@ -197,21 +200,20 @@ impl<J: Divide> RecursiveState<J> {
         }
     }
 
-    /// Puts a left half aside, and goes on with the right one. Precondition: with the left halves before them they give the value of the
-    /// whole.
+    /// Puts a left half aside, and goes on with the right one. Preconditions: there is room; with the left halves before them they give the
+    /// value of the whole.
     #[inline(always)]
     fn forked(&mut self, job: J, left: Left<J>) -> Ask<Recursive<J>>
-        requires { tail_value J.combined (map (left_value J.value) self.old.lefts.items) (J.combined (left_value J.value left) (J.value (J.key_of job))) ≡ J.value self.old.key }
+        requires total { tail_value J.combined (map (left_value J.value) self.old.lefts.items) (J.combined (left_value J.value left) (J.value (J.key_of job))) ≡ J.value self.old.key }
+        requires room { vec_len self.old.lefts < vec_capacity self.old.lefts }
         ensures key { self.new.key ≡ self.old.key }
         ensures right { AskRight (λ k o. o ≡ J.value k) self.new.key result }
         ensures nearer { Nearer (turns_of J.size (vec_len self.new.lefts) self.new.stage) (4 * J.size job + 2 * vec_len self.old.lefts + 5) result }
+        ensures next { GoesOn J.key_of J.value J.leaf_of J.combined J.size (λ b. b.inside.value.stage) (λ b. b.inside.value.lefts.items) job self.new.stage result }
         ensures asks { AsksAsJob result }
-        ensures joins { JoinsLast (forked_in (self.old.lefts.items ++ left ∷ [])) result }
+        ensures joins { JoinsOwn (forked_in (self.old.lefts.items ++ left ∷ [])) (forked_in self.new.lefts.items) result }
     {
         self.stage = RecursiveStage::Over;
-        if self.lefts.reserve(1).is_err() {
-            return self.give_up_with(left);
-        }
         self.lefts.push_reserved(left);
         self.go_on(job)
     }
@@ -225,9 +227,9 @@ impl<J: Divide> RecursiveState<J> {
         ensures key { self.new.key ≡ self.old.key }
         ensures right { AskRight (λ k o. o ≡ J.value k) self.new.key result }
         ensures nearer { Nearer (turns_of J.size (vec_len self.new.lefts) self.new.stage) (4 * J.size job + 2 * vec_len self.old.lefts + 2) result }
-        ensures failing { AsksFailing J.Key.eq (RecursiveStage.Going job) heard self.new.stage result }
+        ensures next { AsksNext J.key_of J.value J.leaf_of J.combined J.size (λ b. b.inside.value.stage) (λ b. b.inside.value.lefts.items) J.Key.eq (RecursiveStage.Going job) heard self.new.stage result }
         ensures asks { AsksAsJob result }
-        ensures joins { JoinsLast (forked_in self.old.lefts.items) result }
+        ensures joins { JoinsOwn (forked_in self.old.lefts.items) (forked_in self.new.lefts.items) result }
     {
         match heard {
             Heard::Start(_) => self.go_on(job),
@@ -235,16 +237,18 @@ impl<J: Divide> RecursiveState<J> {
         }
     }
 
-    /// A turn after the fork of a left half with this key. Precondition: it gives the value of the whole, with the job and the left halves.
+    /// A turn after the fork of a left half with this key. Preconditions: there is room for it; it gives the value of the whole, with the job
+    /// and the left halves.
     #[inline(always)]
     fn after_fork(&mut self, job: J, key: J::Key, heard: Heard<Recursive<J>>) -> Ask<Recursive<J>>
-        requires { tail_value J.combined (map (left_value J.value) self.old.lefts.items) (J.combined (J.value key) (J.value (J.key_of job))) ≡ J.value self.old.key }
+        requires room { vec_len self.old.lefts < vec_capacity self.old.lefts }
+        requires total { tail_value J.combined (map (left_value J.value) self.old.lefts.items) (J.combined (J.value key) (J.value (J.key_of job))) ≡ J.value self.old.key }
         ensures key { self.new.key ≡ self.old.key }
         ensures right { AskRight (λ k o. o ≡ J.value k) self.new.key result }
         ensures nearer { Nearer (turns_of J.size (vec_len self.new.lefts) self.new.stage) (4 * J.size job + 2 * vec_len self.old.lefts + 5) result }
-        ensures failing { AsksFailing J.Key.eq (RecursiveStage.Forking job key) heard self.new.stage result }
+        ensures next { AsksNext J.key_of J.value J.leaf_of J.combined J.size (λ b. b.inside.value.stage) (λ b. b.inside.value.lefts.items) J.Key.eq (RecursiveStage.Forking job key) heard self.new.stage result }
         ensures asks { AsksAsJob result }
-        ensures joins { JoinsLast (forked_by self.old.lefts.items (RecursiveStage.Forking job key) heard) result }
+        ensures joins { JoinsOwn (forked_by self.old.lefts.items (RecursiveStage.Forking job key) heard) (forked_in self.new.lefts.items) result }
     {
         match heard {
             Heard::Task(task) => self.forked(job, Left::Forked(task, key)),
@@ -271,9 +275,9 @@ impl<J: Divide> RecursiveState<J> {
         ensures key { self.new.key ≡ self.old.key }
         ensures right { AskRight (λ k o. o ≡ J.value k) self.new.key result }
         ensures nearer { Nearer (turns_of J.size (vec_len self.new.lefts) self.new.stage) (2 * vec_len self.old.lefts + 1) result }
-        ensures failing { AsksFailing J.Key.eq (RecursiveStage.Waiting task key tail) heard self.new.stage result }
+        ensures next { AsksNext J.key_of J.value J.leaf_of J.combined J.size (λ b. b.inside.value.stage) (λ b. b.inside.value.lefts.items) J.Key.eq (RecursiveStage.Waiting task key tail) heard self.new.stage result }
         ensures asks { AsksAsJob result }
-        ensures joins { JoinsLast (forked_by self.old.lefts.items (RecursiveStage.Waiting task key tail) heard) result }
+        ensures joins { JoinsOwn (forked_by self.old.lefts.items (RecursiveStage.Waiting task key tail) heard) (forked_in self.new.lefts.items) result }
     {
         match heard {
             Heard::Got(heard_key, out) => {
@@ -296,9 +300,9 @@ impl<J: Divide> RecursiveState<J> {
         ensures key { self.new.key ≡ self.old.key }
         ensures right { AskRight (λ k o. o ≡ J.value k) self.old.key result }
         ensures nearer { Nearer (turns_of J.size (vec_len self.new.lefts) self.new.stage) (turns_of J.size (vec_len self.old.lefts) self.old.stage) result }
-        ensures failing { AsksFailing J.Key.eq self.old.stage heard self.new.stage result }
+        ensures next { AsksNext J.key_of J.value J.leaf_of J.combined J.size (λ b. b.inside.value.stage) (λ b. b.inside.value.lefts.items) J.Key.eq self.old.stage heard self.new.stage result }
         ensures asks { AsksAsJob result }
-        ensures joins { JoinsLast (forked_by self.old.lefts.items self.old.stage heard) result }
+        ensures joins { JoinsOwn (forked_by self.old.lefts.items self.old.stage heard) (forked_in self.new.lefts.items) result }
     {
         match mem::replace(&mut self.stage, RecursiveStage::Over) {
             RecursiveStage::Going(job) => self.begin(job, heard),
@@ -348,9 +352,9 @@ impl<J: Divide> Body for Recursive<J> {
         ensures rooted { ◌≡◌ {A = Option ℕ} None None }
         ensures right { AskRight (λ k o. o ≡ J.value k) self.old.inside.value.key result }
         ensures nearer { Nearer (turns_of J.size (vec_len self.new.inside.value.lefts) self.new.inside.value.stage) (turns_of J.size (vec_len self.old.inside.value.lefts) self.old.inside.value.stage) result }
-        ensures failing { AsksFailing J.Key.eq self.old.inside.value.stage heard self.new.inside.value.stage result }
+        ensures next { AsksNext J.key_of J.value J.leaf_of J.combined J.size (λ b. b.inside.value.stage) (λ b. b.inside.value.lefts.items) J.Key.eq self.old.inside.value.stage heard self.new.inside.value.stage result }
         ensures asks { AsksAsJob result }
-        ensures joins { JoinsLast (forked_by self.old.inside.value.lefts.items self.old.inside.value.stage heard) result }
+        ensures joins { JoinsOwn (forked_by self.old.inside.value.lefts.items self.old.inside.value.stage heard) (forked_in self.new.inside.value.lefts.items) result }
     {
         self.inside.turn(heard)
     }

@@ -4,6 +4,6 @@ use Rattle.std.specs.Coded.{Coded-set, coded_ℕ}
 use Rattle.fj_trees.specs.TreeValues.{node_value}
 use Rattle.fj_fold.proofs.folding.value_of.Goals as goal
 
-pub returns-then-key-eq0-clause-ok : goal.returns-then-key-eq0-clause-ok
-returns-then-key-eq0-clause-ok g c =
-    ∥∥₁_elim c.in-Ok.ensures.right (Coded-set coded_ℕ _ _) (λ e. e ∙ ap (λ k. node_value g.F.NamedTree.nodes k) c.if-key-eq0.true)
+pub returns-then-key-number-clause-ok : goal.returns-then-key-number-clause-ok
+returns-then-key-number-clause-ok g c =
+    ∥∥₁_elim c.in-Ok.ensures.right (Coded-set coded_ℕ _ _) (λ e. e ∙ ap (λ k. node_value g.F.NamedTree.nodes k) c.if-key-number.true)

@@ -1,4 +1,4 @@
 use Rattle.fj_invoke.proofs.invocation.invoke.Goals as goal
 
-pub returns-in-Ok-run_alone-clause-ok : goal.returns-in-Ok-run_alone-clause-ok
-returns-in-Ok-run_alone-clause-ok g c = rw (← c.key-key.ensures) c.answer_of.ensures.value
+pub returns-clause-ok : goal.returns-clause-ok
+returns-clause-ok g c = rw (← c.key-key.ensures) c.value_in.ensures.value

@@ -1,7 +1,8 @@
-use Rattle.std.proofs.Common.{sym, ap, map}
+use Rattle.std.proofs.Common.{◌<◌, sym, ap, map, vec_len, vec_capacity}
+use Rattle.std.proofs.Math.Bridge.{le_prop}
 use base.Stored.{Coded-set}
-use Rattle.fj_invoke.specs.Recursions.{rest_value, left_value, tail_value}
-use Rattle.fj_invoke.proofs.Tails.{rest_gives}
+use Rattle.fj_invoke.specs.Recursions.{HasRoom, rest_value, left_value, tail_value}
+use Rattle.fj_invoke.proofs.Tails.{holds_at, rest_gives}
 use Rattle.fj_invoke.proofs.recursive.RecursiveState.turn.Goals as goal
 
 pub begin-requires : goal.begin-requires
@@ -10,8 +11,12 @@ begin-requires g c =
     (Coded-set g.row.J-Out.coded _ _) c.args.self.now.total
     (ap (rest_value g.J.Divide.key_of g.J.Divide.value g.J.Divide.combined) (sym c.in-Going.ensures.value))
 
-pub after_fork-requires : goal.after_fork-requires
-after_fork-requires g c =
+pub after_fork-requires-clause-room : goal.after_fork-requires-clause-room
+after_fork-requires-clause-room g c =
+    holds_at (λ s. HasRoom s (vec_len c.args.self.now.lefts < vec_capacity c.args.self.now.lefts)) _ _ (hlevel le_prop) c.args.self.now.room (sym c.in-Forking.ensures.value)
+
+pub after_fork-requires-clause-total : goal.after_fork-requires-clause-total
+after_fork-requires-clause-total g c =
     rest_gives (tail_value g.J.Divide.combined (map (left_value g.J.Divide.value) c.args.self.now.lefts.items)) _ _ _
     (Coded-set g.row.J-Out.coded _ _) c.args.self.now.total
     (ap (rest_value g.J.Divide.key_of g.J.Divide.value g.J.Divide.combined) (sym c.in-Forking.ensures.value))
