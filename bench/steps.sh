@@ -1,5 +1,5 @@
 #!/usr/bin/env bash
-# Times steps of a machine by Machine::step, and those of the same structures in plain C: nanoseconds a step.
+# Times steps of a machine by Machine::step, through fj.h, and those of the same structures in plain C: nanoseconds a step.
 # Usage: bench/steps.sh [LOAD [KEEP [ROUNDS]]]
 #   LOAD is (all are run if there is none)
 #     plain    a task is submitted, polled, ended and released
@@ -19,32 +19,42 @@ workers=${WORKERS:-4}
 
 . bench/loader.sh
 build_loader steps fj_rules fj_queues fj_tree fj_ledger fj_machine
-sketch=
+sketch= interface=
 if command -v cc > /dev/null; then
-    sketch=$loader.sketch
+    sketch=$loader.sketch interface=$loader.interface
     cc -std=c11 -O2 -Wall -Wextra -o "$sketch" bench/steps/sketch.c
+    c/install.sh "$loader.installed" > "$loader.log" 2>&1 || { cat "$loader.log" >&2; exit 1; }
+    cc -std=c11 -O2 -Wall -Wextra -I"$loader.installed/include" -o "$interface" bench/steps/interface.c "$loader.installed/lib/libfj.a"
 else
-    echo "no C compiler: the sketch is left out"
+    echo "no C compiler: the sketch and the interface are left out"
 fi
 
 # least FILE: the least time in a file of lines with the steps and the nanoseconds, and the steps before it.
 least() { sort -n -k 2 "$1" | head -n 1; }
 
-# time_load LOAD KEEP ROUNDS [WORD]: runs both programs by turns, so that what else runs on the machine slows both, and prints the figures.
+# time_load LOAD KEEP ROUNDS [WORD]: runs the programs by turns, so that what else runs on the machine slows both, and prints the figures.
 time_load() {
-    local arguments=("$3" "$2" "$1" "$workers") steps nanoseconds sketched=0 peak faults
+    local arguments=("$3" "$2" "$1" "$workers") steps nanoseconds sketched=0 called=0 peak faults
     : > "$loader.times"
     : > "$loader.sketched"
+    : > "$loader.called"
     for ((run = 0; run < runs; run++)); do
         /usr/bin/time -o "$loader.measured" -f '%M %R' "$loader" "${arguments[@]}" >> "$loader.times"
-        if [[ $sketch ]]; then "$sketch" "${arguments[@]}" >> "$loader.sketched"; fi
+        if [[ $sketch ]]; then
+            "$sketch" "${arguments[@]}" >> "$loader.sketched"
+            "$interface" "${arguments[@]}" >> "$loader.called"
+        fi
     done
     read -r steps nanoseconds < <(least "$loader.times")
-    if [[ $sketch ]]; then read -r _ sketched < <(least "$loader.sketched"); fi
+    if [[ $sketch ]]; then
+        read -r _ sketched < <(least "$loader.sketched")
+        read -r _ called < <(least "$loader.called")
+    fi
     read -r peak faults < "$loader.measured"
-    awk -v load="$1${4:+, $4}" -v keep="$2" -v steps="$steps" -v ours="$nanoseconds" -v sketch="$sketched" -v peak="$peak" -v faults="$faults" 'BEGIN {
+    awk -v load="$1${4:+, $4}" -v keep="$2" -v steps="$steps" -v ours="$nanoseconds" -v sketch="$sketched" -v called="$called" -v peak="$peak" -v faults="$faults" 'BEGIN {
         printf "%-17s kept: %4d  steps: %d  ns a step: %.1f", load, keep, steps, ours / steps
         if (sketch > 0) printf "  sketch: %.1f  ratio: %.2f", sketch / steps, ours / sketch
+        if (called > 0) printf "  through fj.h: %.1f  ratio: %.2f", called / steps, called / ours
         printf "  pages touched first: %d  peak KiB: %d\n", faults, peak
     }'
 }

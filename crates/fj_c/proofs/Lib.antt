@@ -1,0 +1,2 @@
+mod Nth
+mod Values

@@ -1,0 +1,5 @@
+pub mod Calls
+pub mod Held
+pub mod History
+pub mod Lists
+pub mod Texts
