@@ -4,8 +4,8 @@
 # tools/quick, views of random histories beside their lines, where there is a JDK scripts beside Java's pool, where there is a C compiler
 # each allocation refused in turn, and a pool by threads, whose tests are built here.
 #
-#   tests/all.sh            the tests by threads 30 times each, ten minutes of load, a service in flat memory, and whether jobs that use no
-#                           workers are told
+#   tests/all.sh            the tests by threads 30 times each, ten minutes of load, a service in flat memory, whether jobs that use no
+#                           workers are told, and with a C compiler the C interface
 #   tests/all.sh --short    these tests once each, as they are run where they are built, and half a minute of load: what the gate runs
 set -euo pipefail
 cd "$(dirname "${BASH_SOURCE[0]}")/.."
@@ -28,6 +28,9 @@ trap 'kill "$by_threads" 2> /dev/null || true; rm -f "$log"' EXIT
 trials=(tests/documents/*.sh tests/documents/*.py tests/proofs/*.py tests/mutants/edits.py tests/quick/*.sh tests/pipes/*.sh tests/hostile/*.sh tests/views/*.sh)
 if ((runs)); then
     trials+=(tests/workers/*.sh tests/load/service.sh)
+    if command -v cc > /dev/null; then
+        trials+=(tests/c/*.sh)
+    fi
 fi
 if command -v javac > /dev/null; then
     trials+=(tests/java/*.sh)

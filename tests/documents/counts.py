@@ -61,7 +61,7 @@ def missing_names():
     tests = {os.path.basename(it).removesuffix(".rt.in") for it in glob.glob("tests/threads/*_tests.rt.in")}
     told = set(re.findall(r"^\| `(\w+)` \|", text_of("tests/threads/README.md").partition("## What they refuse")[0], flags=re.M))
     yield from (f"tests/threads/README.md: {it}" for it in sorted(tests ^ told))
-    names = re.findall(r"^(\w+): ?(.*)$", text_of("crates.txt"), flags=re.M)
+    names = re.findall(r"^(\w+)(?: staticlib)?: ?(.*)$", text_of("crates.txt"), flags=re.M)
     foreign = {it for _, below in names for it in below.split() if it not in dict(names)}
     trusted = text_of("docs/PROOFS.md").partition("## What is trusted")[2]
     yield from (f"docs/PROOFS.md, what is trusted: {it}" for it in sorted(foreign) if f"`{it}`" not in trusted)

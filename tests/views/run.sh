@@ -23,5 +23,14 @@ for size in "1 1 1" "2 1 5" "3 2 20" "4 3 40" "5 3 60" "6 4 200" "7 8 600" "8 4 
     fi
     checked=$((checked + 1))
 done
+"$fj" record --notes "$work/notes" sum --from 1 --to 1000 --grain 10 --workers 4 > "$work/history"
+echo 'name 0 <sum> & "all"' >> "$work/notes"
+for kind in path dot chrome svg; do
+    "$fj" view --as "$kind" --notes "$work/notes" < "$work/history" > "$work/$kind"
+done
+python3 notes.py "$work/notes" "$work"
+if command -v xmllint > /dev/null; then
+    xmllint --noout "$work/svg"
+fi
 "$fj" view --as svg < picture.txt | diff - ../../docs/history.svg
 echo "$checked histories"

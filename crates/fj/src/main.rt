@@ -4,7 +4,7 @@
 use fj_cli::{fj, without_words};
 use std::io::BufWriter;
 use std::process::ExitCode;
-use std::rt::Stderr;
+use std::rt::{Clock, Files, Stderr};
 use std::sync::Wait;
 use std::thread::Threads;
 use std::{env, io};
@@ -19,7 +19,7 @@ fn main(rt: HostRuntime) -> ExitCode {
 }
 
 /// An error comes only from the arguments or the output buffer. Only `main` gets a runtime that starts threads: it is `threads`.
-fn run<H: Threads + Wait + Sync>(
+fn run<H: Threads + Wait + Sync + Files + Clock>(
     rt: &HostRuntime,
     threads: &H,
     err: &mut Stderr,

@@ -5,7 +5,7 @@ use Rattle.fj_trace.specs.declared.fault.CheckFault.{CheckFault}
 use Rattle.fj_trace.specs.declared.fault.CheckFault.TheVariants.{Objection, Line, Limits, Memory, Read}
 use Rattle.fj_trace.specs.Checks.{IsChecked, StopsCheck}
 use Rattle.fj_cli.specs.Answers.{EndsJob, number_line}
-use Rattle.fj_cli.specs.Statuses.{EndsCheck, EndsHistory, IsEndOfCheck, IsWritten}
+use Rattle.fj_cli.specs.Statuses.{EndsCheck, EndsHistory, IsEndOfCheck, IsOfFailure, IsWritten}
 
 -- a view is written after a whole history
 pub view_ended : (n status : ℕ) (before ahead start now : Option (List ℕ)) → IsChecked n before ahead → (status ≡ 0 → IsWritten start now) → (status ≡ 0) ⊎ ((status ≡ 4) ⊎ (status ≡ 5))
@@ -59,3 +59,15 @@ fault_ended Read status before ahead start now stops ended = record {
   barred = λ one. absurd (omega (arith, one, ended.0));
   faulty = λ three. absurd (omega (arith, three, ended.0));
 }
+
+-- a fault does not end with 0
+pub fault_unfinished : (fault : CheckFault) (status : ℕ) (start now : Option (List ℕ)) → IsEndOfCheck fault status start now → status ≡ 0 → ⊥
+fault_unfinished (Objection n why) status start now ended zero = ⊎_elim (λ a. omega (arith, a, zero)) (⊎_elim (λ b. omega (arith, b, zero)) (λ c. omega (arith, c, zero))) ended
+fault_unfinished (Line n) status start now ended zero = omega (arith, zero, ended.0)
+fault_unfinished Limits status start now ended zero = omega (arith, zero, ended.0)
+fault_unfinished Memory status start now ended zero = omega (arith, zero, ended.0)
+fault_unfinished Read status start now ended zero = omega (arith, zero, ended.0)
+
+-- nor does a failure
+pub failed_unfinished : (status : ℕ) → IsOfFailure status → status ≡ 0 → ⊥
+failed_unfinished status failed zero = ⊎_elim (λ a. omega (arith, a, zero)) (⊎_elim (λ b. omega (arith, b, zero)) (λ c. omega (arith, c, zero))) failed

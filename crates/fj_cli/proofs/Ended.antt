@@ -49,12 +49,12 @@ module _ (status : ℕ) (before ahead start now : Option (List ℕ)) where
   status_of_command Replay ends = with_two status ends.known
   status_of_command Upgrade ends = with_two status ends.known
   status_of_command (Compute job) ends = of_job job ends
-  status_of_command (Record job) ends = ⊎_elim (λ zero. inl zero.0) (λ others. inr (inr others)) ends
+  status_of_command (Record job notes) ends = ⊎_elim (λ zero. inl zero.0) (λ others. inr (inr others)) ends
   status_of_command Check ends = of_history ends
   status_of_command Explain ends = with_two status ends
   status_of_command Trace ends = with_two status ends.known
   status_of_command Test ends = ⊎_elim (λ zero. inl zero.0) (λ others. inr (⊎_elim (λ one. inl one) (λ failed. inr (inr failed)) others)) ends
-  status_of_command (View o) ends = ⊎_elim (λ none. inr (inr (inl none.0))) (λ read. of_history read) ends
+  status_of_command (View o) ends = ⊎_elim (λ unread. inr (inr (⊎_elim (λ two. inl two.0) (λ failed. inr failed.0) unread.0))) (λ read. of_history read) ends.0
 
   -- a replay that is asked for does not end by 2, and at 0 the script was replayed
   pub known_of_replay : (asked : Subcommand) → EndsCommand asked status before ahead start now → asked ≡ Replay → (status ≢ 2) × (status ≡ 0 → Replays before ahead start now)

@@ -1,7 +1,7 @@
 -- The command line.
 use Rattle.std.specs.Prelude.{◌≡◌, ◌≢◌, ◌⊎◌, ◌++◌, if◌then◌else◌, List, [], ◌∷◌, codes, true, Option, Some, None, option_map, Result, MatchResult}
 use Rattle.std.specs.Str.{bytes_eq}
-use Rattle.clap.specs.Words.{App, IsAmong, Kinds, Row, Text, fault_of, kind_of, new_app, subcommand_of, with_subcommand}
+use Rattle.clap.specs.Words.{App, IsAmong, Kinds, Row, Text, fault_of, kind_of, new_app, subcommand_of, with_rule, with_subcommand}
 use Rattle.clap.specs.Simple.{on_top}
 use Rattle.clap.specs.declared.error.kind.ErrorKind.{ErrorKind}
 use Rattle.clap.specs.declared.error.Error.{Error}
@@ -9,7 +9,7 @@ use Rattle.clap.specs.declared.error.kind.ErrorKind.TheVariants.{DisplayHelp, Di
 use Rattle.fj_cli.specs.declared.command_line.Subcommand.{Subcommand}
 use Rattle.fj_cli.specs.declared.command_line.Subcommand.TheVariants.{Replay, Upgrade}
 use Rattle.fj_cli.specs.Given.{IsAsked}
-use Rattle.fj_cli.specs.Options.{sum_line, min_line, find_line, tree_line, view_line}
+use Rattle.fj_cli.specs.Options.{file_rule, sum_line, min_line, find_line, tree_line, view_line}
 
 -- the program with its first command
 abbrev pub replay_line : App
@@ -37,7 +37,7 @@ whole_line =
 
 -- the command line from `record` on
 abbrev pub record_line : App
-record_line = with_jobs (on_top (λ top. record top { subcommand_required = true }) (new_app (codes "fj record")))
+record_line = with_jobs (with_rule (on_top (λ top. record top { subcommand_required = true }) (new_app (codes "fj record"))) (file_rule (codes "notes")))
 
 -- the words of a replay
 abbrev pub replay_words : List Text

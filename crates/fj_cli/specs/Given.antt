@@ -66,7 +66,7 @@ abbrev pub GivesOptions : List Row → Subcommand → Type 0
 GivesOptions rows Replay = ⊤
 GivesOptions rows Upgrade = ⊤
 GivesOptions rows (Compute job) = GivesJob rows job
-GivesOptions rows (Record job) = GivesJob rows job
+GivesOptions rows (Record job notes) = GivesJob rows job
 GivesOptions rows Check = ⊤
 GivesOptions rows Trace = ⊤
 GivesOptions rows Test = ⊤
@@ -85,7 +85,7 @@ abbrev pub name_of : Subcommand → Text
 name_of Replay = codes "replay"
 name_of Upgrade = codes "upgrade"
 name_of (Compute job) = job_name job
-name_of (Record job) = codes "record " ++ job_name job
+name_of (Record job notes) = codes "record " ++ job_name job
 name_of Check = codes "check"
 name_of Trace = codes "trace"
 name_of Test = codes "test"

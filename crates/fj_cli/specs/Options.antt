@@ -22,6 +22,10 @@ unbounded_rule name = record (required_rule name 1 4294967295 false) { defaults 
 abbrev pub word_rule : Text → Rule
 word_rule name = record (new_rule name) { long = Some name; action = Some Set; value_names = 1; required = true }
 
+-- an option with a file's name
+abbrev pub file_rule : Text → Rule
+file_rule name = record (new_rule name) { long = Some name; action = Some Set; value_names = 1 }
+
 -- an option without a value: its text is true where it is given, and else false
 abbrev pub flag_rule : Text → Rule
 flag_rule name = record (new_rule name) { long = Some name; action = Some SetTrue }
@@ -54,5 +58,9 @@ find_line = with_rule (with_function (with_range (new_app (codes "find")))) (req
 abbrev pub tree_line : App
 tree_line = with_rule (new_app (codes "tree")) (defaulted_rule (codes "workers") MAX_WORKERS)
 
+-- the options of a view but its notes
+abbrev pub with_window : App → App
+with_window a = with_rule (with_rule (with_rule a (word_rule (codes "as"))) (defaulted_rule (codes "from") 4294967295)) (unbounded_rule (codes "to"))
+
 abbrev pub view_line : App
-view_line = with_rule (with_rule (with_rule (new_app (codes "view")) (word_rule (codes "as"))) (defaulted_rule (codes "from") 4294967295)) (unbounded_rule (codes "to"))
+view_line = with_rule (with_window (new_app (codes "view"))) (file_rule (codes "notes"))

@@ -16,7 +16,9 @@ use Rattle.fj_trace.specs.Traced.{Traces}
 use Rattle.fj_trace.specs.Histories.{IsHistory}
 use Rattle.fj_trace.specs.declared.fault.CheckFault.{CheckFault}
 use Rattle.fj_trace.specs.declared.fault.CheckFault.TheVariants as check
-use Rattle.fj_trace.specs.Checks.{IsChecked, IsBarred, IsFaulty, IsOpenedWrong}
+use Rattle.fj_trace.specs.Checks.{IsChecked, IsReadAs, IsBarred, IsFaulty, IsOpenedWrong}
+use Rattle.fj_rules.specs.Pasts.{Past}
+use Rattle.fj_views.specs.Tables.{table_text}
 use Rattle.fj_cli.specs.declared.command_line.options.ViewName.TheVariants as view
 use Rattle.fj_cli.specs.declared.command_line.options.ViewOptions.{ViewOptions}
 use Rattle.fj_cli.specs.declared.command_line.Subcommand.{Subcommand}
@@ -106,10 +108,31 @@ HasWindow o = (o.from ≢ 1) ⊎ (o.to ≢ 4294967295)
 abbrev pub IsUnviewed : ViewOptions → Type 0
 IsUnviewed o = (o.name ≡ None) ⊎ ((o.name ≢ Some view.Svg) × HasWindow o)
 
--- a view ended with this exit status: 2 where nothing was read or written, since there is no such view
+-- the whole input is a history, and the table of its tasks was written
+abbrev pub IsTabled : Option (List ℕ) → Option (List ℕ) → Option (List ℕ) → Option (List ℕ) → Type 0
+IsTabled before ahead start now = (past : Past) × IsReadAs past before ahead × Appends start now (table_text past.events)
+
+-- the exit status of a command that failed
+abbrev pub IsOfFailure : ℕ → Type 0
+IsOfFailure status = (status ≡ 3) ⊎ ((status ≡ 4) ⊎ (status ≡ 5))
+
+-- a file of notes is named
+abbrev pub HasNotes : ViewOptions → Type 0
+HasNotes o = o.notes ≢ None
+
+-- nothing was read or written: there is no such view, or the file of notes that is named has none
+abbrev pub IsUnread : ViewOptions → ℕ → Type 0
+IsUnread o status = ((status ≡ 2) × IsUnviewed o) ⊎ (IsOfFailure status × HasNotes o)
+
+-- a view ended with this exit status
+abbrev pub EndsAnyView : ViewOptions → ℕ → Option (List ℕ) → Option (List ℕ) → Option (List ℕ) → Option (List ℕ) → Type 0
+EndsAnyView o status before ahead start now =
+    (IsUnread o status × (ahead ≡ before) × (now ≡ start)) ⊎ EndsHistory (λ n. IsWritten start now) status before ahead start now
+
+-- and at 0 the table, if that was asked for, is that of the history
 abbrev pub EndsView : ViewOptions → ℕ → Option (List ℕ) → Option (List ℕ) → Option (List ℕ) → Option (List ℕ) → Type 0
 EndsView o status before ahead start now =
-    ((status ≡ 2) × IsUnviewed o × (ahead ≡ before) × (now ≡ start)) ⊎ EndsHistory (λ n. IsWritten start now) status before ahead start now
+    EndsAnyView o status before ahead start now × (o.name ≡ Some view.Tasks → status ≡ 0 → IsTabled before ahead start now)
 
 -- a trace ended by a fault of this status
 abbrev pub EndsTraceBy : ℕ → Option (List ℕ) → Option (List ℕ) → Option (List ℕ) → Option (List ℕ) → Type 0
@@ -129,10 +152,6 @@ EndsCompute (Sum o) status before ahead start now = (ahead ≡ before) × EndsRa
 EndsCompute (Min o f) status before ahead start now = (ahead ≡ before) × EndsRange o status (least_line (least_of o f)) start now
 EndsCompute (Find o f want) status before ahead start now = (ahead ≡ before) × EndsRange o status (hit_line (hit_of o f want)) start now
 EndsCompute (Tree workers) status before ahead start now = EndsTree status before ahead start now
-
--- the exit status of a command that failed
-abbrev pub IsOfFailure : ℕ → Type 0
-IsOfFailure status = (status ≡ 3) ⊎ ((status ≡ 4) ⊎ (status ≡ 5))
 
 -- a test of a script ended with this exit status: at 0 nothing was written
 abbrev pub EndsTest : ℕ → Option (List ℕ) → Option (List ℕ) → Type 0
@@ -155,7 +174,7 @@ abbrev pub EndsCommand : Subcommand → ℕ → Option (List ℕ) → Option (Li
 EndsCommand Replay status before ahead start now = EndsReplay status before ahead start now
 EndsCommand Upgrade status before ahead start now = EndsUpgrade status before ahead start now
 EndsCommand (Compute job) status before ahead start now = EndsCompute job status before ahead start now
-EndsCommand (Record job) status before ahead start now = EndsRecord status start now
+EndsCommand (Record job notes) status before ahead start now = EndsRecord status start now
 EndsCommand Check status before ahead start now = EndsCheck status before ahead start now
 EndsCommand Trace status before ahead start now = EndsTrace status before ahead start now
 EndsCommand Test status before ahead start now = EndsTest status start now

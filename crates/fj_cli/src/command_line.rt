@@ -32,15 +32,15 @@ pub enum Job {
 
 /// The command to run.
 #[derive(Clone, Copy)]
-pub enum Subcommand {
+pub enum Subcommand<'a> {
     /// The replies to a script on standard input.
     Replay,
     /// A script of version 1 on standard input, as version 2.
     Upgrade,
     /// The value of a job.
     Compute(Job),
-    /// The history of a run of a job.
-    Record(Job),
+    /// The history of a run of a job, and real times in a file of this name.
+    Record(Job, Option<&'a str>),
     /// Whether the history on standard input is one.
     Check,
     /// The history of the run of a script on standard input.
@@ -50,12 +50,12 @@ pub enum Subcommand {
     /// The script on standard input, with its replies and their reasons.
     Explain,
     /// A view of the history on standard input.
-    View(ViewOptions),
+    View(ViewOptions<'a>),
 }
 
 /// Parses the arguments, the first being the program's name. `None` if they ask for no command. An error for a usage error, for help or
 /// the version, or out of memory.
-pub fn read<'a>(alloc: Global, words: &'a [&'a str]) -> Result<Option<Subcommand>, Error>
+pub fn read<'a>(alloc: Global, words: &'a [&'a str]) -> Result<Option<Subcommand<'a>>, Error>
     ensures asked { IfOk result (λ asked. IfSome asked (λ a. Asks (texts words.entry.now) a)) }
     ensures replay { IfOk result (λ asked. (asked ≡ Some Subcommand.Replay) ↔ Names (codes "replay") (texts words.entry.now)) }
     ensures upgrade { IfOk result (λ asked. (asked ≡ Some Subcommand.Upgrade) ↔ Names (codes "upgrade") (texts words.entry.now)) }
@@ -80,14 +80,14 @@ fn recorded<'a>(words: &'a [&'a str]) -> Option<&'a [&'a str]>
 }
 
 /// Parses `record` and the arguments behind it.
-fn read_recorded<'a>(alloc: Global, words: &'a [&'a str]) -> Result<Option<Subcommand>, Error>
+fn read_recorded<'a>(alloc: Global, words: &'a [&'a str]) -> Result<Option<Subcommand<'a>>, Error>
     ensures asked { IfOk result (λ asked. IfSome asked (λ a. IsAsked (option_map recorded_as (subcommand_of record_line (texts words.entry.now))) a)) }
     ensures job { IfOk result (λ asked. (asked ≢ Some Subcommand.Replay) × (asked ≢ Some Subcommand.Upgrade)) }
     ensures fault { IfErr result (λ error. HasKind (fault_of record_line (texts words.entry.now)) error) }
 {
     match record_command(alloc)?.try_get_matches_from(words) {
         Ok(matches) => match asked_job(&matches) {
-            Some(job) => Ok(Some(Subcommand::Record(job))),
+            Some(job) => Ok(Some(Subcommand::Record(job, matches.get_str("notes")))),
             None => Ok(None),
         },
         Err(error) => Err(error),
@@ -95,7 +95,7 @@ fn read_recorded<'a>(alloc: Global, words: &'a [&'a str]) -> Result<Option<Subco
 }
 
 /// Parses the arguments of any other command.
-fn read_plain<'a>(alloc: Global, words: &'a [&'a str]) -> Result<Option<Subcommand>, Error>
+fn read_plain<'a>(alloc: Global, words: &'a [&'a str]) -> Result<Option<Subcommand<'a>>, Error>
     ensures asked { IfOk result (λ asked. IfSome asked (λ a. IsAsked (subcommand_of whole_line (texts words.entry.now)) a)) }
     ensures replay { IfOk result (λ asked. (asked ≡ Some Subcommand.Replay) ↔ (name_in (subcommand_of whole_line (texts words.entry.now)) ≡ Some (codes "replay"))) }
     ensures upgrade { IfOk result (λ asked. (asked ≡ Some Subcommand.Upgrade) ↔ (name_in (subcommand_of whole_line (texts words.entry.now)) ≡ Some (codes "upgrade"))) }
@@ -109,7 +109,7 @@ fn read_plain<'a>(alloc: Global, words: &'a [&'a str]) -> Result<Option<Subcomma
 }
 
 /// The command that the arguments ask for.
-fn asked(matches: &ArgMatches) -> Option<Subcommand>
+fn asked<'a>(matches: &ArgMatches<'a>) -> Option<Subcommand<'a>>
     ensures asked { IfSome result (λ a. IsAsked (subcommand_rows_of matches.now) a) }
     ensures replay { (result ≡ Some Subcommand.Replay) ↔ (subcommand_name_of matches.now ≡ Some (codes "replay")) }
     ensures upgrade { (result ≡ Some Subcommand.Upgrade) ↔ (subcommand_name_of matches.now ≡ Some (codes "upgrade")) }
@@ -124,7 +124,7 @@ fn asked(matches: &ArgMatches) -> Option<Subcommand>
 }
 
 /// The command that the arguments ask for, if it is neither a replay nor an upgrade.
-fn asked_other(matches: &ArgMatches) -> Option<Subcommand>
+fn asked_other<'a>(matches: &ArgMatches<'a>) -> Option<Subcommand<'a>>
     ensures asked { IfSome result (λ a. IsAsked (subcommand_rows_of matches.now) a) }
     ensures other { IfSome result (λ a. (a ≢ Subcommand.Replay) × (a ≢ Subcommand.Upgrade)) }
 {

@@ -95,6 +95,7 @@ pub fn run_find<H: Threads + Wait + Sync, W: Write, E: Write>(
 /// The range in blocks. None where they are more than [`MAX_BLOCKS`].
 pub fn blocks(options: RangeOptions) -> Option<BlockedRange>
     ensures some { IfSome result (λ range. (range.numbers.from ≡ options.from) × (range.numbers.count ≡ count_of options) × (range.grain ≡ options.grain)) }
+    ensures most { MAX_BLOCKS ≡ 200_000 }
     ensures few { IfSome result (λ range. blocks_of options ≤ MAX_BLOCKS) }
     ensures many { IfNone result (MAX_BLOCKS < blocks_of options) }
 {

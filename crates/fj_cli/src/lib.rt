@@ -11,6 +11,7 @@ mod check_command;
 mod command_line;
 mod explain_command;
 mod job_commands;
+mod notes_file;
 mod program;
 mod record_command;
 mod replay_command;

@@ -22,6 +22,7 @@ use clap::error::ErrorKind;
 use fj_streams::flush_whole;
 use std::alloc::Global;
 use std::io::{self, Read, Write};
+use std::rt::{Clock, Files};
 use std::sync::Wait;
 use std::thread::Threads;
 
@@ -30,9 +31,9 @@ use std::thread::Threads;
 /// 0: it was run, or help or the version was asked for and written to `out`. 1: a line of a history may not stand there, or a line of a
 /// script has another reply than the one behind it. 2: a usage error. 3: a fault of the input, or a job that
 /// the pool refused. 4: out of memory. 5: a read or a write failed. For all but 0 a text is sent to `err`, which may fail. `out` is
-/// flushed after a command, and after help or the version; a failed flush gives 5.
+/// flushed after a command, and after help or the version; a failed flush gives 5. A file is opened only where an option names one.
 #[tactic(auto, using(crate::proofs::Answered::shown_asks, crate::proofs::Answered::else_at_fault, crate::proofs::Ended::status_of_command, crate::proofs::Ended::known_of_replay))]
-pub fn fj<H: Threads + Wait + Sync, R: Read, W: Write, E: Write>(
+pub fn fj<H: Threads + Wait + Sync + Files + Clock, R: Read, W: Write, E: Write>(
     rt: &H,
     alloc: Global,
     words: &[&str],
@@ -55,26 +56,26 @@ pub fn fj<H: Threads + Wait + Sync, R: Read, W: Write, E: Write>(
 }
 
 /// Runs the command that is asked for.
-fn run<H: Threads + Wait + Sync, R: Read, W: Write, E: Write>(
+fn run<H: Threads + Wait + Sync + Files + Clock, R: Read, W: Write, E: Write>(
     rt: &H,
     alloc: Global,
-    asked: Subcommand,
+    asked: Subcommand<'_>,
     input: &mut R,
     out: &mut W,
     err: &mut E,
 ) -> u8
-    ensures { EndsCommand asked result (R.remaining input.old) (R.remaining input.new) (W.contents out.old) (W.contents out.new) }
+    ensures { EndsCommand asked.entry result (R.remaining input.old) (R.remaining input.new) (W.contents out.old) (W.contents out.new) }
 {
     match asked {
         Subcommand::Replay => run_replay(alloc, input, out, err),
         Subcommand::Upgrade => run_upgrade(alloc, input, out, err),
         Subcommand::Compute(job) => compute(rt, alloc, job, input, out, err),
-        Subcommand::Record(job) => run_record(rt, alloc, job, input, out, err),
+        Subcommand::Record(job, notes) => run_record(rt, alloc, job, notes, input, out, err),
         Subcommand::Check => run_check(alloc, input, out, err),
         Subcommand::Trace => run_trace(alloc, input, out, err),
         Subcommand::Test => run_test(alloc, input, out, err),
         Subcommand::Explain => run_explain(alloc, input, out, err),
-        Subcommand::View(options) => run_view(alloc, options, input, out, err),
+        Subcommand::View(options) => run_view(rt, alloc, options, input, out, err),
     }
 }
 

@@ -5,72 +5,96 @@ ghost use Rattle.fj_cli.specs.Statuses.{EndsRecord, WritesHistory};
 use crate::answer::{refused, told};
 use crate::command_line::{Job, Workers};
 use crate::job_commands::{TOO_MANY, blocks, limits_of, linear};
+use crate::notes_file::{Watch, create_file, told_of_error};
 use crate::tree_command::told_of_fault;
 use fj_fold::{Nodes, read_tree, record_fold};
-use fj_invoke::{Divide, FirstHit, Open, RangeMin, RangeSum, Settings, record_job};
+use fj_invoke::{BlockedRange, Divide, FirstHit, RangeMin, RangeSum, Settings, record_job};
 use fj_record::{WriteFault, write_history};
 use fj_rules::Mode;
 use fj_run::{Machine, RecordedValue};
 use fj_streams::flush_whole;
 use std::alloc::Global;
 use std::io::{Read, Write};
+use std::rt::{Clock, Files};
 use std::sync::Wait;
 use std::thread::Threads;
 
-/// Runs a job, writes the history of the run, and answers the exit status.
-pub fn run_record<H: Threads + Wait + Sync, R: Read, W: Write, E: Write>(
+/// How many workers a run has, and at most how many tasks.
+#[derive(Clone, Copy)]
+struct Size {
+    workers: Workers,
+    tasks: u64,
+}
+
+impl Size {
+    /// That of a job over a range: a task for each block.
+    fn of_range(workers: Workers, range: &BlockedRange) -> Size {
+        Size {
+            workers,
+            tasks: range.blocks().max(1),
+        }
+    }
+}
+
+/// Runs a job, writes the history of the run, and the times of its tasks to the file of this name, and answers the exit status.
+pub fn run_record<H: Threads + Wait + Sync + Files + Clock, R: Read, W: Write, E: Write>(
     rt: &H,
     alloc: Global,
     job: Job,
+    notes: Option<&str>,
     input: &mut R,
     out: &mut W,
     err: &mut E,
 ) -> u8
     ensures { EndsRecord result (W.contents out.old) (W.contents out.new) }
 {
+    let mut file = match create_file(rt, notes) {
+        Ok(file) => file,
+        Err(error) => return told_of_error(&error, err),
+    };
     match job {
         Job::Sum(options) => match blocks(options) {
-            Some(range) => record(rt, alloc, options.workers, RangeSum { range }, out, err),
+            Some(range) => {
+                let size = Size::of_range(options.workers, &range);
+                record(rt, alloc, size, RangeSum { range }, &mut file, out, err)
+            }
             None => told(err, TOO_MANY, 2),
         },
         Job::Min(options, function) => match blocks(options) {
             Some(range) => {
+                let size = Size::of_range(options.workers, &range);
                 let function = linear(function);
-                record(
-                    rt,
-                    alloc,
-                    options.workers,
-                    RangeMin { range, function },
-                    out,
-                    err,
-                )
+                let job = RangeMin { range, function };
+                record(rt, alloc, size, job, &mut file, out, err)
             }
             None => told(err, TOO_MANY, 2),
         },
         Job::Find(options, function, want) => match blocks(options) {
             Some(range) => {
+                let size = Size::of_range(options.workers, &range);
                 let job = FirstHit {
                     range,
                     function: linear(function),
                     want: u64::from(want),
                 };
-                record(rt, alloc, options.workers, job, out, err)
+                record(rt, alloc, size, job, &mut file, out, err)
             }
             None => told(err, TOO_MANY, 2),
         },
         Job::Tree(workers) => match read_tree(alloc, input) {
-            Ok(nodes) => record_tree(rt, alloc, workers, &nodes, out, err),
+            Ok(nodes) => record_tree(rt, alloc, workers, &nodes, &mut file, out, err),
             Err(fault) => told_of_fault(fault, err),
         },
     }
 }
 
 /// Runs a job over a range, writes the history of the run, and answers the exit status.
-fn record<J: Divide + Send, H: Threads + Wait + Sync, W: Write, E: Write>(
+fn record<J: Divide + Send, H: Threads + Wait + Sync + Files + Clock, W: Write, E: Write>(
     rt: &H,
     alloc: Global,
-    workers: Workers,
+    size: Size,
     job: J,
+    file: &mut Option<H::File>,
     out: &mut W,
     err: &mut E,
 ) -> u8
@@ -79,35 +103,47 @@ where
     J::Out: Send + Drop,
     ensures { EndsRecord result (W.contents out.old) (W.contents out.new) }
 {
-    let settings = Settings::with_limits(limits_of(workers)).in_mode(Mode::Joining);
-    match record_job(rt, alloc, settings, job, &Open) {
-        Ok(run) => told_of_run(alloc, Mode::Joining, run, out, err),
+    let watch = match Watch::new(alloc, rt, file.is_some(), size.tasks) {
+        Ok(watch) => watch,
+        Err(error) => return told_of_error(&error, err),
+    };
+    let settings = Settings::with_limits(limits_of(size.workers)).in_mode(Mode::Joining);
+    match record_job(rt, alloc, settings, job, &watch) {
+        Ok(run) => told_of_run(alloc, Mode::Joining, run, &watch, file, out, err),
         Err(refusal) => refused(refusal, err),
     }
 }
 
 /// Folds the tree, writes the history of the run, and answers the exit status.
-fn record_tree<H: Threads + Wait + Sync, W: Write, E: Write>(
+fn record_tree<H: Threads + Wait + Sync + Files + Clock, W: Write, E: Write>(
     rt: &H,
     alloc: Global,
     workers: Workers,
     nodes: &Nodes,
+    file: &mut Option<H::File>,
     out: &mut W,
     err: &mut E,
 ) -> u8
     ensures { EndsRecord result (W.contents out.old) (W.contents out.new) }
 {
-    match record_fold(rt, alloc, workers.count, nodes, &Open) {
-        Ok(run) => told_of_run(alloc, Mode::Async, run, out, err),
+    let tasks = nodes.as_slice().len() as u64;
+    let watch = match Watch::new(alloc, rt, file.is_some(), tasks) {
+        Ok(watch) => watch,
+        Err(error) => return told_of_error(&error, err),
+    };
+    match record_fold(rt, alloc, workers.count, nodes, &watch) {
+        Ok(run) => told_of_run(alloc, Mode::Async, run, &watch, file, out, err),
         Err(refusal) => refused(refusal, err),
     }
 }
 
 /// Writes the history of a run that has a value, or why it has none, and answers the exit status. Precondition: the pool had this mode.
-fn told_of_run<V: Drop, W: Write, E: Write>(
+fn told_of_run<V: Drop, C: Clock, F: Write, W: Write, E: Write>(
     alloc: Global,
     mode: Mode,
     run: RecordedValue<V>,
+    watch: &Watch<C>,
+    file: &mut Option<F>,
     out: &mut W,
     err: &mut E,
 ) -> u8
@@ -121,18 +157,20 @@ fn told_of_run<V: Drop, W: Write, E: Write>(
     if run.machine.epoch() != 0 {
         return told(err, "the history was sealed\n", 3);
     }
-    match write_run(alloc, mode, &run.machine, out) {
+    match write_run(alloc, mode, &run.machine, watch, file, out) {
         Ok(()) => 0,
         Err(WriteFault::Memory) => told(err, "out of memory\n", 4),
         Err(WriteFault::Write) => told(err, "write failed\n", 5),
     }
 }
 
-/// Writes the history of a machine, and flushes it. Preconditions: it has this mode, and was never sealed.
-fn write_run<W: Write>(
+/// Writes the history of a machine, flushes it, and writes what was watched. Preconditions: it has this mode, and was never sealed.
+fn write_run<C: Clock, F: Write, W: Write>(
     alloc: Global,
     mode: Mode,
     machine: &Machine,
+    watch: &Watch<C>,
+    file: &mut Option<F>,
     out: &mut W,
 ) -> Result<(), WriteFault>
     requires mode { mode ≡ machine.now.pool.mode }
@@ -141,7 +179,7 @@ fn write_run<W: Write>(
 {
     write_history(mode, machine, &[], alloc, out)?;
     match flush_whole(out) {
-        Ok(()) => Ok(()),
+        Ok(()) => watch.write(alloc, file),
         Err(_) => Err(WriteFault::Write),
     }
 }

@@ -1,42 +1,56 @@
 //! The command that writes a view of a history.
-ghost use Rattle.std.specs.Prelude.{◌≡◌, ◌⊎◌, IfSome, OnErr};
-ghost use Rattle.fj_cli.specs.Statuses.{EndsView, HasWindow, IsUnviewed, IsWritten};
+ghost use Rattle.std.specs.Prelude.{◌≡◌, ◌⊎◌, ℕ, List, Some, IfOk, IfSome, OnErr, string_bytes};
+ghost use Rattle.std.specs.Io.KnownBytes.{Appends};
+ghost use Rattle.fj_views.specs.Tables.{table_text};
+ghost use Rattle.fj_cli.specs.Statuses.{EndsView, HasNotes, HasWindow, IsUnviewed, IsWritten};
 
 use crate::answer::{answered, told};
 use crate::check_command::told_of_fault;
 use crate::command_line::{ViewName, ViewOptions};
-use fj_story::{Story, read_story};
+use crate::notes_file::{NoNotes, notes_in, told_of_none};
+use fj_story::{Notes, Story, read_story};
 use fj_views::{Moment, View, Window, write_view};
 use std::alloc::{AllocError, Global};
 use std::io::{Read, Write};
+use std::rt::Files;
 
 const NO_VIEW: &str = "no such view: there are tasks, stats, path, chrome, dot and svg\n";
 
 const NO_PICTURE: &str = "--from and --to are of svg alone\n";
 
-/// Reads a history to its end, writes a view of it, and answers the exit status; of what is no history what a check writes and answers.
-pub fn run_view<R: Read, W: Write, E: Write>(
+/// Reads the notes that the options name and a history, each to its end, writes a view of it, and answers the exit status; of what is no
+/// history what a check writes and answers.
+pub fn run_view<F: Files, R: Read, W: Write, E: Write>(
+    files: &F,
     alloc: Global,
-    options: ViewOptions,
+    options: ViewOptions<'_>,
     input: &mut R,
     out: &mut W,
     err: &mut E,
 ) -> u8
-    ensures { EndsView options result (R.remaining input.old) (R.remaining input.new) (W.contents out.old) (W.contents out.new) }
+    ensures { EndsView options.entry result (R.remaining input.old) (R.remaining input.new) (W.contents out.old) (W.contents out.new) }
 {
     let view = match view_of(options) {
         Ok(view) => view,
         Err(text) => return told(err, text, 2),
     };
+    let notes = match notes_of(files, alloc, options) {
+        Ok(notes) => notes,
+        Err(none) => return told_of_none(none, err),
+    };
     match read_story(alloc, input) {
-        Ok(story) => shown(text_of(alloc, &story, view), out, err),
+        Ok(mut story) => {
+            story.set_notes(notes);
+            shown(text_of(alloc, &story, view), out, err)
+        }
         Err(fault) => told_of_fault(alloc, fault, out, err),
     }
 }
 
 /// The view that the options ask for. An error, in words, if they name none, or a window for one that is no picture.
-fn view_of(options: ViewOptions) -> Result<View, &'static str>
-    ensures { OnErr result (IsUnviewed options) }
+fn view_of(options: ViewOptions<'_>) -> Result<View, &'static str>
+    ensures tasks { IfOk result (λ view. options.entry.name ≡ Some ViewName.Tasks → view ≡ View.Tasks) }
+    ensures none { OnErr result (IsUnviewed options.entry) }
 {
     let Some(name) = options.name else {
         return Err(NO_VIEW);
@@ -53,8 +67,8 @@ fn view_of(options: ViewOptions) -> Result<View, &'static str>
 }
 
 /// The window that the options ask for. None for all events.
-fn window_of(options: ViewOptions) -> Option<Window>
-    ensures { IfSome result (λ window. HasWindow options) }
+fn window_of(options: ViewOptions<'_>) -> Option<Window>
+    ensures { IfSome result (λ window. HasWindow options.entry) }
 {
     if options.from == 1 && options.to == u32::MAX {
         return None;
@@ -65,8 +79,20 @@ fn window_of(options: ViewOptions) -> Option<Window>
     })
 }
 
+/// The notes that the options name, none if they name no file.
+fn notes_of<F: Files>(files: &F, alloc: Global, options: ViewOptions<'_>) -> Result<Notes, NoNotes>
+    ensures { OnErr result (HasNotes options.entry) }
+{
+    match options.notes {
+        Some(name) => notes_in(files, alloc, name),
+        None => Ok(Notes::new(alloc)),
+    }
+}
+
 /// The text of a view. An error only if out of memory: nothing else fails in a text.
-fn text_of(alloc: Global, story: &Story, view: View) -> Result<String, AllocError> {
+fn text_of(alloc: Global, story: &Story, view: View) -> Result<String, AllocError>
+    ensures { view ≡ View.Tasks → IfOk result (λ text. string_bytes text ≡ table_text story.now.events) }
+{
     let mut text = String::new(alloc);
     match write_view(alloc, story, view, &mut text) {
         Ok(()) => Ok(text),
@@ -78,6 +104,7 @@ fn text_of(alloc: Global, story: &Story, view: View) -> Result<String, AllocErro
 fn shown<W: Write, E: Write>(text: Result<String, AllocError>, out: &mut W, err: &mut E) -> u8
     ensures status { (result ≡ 0) ⊎ ((result ≡ 4) ⊎ (result ≡ 5)) }
     ensures written { result ≡ 0 → IsWritten (W.contents out.old) (W.contents out.new) }
+    ensures text { (bytes : List ℕ) → IfOk text (λ s. string_bytes s ≡ bytes) → result ≡ 0 → Appends (W.contents out.old) (W.contents out.new) bytes }
 {
     match text {
         Ok(text) => answered(Ok(text), out, err),

@@ -14,6 +14,3 @@ mod test_script;
 pub use fault::TestFault;
 pub use mismatch::Mismatch;
 pub use test_script::test;
-
-#[cfg(test)]
-mod tests;

@@ -21,6 +21,3 @@ pub use fault::ExplainFault;
 pub use flaw::Flaw;
 pub use heading::LimitFlaw;
 pub use script::explain;
-
-#[cfg(test)]
-mod tests;

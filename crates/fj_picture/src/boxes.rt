@@ -1,4 +1,5 @@
 //! The boxes of bodies and completion actions.
+use crate::escaped::Escaped;
 use crate::fill::Fill;
 use crate::page::{Band, Page};
 use crate::px::{BOX, Px, ROW};
@@ -53,7 +54,7 @@ fn place_of(story: &Story, page: &Page, band: &Band, stretch: &Stretch) -> Optio
     })
 }
 
-/// A box, its number where that has room, and its title.
+/// A box, its name where that has room, and its title.
 fn write_box<W: fmt::Write>(
     story: &Story,
     stretch: &Stretch,
@@ -61,7 +62,7 @@ fn write_box<W: fmt::Write>(
     out: &mut W,
 ) -> fmt::Result {
     write_shape(story, stretch, place, out)?;
-    write_number(stretch.work.task(), place, out)?;
+    write_name(story, stretch.work.task(), place, out)?;
     write_box_title(story, stretch, out)?;
     out.write_str("</g>\n")
 }
@@ -90,32 +91,52 @@ fn write_shape<W: fmt::Write>(
     )
 }
 
-/// The number of the task: at the beginning of a long box, in the middle of a short one.
-fn write_number<W: fmt::Write>(n: u64, place: BoxPlace, out: &mut W) -> fmt::Result {
-    let needed = text_width(n);
-    let y = place.top.plus(Px(112));
-    if place.goes_on {
-        if place.width >= needed.plus(Px(100)) {
-            let x = place.x.plus(Px(40));
-            write!(
-                out,
-                "<text x=\"{x}\" y=\"{y}\" class=\"m z\">\u{2039} {n}</text>"
-            )?;
-        }
-    } else if place.width > Px(700) {
-        let x = place.x.plus(Px(50));
-        write!(out, "<text x=\"{x}\" y=\"{y}\" class=\"m\">{n}</text>")?;
-    } else if place.width >= needed {
-        let x = place.x.plus(place.width.half());
-        write!(out, "<text x=\"{x}\" y=\"{y}\" class=\"c\">{n}</text>")?;
+/// How the task is called, or its number where that has no room or the task no name.
+fn write_name<W: fmt::Write>(story: &Story, t: u64, place: BoxPlace, out: &mut W) -> fmt::Result {
+    if let Some(label) = story.label_of(t)
+        && write_text(&Escaped(label), text_width(label.len() as u64), place, out)?
+    {
+        return Ok(());
     }
+    write_text(&t, number_width(t), place, out)?;
     Ok(())
 }
 
+/// A text of this width, if it has room: at the beginning of a long box, in the middle of a short one.
+fn write_text<T: fmt::Display, W: fmt::Write>(
+    text: &T,
+    needed: Px,
+    place: BoxPlace,
+    out: &mut W,
+) -> Result<bool, fmt::Error> {
+    let y = place.top.plus(Px(112));
+    if place.goes_on {
+        if place.width < needed.plus(Px(100)) {
+            return Ok(false);
+        }
+        let x = place.x.plus(Px(40));
+        write!(
+            out,
+            "<text x=\"{x}\" y=\"{y}\" class=\"m z\">\u{2039} {text}</text>"
+        )?;
+    } else if place.width > needed.max(Px(700)) {
+        let x = place.x.plus(Px(50));
+        write!(out, "<text x=\"{x}\" y=\"{y}\" class=\"m\">{text}</text>")?;
+    } else if place.width >= needed {
+        let x = place.x.plus(place.width.half());
+        write!(out, "<text x=\"{x}\" y=\"{y}\" class=\"c\">{text}</text>")?;
+    } else {
+        return Ok(false);
+    }
+    Ok(true)
+}
+
 /// The width of a number in a box.
-fn text_width(n: u64) -> Px {
-    let digits = n.checked_ilog10().unwrap_or(0);
-    Px(62)
-        .times(u64::from(digits).saturating_add(1))
-        .plus(Px(30))
+fn number_width(n: u64) -> Px {
+    text_width(u64::from(n.checked_ilog10().unwrap_or(0)).saturating_add(1))
+}
+
+/// The width of so many characters in a box.
+fn text_width(characters: u64) -> Px {
+    Px(62).times(characters).plus(Px(30))
 }

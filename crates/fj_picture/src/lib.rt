@@ -2,6 +2,7 @@
 #![tactic(auto)]
 
 mod boxes;
+mod escaped;
 mod fill;
 mod forks;
 mod lanes;

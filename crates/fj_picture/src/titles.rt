@@ -1,4 +1,5 @@
 //! A box in words, for who points at it.
+use crate::escaped::Escaped;
 use fj_rules::Owner;
 use fj_story::{Story, Stretch, TaskStory, Work};
 use std::fmt;
@@ -18,10 +19,11 @@ pub fn write_box_title<W: fmt::Write>(
             write_task(story, t, out)?;
             write!(out, ", ran on worker {worker} from {from} to {to}")?;
         }
-        Work::Hook(c) => write!(
-            out,
-            "completion action of {c}, on worker {worker} from {from} to {to}"
-        )?,
+        Work::Hook(c) => {
+            write!(out, "completion action of {c}")?;
+            write_label(story, c, out)?;
+            write!(out, ", on worker {worker} from {from} to {to}")?;
+        }
     }
     out.write_str("</title>")
 }
@@ -37,13 +39,23 @@ fn write_task<W: fmt::Write>(story: &Story, t: u64, out: &mut W) -> fmt::Result 
         "task"
     };
     let status = task.status;
-    write!(out, "{kind} {t}: {status}, ")?;
+    write!(out, "{kind} {t}")?;
+    write_label(story, t, out)?;
+    write!(out, ": {status}, ")?;
     write_origin(story, task, out)?;
     if let Some(home) = task.stolen_from() {
         write!(out, ", stolen from worker {home}")?;
     }
     match task.kind.parent() {
         Some(p) => write!(out, ", parent {}", p.0),
+        None => Ok(()),
+    }
+}
+
+/// How a task is called, behind its number.
+fn write_label<W: fmt::Write>(story: &Story, t: u64, out: &mut W) -> fmt::Result {
+    match story.label_of(t) {
+        Some(label) => write!(out, " {}", Escaped(label)),
         None => Ok(()),
     }
 }

@@ -8,6 +8,3 @@ mod writing;
 
 pub use fault::WriteFault;
 pub use history::write_history;
-
-#[cfg(test)]
-mod tests;

@@ -15,21 +15,23 @@ mod moment;
 mod queues;
 mod ratio;
 mod reading;
+mod row;
 mod story;
 mod stretch;
+mod table;
 mod task;
+mod timeline;
 mod worker;
 
+pub use fj_notes::{Milestone, Notes, NotesFault, read_notes};
 pub use fj_trace::CheckFault;
 pub use mark::{Mark, What};
 pub use moment::Moment;
 pub use queues::Most;
 pub use ratio::share;
 pub use reading::read_story;
+pub use row::{TaskMoments, TaskRow};
 pub use story::Story;
 pub use stretch::{Ended, Stretch, Turn, Work};
 pub use task::{Fired, Fork, Taken, TaskStory};
 pub use worker::WorkerStory;
-
-#[cfg(test)]
-mod tests;

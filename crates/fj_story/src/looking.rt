@@ -1,4 +1,5 @@
-ghost use Rattle.std.specs.Prelude.{◌≡◌, Some, OnOk, IfErr, true};
+ghost use Rattle.std.specs.Prelude.{◌≡◌, ℕ, Some, OnOk, IfErr, true};
+ghost use Rattle.fj_rules.specs.Pasts.{Past};
 ghost use Rattle.fj_history.specs.declared.read.TheConstants.{MAX_ENTRY};
 ghost use Rattle.fj_trace.specs.declared.history_check.HistoryCheck.TheVariants as check;
 ghost use Rattle.fj_trace.specs.LongLines.{too_long};
@@ -13,7 +14,7 @@ use fj_trace::{HistoryStop, check_line, read_heading};
 use std::alloc::Global;
 use std::marker::Model;
 
-/// Behind the heading of a history: what has happened so far, how many events that are, and its story.
+/// Behind the heading of a history: what has happened so far, how many events that are, and their story.
 #[derive(Drop)]
 struct Seen {
     checker: Checker,
@@ -24,11 +25,13 @@ struct Seen {
 impl Seen {
     /// Handles a line behind the heading.
     fn go_on(&mut self, alloc: Global, line: &[u8]) -> Result<(), LineStop<HistoryStop>>
+        requires { self.old.story ≡ self.old.checker }
         ensures next { OnOk result (after (check.Going self.old.checker self.old.events) line.now ≡ Some (check.Going self.new.checker self.new.events)) }
+        ensures same { OnOk result (self.new.story ≡ self.new.checker) }
         ensures err { IfErr result (IsEntryStop self.old.checker line.now) }
     {
         match check_line(alloc, &mut self.checker, &mut self.events, line) {
-            Ok(entry) => match self.story.tell(&entry) {
+            Ok(entry) => match self.story.tell(&entry, &self.checker) {
                 Ok(()) => Ok(()),
                 Err(_) => Err(LineStop::Memory),
             },
@@ -37,7 +40,7 @@ impl Seen {
     }
 }
 
-/// The state of reading a history. Contracts see the state of its check.
+/// The state of reading a history. Contracts see the state of its check. An error lets go of what was read.
 #[derive(Drop)]
 pub struct Looking {
     /// None before the heading.
@@ -45,6 +48,7 @@ pub struct Looking {
 }
 
 impl Model for Looking {
+    ghost use Rattle.std.specs.Prelude.{◌≡◌, IfSome};
     ghost use Rattle.std.specs.Option.{option_map_or};
     ghost use Rattle.fj_trace.specs.declared.history_check.HistoryCheck.{HistoryCheck};
     ghost use Rattle.fj_trace.specs.declared.history_check.HistoryCheck.TheVariants.{Start, Going};
@@ -52,6 +56,8 @@ impl Model for Looking {
     ghost Value = { HistoryCheck };
 
     ghost view = { λ s. option_map_or (λ seen. Going seen.checker seen.events) s.seen Start };
+
+    ghost invariant = { λ s. IfSome s.seen (λ seen. seen.story ≡ seen.checker) };
 }
 
 impl LineFilter for Looking {
@@ -73,10 +79,16 @@ impl LineFilter for Looking {
     ) -> Result<(), LineStop<HistoryStop>> {
         // Nothing is written.
         let _ = w;
-        let Some(seen) = &mut self.seen else {
+        let Some(mut seen) = self.seen.take() else {
             return self.begin(alloc, line);
         };
-        seen.go_on(alloc, line)
+        match seen.go_on(alloc, line) {
+            Ok(()) => {
+                self.seen = Some(seen);
+                Ok(())
+            }
+            Err(stop) => Err(stop),
+        }
     }
 
     fn has_heading(&self) -> bool {
@@ -101,7 +113,7 @@ impl Looking {
         let Ok(checker) = Checker::new(alloc, mode, limits) else {
             return Err(LineStop::Memory);
         };
-        let Ok(story) = Story::new(alloc, mode, limits) else {
+        let Ok(story) = Story::new(alloc, mode, limits, &checker) else {
             return Err(LineStop::Memory);
         };
         self.seen = Some(Seen {
@@ -115,6 +127,7 @@ impl Looking {
     /// The story, behind the heading.
     pub fn into_story(self) -> Story
         requires { has_heading self ≡ true }
+        ensures { (past : Past) (n : ℕ) → self ≡ check.Going past n → result ≡ past }
     {
         match self.seen {
             Some(seen) => seen.story,

@@ -1,6 +1,6 @@
-ghost use Rattle.std.specs.Prelude.{ℕ, IfOk, IfErr, OnOk};
+ghost use Rattle.std.specs.Prelude.{IfOk, IfErr, OnOk};
 ghost use Rattle.fj_streams.specs.Calls.{IsFine};
-ghost use Rattle.fj_trace.specs.Checks.{IsChecked, StopsCheck};
+ghost use Rattle.fj_trace.specs.Checks.{IsReadAs, StopsCheck};
 
 use crate::looking::Looking;
 use crate::story::Story;
@@ -13,7 +13,7 @@ use std::alloc::Global;
 ///
 /// It fails as `check` does, at the same line. Memory for the story may be refused, too.
 pub fn read_story<R: Source>(alloc: Global, r: &mut R) -> Result<Story, CheckFault>
-    ensures ok { OnOk result ((n : ℕ) × IsChecked n (R.remaining r.old) (R.remaining r.new)) }
+    ensures ok { IfOk result (λ story. IsReadAs story (R.remaining r.old) (R.remaining r.new)) }
     ensures err { IfErr result (StopsCheck (R.remaining r.old) (R.remaining r.new)) }
     ensures fine { OnOk result (IsFine (R.calls r.old) (R.calls r.new)) }
 {

@@ -29,7 +29,6 @@ pub struct Fired {
     pub how: How,
     /// The stretch in which it ran.
     pub stretch: Option<usize>,
-    pub hooked: Option<Moment>,
 }
 
 /// What a history says of a task.
@@ -41,14 +40,8 @@ pub struct TaskStory {
     pub accepted: Moment,
     pub forked: Option<Fork>,
     pub taken: Option<Taken>,
-    /// When its body ended.
-    pub ended: Option<Moment>,
     pub fired: Option<Fired>,
-    /// When a climb passed it.
-    pub passed: Option<Moment>,
     pub status: Status,
-    pub pending: u64,
-    pub released: Option<Moment>,
 }
 
 impl TaskStory {
@@ -65,12 +58,8 @@ impl TaskStory {
             accepted: at,
             forked,
             taken: None,
-            ended: None,
             fired: None,
-            passed: None,
             status: Status::Undone,
-            pending: u64::from(kind.count()),
-            released: None,
         }
     }
 
@@ -102,24 +91,6 @@ impl TaskStory {
         match &self.queue {
             Some(Owner::Work(w)) => Some(w.0 as usize),
             Some(Owner::Sub(_)) | None => None,
-        }
-    }
-
-    /// Whether it was fired, passed or done.
-    fn is_spent(&self) -> bool {
-        self.fired.is_some() || self.passed.is_some() || !self.status.is_undone()
-    }
-
-    /// Where it is: `queued`, `held`, `open` or `gone`.
-    pub fn place(&self) -> &'static str {
-        if self.queue.is_some() && self.taken.is_none() {
-            "queued"
-        } else if self.stretch().is_some() && self.ended.is_none() {
-            "held"
-        } else if self.kind.is_completer() && !self.is_skipped() && !self.is_spent() {
-            "open"
-        } else {
-            "gone"
         }
     }
 

@@ -19,7 +19,7 @@ use Rattle.fj_trace.specs.declared.history_stop.HistoryStop.{HistoryStop}
 use Rattle.fj_trace.specs.declared.history_stop.HistoryStop.TheVariants as stop
 use Rattle.fj_trace.specs.Entries.{past_from, event_count}
 use Rattle.fj_trace.specs.Histories.{AreHistory}
-use Rattle.fj_trace.specs.Checks.{IsChecked, AreGood, IsNoEntry, IsFaulty, FaultMeans, StopsCheck}
+use Rattle.fj_trace.specs.Checks.{IsChecked, IsReadAs, AreGood, IsNoEntry, IsFaulty, FaultMeans, StopsCheck}
 use Rattle.fj_filter.specs.declared.fault.LineStop.{LineStop}
 use Rattle.fj_filter.specs.declared.fault.LineStop.TheVariants as fails
 use Rattle.fj_trace.specs.Rules.{check_rules, has_heading, StopsHere, IsStopAt, IsEntryStop, check_fault, events_in}
@@ -59,6 +59,37 @@ checked last before ahead start now done =
       whole = end.whole;
       history = record { pool = found.0; entries = found.1; lines = found.2; ended = end.input.ended; count = ap events_in found.3 };
     }
+
+-- the same, with the entries and what has happened after them
+pub read_as : (past : Past) (n : ℕ) (before ahead start now : Option (List ℕ)) → Finishes check_rules Start (Going past n) before ahead start now → IsReadAs past before ahead
+read_as past n before ahead begin now done =
+    let b = done.0 in
+    let end = done.1 in
+    let found = headed (lines b) (Going past n) (leads (lines b) (Going past n) end.input.good) end.input.headed in
+    record {
+      bytes = b;
+      read = end.read;
+      whole = end.whole;
+      pool = found.0;
+      entries = found.1;
+      lines = found.2;
+      ended = end.input.ended;
+      after = same past (past_from (start found.0) found.1) n (event_count found.1) found.3;
+    }
+  where
+    same : (a b : Past) (m k : ℕ) → Going a m ≡ Going b k → a ≡ b
+    same a b m k is = cc
+
+pub read_checked : (past : Past) (before ahead : Option (List ℕ)) → IsReadAs past before ahead → (n : ℕ) × IsChecked n before ahead
+read_checked past before ahead is = (
+  event_count is.entries,
+  record {
+    bytes = is.bytes;
+    read = is.read;
+    whole = is.whole;
+    history = record { pool = is.pool; entries = is.entries; lines = is.lines; ended = is.ended; count = refl };
+  },
+)
 
 -- ---- at a fault
 

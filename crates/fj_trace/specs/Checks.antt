@@ -2,6 +2,7 @@
 use Rattle.std.specs.Prelude.{ℕ, ◌≡◌, ◌≢◌, ◌+◌, ◌<◌, ◌⊎◌, ⊤, List, [], ◌∷◌, ◌++◌, Option, Some, None, length}
 use Rattle.std.specs.Io.KnownBytes.{Consumes, IsAtEnd}
 use Rattle.fj_rules.specs.Bounds.{Pool}
+use Rattle.fj_rules.specs.Pasts.{Past}
 use Rattle.fj_history.specs.declared.entry.Entry.{Entry}
 use Rattle.fj_history.specs.declared.read.TheConstants.{MAX_ENTRY}
 use Rattle.fj_history.specs.Entries.{entry_in}
@@ -20,6 +21,17 @@ pub record IsChecked (n : ℕ) (before ahead : Option (List ℕ)) : Type 0 where
   pub read : Consumes before ahead bytes
   pub whole : IsAtEnd ahead
   pub history : IsHistory bytes n
+
+-- these bytes are the whole input, and a history of this pool and these entries, and this is what has happened after them
+pub record IsReadAs (past : Past) (before ahead : Option (List ℕ)) : Type 0 where
+  pub bytes : List ℕ
+  pub read : Consumes before ahead bytes
+  pub whole : IsAtEnd ahead
+  pub pool : Pool
+  pub entries : List Entry
+  pub lines : AreHistory (lines bytes) pool entries
+  pub ended : rest bytes ≡ []
+  pub after : past ≡ past_from (start pool) entries
 
 -- the lines before this one are a history, and this one is the line of an entry that may not come
 pub record IsBarred (n : ℕ) (b : List ℕ) : Type 0 where

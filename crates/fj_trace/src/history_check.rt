@@ -2,6 +2,7 @@ ghost use Rattle.std.specs.Prelude.{◌≡◌, ℕ, Some, IfOk, IfErr, OnOk};
 ghost use Rattle.fj_history.specs.declared.read.TheConstants.{MAX_ENTRY};
 ghost use Rattle.fj_replay.specs.Stages.{pool_in, start};
 ghost use Rattle.fj_history.specs.declared.entry.Entry.{Entry as EntryCase};
+ghost use Rattle.fj_trace.specs.Entries.{MayCome, past_after};
 ghost use Rattle.fj_trace.specs.Rules.{after, came, check_rules, IsHeadStop, IsEntryStop, IsStopAt};
 ghost use Rattle.fj_trace.specs.LongLines.{too_long};
 
@@ -116,6 +117,8 @@ pub fn check_line(
     line: &[u8],
 ) -> Result<Entry, LineStop<HistoryStop>>
     ensures next { OnOk result (after (HistoryCheck.Going checker.old events.old) line.now ≡ Some (HistoryCheck.Going checker.new events.new)) }
+    ensures may { IfOk result (λ entry. MayCome checker.old entry) }
+    ensures past { IfOk result (λ entry. checker.new ≡ past_after checker.old entry) }
     ensures err { IfErr result (IsEntryStop checker.old line.now) }
 {
     let Ok(entry) = read_entry(line) else {
@@ -135,6 +138,8 @@ fn append(
     event: &Event,
 ) -> Result<(), LineStop<HistoryStop>>
     ensures next { OnOk result (came checker.old events.old (EntryCase.Event event.now) ≡ Some (HistoryCheck.Going checker.new events.new)) }
+    ensures may { OnOk result (MayCome checker.old (EntryCase.Event event.now)) }
+    ensures past { OnOk result (checker.new ≡ past_after checker.old (EntryCase.Event event.now)) }
     ensures err { IfErr result (IsStopAt checker.old (EntryCase.Event event.now)) }
 {
     if let Err(objection) = checker.may_follow(event) {
@@ -155,6 +160,8 @@ fn append(
 /// Seals a part, if it may be sealed.
 fn seal(alloc: Global, checker: &mut Checker) -> Result<(), LineStop<HistoryStop>>
     ensures next { (n : ℕ) → OnOk result (came checker.old n EntryCase.Seal ≡ Some (HistoryCheck.Going checker.new n)) }
+    ensures may { OnOk result (MayCome checker.old EntryCase.Seal) }
+    ensures past { OnOk result (checker.new ≡ past_after checker.old EntryCase.Seal) }
     ensures err { IfErr result (IsStopAt checker.old EntryCase.Seal) }
 {
     if let Err(objection) = checker.may_seal() {

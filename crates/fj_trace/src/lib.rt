@@ -14,6 +14,3 @@ pub use fault::CheckFault;
 pub use history_check::{HistoryCheck, check_line, read_heading};
 pub use history_stop::HistoryStop;
 pub use trace_script::trace;
-
-#[cfg(test)]
-mod tests;

@@ -1,0 +1,2 @@
+-- the lines of one task more
+pub mod Lines

@@ -1,0 +1,2 @@
+-- the text of the table of tasks
+pub mod Tables

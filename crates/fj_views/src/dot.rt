@@ -1,6 +1,6 @@
 //! The trees of completers, for Graphviz.
 use fj_rules::{How, Status};
-use fj_story::{Story, TaskStory};
+use fj_story::{Story, TaskRow};
 use std::fmt;
 
 /// Writes the completers as a graph in the language DOT, each below its parent: a box with its number, its pending count, and how it went. A
@@ -12,62 +12,78 @@ pub fn write_dot<W: fmt::Write>(story: &Story, out: &mut W) -> fmt::Result {
         "  node [shape=box, style=\"rounded,filled\", fontname=\"Helvetica\", fontsize=10, color=\"#5b6675\"];\n",
     )?;
     out.write_str("  edge [color=\"#8a94a3\", arrowsize=0.6];\n")?;
-    for (n, task) in story.tasks().iter().enumerate() {
-        if task.kind.is_completer() {
-            write_node(out, n as u64, task)?;
+    for (n, row) in story.rows().iter().enumerate() {
+        if row.kind.is_completer() {
+            write_node(story, n as u64, row, out)?;
         }
     }
     out.write_str("}\n")
 }
 
 /// A completer, and the edge from its parent.
-fn write_node<W: fmt::Write>(out: &mut W, n: u64, task: &TaskStory) -> fmt::Result {
-    let pending = task.pending;
-    let went = went(task);
-    let status = task.status;
-    let fill = fill(task);
+fn write_node<W: fmt::Write>(story: &Story, n: u64, row: &TaskRow, out: &mut W) -> fmt::Result {
+    let pending = row.pending;
+    let went = went(story, n, row);
+    let status = row.status;
+    let fill = fill(row);
+    write!(out, "  t{n} [label=\"{n}")?;
+    if let Some(label) = story.label_of(n) {
+        out.write_str(" ")?;
+        write_quoted(label, out)?;
+    }
     write!(
         out,
-        "  t{n} [label=\"{n}\\ncount {pending}, {went}\\n{status}\", fillcolor=\"{fill}\""
+        "\\ncount {pending}, {went}\\n{status}\", fillcolor=\"{fill}\""
     )?;
-    if task.queue.is_none() {
+    if row.queue.is_none() {
         out.write_str(", shape=diamond, style=filled")?;
     }
-    if !task.kind.relays() {
+    if !row.kind.relays() {
         out.write_str(", peripheries=2")?;
     }
     out.write_str("];\n")?;
-    match task.kind.parent() {
+    match row.kind.parent() {
         Some(p) => writeln!(out, "  t{} -> t{n};", p.0),
         None => Ok(()),
     }
 }
 
+/// A text within quotes.
+fn write_quoted<W: fmt::Write>(text: &str, out: &mut W) -> fmt::Result {
+    for c in text.chars() {
+        if c == '"' || c == '\\' {
+            out.write_char('\\')?;
+        }
+        out.write_char(c)?;
+    }
+    Ok(())
+}
+
 /// Whether its action was handed out.
-fn went(task: &TaskStory) -> &'static str {
-    match &task.fired {
-        Some(fired) => match &fired.how {
+fn went(story: &Story, n: u64, row: &TaskRow) -> &'static str {
+    if let Some(task) = story.task(n)
+        && let Some(fired) = task.fired
+    {
+        return match fired.how {
             How::Zero => "fired",
             How::Complete => "complete",
-        },
-        None => {
-            if task.passed.is_some() {
-                "passed"
-            } else {
-                "not fired"
-            }
-        }
+        };
+    }
+    if row.at.passed.is_some() {
+        "passed"
+    } else {
+        "not fired"
     }
 }
 
 /// Its colour.
-fn fill(task: &TaskStory) -> &'static str {
-    match &task.status {
+fn fill(row: &TaskRow) -> &'static str {
+    match &row.status {
         Status::Normal => "#d6efdc",
         Status::Exceptional(_) => "#f9d3d3",
         Status::Cancelled => "#e3e5e8",
         Status::Undone => {
-            if task.fired.is_some() || task.passed.is_some() {
+            if row.at.fired.is_some() || row.at.passed.is_some() {
                 "#e8eef7"
             } else {
                 "#fff3d1"

@@ -1,16 +1,17 @@
 //! Views of a history: a table of its tasks, counts, the path that decided its end, a trace for Perfetto and Chrome, the trees of its
 //! completers, and the picture of `fj_picture`.
 //!
-//! Each is written of a [`Story`], which is told the entries of the history.
+//! Each is written of a [`Story`]. Contracts see the text of the table.
 //!
 //! ```
-//! story.tell(&entry)?;
-//! write_stats(&story, &mut text)?;
+//! let story = read_story(alloc, &mut input)?;
+//! write_tasks(&story, &mut text)?;
 //! ```
 #![tactic(auto)]
 
 mod chrome;
 mod dot;
+mod label;
 mod path;
 mod stats;
 mod tasks;
@@ -24,6 +25,3 @@ pub use path::write_path;
 pub use stats::write_stats;
 pub use tasks::write_tasks;
 pub use view::{View, write_view};
-
-#[cfg(test)]
-mod tests;

@@ -3,7 +3,7 @@ mod link;
 mod walk;
 
 use fj_story::Story;
-use link::{Link, LinkKind};
+use link::{Link, LinkKind, write_link};
 use std::alloc::Global;
 use std::fmt;
 
@@ -17,7 +17,7 @@ pub fn write_path<W: fmt::Write>(alloc: Global, story: &Story, out: &mut W) -> f
     let links = walk::links(alloc, story)?;
     write_sums(links.as_slice(), out)?;
     for link in links.iter().rev() {
-        writeln!(out, "{link}")?;
+        write_link(story, link, out)?;
     }
     Ok(())
 }

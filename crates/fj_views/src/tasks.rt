@@ -1,102 +1,170 @@
 //! A line for each task. No cell has a space in it, so that a column can be cut out and sorted by.
-use fj_rules::{Owner, Status};
-use fj_story::{Moment, Story, TaskStory};
+ghost use Rattle.std.specs.Prelude.{◌≡◌, ◌++◌, ◌∷◌, [], Some, OnOk};
+ghost use Rattle.std.specs.Fmt.{WritesInCalls, WritesOnOk};
+ghost use Rattle.fj_rules.specs.Tasks.{parent_in};
+ghost use Rattle.fj_views.specs.Tables.{begin_text, cell, end_text, kind_cell, line_text, lines_from, place_cell, queue_cell, status_cell, table_of, table_text, what_text, who_text};
+
+use fj_rules::{Owner, Place, Serial, Status, WorkerId};
+use fj_story::{Story, TaskMoments, TaskRow};
 use std::fmt;
 
 /// Writes a table with a line for each task, by number: what it is, how far it has come, who took it, and at which events it was accepted,
 /// taken, ended, fired or passed, its action ended, and it was released. A dash stands for what is not there. An error where the writer
 /// fails.
-pub fn write_tasks<W: fmt::Write>(story: &Story, out: &mut W) -> fmt::Result {
-    out.write_str(
-        "  task  kind       parent  count  place   status                  queue    worker",
-    )?;
-    out.write_str("     acc     out     end    fire    pass  hooked     rel\n")?;
-    for (n, task) in story.tasks().iter().enumerate() {
-        write_what(out, n as u64, task)?;
-        write_owner(out, task)?;
-        write_begin(out, task)?;
-        write_end(out, task)?;
+pub fn write_tasks<W: fmt::Write>(story: &Story, out: &mut W) -> fmt::Result
+    ensures { OnOk result (WritesInCalls W.write_str_gives out.old (table_text story.now.events) out.new) }
+{
+    write!(out, "{}", Table(story.rows()))
+}
+
+/// The table of these rows.
+#[derive(Drop)]
+struct Table<'a>(&'a [TaskRow]);
+
+impl fmt::Display for Table<'_> {
+    ghost output = { λ t. Some (table_of t.0.now) };
+
+    fn fmt<W: fmt::Write>(&self, f: &mut fmt::Formatter<W>) -> fmt::Result {
+        f.write_str(
+            "  task  kind       parent  count  place   status                  queue    worker",
+        )?;
+        f.write_str("     acc     out     end    fire    pass  hooked     rel\n")?;
+        write_lines(f, self.0)
+    }
+}
+
+/// The lines of tasks that are numbered from 0.
+fn write_lines<W: fmt::Write>(f: &mut fmt::Formatter<W>, rows: &[TaskRow]) -> fmt::Result
+    ensures { WritesOnOk W.write_str_gives f.old result (lines_from 0 rows.now) f.new }
+{
+    for (n, row) in rows.iter().enumerate() {
+        write_line(f, n as u64, row)?;
     }
     Ok(())
 }
 
-/// A number, or a dash.
-fn write_cell<W: fmt::Write>(out: &mut W, n: Option<u64>) -> fmt::Result {
-    match n {
-        Some(n) => write!(out, "  {n:>6}"),
-        None => out.write_str("       -"),
-    }
-}
-
-/// The number of an event, or a dash.
-fn write_moment<W: fmt::Write>(out: &mut W, at: Option<Moment>) -> fmt::Result {
-    match at {
-        Some(at) => write_cell(out, Some(at.0)),
-        None => write_cell(out, None),
-    }
+/// The line of a task.
+fn write_line<W: fmt::Write>(f: &mut fmt::Formatter<W>, n: u64, row: &TaskRow) -> fmt::Result
+    ensures { WritesOnOk W.write_str_gives f.old result (line_text n row.now) f.new }
+{
+    write_what(f, n, row)?;
+    write_who(f, row)?;
+    write_begin(f, &row.at)?;
+    write_end(f, &row.at)?;
+    f.write_str("\n")
 }
 
 /// What the task is, and how far it has come.
-fn write_what<W: fmt::Write>(out: &mut W, n: u64, task: &TaskStory) -> fmt::Result {
-    let kind = task.kind_word();
-    write!(out, "{n:>6}  {kind:<9}")?;
-    match task.kind.parent() {
-        Some(p) => write_cell(out, Some(p.0))?,
-        None => write_cell(out, None)?,
+fn write_what<W: fmt::Write>(f: &mut fmt::Formatter<W>, n: u64, row: &TaskRow) -> fmt::Result
+    ensures { WritesOnOk W.write_str_gives f.old result (what_text n row.now) f.new }
+{
+    let kind = kind_cell(row);
+    write!(f, "{n:>6}  {kind}")?;
+    write_cell(f, number_of(row.kind.parent()))?;
+    let pending = row.pending;
+    let place = place_cell(&row.place);
+    write!(f, "  {pending:>5}  {place}  ")?;
+    write_status(f, &row.status)
+}
+
+/// `plain`, `completer` or `trigger`.
+fn kind_cell(row: &TaskRow) -> &'static str
+    ensures { result.now ≡ kind_cell row.now }
+{
+    if !row.kind.is_completer() {
+        "plain    "
+    } else if row.queue.is_none() {
+        "trigger  "
+    } else {
+        "completer"
     }
-    let pending = task.pending;
-    let place = task.place();
-    write!(out, "  {pending:>5}  {place:<6}  ")?;
-    write_status(out, &task.status)
+}
+
+/// The number of a task.
+fn number_of(task: Option<Serial>) -> Option<u64>
+    ensures { result ≡ task }
+{
+    match task {
+        Some(t) => Some(t.0),
+        None => None,
+    }
+}
+
+fn place_cell(place: &Place) -> &'static str
+    ensures { result.now ≡ place_cell place.now }
+{
+    match place {
+        Place::Queued(_) => "queued",
+        Place::Held(_) => "held  ",
+        Place::Open => "open  ",
+        Place::Gone => "gone  ",
+    }
 }
 
 /// The status, in one word.
-fn write_status<W: fmt::Write>(out: &mut W, status: &Status) -> fmt::Result {
+fn write_status<W: fmt::Write>(f: &mut fmt::Formatter<W>, status: &Status) -> fmt::Result
+    ensures { WritesOnOk W.write_str_gives f.old result (status_cell status.now) f.new }
+{
     match status {
-        Status::Undone => out.write_str("undone                "),
-        Status::Normal => out.write_str("normal                "),
-        Status::Cancelled => out.write_str("cancelled             "),
-        Status::Exceptional(code) => write!(out, "exceptional:{code:<10}"),
+        Status::Undone => f.write_str("undone                "),
+        Status::Normal => f.write_str("normal                "),
+        Status::Cancelled => f.write_str("cancelled             "),
+        Status::Exceptional(code) => write!(f, "exceptional:{code:<10}"),
     }
 }
 
 /// Into whose queue it was accepted, and who took it.
-fn write_owner<W: fmt::Write>(out: &mut W, task: &TaskStory) -> fmt::Result {
-    match &task.queue {
-        Some(Owner::Sub(s)) => write!(out, "  sub:{:<3}", s.0)?,
-        Some(Owner::Work(w)) => write!(out, "  work:{:<2}", w.0)?,
-        None => out.write_str("  -      ")?,
-    }
-    match task.taken {
-        Some(taken) => write_cell(out, Some(taken.worker as u64)),
-        None => write_cell(out, None),
+fn write_who<W: fmt::Write>(f: &mut fmt::Formatter<W>, row: &TaskRow) -> fmt::Result
+    ensures { WritesOnOk W.write_str_gives f.old result (who_text row.now) f.new }
+{
+    write_queue(f, &row.queue)?;
+    write_cell(f, number_of_worker(row.worker))
+}
+
+fn write_queue<W: fmt::Write>(f: &mut fmt::Formatter<W>, queue: &Option<Owner>) -> fmt::Result
+    ensures { WritesOnOk W.write_str_gives f.old result (queue_cell queue.now) f.new }
+{
+    match queue {
+        Some(Owner::Sub(s)) => write!(f, "  sub:{:<3}", s.0),
+        Some(Owner::Work(w)) => write!(f, "  work:{:<2}", w.0),
+        None => f.write_str("  -      "),
     }
 }
 
-/// When it was accepted and taken.
-fn write_begin<W: fmt::Write>(out: &mut W, task: &TaskStory) -> fmt::Result {
-    write_moment(out, Some(task.accepted))?;
-    match task.taken {
-        Some(taken) => write_moment(out, Some(taken.at)),
-        None => write_moment(out, None),
+fn number_of_worker(worker: Option<WorkerId>) -> Option<u64>
+    ensures { result ≡ worker }
+{
+    match worker {
+        Some(w) => Some(u64::from(w.0)),
+        None => None,
     }
 }
 
-/// When its body ended, it was fired or passed, its action ended, and it was released.
-fn write_end<W: fmt::Write>(out: &mut W, task: &TaskStory) -> fmt::Result {
-    write_moment(out, task.ended)?;
-    match task.fired {
-        Some(fired) => {
-            write_moment(out, Some(fired.at))?;
-            write_moment(out, task.passed)?;
-            write_moment(out, fired.hooked)?;
-        }
-        None => {
-            write_moment(out, None)?;
-            write_moment(out, task.passed)?;
-            write_moment(out, None)?;
-        }
+/// When it was accepted and taken, and its body ended.
+fn write_begin<W: fmt::Write>(f: &mut fmt::Formatter<W>, at: &TaskMoments) -> fmt::Result
+    ensures { WritesOnOk W.write_str_gives f.old result (begin_text at.now) f.new }
+{
+    write_cell(f, at.accepted)?;
+    write_cell(f, at.taken)?;
+    write_cell(f, at.ended)
+}
+
+/// When it was fired or passed, its action ended, and it was released.
+fn write_end<W: fmt::Write>(f: &mut fmt::Formatter<W>, at: &TaskMoments) -> fmt::Result
+    ensures { WritesOnOk W.write_str_gives f.old result (end_text at.now) f.new }
+{
+    write_cell(f, at.fired)?;
+    write_cell(f, at.passed)?;
+    write_cell(f, at.hooked)?;
+    write_cell(f, at.released)
+}
+
+/// A number, or a dash.
+fn write_cell<W: fmt::Write>(f: &mut fmt::Formatter<W>, n: Option<u64>) -> fmt::Result
+    ensures { WritesOnOk W.write_str_gives f.old result (cell n) f.new }
+{
+    match n {
+        Some(n) => write!(f, "  {n:>6}"),
+        None => f.write_str("       -"),
     }
-    write_moment(out, task.released)?;
-    out.write_str("\n")
 }

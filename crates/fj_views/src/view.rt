@@ -1,3 +1,7 @@
+ghost use Rattle.std.specs.Prelude.{◌≡◌, OnOk};
+ghost use Rattle.std.specs.Fmt.{WritesInCalls};
+ghost use Rattle.fj_views.specs.Tables.{table_text};
+
 use crate::chrome::write_chrome;
 use crate::dot::write_dot;
 use crate::path::write_path;
@@ -31,7 +35,9 @@ pub fn write_view<W: fmt::Write>(
     story: &Story,
     view: View,
     out: &mut W,
-) -> fmt::Result {
+) -> fmt::Result
+    ensures { view ≡ View.Tasks → OnOk result (WritesInCalls W.write_str_gives out.old (table_text story.now.events) out.new) }
+{
     match view {
         View::Tasks => write_tasks(story, out),
         View::Stats => write_stats(story, out),

@@ -1,6 +1,7 @@
 //! Tests of the commands that run a job.
 use crate::test_rows::first_other_command;
 use std::alloc::Global;
+use std::rt::{Clock, Files};
 use std::sync::Wait;
 use std::test::Fail;
 use std::thread::Threads;
@@ -48,7 +49,7 @@ const LONG_RANGES: [&str; 2] = [
 ];
 
 /// The first mismatch of a row, lazily or with `--eager`, by so many workers.
-fn first_other_range<H: Threads + Wait + Sync>(
+fn first_other_range<H: Threads + Wait + Sync + Files + Clock>(
     rt: &H,
     alloc: Global,
     rows: &[&str],

@@ -4,12 +4,13 @@ use crate::tests::{REPLIES, SCRIPT, ended, first_lines};
 use fj_cli::{ReplayFault, replay, replayed};
 use std::alloc::{AllocError, Global};
 use std::io::{self, Read};
+use std::rt::{Clock, Files};
 use std::sync::Wait;
 use std::test::Fail;
 use std::thread::Threads;
 
 /// Whether a reader that fails after a script is reported, with the replies to its whole lines.
-fn is_read_failed<H: Threads + Wait + Sync>(
+fn is_read_failed<H: Threads + Wait + Sync + Files + Clock>(
     rt: &H,
     alloc: Global,
     script: &str,

@@ -1,6 +1,7 @@
 use fj_cli::fj;
 use std::alloc::{AllocError, Global};
 use std::io::Read;
+use std::rt::{Clock, Files};
 use std::str;
 use std::sync::Wait;
 use std::test::Fail;
@@ -14,7 +15,7 @@ pub struct Ran {
     pub err: Vec<u8>,
 }
 
-pub fn command<H: Threads + Wait + Sync, R: Read>(
+pub fn command<H: Threads + Wait + Sync + Files + Clock, R: Read>(
     rt: &H,
     alloc: Global,
     words: &[&str],
@@ -83,7 +84,7 @@ fn read(text: &str) -> Row<'_> {
 }
 
 /// The actual result of a row's script if it differs from the row; otherwise empty.
-pub fn other<H: Threads + Wait + Sync>(
+pub fn other<H: Threads + Wait + Sync + Files + Clock>(
     rt: &H,
     alloc: Global,
     row: Row<'_>,
@@ -92,7 +93,7 @@ pub fn other<H: Threads + Wait + Sync>(
 }
 
 /// The same of the command with these arguments.
-fn other_for<H: Threads + Wait + Sync>(
+fn other_for<H: Threads + Wait + Sync + Files + Clock>(
     rt: &H,
     alloc: Global,
     words: &[&str],
@@ -120,7 +121,7 @@ fn is_as_told(alloc: Global, ran: &Ran, row: Row<'_>) -> Result<bool, AllocError
 }
 
 /// The first mismatch of these rows.
-pub fn first_other<H: Threads + Wait + Sync>(
+pub fn first_other<H: Threads + Wait + Sync + Files + Clock>(
     rt: &H,
     alloc: Global,
     rows: &[&str],
@@ -147,7 +148,7 @@ pub fn words<'a>(alloc: Global, line: &'a str, more: &'a str) -> Result<Vec<&'a 
 }
 
 /// The first mismatch of these rows, in which the name is the command line, to be followed by `more`.
-pub fn first_other_command<H: Threads + Wait + Sync>(
+pub fn first_other_command<H: Threads + Wait + Sync + Files + Clock>(
     rt: &H,
     alloc: Global,
     rows: &[&str],

@@ -1,5 +1,6 @@
 use crate::test_rows::{Row, first_other, other};
 use std::alloc::Global;
+use std::rt::{Clock, Files};
 use std::sync::Wait;
 use std::test::Fail;
 use std::thread::Threads;
@@ -56,7 +57,7 @@ const NO_STEPS: [&str; 22] = [
 ];
 
 /// The actual result of a script with a faulty third line, if it is not that fault.
-fn other_fault<H: Threads + Wait + Sync>(
+fn other_fault<H: Threads + Wait + Sync + Files + Clock>(
     rt: &H,
     alloc: Global,
     line: &str,
@@ -87,7 +88,7 @@ pub fn first_lines(alloc: Global, text: &str, count: usize) -> Result<String, Fa
 }
 
 /// The actual result of a prefix of a script, if it is not the replies to its whole lines, with a fault where it ends within a line.
-fn other_beginning<H: Threads + Wait + Sync>(
+fn other_beginning<H: Threads + Wait + Sync + Files + Clock>(
     rt: &H,
     alloc: Global,
     script: &str,

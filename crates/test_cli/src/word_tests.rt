@@ -3,6 +3,7 @@ use crate::test_rows::{command, cut, words};
 use fj_cli::without_words;
 use std::alloc::Global;
 use std::io::{self, ErrorKind};
+use std::rt::{Clock, Files};
 use std::str;
 use std::sync::Wait;
 use std::test::Fail;
@@ -59,9 +60,9 @@ fn help() -> [&'static str; 15] {
         "trace --help | writes its history | Usage: fj trace < SCRIPT\n | Input of fj trace: a script as that of fj replay | Example:\n  $ printf | Exit status:\n  0  the history of the whole script was written, or help was\n  2  a fault of the command line\n  3  fault: line N, the first faulty line; or refused 13, a limit out of range\n  4  out of memory\n  5  a read or a write failed\n",
         "test --help | Compares a script's replies | Usage: fj test < SCRIPT\n | the reply that is expected behind > | Example:\n  $ printf | Exit status:\n  0  all replies are as written, or help was\n  1  line N: a reply, and the one that was expected, on standard output\n  2  a fault of the command line\n  3  fault: line N, the first faulty line; or refused 13, a limit out of range\n  4  out of memory\n  5  a read or a write failed\n",
         "explain --help | and why nothing was done | Usage: fj explain < SCRIPT\n | Input of fj explain: a script as that of fj replay | Example:\n  $ printf | Exit status:\n  0  the whole script was explained, or help was written\n  2  a fault of the command line\n  3  fault: line N, the first faulty line, and why; or refused 13, and which\n     limit is out of its range\n  4  out of memory\n  5  a read or a write failed\n",
-        "record --help | by workers in threads | Usage: fj record | sum | min | find | tree | A JOB is sum, min, find or tree, with its options | Example:\n  $ fj record sum | Exit status:\n  0  the history was written, or help was\n  2  a fault of the command line, or too many blocks\n  3  a faulty line of the tree, told by its number, or a full history\n  4  out of memory, or a thread could not be started\n  5  a read or a write failed\n",
+        "record --help | by workers in threads | Usage: fj record [--notes <FILE>] <JOB> [OPTIONS] | sum | min | find | tree | --notes <FILE> | A JOB is sum, min, find or tree, with its options | Example:\n  $ fj record sum | Exit status:\n  0  the history was written, or help was\n  2  a fault of the command line, or too many blocks\n  3  a faulty line of the tree, told by its number, or a full history\n  4  out of memory, or a thread could not be started\n  5  a read or a write failed\n",
         "record find --help | Usage: fj record find [OPTIONS] --from <N> --to <N>\n                      --mul <N> --add <N> --mod <N> --want <N>\n | --workers <N>",
-        "view --help | Writes a view of the history | Usage: fj view [OPTIONS] --as <VIEW> < HISTORY\n | --as <VIEW> | tasks, stats, path, chrome, dot or svg | --from <N> | first event of a picture, 1 to 4294967295 [default: 1] | --to <N> | last event of a picture, from 1 on [default: 4294967295] | Input of fj view: a history, as that of fj check | Example:\n  $ printf | Exit status:\n  0  the view was written, or help was\n  1  line N: a line that may not stand there, and why, on standard output\n  2  a fault of the command line, as a window of what is no picture\n  3  fault: line N, no line of a history; or refused 13, a limit out of range\n  4  out of memory\n  5  a read or a write failed\n",
+        "view --help | Writes a view of the history | Usage: fj view [OPTIONS] --as <VIEW> < HISTORY\n | --as <VIEW> | tasks, stats, path, chrome, dot or svg | --from <N> | first event of a picture, 1 to 4294967295 [default: 1] | --to <N> | last event of a picture [default: 4294967295] | --notes <FILE> | Input of fj view: a history, as that of fj check | Example:\n  $ printf | Exit status:\n  0  the view was written, or help was\n  1  line N: a line that may not stand there, and why, on standard output\n  2  a fault of the command line, as a window of what is no picture\n  3  fault: line N, no line of a history or of notes; or refused 13, a limit\n     out of range\n  4  out of memory\n  5  a read or a write failed\n",
     ]
 }
 
@@ -72,7 +73,7 @@ fn has_80_columns(text: &str) -> bool {
 
 /// The actual text of a command line without input, if it lacks a part in its row; otherwise empty. At status 0 the text has to be on
 /// standard output, in 80 columns, else on standard error; the other stays empty.
-fn other_text<H: Threads + Wait + Sync>(
+fn other_text<H: Threads + Wait + Sync + Files + Clock>(
     rt: &H,
     alloc: Global,
     row: &str,
@@ -108,6 +109,18 @@ fn faults_of_the_words(rt: HostRuntime) -> Result<(), Fail> {
 fn help_that_is_asked_for(rt: HostRuntime) -> Result<(), Fail> {
     for row in help() {
         let other = other_text(&rt, rt.alloc(), row, 0)?;
+        assert_eq!(rt; other.as_str(), "");
+    }
+    Ok(())
+}
+
+#[test]
+fn files_that_cannot_be_opened(rt: HostRuntime) -> Result<(), Fail> {
+    for row in [
+        "view --as dot --notes /no/such/file | notes: ",
+        "record --notes /no/such/file sum --from 1 --to 2 | notes: ",
+    ] {
+        let other = other_text(&rt, rt.alloc(), row, 5)?;
         assert_eq!(rt; other.as_str(), "");
     }
     Ok(())

@@ -3,12 +3,13 @@ use crate::test_rows::{REPLAY, Ran, bytes};
 use crate::tests::{REPLIES, SCRIPT};
 use fj_cli::fj;
 use std::alloc::{AllocError, Global};
+use std::rt::{Clock, Files};
 use std::sync::Wait;
 use std::test::Fail;
 use std::thread::Threads;
 
 /// The result of a command that writes into this sink.
-fn poured<H: Threads + Wait + Sync>(
+fn poured<H: Threads + Wait + Sync + Files + Clock>(
     rt: &H,
     alloc: Global,
     words: &[&str],
@@ -48,7 +49,7 @@ fn writers() -> [(&'static [&'static str], &'static str, &'static str); 4] {
 }
 
 /// Whether a writer that ends after so many bytes is reported, with the output up to there.
-fn is_full_at<H: Threads + Wait + Sync>(
+fn is_full_at<H: Threads + Wait + Sync + Files + Clock>(
     rt: &H,
     alloc: Global,
     (words, input, text): (&[&str], &str, &str),
@@ -64,7 +65,7 @@ fn is_full_at<H: Threads + Wait + Sync>(
 }
 
 /// The first number of bytes after which a writer that ends so is not reported.
-fn first_untold<H: Threads + Wait + Sync>(
+fn first_untold<H: Threads + Wait + Sync + Files + Clock>(
     rt: &H,
     alloc: Global,
     run: (&[&str], &str, &str),
@@ -107,7 +108,7 @@ fn a_writer_that_takes_one_byte_at_a_time(rt: HostRuntime) -> Result<(), Fail> {
 }
 
 /// Whether a flush that fails is reported, with all the text written.
-fn is_unflushed<H: Threads + Wait + Sync>(
+fn is_unflushed<H: Threads + Wait + Sync + Files + Clock>(
     rt: &H,
     alloc: Global,
     words: &[&str],

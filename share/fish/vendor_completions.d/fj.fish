@@ -20,6 +20,7 @@ complete -c fj -n "not __fish_seen_subcommand_from $commands" -a view -d 'write 
 complete -c fj -n "not __fish_seen_subcommand_from $commands" -a help -d 'write the help of a command'
 
 complete -c fj -n '__fish_seen_subcommand_from record; and not __fish_seen_subcommand_from sum min find tree' -a 'sum min find tree'
+complete -c fj -n '__fish_seen_subcommand_from record; and not __fish_seen_subcommand_from sum min find tree' -r -l notes -d 'a file for real times of the tasks'
 complete -c fj -n '__fish_seen_subcommand_from sum min find' -x -l from -d 'the first number'
 complete -c fj -n '__fish_seen_subcommand_from sum min find' -x -l to -d 'the last number'
 complete -c fj -n '__fish_seen_subcommand_from sum min find' -x -l grain -d 'how many numbers a block has'
@@ -32,3 +33,4 @@ complete -c fj -n '__fish_seen_subcommand_from find' -x -l want -d 'the value th
 complete -c fj -n '__fish_seen_subcommand_from view' -x -l as -a 'tasks stats path chrome dot svg' -d 'which view'
 complete -c fj -n '__fish_seen_subcommand_from view' -x -l from -d 'the first event of a picture'
 complete -c fj -n '__fish_seen_subcommand_from view' -x -l to -d 'the last event of a picture'
+complete -c fj -n '__fish_seen_subcommand_from view' -r -l notes -d 'a file of notes beside the history'

@@ -1,7 +1,7 @@
 //! The declarations of the options: each has a number, in a range, or is a flag.
 ghost use Rattle.std.specs.Prelude.{◌≡◌, true, false};
 ghost use Rattle.clap.specs.Walk.{rule_of};
-ghost use Rattle.fj_cli.specs.Options.{defaulted_rule, flag_rule, required_rule, unbounded_rule, word_rule};
+ghost use Rattle.fj_cli.specs.Options.{defaulted_rule, file_rule, flag_rule, required_rule, unbounded_rule, word_rule};
 
 use clap::builder::ValueParser;
 use clap::{Arg, ArgAction};
@@ -54,6 +54,18 @@ pub fn word<'a>(alloc: Global, name: &'a str, value: &'a str, help: &'a str) -> 
         .value_name(value)
         .action(ArgAction::Set)
         .required(true)
+        .help(help)
+}
+
+/// An option with a file's name, which may be left out.
+pub fn file<'a>(alloc: Global, name: &'a str, help: &'a str) -> Arg<'a>
+    ensures rule { rule_of result ≡ file_rule name.entry.now }
+    ensures local { result.global ≡ false }
+{
+    Arg::new(alloc, name)
+        .long(name)
+        .value_name("FILE")
+        .action(ArgAction::Set)
         .help(help)
 }
 

@@ -3,9 +3,9 @@ ghost use Rattle.std.specs.Prelude.{◌≡◌, IfOk, codes, false};
 ghost use Rattle.clap.specs.Words.{app_of, new_app, with_subcommand};
 ghost use Rattle.clap.specs.declared.builder.command.Command.TheViews.{out-Command};
 ghost use Rattle.fj_cli.specs.Commands.{record_line, replay_line, whole_line, with_jobs};
-ghost use Rattle.fj_cli.specs.Options.{find_line, min_line, sum_line, tree_line, view_line, with_function, with_numbers, with_range};
+ghost use Rattle.fj_cli.specs.Options.{find_line, min_line, sum_line, tree_line, view_line, with_function, with_numbers, with_range, with_window};
 
-use crate::command_line::arguments::{defaulted, flag, required, unbounded, word};
+use crate::command_line::arguments::{defaulted, file, flag, required, unbounded, word};
 use crate::command_line::help;
 use clap::Command;
 use fj_rules::MAX_WORKERS;
@@ -152,14 +152,13 @@ fn tree<'a>(alloc: Global, usage: &'static str) -> Result<Command<'a>, AllocErro
         ))
 }
 
-fn view<'a>(alloc: Global) -> Result<Command<'a>, AllocError>
-    ensures app { IfOk result (λ c. app_of c ≡ view_line) }
+/// Which view, and the events of a picture. Precondition: the command has no option that its subcommands share.
+fn of_window<'a>(alloc: Global, command: Command<'a>) -> Result<Command<'a>, AllocError>
+    requires { (out-Command command).has_globals ≡ false }
+    ensures app { IfOk result (λ c. app_of c ≡ with_window (app_of command.entry)) }
     ensures local { IfOk result (λ c. (out-Command c).has_globals ≡ false) }
 {
-    Command::new(alloc, "view")
-        .about("Writes a view of the history on standard input")
-        .override_usage("fj view [OPTIONS] --as <VIEW> < HISTORY")
-        .after_help(help::VIEW)
+    command
         .arg(word(
             alloc,
             "as",
@@ -172,7 +171,22 @@ fn view<'a>(alloc: Global) -> Result<Command<'a>, AllocError>
             u32::MAX,
             "The first event of a picture, 1 to 4294967295",
         ))?
-        .arg(unbounded(alloc, "to", "The last event of a picture, from 1 on"))
+        .arg(unbounded(alloc, "to", "The last event of a picture"))
+}
+
+fn view<'a>(alloc: Global) -> Result<Command<'a>, AllocError>
+    ensures app { IfOk result (λ c. app_of c ≡ view_line) }
+    ensures local { IfOk result (λ c. (out-Command c).has_globals ≡ false) }
+{
+    let view = Command::new(alloc, "view")
+        .about("Writes a view of the history on standard input")
+        .override_usage("fj view [OPTIONS] --as <VIEW> < HISTORY")
+        .after_help(help::VIEW);
+    of_window(alloc, view)?.arg(file(
+        alloc,
+        "notes",
+        "Notes beside the history, as fj record writes them",
+    ))
 }
 
 fn replay<'a>(alloc: Global) -> Command<'a>
@@ -289,7 +303,7 @@ fn record<'a>(alloc: Global) -> Command<'a>
 {
     Command::new(alloc, "record")
         .about("Runs a job by workers in threads and writes its history")
-        .override_usage("fj record <JOB> [OPTIONS]")
+        .override_usage("fj record [--notes <FILE>] <JOB> [OPTIONS]")
         .after_help(help::RECORD)
 }
 
@@ -299,9 +313,10 @@ pub fn record_command<'a>(alloc: Global) -> Result<Command<'a>, AllocError>
 {
     let record = Command::new(alloc, "fj record")
         .about("Runs a job by workers in threads and writes its history")
-        .override_usage("fj record <JOB> [OPTIONS]")
+        .override_usage("fj record [--notes <FILE>] <JOB> [OPTIONS]")
         .after_help(help::RECORD)
         .subcommand_required(true)
-        .bin_name("fj record")?;
+        .bin_name("fj record")?
+        .arg(file(alloc, "notes", "Writes real times of the tasks to a file"))?;
     with_jobs(alloc, record, RECORDED)
 }

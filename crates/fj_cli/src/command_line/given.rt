@@ -95,11 +95,17 @@ fn read_view_name(matches: &ArgMatches) -> Option<Option<ViewName>>
 }
 
 /// The options of a view.
-pub fn read_view(matches: &ArgMatches) -> Option<ViewOptions>
+pub fn read_view<'a>(matches: &ArgMatches<'a>) -> Option<ViewOptions<'a>>
     ensures { IfSome result (λ o. GivesView (rows_of (found_of matches.now)) o) }
 {
     let name = read_view_name(matches)?;
     let from = number(matches, "from", 1, u32::MAX)?;
     let to = number(matches, "to", 1, u32::MAX)?;
-    Some(ViewOptions { name, from, to })
+    let notes = matches.get_str("notes");
+    Some(ViewOptions {
+        name,
+        from,
+        to,
+        notes,
+    })
 }

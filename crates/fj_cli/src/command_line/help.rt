@@ -218,7 +218,8 @@ pub const RECORD: &str = "A JOB is sum, min, find or tree, with its options: fj 
 It forks at every split, with or without --eager.
 
 Written is the history of that very run, as fj check reads it, and no value.
-A second run has another one, but by one worker.
+A second run has another one, but by one worker. A FILE, named before the JOB,
+gets when each task began and ended, in nanoseconds: fj view --notes FILE
 
 Example:
   $ fj record sum --from 1 --to 8 --grain 4 | fj check
@@ -265,6 +266,7 @@ Written is, of all events, by their numbers from 1:
   chrome   a trace for Perfetto and chrome://tracing, as JSON
   dot      the trees of completers, for Graphviz
   svg      a picture, which may have a window: --from and --to are of it alone
+With --notes path, chrome, dot and svg name tasks, and chrome has real times.
 
 Example:
   $ printf 'async 1 1 8 64\\nacc 0 sub 0 plain\\nout 0 0\\nend 0 0\\n' |
@@ -280,6 +282,7 @@ Exit status:
   0  the view was written, or help was
   1  line N: a line that may not stand there, and why, on standard output
   2  a fault of the command line, as a window of what is no picture
-  3  fault: line N, no line of a history; or refused 13, a limit out of range
+  3  fault: line N, no line of a history or of notes; or refused 13, a limit
+     out of range
   4  out of memory
   5  a read or a write failed";

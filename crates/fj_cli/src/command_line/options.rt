@@ -44,13 +44,15 @@ pub enum ViewName {
     Svg,
 }
 
-/// Which view, and the events that a picture has.
+/// Which view, the events that a picture has, and the notes that are shown.
 #[derive(Clone, Copy)]
-pub struct ViewOptions {
+pub struct ViewOptions<'a> {
     /// None if there is no view of the name that is given.
     pub name: Option<ViewName>,
     /// The first event, 1 by default.
     pub from: u32,
     /// The last event, 4294967295 by default.
     pub to: u32,
+    /// The file of the notes, if one is named.
+    pub notes: Option<&'a str>,
 }

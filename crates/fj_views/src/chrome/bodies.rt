@@ -1,5 +1,7 @@
 //! Bodies and completion actions, as slices of their workers.
 use crate::chrome::event::{POOL, Slice, push_event};
+use crate::chrome::times::Times;
+use crate::label::Named;
 use fj_rules::How;
 use fj_story::{Story, Stretch};
 use serde::Serialize;
@@ -28,6 +30,7 @@ struct HookArgs {
 pub fn write_body<W: fmt::Write>(
     alloc: Global,
     story: &Story,
+    times: &Times,
     stretch: &Stretch,
     t: u64,
     out: &mut W,
@@ -35,7 +38,7 @@ pub fn write_body<W: fmt::Write>(
     let Some(task) = story.task(t) else {
         return Ok(());
     };
-    let name = format!(in alloc; "task {t}")?;
+    let name = format!(in alloc; "task {}", Named { story, t })?;
     let status = format!(in alloc; "{}", task.status)?;
     let stolen = task.is_stolen();
     let body = Slice {
@@ -44,8 +47,8 @@ pub fn write_body<W: fmt::Write>(
         cat: if stolen { "task,stolen" } else { "task" },
         pid: POOL,
         tid: stretch.worker as u64,
-        ts: stretch.begun.0,
-        dur: story.end_of(stretch).since(stretch.begun),
+        ts: times.at(stretch.begun),
+        dur: times.between(stretch.begun, story.end_of(stretch)),
         args: TaskArgs {
             kind: task.kind_word(),
             parent: task.kind.parent().map(|p| p.0),
@@ -62,19 +65,20 @@ pub fn write_body<W: fmt::Write>(
 pub fn write_hook<W: fmt::Write>(
     alloc: Global,
     story: &Story,
+    times: &Times,
     stretch: &Stretch,
     c: u64,
     out: &mut W,
 ) -> fmt::Result {
-    let name = format!(in alloc; "hook {c}")?;
+    let name = format!(in alloc; "hook {}", Named { story, t: c })?;
     let hook = Slice {
         ph: "X",
         name: name.as_str(),
         cat: "hook",
         pid: POOL,
         tid: stretch.worker as u64,
-        ts: stretch.begun.0,
-        dur: story.end_of(stretch).since(stretch.begun),
+        ts: times.at(stretch.begun),
+        dur: times.between(stretch.begun, story.end_of(stretch)),
         args: HookArgs {
             how: how_word(story, c),
         },

@@ -1,4 +1,5 @@
 //! The events of a trace, by the letters of their phases.
+use crate::chrome::times::Micros;
 use serde::Serialize;
 use std::alloc::Global;
 use std::fmt;
@@ -44,8 +45,8 @@ pub struct Slice<'a, A> {
     pub cat: &'static str,
     pub pid: u64,
     pub tid: u64,
-    pub ts: u64,
-    pub dur: u64,
+    pub ts: Micros,
+    pub dur: Micros,
     pub args: A,
 }
 
@@ -58,7 +59,7 @@ pub struct Instant<'a> {
     pub s: &'static str,
     pub pid: u64,
     pub tid: u64,
-    pub ts: u64,
+    pub ts: Micros,
 }
 
 /// An end of an arrow: phase `s` where it begins, `f` where it ends, and then `bp` is `e`, for the slice around it.
@@ -72,7 +73,7 @@ pub struct Flow {
     pub id: u64,
     pub pid: u64,
     pub tid: u64,
-    pub ts: u64,
+    pub ts: Micros,
 }
 
 /// Writes an event behind another one. An error where the writer fails, or if out of memory.

@@ -1,5 +1,6 @@
 //! Submissions, triggers, skips, and the arrows from where a task was accepted to where it runs.
 use crate::chrome::event::{Flow, Instant, POOL, Slice, push_event, submitter_thread};
+use crate::chrome::times::{Micros, Times};
 use fj_rules::Owner;
 use fj_story::{Taken, TaskStory};
 use serde::Serialize;
@@ -15,20 +16,22 @@ struct SubmissionArgs {
 /// The submission of a task, or that a trigger was made. A fork is within a body.
 pub fn write_acceptance<W: fmt::Write>(
     alloc: Global,
+    times: &Times,
     n: u64,
     task: &TaskStory,
     out: &mut W,
 ) -> fmt::Result {
     match &task.queue {
-        Some(Owner::Sub(s)) => write_submission(alloc, n, task, submitter_thread(s.0), out),
+        Some(Owner::Sub(s)) => write_submission(alloc, times, n, task, submitter_thread(s.0), out),
         Some(Owner::Work(_)) => Ok(()),
-        None => write_trigger(alloc, n, task, out),
+        None => write_trigger(alloc, times, n, task, out),
     }
 }
 
 /// A submission, one event long.
 fn write_submission<W: fmt::Write>(
     alloc: Global,
+    times: &Times,
     n: u64,
     task: &TaskStory,
     tid: u64,
@@ -41,8 +44,8 @@ fn write_submission<W: fmt::Write>(
         cat: "submit",
         pid: POOL,
         tid,
-        ts: task.accepted.0,
-        dur: 1,
+        ts: times.at(task.accepted),
+        dur: times.between(task.accepted, task.accepted.next()),
         args: SubmissionArgs { task: n },
     };
     push_event(alloc, &submission, out)
@@ -51,6 +54,7 @@ fn write_submission<W: fmt::Write>(
 /// A trigger was made, by nobody that a history names.
 fn write_trigger<W: fmt::Write>(
     alloc: Global,
+    times: &Times,
     n: u64,
     task: &TaskStory,
     out: &mut W,
@@ -63,7 +67,7 @@ fn write_trigger<W: fmt::Write>(
         s: "p",
         pid: POOL,
         tid: 0,
-        ts: task.accepted.0,
+        ts: times.at(task.accepted),
     };
     push_event(alloc, &trigger, out)
 }
@@ -71,6 +75,7 @@ fn write_trigger<W: fmt::Write>(
 /// The way of a task to its worker, if one took it: an arrow to its body, or that it was skipped.
 pub fn write_way<W: fmt::Write>(
     alloc: Global,
+    times: &Times,
     n: u64,
     task: &TaskStory,
     out: &mut W,
@@ -79,23 +84,27 @@ pub fn write_way<W: fmt::Write>(
         return Ok(());
     };
     if taken.stretch.is_none() {
-        return write_skip(alloc, n, &taken, out);
+        return write_skip(alloc, times, n, &taken, out);
     }
     let from = match &task.queue {
         Some(Owner::Sub(s)) => submitter_thread(s.0),
         Some(Owner::Work(w)) => u64::from(w.0),
         None => return Ok(()),
     };
-    push_event(alloc, &flow("s", None, n, from, task.accepted.0), out)?;
     push_event(
         alloc,
-        &flow("f", Some("e"), n, taken.worker as u64, taken.at.0),
+        &flow("s", None, n, from, times.at(task.accepted)),
+        out,
+    )?;
+    push_event(
+        alloc,
+        &flow("f", Some("e"), n, taken.worker as u64, times.at(taken.at)),
         out,
     )
 }
 
 /// An end of the arrow of a task.
-fn flow(ph: &'static str, bp: Option<&'static str>, id: u64, tid: u64, ts: u64) -> Flow {
+fn flow(ph: &'static str, bp: Option<&'static str>, id: u64, tid: u64, ts: Micros) -> Flow {
     Flow {
         ph,
         bp,
@@ -109,7 +118,13 @@ fn flow(ph: &'static str, bp: Option<&'static str>, id: u64, tid: u64, ts: u64) 
 }
 
 /// The task was taken and not run.
-fn write_skip<W: fmt::Write>(alloc: Global, n: u64, taken: &Taken, out: &mut W) -> fmt::Result {
+fn write_skip<W: fmt::Write>(
+    alloc: Global,
+    times: &Times,
+    n: u64,
+    taken: &Taken,
+    out: &mut W,
+) -> fmt::Result {
     let name = format!(in alloc; "skip {n}")?;
     let skip = Instant {
         ph: "i",
@@ -118,7 +133,7 @@ fn write_skip<W: fmt::Write>(alloc: Global, n: u64, taken: &Taken, out: &mut W) 
         s: "t",
         pid: POOL,
         tid: taken.worker as u64,
-        ts: taken.at.0,
+        ts: times.at(taken.at),
     };
     push_event(alloc, &skip, out)
 }

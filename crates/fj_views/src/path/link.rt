@@ -1,4 +1,5 @@
-use fj_story::{Moment, Work};
+use crate::label::Named;
+use fj_story::{Moment, Story, Work};
 use std::fmt;
 
 /// What a link is.
@@ -36,36 +37,43 @@ pub struct Link {
     pub then: Then,
 }
 
-impl fmt::Display for Link {
-    fn fmt<W: fmt::Write>(&self, f: &mut fmt::Formatter<W>) -> fmt::Result {
-        let from = self.from;
-        let to = self.to;
-        write!(f, "{from}..{to} ")?;
-        write_kind(f, self.kind)?;
-        match self.kind {
-            LinkKind::Waits(_) => f.write_str(", and begins"),
-            _ => write_then(f, self.then),
-        }
+/// Writes a link, in words, on a line.
+pub fn write_link<W: fmt::Write>(story: &Story, link: &Link, out: &mut W) -> fmt::Result {
+    let from = link.from;
+    let to = link.to;
+    write!(out, "{from}..{to} ")?;
+    write_kind(story, link.kind, out)?;
+    match link.kind {
+        LinkKind::Waits(_) => out.write_str(", and begins\n"),
+        _ => write_then(story, link.then, out),
     }
 }
 
-/// What it is, in words.
-fn write_kind<W: fmt::Write>(f: &mut fmt::Formatter<W>, kind: LinkKind) -> fmt::Result {
+/// What it is.
+fn write_kind<W: fmt::Write>(story: &Story, kind: LinkKind, out: &mut W) -> fmt::Result {
     match kind {
-        LinkKind::Waits(t) => write!(f, "task {t} waits in a queue"),
-        LinkKind::Runs(w, Work::Body(t)) => write!(f, "task {t} runs on worker {w}"),
-        LinkKind::Runs(w, Work::Hook(c)) => write!(f, "the action of {c} runs on worker {w}"),
-        LinkKind::Climbs(c) => write!(f, "the last arrival at {c}"),
-        LinkKind::Takes(w) => write!(f, "worker {w} is free"),
+        LinkKind::Waits(t) => write!(out, "task {} waits in a queue", Named { story, t }),
+        LinkKind::Runs(w, Work::Body(t)) => {
+            write!(out, "task {} runs on worker {w}", Named { story, t })
+        }
+        LinkKind::Runs(w, Work::Hook(t)) => {
+            write!(
+                out,
+                "the action of {} runs on worker {w}",
+                Named { story, t }
+            )
+        }
+        LinkKind::Climbs(t) => write!(out, "the last arrival at {}", Named { story, t }),
+        LinkKind::Takes(w) => write!(out, "worker {w} is free"),
     }
 }
 
-/// To what it leads, in words.
-fn write_then<W: fmt::Write>(f: &mut fmt::Formatter<W>, then: Then) -> fmt::Result {
+/// To what it leads.
+fn write_then<W: fmt::Write>(story: &Story, then: Then, out: &mut W) -> fmt::Result {
     match then {
-        Then::Ends => f.write_str(", and ends"),
-        Then::Forks(t) => write!(f, ", and forks task {t}"),
-        Then::Begins(t) => write!(f, ", and task {t} begins"),
-        Then::Fires(_) => f.write_str(", and its action begins"),
+        Then::Ends => out.write_str(", and ends\n"),
+        Then::Forks(t) => writeln!(out, ", and forks task {}", Named { story, t }),
+        Then::Begins(t) => writeln!(out, ", and task {} begins", Named { story, t }),
+        Then::Fires(_) => out.write_str(", and its action begins\n"),
     }
 }

@@ -1,0 +1,2 @@
+-- notes that are written one after another
+pub mod Written
