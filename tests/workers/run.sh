@@ -5,7 +5,7 @@
 #   tests/workers/run.sh
 set -euo pipefail
 cd "$(dirname "${BASH_SOURCE[0]}")/../.."
-crates=(fj_rules fj_lines fj_streams fj_queues fj_tree fj_ledger fj_machine fj_gate fj_lane fj_slots fj_bodies fj_core fj_sleep fj_wake fj_agreement fj_pool fj_jobs fj_run fj_lazy fj_invoke fj_trees fj_fold)
+crates=(fj_rules fj_lines fj_streams fj_queues fj_tree fj_ledger fj_machine fj_gate fj_lane fj_slots fj_bodies fj_core fj_sleep fj_wake fj_agreement fj_pool fj_jobs fj_run fj_lazy fj_invoke fj_trees fj_fold fj_history fj_checker fj_filter fj_replay fj_trace fj_record)
 build_limit=900
 
 folder=$(mktemp -d)
@@ -42,8 +42,8 @@ replace fj_invoke/src/invocation.rt '    let key = job.key();' '    Ok(fj_jobs::
 is_told test_jobs worker_tests::two_workers_run_the_halves_beside_each_other
 
 lay_out test_jobs
-replace fj_fold/src/folding.rt '    let _nodes = nodes.as_slice();' '    match fj_trees::tree_values(alloc, nodes) {
+replace fj_fold/src/folding.rt '    let RecordedValue {' '    match fj_trees::tree_values(alloc, nodes) {
         Ok(values) => values.first().copied().ok_or(Refusal::OutOfMemory),
         Err(_) => Err(Refusal::OutOfMemory),
     }'
-is_told test_jobs pool_tests::two_children_begin_at_once
+is_told test_jobs fold_tests::two_children_begin_at_once

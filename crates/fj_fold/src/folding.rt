@@ -13,7 +13,6 @@ use crate::tree_fold::TreeFold;
 use fj_rules::{Limits, MAX_EVENTS, MAX_TASKS, Mode, Refusal};
 use fj_run::{
     Outcome, Record, Recorded, RecordedValue, Settings, Turnstile, record_alone, result_in,
-    run_alone,
 };
 use fj_trees::Nodes;
 use std::alloc::{AllocError, Global};
@@ -38,37 +37,12 @@ pub fn fold_tree<R: Threads + Wait + Sync, T: Turnstile + Sync>(
     ensures ok { IfOk result (λ value. value ≡ node_value nodes.now 0) }
     ensures err { IfErr result RefusesRun }
 {
-    // For the proof: a tree has a root.
-    let _nodes = nodes.as_slice();
-    match Family::new(alloc, nodes) {
-        Ok(family) => fold_in::<Brand, R, T>(rt, alloc, workers, &family, turnstile),
-        Err(_) => Err(Refusal::OutOfMemory),
-    }
-}
-
-/// The same for the family of a tree. Preconditions: it is that of the tree that the type names, which has a root; 1 to 32 workers.
-fn fold_in<F: NamedTree + Send, R: Threads + Wait + Sync, T: Turnstile + Sync>(
-    rt: &R,
-    alloc: Global,
-    workers: u32,
-    family: &Family,
-    turnstile: &T,
-) -> Result<u64, Refusal>
-    requires same { family.now ≡ F.nodes }
-    requires there { 0 < length F.nodes }
-    requires some { 0 < workers }
-    requires few { workers ≤ MAX_WORKERS }
-    ensures ok { IfOk result (λ value. value ≡ node_value F.nodes 0) }
-    ensures err { IfErr result RefusesRun }
-{
-    let made: Result<TreeFold<F>, AllocError> = TreeFold::new(alloc, family, 0);
-    let Ok(body) = made else {
-        return Err(Refusal::OutOfMemory);
-    };
-    TreeFold::value_in(
-        run_alone(rt, alloc, settings_of(workers), body, turnstile),
-        0,
-    )
+    let RecordedValue {
+        value,
+        machine: _,
+        archive: _,
+    } = record_fold(rt, alloc, workers, nodes, turnstile)?;
+    value
 }
 
 /// Folds a tree as [`fold_tree`], and hands out the history of the run: in async mode, with one submitter and the largest limits. Precondition:
@@ -138,7 +112,7 @@ fn record_in<F: NamedTree + Send, R: Threads + Wait + Sync, T: Turnstile + Sync>
 }
 
 impl<'a, F: NamedTree> TreeFold<'a, F> {
-    /// The value of a node, from what came of its body: the answer of [`run_alone`], or of a pool to which it was submitted.
+    /// The value of a node, from what came of its body: the answer of `run_alone`, or of a pool to which it was submitted.
     ///
     /// `LogFull` if the answer is that refusal, or the body failed with its number. `OutOfMemory` if there is no result of this node for any
     /// other reason.
