@@ -1,20 +1,12 @@
 #!/usr/bin/env bash
 # Builds the library of include/fj.h, and installs it: include/fj.h, lib/libfj.a, lib/libfj.so and lib/pkgconfig/fj.pc below a folder.
 # Usage: c/install.sh [FOLDER]     (default: /usr/local)
-# Needs rt, a C compiler as cc, and GNU's ld, objcopy and ar. crates/fj_c is proved and built first, where its archive is older than its sources,
-# in some ten minutes; ARCHIVE=FILE takes that archive instead.
+# Needs rt, Python 3, a C compiler as cc, and GNU's ld, objcopy and ar. crates/fj_c is proved and built first, where it has changed.
 set -euo pipefail
 cd "$(dirname "${BASH_SOURCE[0]}")/.."
 
 prefix=${1:-/usr/local}
-archive=${ARCHIVE:-crates/fj_c/out/libfj_c.a}
-crates=(crates/fj_{rules,lines,history,queues,tree,ledger,machine,codes,c})
-
-is_older() { [[ ! -e $archive || $(find "${crates[@]}" \( -path '*/src/*' -o -path '*/proofs/*' -o -path '*/specs/*' \) -newer "$archive" -print -quit) ]]; }
-
-if [[ ! ${ARCHIVE:-} ]] && is_older; then
-    (cd crates/fj_c && rt lib) >&2
-fi
+archive=$(tools/archive.py fj_c)
 kit=$(dirname "$(rt doc)")
 work=$(mktemp -d)
 trap 'rm -rf "$work"' EXIT

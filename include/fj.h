@@ -7,7 +7,7 @@
  *     if (fj_new(&m, FJ_ASYNC, 2, 1, 64, 4096).code != FJ_DONE) return 1;
  *     fj_submit(&m, 0);
  *     fj_reply r = fj_poll(&m, 0, 0);
- *     if (r.code == FJ_RUN) { body(r.a); fj_end(&m, 0, FJ_OK, 0); fj_release(&m, r.a); }
+ *     if (r.code == FJ_RUN) { body(r.number); fj_end(&m, 0, FJ_OK, 0); fj_release(&m, r.number); }
  *     fj_free(&m);
  *
  * docs/C.md says how to link, and what a caller must uphold. Every call is refused with a code, and then changes nothing, where an
@@ -28,8 +28,8 @@ typedef struct { void *at; } fj_machine;
 
 #define FJ_MACHINE_INIT {0}
 
-/* What a call answers: a code, and two numbers that the code explains. Where nothing is said of a number it is 0. */
-typedef struct { uint32_t code; uint64_t a, b; } fj_reply;
+/* What a call answers: a code, and two numbers that the code explains. Where nothing is said of one it is 0. */
+typedef struct { uint32_t code, by; uint64_t number; } fj_reply;
 
 /* ---- codes */
 
@@ -54,26 +54,26 @@ enum {
     FJ_BAD_ARGUMENT = 18,    /* an unknown mode or ending, or NULL where something is to be written */
     FJ_IN_USE = 19,          /* there is a machine already */
     FJ_NO_PLACE = 20,        /* the list or the history has nothing at this place */
-    FJ_TOO_SMALL = 21,       /* the text does not fit; a: its bytes */
+    FJ_TOO_SMALL = 21,       /* the text does not fit; number: its bytes */
 
-    /* Replies, from 32 on. */
-    FJ_TASK = 32,        /* a: the task */
+    /* Replies, from 32 on. What is named is the number. */
+    FJ_TASK = 32,        /* the task that was accepted, or is asked for */
     FJ_NONE = 33,        /* there is no task */
-    FJ_RUN = 34,         /* a: the task whose body is to be run */
-    FJ_SKIP = 35,        /* a: the task, done already; it left its queue and is not run */
-    FJ_COUNTED = 36,     /* a: the completer whose pending count fell by one */
-    FJ_HOOK = 37,        /* a: the completer whose completion action is to be run, and then fj_hook_done to be called */
-    FJ_SPENT = 38,       /* a: the completer, which had fired, was passed or is done; nothing changed at it */
-    FJ_EARLY = 39,       /* a: the completer, still queued or held; nothing changed at it */
-    FJ_ROOT = 40,        /* a: the completer without a parent that became normal */
-    FJ_COUNT = 41,       /* a: a number */
+    FJ_RUN = 34,         /* the task whose body is to be run */
+    FJ_SKIP = 35,        /* the task, done already; it left its queue and is not run */
+    FJ_COUNTED = 36,     /* the completer whose pending count fell by one */
+    FJ_HOOK = 37,        /* the completer whose completion action is to be run, and then fj_hook_done to be called */
+    FJ_SPENT = 38,       /* the completer, which had fired, was passed or is done; nothing changed at it */
+    FJ_EARLY = 39,       /* the completer, still queued or held; nothing changed at it */
+    FJ_ROOT = 40,        /* the completer without a parent that became normal */
+    FJ_COUNT = 41,       /* what was counted */
     FJ_YES = 42,
     FJ_NO = 43,
     FJ_NORMAL = 44,      /* the joined task is done, without a fault */
-    FJ_EXCEPTIONAL = 45, /* the joined task is done, with a fault; a: its code */
+    FJ_EXCEPTIONAL = 45, /* the code of the fault with which the joined task is done */
     FJ_CANCELLED = 46,   /* the joined task is cancelled */
 
-    /* Replies to fj_state: where the task is. a: whose queue or stack; b: a status, below. */
+    /* Replies to fj_state: where the task is. by: whose queue or stack; number: a status, below. */
     FJ_SUBMITTED = 47, /* in the queue of a submitter */
     FJ_FORKED = 48,    /* in the queue of a worker */
     FJ_HELD = 49,      /* on the stack of a worker: its body has begun and has not ended */
@@ -123,7 +123,7 @@ fj_reply fj_submit_completer(fj_machine *m, uint32_t s, uint32_t count, bool rel
 fj_reply fj_fork(fj_machine *m, uint32_t w);
 fj_reply fj_fork_completer(fj_machine *m, uint32_t w, uint64_t parent, uint32_t count, bool relay);
 
-/* The running task of w makes a completer that is never queued. Refused as fj_fork. */
+/* The running task of w makes a completer without a parent that is never queued: only arrivals at it count. Refused as fj_fork. */
 fj_reply fj_trigger(fj_machine *m, uint32_t w, uint32_t count);
 
 /* ---- steps: a worker takes a task. r, modulo the number of queues, is where its scan begins: first the submitters' queues, then the
@@ -224,7 +224,7 @@ fj_reply fj_events(fj_machine *m);
 /* The event at a place, from 0 on. FJ_DONE. Also refused with FJ_BAD_ARGUMENT (NULL). */
 fj_reply fj_event(fj_machine *m, uint64_t place, fj_happened *event);
 
-/* Forgets the events so far, which makes room for more. Kept tasks stay, and task numbers go on. FJ_DONE, a: how many they were.
+/* Forgets the events so far, which makes room for more. Kept tasks stay, and task numbers go on. FJ_DONE, number: how many they were.
  * Refused: FJ_NO_MACHINE, FJ_NOT_IDLE (the machine is not quiescent), FJ_CLOSED (after a shutdown or a stop), FJ_LOG_FULL (after 2^62
  * events), FJ_OUT_OF_MEMORY. */
 fj_reply fj_seal(fj_machine *m);

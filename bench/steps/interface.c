@@ -27,8 +27,8 @@ static void stop(const char *why) {
     exit(1);
 }
 
-static void expect(Bench *b, fj_reply r, uint32_t code, uint64_t a) {
-    if (r.code != code || r.a != a) b->failed = true;
+static void expect(Bench *b, fj_reply r, uint32_t code, uint64_t number) {
+    if (r.code != code || r.number != number) b->failed = true;
 }
 
 /* The number of the task that a step accepted. */
@@ -124,7 +124,7 @@ static uint64_t run(Load load, uint32_t keep, uint32_t workers, uint64_t wanted,
     b = (Bench){.random = 1};
     if (fj_new(&b.machine, load == JOINS ? FJ_JOINING : FJ_ASYNC, workers, 1, TASKS, EVENTS).code != FJ_DONE) stop("no machine");
     prepare(&b, load, keep);
-    rounds = (EVENTS - fj_events(&b.machine).a) / events_of[load];
+    rounds = (EVENTS - fj_events(&b.machine).number) / events_of[load];
     if (wanted < rounds) rounds = wanted;
     start = now();
     for (uint64_t i = 0; i < rounds; i++) make_round(&b, load);

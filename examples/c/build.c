@@ -110,8 +110,9 @@ static void plan(void) {
     made(fj_submit(&machine, 0));
     made(fj_poll(&machine, 0, 0));
     for (Target *t = targets; t < targets + target_count; t++) {
-        if (t->count > 0) t->gate = made(fj_trigger(&machine, 0, (uint32_t)t->count - 1)).a;
-        else tasks[made(fj_fork(&machine, 0)).a] = (Task){t, false};
+        for (int i = 0; i < t->count; i++) find(t->inputs[i]);
+        if (t->count > 0) t->gate = made(fj_trigger(&machine, 0, (uint32_t)t->count - 1)).number;
+        else tasks[made(fj_fork(&machine, 0)).number] = (Task){t, false};
     }
     made(fj_end(&machine, 0, FJ_OK, 0));
 }
@@ -145,7 +146,7 @@ static void run_commands(uint32_t w, Target *target) {
     for (Target *t = targets; t < targets + target_count; t++)
         for (int i = 0; i < t->count; i++)
             if (find(t->inputs[i]) == target && !t->failed)
-                tasks[made(fj_fork_completer(&machine, w, t->gate, 0, true)).a] = (Task){t, true};
+                tasks[made(fj_fork_completer(&machine, w, t->gate, 0, true)).number] = (Task){t, true};
     made(fj_end(&machine, w, FJ_OK, 0));
 }
 
@@ -154,7 +155,7 @@ static void notify(uint32_t w, Target *target) {
     made(fj_end(&machine, w, FJ_TRY, 0));
     if (made(fj_hook_done(&machine, w)).code != FJ_HOOK) return;
     made(fj_hook_done(&machine, w));
-    tasks[made(fj_submit(&machine, 0)).a] = (Task){target, false};
+    tasks[made(fj_submit(&machine, 0)).number] = (Task){target, false};
 }
 
 static void *work(void *number) {
@@ -163,10 +164,10 @@ static void *work(void *number) {
     while (left > 0) {
         fj_reply r = made(fj_poll(&machine, w, w));
         if (r.code == FJ_RUN) {
-            Task task = tasks[r.a];
+            Task task = tasks[r.number];
             if (task.notifies) notify(w, task.target);
             else run_commands(w, task.target);
-            made(fj_release(&machine, r.a));
+            made(fj_release(&machine, r.number));
             pthread_cond_broadcast(&changed);
         } else if (fj_is_quiescent(&machine).code == FJ_YES) {
             die("targets that need", "each other");
@@ -185,8 +186,8 @@ static void write_history(const char *name) {
     FILE *file = fopen(name, "w");
     if (!file) die("cannot write", name);
     fj_reply r = made(fj_print_heading(FJ_ASYNC, workers, 1, TASKS, EVENTS, line, sizeof line));
-    fwrite(line, 1, r.a, file);
-    for (uint64_t i = 0; (r = fj_print_event(&machine, i, line, sizeof line)).code == FJ_COUNT; i++) fwrite(line, 1, r.a, file);
+    fwrite(line, 1, r.number, file);
+    for (uint64_t i = 0; (r = fj_print_event(&machine, i, line, sizeof line)).code == FJ_COUNT; i++) fwrite(line, 1, r.number, file);
     if (fclose(file) != 0) die("cannot write", name);
 }
 

@@ -11,7 +11,7 @@ RUN, HOOK, TRY, ASYNC, LEAF = 34, 37, 2, 0, 1000
 
 
 class Reply(ctypes.Structure):
-    _fields_ = [("code", ctypes.c_uint32), ("a", ctypes.c_uint64), ("b", ctypes.c_uint64)]
+    _fields_ = [("code", ctypes.c_uint32), ("by", ctypes.c_uint32), ("number", ctypes.c_uint64)]
 
 
 class Pool:
@@ -32,13 +32,13 @@ class Pool:
         with self.lock:
             while 0 not in self.sums:
                 reply = self.ask("poll", w, w)
-                self.run(w, reply.a) if reply.code == RUN else self.lock.wait()
+                self.run(w, reply.number) if reply.code == RUN else self.lock.wait()
 
     def run(self, w, t):
         first, end = self.ranges[t]
         middle, this = (first + end) // 2, ctypes.c_uint64(t)
         parts = [(first, middle), (middle, end)] if end - first > LEAF else []
-        self.children[t] = [self.ask("fork_completer", w, this, 0, True).a for _ in parts]
+        self.children[t] = [self.ask("fork_completer", w, this, 0, True).number for _ in parts]
         self.ranges.update(zip(self.children[t], parts))
         if parts:
             self.ask("add", w, this, len(parts))
@@ -49,14 +49,14 @@ class Pool:
             self.sums[t] = found
         reply = self.ask("end", w, TRY, 0)
         while reply.code == HOOK:
-            self.sums.setdefault(reply.a, sum(self.sums[child] for child in self.children[reply.a]))
+            self.sums.setdefault(reply.number, sum(self.sums[child] for child in self.children[reply.number]))
             reply = self.ask("hook_done", w)
         self.lock.notify_all()
 
 
 library, n, workers = sys.argv[1], int(sys.argv[2]), int(sys.argv[3])
 pool = Pool(library, workers)
-pool.ranges[pool.ask("submit_completer", 0, 0, True).a] = (0, n)
+pool.ranges[pool.ask("submit_completer", 0, 0, True).number] = (0, n)
 threads = [threading.Thread(target=pool.work, args=(w,)) for w in range(workers)]
 [thread.start() for thread in threads]
 [thread.join() for thread in threads]

@@ -17,6 +17,6 @@ int main() {
     if (fj_new(&m.at, FJ_ASYNC, 1, 1, 4, 16).code != FJ_DONE) return 1;
     if (fj_submit(&m.at, 0).code != FJ_TASK) return 2;
     fj_reply r = fj_poll(&m.at, 0, 0);
-    std::printf("%s %llu\n", fj_meaning(r.code), static_cast<unsigned long long>(r.a));
+    std::printf("%s %llu\n", fj_meaning(r.code), static_cast<unsigned long long>(r.number));
     return fj_refused(fj_end(&m.at, 0, FJ_OK, 0)) ? 3 : 0;
 }

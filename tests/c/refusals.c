@@ -32,10 +32,10 @@ void *__wrap_realloc(void *at, size_t size) { return fails() ? NULL : __real_rea
 
 /* ---- all that a machine tells */
 
-typedef struct { fj_reply replies[600]; int count; } Seen;
+typedef struct { fj_reply replies[700]; int count; } Seen;
 
 static void see(Seen *seen, fj_reply r) {
-    if (seen->count < 600) seen->replies[seen->count++] = r;
+    if (seen->count < 700) seen->replies[seen->count++] = r;
 }
 
 /* Of a machine of 2 workers and 1 submitter with few tasks. */
@@ -54,7 +54,8 @@ static Seen look(fj_machine *m) {
         see(&seen, fj_state(m, i));
         see(&seen, fj_parent(m, i));
         see(&seen, fj_event(m, i, &event));
-        see(&seen, (fj_reply){event.what, event.task, event.value});
+        see(&seen, (fj_reply){event.what, event.by, event.task});
+        see(&seen, (fj_reply){event.kind, 0, event.value});
         for (uint32_t w = 0; w < 2; w++) {
             see(&seen, fj_forked(m, w, i));
             see(&seen, fj_stack(m, w, i));
@@ -68,7 +69,7 @@ static bool same(const Seen *a, const Seen *b) {
     if (a->count != b->count) return false;
     for (int i = 0; i < a->count; i++) {
         fj_reply x = a->replies[i], y = b->replies[i];
-        if (x.code != y.code || x.a != y.a || x.b != y.b) return false;
+        if (x.code != y.code || x.by != y.by || x.number != y.number) return false;
     }
     return true;
 }

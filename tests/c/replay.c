@@ -91,24 +91,24 @@ static void say_status(uint64_t status) {
 
 static void say(fj_reply r) {
     switch (r.code) {
-    case FJ_SUBMITTED: printf("state queued %" PRIu64 " ", r.a); break;
-    case FJ_FORKED: printf("state queued %" PRIu64 " ", limits[1] + r.a); break;
-    case FJ_HELD: printf("state held %" PRIu64 " ", r.a); break;
+    case FJ_SUBMITTED: printf("state queued %" PRIu32 " ", r.by); break;
+    case FJ_FORKED: printf("state queued %" PRIu32 " ", limits[1] + r.by); break;
+    case FJ_HELD: printf("state held %" PRIu32 " ", r.by); break;
     case FJ_OPEN: printf("state open "); break;
     case FJ_GONE: printf("state gone "); break;
     case FJ_DONE: case FJ_NONE: case FJ_YES: case FJ_NO: case FJ_NORMAL: case FJ_CANCELLED: puts(fj_meaning(r.code)); return;
     default:
         if (fj_refused(r)) printf("refused %" PRIu32 "\n", r.code);
-        else printf("%s %" PRIu64 "\n", fj_meaning(r.code), r.a);
+        else printf("%s %" PRIu64 "\n", fj_meaning(r.code), r.number);
         return;
     }
-    say_status(r.b);
+    say_status(r.number);
 }
 
 static void say_seal(void) {
     fj_reply epoch = fj_epoch(&machine), sealed = fj_seal(&machine);
     if (fj_refused(sealed)) say(sealed);
-    else printf("sealed %" PRIu64 " %" PRIu64 "\n", epoch.a, sealed.a);
+    else printf("sealed %" PRIu64 " %" PRIu64 "\n", epoch.number, sealed.number);
 }
 
 /* ---- the history */
@@ -119,7 +119,7 @@ static uint64_t written;
 static void print_new_events(void) {
     char line[FJ_LINE];
     fj_reply r;
-    for (; (r = fj_print_event(&machine, written, line, sizeof line)).code == FJ_COUNT; written++) fwrite(line, 1, r.a, stdout);
+    for (; (r = fj_print_event(&machine, written, line, sizeof line)).code == FJ_COUNT; written++) fwrite(line, 1, r.number, stdout);
     if (r.code != FJ_NO_PLACE) fault(fj_meaning(r.code));
 }
 
@@ -127,7 +127,7 @@ static void print_heading(void) {
     char line[FJ_LINE];
     fj_reply r = fj_print_heading(mode, limits[0], limits[1], limits[2], limits[3], line, sizeof line);
     if (r.code != FJ_COUNT) fault(fj_meaning(r.code));
-    fwrite(line, 1, r.a, stdout);
+    fwrite(line, 1, r.number, stdout);
 }
 
 static void print_seal(void) {
@@ -142,7 +142,7 @@ static void make(bool tells) {
         if (tells) say_seal();
         else print_seal();
     } else if (is("epoch")) {
-        if (tells) printf("epoch %" PRIu64 " %" PRIu64 "\n", fj_epoch(&machine).a, fj_events(&machine).a);
+        if (tells) printf("epoch %" PRIu64 " %" PRIu64 "\n", fj_epoch(&machine).number, fj_events(&machine).number);
     } else {
         fj_reply r = step();
         if (tells) say(r);

@@ -7,7 +7,7 @@ set -euo pipefail
 cd "$(dirname "${BASH_SOURCE[0]}")/../.."
 count=${1:-1000}
 seed=${2:-1}
-fj=$PWD/${FJ:-crates/fj/out/fj}
+fj=$PWD/crates/fj/out/fj
 if [[ ! -x $fj ]]; then
     echo "no $fj: cd crates/fj && rt run -- replay < stdin" >&2
     exit 1

@@ -69,6 +69,7 @@ impl Handle {
         let _old = replace(self, Handle::of(machine)).into_box();
     }
 
+    /// Keeps the address, and forgets its type.
     fn hold(loose: Loose<Machine, Global>) -> Handle
         ensures { result.past ≡ Some loose.value }
     {
@@ -79,6 +80,7 @@ impl Handle {
         }
     }
 
+    /// The address with its type, if it is not null.
     fn let_go(self) -> Option<Loose<Machine, Global>>
         ensures { MatchOption result (self.past ≡ None) (λ l. self.past ≡ Some l.value) }
     {

@@ -13,7 +13,7 @@ use Rattle.fj_codes.specs.declared.codes.TheConstants as code
 
 -- a code with a number
 abbrev pub reply : ℕ → ℕ → Reply
-reply c a = record { code = c; a = a; b = 0 }
+reply c number = record { code = c; by = 0; number = number }
 
 -- the number of a status
 abbrev pub status_number : Status → ℕ
@@ -49,7 +49,7 @@ reply_of says.Normal = reply code.NORMAL 0
 reply_of (says.Exceptional fault) = reply code.EXCEPTIONAL fault
 reply_of says.Cancelled = reply code.CANCELLED 0
 reply_of (says.Refused refusal) = reply (refusal_number refusal) 0
-reply_of (says.State place status) = record { code = (place_codes place).0; a = (place_codes place).1; b = status_number status }
+reply_of (says.State place status) = record { code = (place_codes place).0; by = (place_codes place).1; number = status_number status }
 
 -- there is no machine
 abbrev pub no_machine : Reply

@@ -7,22 +7,28 @@ use crate::codes::{
 };
 use fj_rules::{InnerTypes, Owner, Place, Said, Status};
 
-/// What a call answers: a code, and two numbers that it explains.
+/// What a call answers: a code, and two numbers that it explains. C gets it in registers.
 #[repr(C)]
 #[derive(Clone, Copy)]
 pub struct Reply {
     pub code: u32,
-    pub a: u64,
-    pub b: u64,
+    /// Whose queue or stack, in a reply to the step State.
+    pub by: u32,
+    /// A task, a status, or any other number.
+    pub number: u64,
 }
 
 impl Reply {
     /// A code with a number.
     #[inline(always)]
-    pub fn new(code: u32, a: u64) -> Reply
-        ensures { result ≡ reply code a }
+    pub fn new(code: u32, number: u64) -> Reply
+        ensures { result ≡ reply code number }
     {
-        Reply { code, a, b: 0 }
+        Reply {
+            code,
+            by: 0,
+            number,
+        }
     }
 
     /// The reply of a machine.
@@ -50,24 +56,24 @@ impl Reply {
             Said::Cancelled => Reply::new(CANCELLED, 0),
             Said::Refused(refusal) => Reply::new(refusal.number(), 0),
             Said::State(place, status) => {
-                let (code, a) = place_codes(place);
-                let b = status_number(status);
-                Reply { code, a, b }
+                let (code, by) = place_codes(place);
+                let number = status_number(status);
+                Reply { code, by, number }
             }
         }
     }
 }
 
 /// The code of a place, and whose queue or stack it is.
-fn place_codes(place: Place) -> (u32, u64)
+fn place_codes(place: Place) -> (u32, u32)
     ensures { result ≡ place_codes place }
 {
     match place {
         Place::Queued(owner) => match owner {
-            Owner::Sub(s) => (SUBMITTED, u64::from(s.0)),
-            Owner::Work(w) => (FORKED, u64::from(w.0)),
+            Owner::Sub(s) => (SUBMITTED, s.0),
+            Owner::Work(w) => (FORKED, w.0),
         },
-        Place::Held(w) => (HELD, u64::from(w.0)),
+        Place::Held(w) => (HELD, w.0),
         Place::Open => (OPEN, 0),
         Place::Gone => (GONE, 0),
     }
