@@ -1,5 +1,5 @@
 -- However a filter ends, a beginning of the text of the bytes read was written.
-use Rattle.std.proofs.Common.{ℕ, List, [], Option, Some, None, length, refl}
+use Rattle.std.proofs.Common.{ℕ, List, [], Option, Some, None, length, refl, inl}
 use Rattle.std.proofs.lemmas.List.{append-nil}
 use Rattle.std.proofs.Math.Seq.{take-length}
 use Rattle.std.specs.Io.KnownBytes.{Appends, Consumes, Keeps}
@@ -10,6 +10,7 @@ use Rattle.fj_streams.proofs.CallsMade.{fine_self}
 use Rattle.fj_filter.specs.declared.fault.FilterFault.TheVariants.{Memory}
 use Rattle.fj_filter.specs.Rules.{Rules}
 use Rattle.fj_filter.specs.Faults.{EndsFrom}
+use Rattle.fj_filter.specs.Starving.{StarvesFrom}
 use Rattle.fj_filter.specs.Tells.{FaultTells}
 
 -- the whole is a beginning too
@@ -33,3 +34,6 @@ module _ {A S : Type 0} (rules : Rules A S) where
   -- out of memory before the first read
   pub stops_at_once : (first : A) (a n : Option (List ℕ)) (p q : Option Calls) → (b : List ℕ) × EndsFrom rules first Memory b a a n n × FaultTells {S = S} Memory b p p q q
   stops_at_once first a n p q = ([], record { read = consumes_nothing a; means = (0, appends_nothing n) }, (fine_self p, fine_self q))
+
+  pub starves_at_once : (Needs : A → List ℕ → Type 0) (first : A) (a n : Option (List ℕ)) → StarvesFrom rules Needs first Memory a a n n
+  starves_at_once Needs first a n = ([], consumes_nothing a, inl (refl, appends_nothing n))

@@ -6,6 +6,8 @@ pub mod States
 pub mod Steps
 -- what a buffer has found when it stops
 pub mod FaultsFound
+-- where memory ran out
+pub mod Starving
 -- however a filter ends, a beginning of the text was written
 pub mod Begun
 -- what a fault tells of the calls of the reader and of the writer

@@ -1,5 +1,5 @@
 -- What a line buffer keeps, and what bytes do to it and to the state of a filter.
-use Rattle.std.specs.Prelude.{ℕ, ◌≡◌, ◌≢◌, ◌+◌, ◌<◌, ◌≤◌, ◌⊎◌, List, [], ◌++◌, Option, Some, false, length}
+use Rattle.std.specs.Prelude.{ℕ, ⊤, ◌≡◌, ◌≢◌, ◌+◌, ◌<◌, ◌≤◌, ◌⊎◌, List, [], ◌++◌, Option, Some, false, length}
 use Rattle.std.specs.Io.KnownBytes.{Appends}
 use Rattle.fj_streams.specs.Calls.{Calls, HasFailed, IsFine}
 use Rattle.fj_filter.specs.declared.fault.FilterFault.{FilterFault}
@@ -9,6 +9,7 @@ use Rattle.fj_filter.specs.Cuts.{lines, rest}
 use Rattle.fj_filter.specs.Kept.{Kept}
 use Rattle.fj_filter.specs.Rules.{Rules, state_from, text_from}
 use Rattle.fj_filter.specs.Faults.{FaultOf, StopsAtLine}
+use Rattle.fj_filter.specs.Starving.{Starves}
 use Rattle.fj_filter.specs.Tells.{fault_at}
 
 -- before anything was read
@@ -68,3 +69,27 @@ module _ {A S : Type 0} (rules : Rules A S) where
   -- what a fault at the end of the input says: the input ends within a line, or before the heading
   abbrev pub EndsEarly : Kept → A → FilterFault S → Type 0
   EndsEarly v state fault = (fault ≡ Line (v.count + 1)) × ((v.line ≢ []) ⊎ (rules.has_heading state ≡ false))
+
+-- ---- where memory ran out. `Needs` says which lines need some
+
+module _ {A S : Type 0} (Needs : A → List ℕ → Type 0) where
+  -- where it ran out at this line, the line needs some, and nothing was written of it
+  abbrev pub StarvesAt : A → List ℕ → FilterFault S → Option (List ℕ) → Option (List ℕ) → Type 0
+  StarvesAt state line (Stop n stop) old new = ⊤
+  StarvesAt state line (Line n) old new = ⊤
+  StarvesAt state line Memory old new = Needs state line × Appends old new []
+  StarvesAt state line Read old new = ⊤
+  StarvesAt state line Write old new = ⊤
+
+  -- the same of a line that ends after these bytes, and is not too long
+  abbrev pub StarvesInLine : Kept → A → List ℕ → FilterFault S → Option (List ℕ) → Option (List ℕ) → Type 0
+  StarvesInLine v state bytes (Stop n stop) old new = ⊤
+  StarvesInLine v state bytes (Line n) old new = ⊤
+  StarvesInLine v state bytes Memory old new = (length v.line + length bytes ≤ v.longest) × Needs state (v.line ++ bytes) × Appends old new []
+  StarvesInLine v state bytes Read old new = ⊤
+  StarvesInLine v state bytes Write old new = ⊤
+
+-- after any good bytes that lead there, memory runs out in these bytes at a line that needs some
+abbrev pub StarvesInside : {A S : Type 0} → Rules A S → (A → List ℕ → Type 0) → List ℕ → Kept → A → FilterFault S → Option (List ℕ) → Option (List ℕ) → Type 0
+StarvesInside rules Needs bytes old state fault written now =
+    (first : _) (b : List ℕ) (start : Option (List ℕ)) → IsAt rules first b old state start written → Starves rules Needs first fault (b ++ bytes) start now

@@ -6,6 +6,8 @@ pub mod Rules
 pub mod Faults
 -- what a fault says of the calls of the reader and of the writer
 pub mod Tells
+-- where memory ran out
+pub mod Starving
 -- what a line buffer keeps, and what bytes do to it
 pub mod Kept
 pub mod Buffers

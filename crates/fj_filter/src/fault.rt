@@ -6,7 +6,7 @@ ghost use Rattle.fj_filter.specs.Tells.{fault_at};
 pub enum LineStop<S> {
     /// The line may not stand there, for this reason. Nothing was written.
     Stop(S),
-    /// Out of memory. The text of the line may be written in part.
+    /// Out of memory. Nothing was written.
     Memory,
     /// A write failed. The text of the line may be written in part.
     Write,
@@ -20,7 +20,7 @@ pub enum FilterFault<S> {
     /// This line, counted from 1, is longer than any that may stand anywhere, or the input ends before its line feed or before the heading.
     /// The texts of all lines before it were written.
     Line(u64),
-    /// Out of memory. The first texts may be written.
+    /// Out of memory, before the first read or at a line. The texts of all lines before it were written.
     Memory,
     /// A read failed other than by an interruption; or the input did not end in 2^64 - 1 reads, or in as many lines as 64 bits count.
     /// The texts of all whole lines were written.

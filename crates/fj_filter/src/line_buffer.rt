@@ -1,7 +1,7 @@
 ghost use Rattle.std.specs.Prelude.{◌≡◌, ◌+◌, ◌-◌, ◌^◌, nat_le, ◌<◌, ◌≤◌, ◌++◌, [], length, true, Some, OnOk, IfOk, IfErr};
 ghost use Rattle.std.specs.Io.KnownBytes.{Appends};
 ghost use Rattle.fj_streams.specs.Calls.{IsFine};
-ghost use Rattle.fj_filter.specs.Buffers.{nothing_kept, continued, after_line, GoesOnBy, IsTooLong, StopsAt, StopsInLine, EndsEarly, EndsInside, WriterFails};
+ghost use Rattle.fj_filter.specs.Buffers.{nothing_kept, continued, after_line, GoesOnBy, IsTooLong, StopsAt, StopsInLine, EndsEarly, EndsInside, WriterFails, StarvesAt, StarvesInLine, StarvesInside};
 
 use crate::fault::FilterFault;
 use crate::line_filter::LineFilter;
@@ -48,6 +48,7 @@ fn advance_at<F: LineFilter, W: Sink>(
     ensures err { IfErr result (λ fault. StopsAt F.rules number state.old line.now fault (W.contents w.old) (W.contents w.new)) }
     ensures fine { OnOk result (IsFine (W.calls w.old) (W.calls w.new)) }
     ensures told { IfErr result (λ fault. WriterFails fault (W.calls w.old) (W.calls w.new)) }
+    ensures memory { IfErr result (λ fault. StarvesAt F.needs_memory state.old line.now fault (W.contents w.old) (W.contents w.new)) }
 {
     match state.advance(alloc, line, w) {
         Ok(()) => Ok(()),
@@ -122,6 +123,7 @@ impl LineBuffer {
         ensures err { IfErr result (λ fault. StopsInLine F.rules self.old state.old bytes.now fault (W.contents w.old) (W.contents w.new)) }
         ensures fine { OnOk result (IsFine (W.calls w.old) (W.calls w.new)) }
         ensures told { IfErr result (λ fault. WriterFails fault (W.calls w.old) (W.calls w.new)) }
+        ensures memory { IfErr result (λ fault. StarvesInLine F.needs_memory self.old state.old bytes.now fault (W.contents w.old) (W.contents w.new)) }
     {
         if !self.has_room(bytes.len()) {
             return Err(FilterFault::Line(self.count + 1));
@@ -151,6 +153,7 @@ impl LineBuffer {
         ensures err { IfErr result (λ fault. EndsInside F.rules bytes.now self.old state.old fault (W.contents w.old) (W.contents w.new)) }
         ensures fine { OnOk result (IsFine (W.calls w.old) (W.calls w.new)) }
         ensures told { IfErr result (λ fault. WriterFails fault (W.calls w.old) (W.calls w.new)) }
+        ensures memory { IfErr result (λ fault. StarvesInside F.rules F.needs_memory bytes.now self.old state.old fault (W.contents w.old) (W.contents w.new)) }
     {
         let mut rest = bytes;
         while let Some(end) = memchr(LINE_FEED, rest) {

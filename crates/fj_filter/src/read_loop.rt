@@ -4,6 +4,7 @@ ghost use Rattle.fj_filter.specs.declared.read_loop.TheConstants.{CHUNK};
 ghost use Rattle.fj_streams.specs.Calls.{IsFine};
 ghost use Rattle.fj_filter.specs.Buffers.{nothing_kept};
 ghost use Rattle.fj_filter.specs.Faults.{Finishes};
+ghost use Rattle.fj_filter.specs.Starving.{StarvesFrom};
 ghost use Rattle.fj_filter.specs.Tells.{StopsFrom, seen};
 
 use crate::fault::FilterFault;
@@ -27,6 +28,7 @@ pub fn filter<F: LineFilter, R: Source, W: Sink>(
     ensures ok { OnOk result (Finishes F.rules state.old state.new (R.remaining r.old) (R.remaining r.new) (W.contents w.old) (W.contents w.new)) }
     ensures fine { OnOk result (IsFine (R.calls r.old) (R.calls r.new) × IsFine (W.calls w.old) (W.calls w.new)) }
     ensures err { IfErr result (StopsFrom F.rules state.old (seen R.remaining R.calls r.old r.new) (seen W.contents W.calls w.old w.new)) }
+    ensures memory { IfErr result (λ fault. StarvesFrom F.rules F.needs_memory state.old fault (R.remaining r.old) (R.remaining r.new) (W.contents w.old) (W.contents w.new)) }
 {
     let Ok(mut buffer) = LineBuffer::new(alloc, F::longest()) else {
         return Err(FilterFault::Memory);
@@ -49,6 +51,7 @@ fn filter_in<F: LineFilter, R: Source, W: Sink>(
     ensures ok { OnOk result (Finishes F.rules state.old state.new (R.remaining r.old) (R.remaining r.new) (W.contents w.old) (W.contents w.new)) }
     ensures fine { OnOk result (IsFine (R.calls r.old) (R.calls r.new) × IsFine (W.calls w.old) (W.calls w.new)) }
     ensures err { IfErr result (StopsFrom F.rules state.old (seen R.remaining R.calls r.old r.new) (seen W.contents W.calls w.old w.new)) }
+    ensures memory { IfErr result (λ fault. StarvesFrom F.rules F.needs_memory state.old fault (R.remaining r.old) (R.remaining r.new) (W.contents w.old) (W.contents w.new)) }
 {
     for _reads in 0..u64::MAX {
         // The lines of a chunk are counted in 64 bits.

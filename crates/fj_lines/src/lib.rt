@@ -14,3 +14,4 @@ pub use read::{
     no_more, one_number, read_head, read_line2, read_number, read_step, two_numbers,
 };
 pub use reply::Reply;
+pub use write::REPLY_ROOM;

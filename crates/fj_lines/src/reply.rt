@@ -1,4 +1,4 @@
-ghost use Rattle.std.specs.Prelude.{◌≡◌, ◌∷◌, [], Some, IfSome, IfNone, decimal};
+ghost use Rattle.std.specs.Prelude.{◌≡◌, ◌≤◌, ◌∷◌, [], Some, IfSome, IfNone, length, decimal};
 ghost use Rattle.std.specs.Fmt.{WritesOnOk};
 ghost use Rattle.fj_lines.specs.Words.{joined};
 ghost use Rattle.fj_rules.specs.Bounds.{Bounds};
@@ -47,6 +47,7 @@ impl fmt::Display for Reply<'_> {
 pub(crate) fn parts(said: &Said) -> (&'static str, Option<u64>)
     ensures some { IfSome result.1 (λ n. (limits : Bounds) → reply_words limits said.now ≡ result.0.now ∷ decimal n ∷ []) }
     ensures none { IfNone result.1 ((limits : Bounds) → reply_words limits said.now ≡ result.0.now ∷ words_of_state limits said.now) }
+    ensures short { length result.0.now ≤ 11 }
 {
     match *said {
         Said::Task(t) => ("task", Some(t.0)),

@@ -42,7 +42,7 @@ holds_later P play t [] more holds e = subst (λ (n : ScriptStage). Holds P n) (
 holds_later P play t (l ∷ ls) more holds e =
     there P play (asked_in play.naming l) t ls (λ asked is later. holds_later P (play_after play asked) t ls more (more play l asked is holds) later) e
 
-opened_holds : (P : Play → Type 0) (naming : TaskNaming) (o : Option Pool) (t : ScriptStage) (ls : List (List ℕ)) → Stays P → ((p : Pool) → P (record { past = start p; naming = naming }))
+pub opened_holds : (P : Play → Type 0) (naming : TaskNaming) (o : Option Pool) (t : ScriptStage) (ls : List (List ℕ)) → Stays P → ((p : Pool) → P (record { past = start p; naming = naming }))
     → option_and_then (λ n. stage_from n ls) (opened naming o) ≡ Some t → Holds P t
 opened_holds P naming None t ls more new e = absurd cc
 opened_holds P naming (Some p) t ls more new e = holds_later P (record { past = start p; naming = naming }) t ls more (new p) e

@@ -16,6 +16,8 @@ pub mod Named
 pub mod Moves
 -- how a replay or an upgrade ends, by how its filter does
 pub mod Ends
+-- where a replay runs out of memory
+pub mod Starving
 -- a script that is whole, as a replay and as an upgrade tell it
 pub mod Whole
 -- however a replay or an upgrade ends, a beginning of what it writes was written

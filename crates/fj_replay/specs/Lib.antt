@@ -11,3 +11,4 @@ pub mod Faults
 pub mod Upgrades
 pub mod Tells
 pub mod Stops
+pub mod Starving

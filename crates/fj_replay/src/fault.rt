@@ -10,7 +10,8 @@ pub enum ReplayFault {
     /// A limit of the heading is out of its range. Nothing was written.
     #[error("refused 13")]
     Limits,
-    /// Out of memory. The first replies may be written.
+    /// Out of memory, before the first reply, or in version 2 at a line that gives a task a new name, or seals. All lines before it were
+    /// replied to.
     #[error("out of memory")]
     Memory,
     /// A read failed other than by an interruption; or the input did not end in 2^64 - 1 reads, or in as many lines as 64 bits count.

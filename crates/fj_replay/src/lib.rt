@@ -13,6 +13,7 @@ mod named_step;
 mod names;
 mod opening;
 mod player;
+mod pushes;
 mod replay_script;
 mod replied;
 mod responder;

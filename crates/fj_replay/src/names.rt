@@ -1,9 +1,11 @@
-ghost use Rattle.std.specs.Prelude.{◌≡◌, ◌++◌, ◌∷◌, [], ℕ, List, not, if◌then◌else◌, IfOk, OnOk, string_bytes};
+ghost use Rattle.std.specs.Prelude.{◌≡◌, ◌++◌, ◌∷◌, [], ℕ, List, not, ◌+◌, ◌≤◌, if◌then◌else◌, length, IfOk, IsOk, OnOk, OnErr, false, string_bytes, string_capacity, string_len};
+ghost use Rattle.fj_lines.specs.declared.name.TheConstants.{MAX_NAME};
 ghost use Rattle.fj_replay.specs.Namings.{number_of, is_taken, numbered_parent, numbered_kind, told_line};
 ghost use Rattle.fj_replay.specs.Plays.{asked_by};
 
 use crate::asked::Asked;
-use fj_lines::{Line2, Name, NamedKind};
+use crate::pushes::push_words;
+use fj_lines::{Line2, MAX_NAME, Name, NamedKind};
 use fj_rules::{Kind, Serial, Step};
 use indexmap::IndexSet;
 use std::alloc::{AllocError, Global};
@@ -43,10 +45,12 @@ impl Names {
         Serial(place as u64)
     }
 
-    /// Gives the next task this name if it is free; otherwise answers false and changes nothing. An error comes where the table can't grow.
+    /// Gives the next task this name if it is free; otherwise answers false and changes nothing. An error comes where the name is free and the
+    /// table can't grow.
     pub fn add(&mut self, name: Name) -> Result<bool, AllocError>
         ensures free { IfOk result (λ free. free ≡ not (is_taken self.old name)) }
         ensures names { OnOk result (self.new ≡ (if is_taken self.old name then self.old else self.old ++ name ∷ [])) }
+        ensures err { OnErr result (is_taken self.old name ≡ false) }
     {
         let free = self.set.insert(name)?;
         Ok(free)
@@ -127,13 +131,16 @@ impl Names {
         }
     }
 
-    /// Appends a line of two words, the second the name of a task.
+    /// Appends a line of two words, the second the name of a task. An error comes where the text can't grow, never where it has
+    /// [`REPLY_ROOM`](fj_lines::REPLY_ROOM) left and the first word is as long as one of a reply; then a part of the line may be appended.
     pub fn push_told(&self, verb: &str, t: Serial, text: &mut String) -> Result<(), AllocError>
-        ensures { OnOk result (string_bytes text.new ≡ string_bytes text.old ++ told_line self.now verb.now t) }
+        ensures line { OnOk result (string_bytes text.new ≡ string_bytes text.old ++ told_line self.now verb.now t) }
+        ensures fits { string_len text.old + length verb.now + MAX_NAME + 2 ≤ string_capacity text.old → IsOk result }
+        ensures room { string_capacity text.old ≤ string_capacity text.new }
     {
         match self.set.get_index(t.0 as usize) {
-            Some(name) => writeln!(text, "{verb} {name}"),
-            None => writeln!(text, "{verb} "),
+            Some(name) => push_words(text, verb, name.as_str()),
+            None => push_words(text, verb, ""),
         }
     }
 }

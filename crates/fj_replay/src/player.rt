@@ -1,8 +1,9 @@
-ghost use Rattle.std.specs.Prelude.{◌≡◌, Some, OnOk, IfOk, IfErr};
+ghost use Rattle.std.specs.Prelude.{◌≡◌, Some, OnOk, OnErr, IfOk, IfErr};
 ghost use Rattle.fj_lines.specs.Words.{Reads};
 ghost use Rattle.fj_rules.specs.Epochs.{IsPast};
 ghost use Rattle.fj_rules.specs.Pasts.{present};
 ghost use Rattle.fj_replay.specs.Plays.{asked_in, play_after, replied};
+ghost use Rattle.fj_replay.specs.Starving.{TakesMemory};
 ghost use Rattle.fj_replay.specs.Stages.{pool_in, start};
 ghost use Rattle.fj_replay.specs.Stops.{IsHeadStop};
 
@@ -87,11 +88,13 @@ impl Player {
         self.naming.read(line)
     }
 
-    /// Does what is asked for, and answers the reply. Out of memory where a name can't be stored (then no step is made), or in a seal.
+    /// Does what is asked for, and answers the reply. Out of memory where a new name can't be stored (then no step is made), or in a seal that
+    /// nothing else refuses.
     pub fn make(&mut self, alloc: Global, asked: Asked) -> Result<Replied, OutOfMemory>
         ensures play { OnOk result (self.new ≡ play_after self.old asked) }
         ensures reply { IfOk result (λ reply. reply ≡ replied self.old asked) }
         ensures pool { self.new.past.pool ≡ self.old.past.pool }
+        ensures err { OnErr result (TakesMemory self.old asked) }
     {
         match asked {
             Asked::Step(step) => Ok(Replied::Said(self.machine.step(&step))),
@@ -109,6 +112,7 @@ impl Player {
         ensures play { OnOk result (self.new ≡ play_after self.old (Asked.Accept name step.now)) }
         ensures reply { IfOk result (λ reply. reply ≡ replied self.old (Asked.Accept name step.now)) }
         ensures pool { self.new.past.pool ≡ self.old.past.pool }
+        ensures err { OnErr result (TakesMemory self.old (Asked.Accept name step.now)) }
     {
         if !self.naming.add(name)? {
             return Ok(Replied::NameTaken);
@@ -125,6 +129,7 @@ impl Player {
         ensures play { OnOk result (self.new ≡ play_after self.old Asked.Seal) }
         ensures reply { IfOk result (λ reply. reply ≡ replied self.old Asked.Seal) }
         ensures pool { self.new.past.pool ≡ self.old.past.pool }
+        ensures err { OnErr result (TakesMemory self.old Asked.Seal) }
     {
         let events = self.machine.history().len() as u64;
         let epoch = self.machine.epoch();

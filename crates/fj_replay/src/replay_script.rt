@@ -1,6 +1,7 @@
 //! The replay of a script, from a reader to a writer or in memory.
 ghost use Rattle.std.specs.Prelude.{◌≡◌, ◌≢◌, ℕ, OnOk, IfOk, IfErr, List, [], Option, Some, false, true};
 ghost use Rattle.fj_streams.specs.Calls.{IsFine};
+ghost use Rattle.fj_replay.specs.Starving.{Starves};
 ghost use Rattle.fj_replay.specs.Tells.{Stops, seen};
 ghost use Rattle.fj_filter.specs.Cuts.{lines};
 ghost use Rattle.fj_replay.specs.Scripts.{AreRun, KeepsNames, MakesMoves, NamesTasks, is_titled, numbered_text, text};
@@ -18,8 +19,9 @@ use std::alloc::Global;
 
 /// Reads a script, makes its steps and writes the replies.
 ///
-/// The output is `text b` of the bytes `b` that were read; at `Memory` and `Write` it is a prefix of `text b`. `Read` and `Write` come
-/// exactly where the reader or the writer failed. A reply is handed to the writer before the next line is parsed, so all replies before a
+/// The output is `text b` of the bytes `b` that were read; at `Memory` and `Write` it is a prefix of `text b`. `Memory` comes before the first
+/// reply, or in version 2 at a line that gives a task a new name, or seals. `Read` and `Write` come exactly where the reader or the
+/// writer failed. A reply is handed to the writer before the next line is parsed, so all replies before a
 /// fault are written. The writer is flushed before each further read, so a caller that sends one line at a time gets each reply; a
 /// failed flush is `Write`. At `Ok` all was flushed; at a fault the last replies may not be. An interrupted read, write or flush is
 /// retried.
@@ -27,6 +29,8 @@ pub fn replay<R: Source, W: Sink>(alloc: Global, r: &mut R, w: &mut W) -> Result
     ensures ok { OnOk result (Replays (R.remaining r.old) (R.remaining r.new) (W.contents w.old) (W.contents w.new)) }
     ensures fine { OnOk result (IsFine (R.calls r.old) (R.calls r.new) × IsFine (W.calls w.old) (W.calls w.new)) }
     ensures err { IfErr result (Stops (seen R.remaining R.calls r.old r.new) (seen W.contents W.calls w.old w.new)) }
+    // Memory runs out before the first reply, in version 2 also at a line that names a task anew, or seals.
+    ensures memory { result ≡ Err ReplayFault.Memory → Starves (R.remaining r.old) (R.remaining r.new) (W.contents w.old) (W.contents w.new) }
     // For version 1 the text is the lines of the replies to the steps, and these are a run.
     ensures numbered { (b : List ℕ) → is_titled (lines b) ≡ false → text b ≡ numbered_text (lines b) }
     // For version 2 it is the lines of the replies to the steps and seals, each task by the name that was given to it.

@@ -1,12 +1,13 @@
-ghost use Rattle.std.specs.Prelude.{◌≡◌, Some, OnOk, OnErr, IfOk, IfErr};
+ghost use Rattle.std.specs.Prelude.{◌≡◌, [], Some, OnOk, OnErr, IfOk, IfErr};
 ghost use Rattle.std.specs.Io.KnownBytes.{Appends};
 ghost use Rattle.fj_lines.specs.Words.{Reads};
-ghost use Rattle.fj_streams.specs.Calls.{IsFine};
+ghost use Rattle.fj_streams.specs.Calls.{HasFailed, IsFine};
 ghost use Rattle.fj_filter.specs.Tells.{WriterTells};
 ghost use Rattle.fj_streams.specs.Beginnings.{AppendsSome};
 ghost use Rattle.fj_replay.specs.Namings.{replied_line};
 ghost use Rattle.fj_replay.specs.Plays.{asked_in, play_after, reply_text};
 ghost use Rattle.fj_replay.specs.Stages.{pool_in, start};
+ghost use Rattle.fj_replay.specs.Starving.{StarvesAsked};
 ghost use Rattle.fj_replay.specs.Stops.{IsHeadStop, IsCutOff};
 
 use crate::asked::Asked;
@@ -15,7 +16,7 @@ use crate::replied::Replied;
 use crate::script_stop::ScriptStop;
 use crate::task_naming::TaskNaming;
 use fj_filter::{LineStop, write_all};
-use fj_lines::LineFault;
+use fj_lines::{LineFault, REPLY_ROOM};
 use fj_rules::Limits;
 use fj_streams::Sink;
 use std::alloc::Global;
@@ -26,19 +27,23 @@ use std::marker::Model;
 pub struct Responder {
     player: Player,
     limits: Limits,
-    // the line of the last reply
+    // the line of the last reply, with room for any
     line: String,
 }
 
 impl Model for Responder {
-    ghost use Rattle.std.specs.Prelude.{◌≡◌};
+    ghost use Rattle.std.specs.Prelude.{◌≡◌, ◌≤◌, string_capacity};
+    ghost use Rattle.fj_lines.specs.declared.write.TheConstants.{REPLY_ROOM};
     ghost use Rattle.fj_replay.specs.Plays.{Play};
 
     ghost Value = { Play };
 
     ghost view = { λ r. r.player };
 
-    ghost invariant = { λ r. r.limits ≡ r.player.past.pool.limits };
+    ghost invariant = { λ r. record {
+      limits : r.limits ≡ r.player.past.pool.limits;
+      room : REPLY_ROOM ≤ string_capacity r.line;
+    } };
 }
 
 impl Responder {
@@ -56,11 +61,14 @@ impl Responder {
     {
         let player = Player::open(alloc, heading, naming)?;
         let limits = player.limits();
-        Ok(Responder {
-            player,
-            limits,
-            line: String::new(alloc),
-        })
+        match String::with_capacity(alloc, REPLY_ROOM) {
+            Ok(line) => Ok(Responder {
+                player,
+                limits,
+                line,
+            }),
+            Err(_) => Err(LineStop::Memory),
+        }
     }
 
     /// Reads what a line asks for. `LineFault` where it is no line of this version.
@@ -70,7 +78,7 @@ impl Responder {
         self.player.read(line)
     }
 
-    /// Does what is asked for, and writes the reply. At `Memory` or `Write` only a part of the reply, or nothing, was written.
+    /// Does what is asked for, and writes the reply. At `Memory` nothing was written, at `Write` only a part of the reply, or nothing.
     pub fn reply<W: Sink>(
         &mut self,
         alloc: Global,
@@ -83,6 +91,7 @@ impl Responder {
         ensures fine { OnOk result (IsFine (W.calls w.old) (W.calls w.new)) }
         ensures told { IfErr result (λ fault. WriterTells fault (W.calls w.old) (W.calls w.new)) }
         ensures some { OnErr result (AppendsSome (W.contents w.old) (W.contents w.new) (reply_text self.old asked)) }
+        ensures memory { IfErr result (λ fault. StarvesAsked self.old asked fault (W.contents w.old) (W.contents w.new)) }
     {
         match self.player.make(alloc, asked) {
             Ok(reply) => self.write(reply, w),
@@ -90,20 +99,21 @@ impl Responder {
         }
     }
 
-    /// Writes a reply. At `Memory` or `Write` only a part of it, or nothing, was written.
+    /// Writes a reply. At `Write` only a part of it, or nothing, was written.
     fn write<W: Sink>(&mut self, reply: Replied, w: &mut W) -> Result<(), LineStop<ScriptStop>>
         ensures same { self.new ≡ self.old }
         ensures written { OnOk result (Appends (W.contents w.old) (W.contents w.new) (replied_line self.old.naming self.old.past.pool.limits reply)) }
-        ensures err { IfErr result IsCutOff }
+        ensures err { OnErr result (result ≡ Err LineStop.Write) }
         ensures fine { OnOk result (IsFine (W.calls w.old) (W.calls w.new)) }
-        ensures told { IfErr result (λ fault. WriterTells fault (W.calls w.old) (W.calls w.new)) }
+        ensures told { OnErr result (HasFailed (W.calls w.old) (W.calls w.new)) }
         ensures some { OnErr result (AppendsSome (W.contents w.old) (W.contents w.new) (replied_line self.old.naming self.old.past.pool.limits reply)) }
     {
         self.line.clear();
         let naming = self.player.naming();
         match naming.push_line(reply, &self.limits, &mut self.line) {
             Ok(()) => write_all(w, self.line.as_bytes()),
-            Err(_) => Err(LineStop::Memory),
+            // There is room for each reply.
+            Err(_) => unreachable!(),
         }
     }
 }

@@ -3,14 +3,13 @@ ghost use Rattle.std.specs.Io.KnownBytes.{Appends};
 ghost use Rattle.fj_rules.specs.Answers.{answer};
 ghost use Rattle.fj_rules.specs.Pasts.{grown};
 ghost use Rattle.fj_rules.specs.Tasks.{accepted};
-ghost use Rattle.fj_streams.specs.Calls.{IsFine};
+ghost use Rattle.fj_streams.specs.Calls.{HasFailed, IsFine};
 ghost use Rattle.fj_streams.specs.Beginnings.{AppendsSome};
 ghost use Rattle.fj_replay.specs.TaskNames.{named_line};
-ghost use Rattle.fj_filter.specs.Tells.{WriterTells};
 ghost use Rattle.fj_replay.specs.Stages.{pool_in, start};
-ghost use Rattle.fj_replay.specs.Stops.{IsHeadStop, IsCutOff};
+ghost use Rattle.fj_replay.specs.Stops.{IsHeadStop};
 
-use crate::named_step::push_named;
+use crate::named_step::{STEP_ROOM, push_named};
 use crate::opening::open;
 use crate::script_stop::ScriptStop;
 use crate::task_told::is_task;
@@ -28,19 +27,24 @@ pub struct Rewriter {
     machine: Machine,
     // how many tasks were accepted
     count: u64,
-    // the last line
+    // the last line, with room for any
     line: String,
 }
 
 impl Model for Rewriter {
     ghost use Rattle.fj_rules.specs.Pasts.{Past};
+    ghost use Rattle.std.specs.Prelude.{◌≤◌, string_capacity};
+    ghost use Rattle.fj_replay.specs.declared.named_step.TheConstants.{STEP_ROOM};
     ghost use Rattle.fj_replay.specs.Counted.{IsCounted};
 
     ghost Value = { Past };
 
     ghost view = { λ r. r.machine };
 
-    ghost invariant = { λ r. IsCounted r.machine r.count };
+    ghost invariant = { λ r. record {
+      counted : IsCounted r.machine r.count;
+      room : STEP_ROOM ≤ string_capacity r.line;
+    } };
 }
 
 impl Rewriter {
@@ -52,20 +56,23 @@ impl Rewriter {
         ensures err { IfErr result (IsHeadStop heading.now) }
     {
         let machine = open(alloc, heading)?;
-        Ok(Rewriter {
-            machine,
-            count: 0,
-            line: String::new(alloc),
-        })
+        match String::with_capacity(alloc, STEP_ROOM) {
+            Ok(line) => Ok(Rewriter {
+                machine,
+                count: 0,
+                line,
+            }),
+            Err(_) => Err(LineStop::Memory),
+        }
     }
 
-    /// Writes a step's line of version 2, and makes the step. At `Memory` or `Write` only a part of the line, or nothing, was written.
+    /// Writes a step's line of version 2, and makes the step. At `Write` only a part of the line, or nothing, was written.
     pub fn rewrite<W: Sink>(&mut self, asked: &Step, w: &mut W) -> Result<(), LineStop<ScriptStop>>
         ensures past { OnOk result (self.new ≡ grown self.old (answer self.old asked.now).1) }
         ensures written { OnOk result (Appends (W.contents w.old) (W.contents w.new) (named_line (accepted self.old.events) asked.now)) }
-        ensures err { IfErr result IsCutOff }
+        ensures err { OnErr result (result ≡ Err LineStop.Write) }
         ensures fine { OnOk result (IsFine (W.calls w.old) (W.calls w.new)) }
-        ensures told { IfErr result (λ fault. WriterTells fault (W.calls w.old) (W.calls w.new)) }
+        ensures told { OnErr result (HasFailed (W.calls w.old) (W.calls w.new)) }
         ensures some { OnErr result (AppendsSome (W.contents w.old) (W.contents w.new) (named_line (accepted self.old.events) asked.now)) }
     {
         match self.write(asked, w) {
@@ -81,15 +88,16 @@ impl Rewriter {
     fn write<W: Sink>(&mut self, asked: &Step, w: &mut W) -> Result<(), LineStop<ScriptStop>>
         ensures same { self.new ≡ self.old }
         ensures written { OnOk result (Appends (W.contents w.old) (W.contents w.new) (named_line (accepted self.old.events) asked.now)) }
-        ensures err { IfErr result IsCutOff }
+        ensures err { OnErr result (result ≡ Err LineStop.Write) }
         ensures fine { OnOk result (IsFine (W.calls w.old) (W.calls w.new)) }
-        ensures told { IfErr result (λ fault. WriterTells fault (W.calls w.old) (W.calls w.new)) }
+        ensures told { OnErr result (HasFailed (W.calls w.old) (W.calls w.new)) }
         ensures some { OnErr result (AppendsSome (W.contents w.old) (W.contents w.new) (named_line (accepted self.old.events) asked.now)) }
     {
         self.line.clear();
         match push_named(asked, self.count, &mut self.line) {
             Ok(()) => write_all(w, self.line.as_bytes()),
-            Err(_) => Err(LineStop::Memory),
+            // There is room for each line.
+            Err(_) => unreachable!(),
         }
     }
 

@@ -3,8 +3,10 @@ ghost use Rattle.std.specs.Prelude.{◌≡◌, OnOk, IfErr};
 ghost use Rattle.fj_streams.specs.Calls.{IsFine};
 ghost use Rattle.fj_filter.specs.declared.fault.FilterFault.{FilterFault};
 ghost use Rattle.fj_filter.specs.Faults.{Finishes};
+ghost use Rattle.fj_filter.specs.Starving.{StarvesFrom};
 ghost use Rattle.fj_replay.specs.declared.script_stage.ScriptStage.{ScriptStage};
 ghost use Rattle.fj_replay.specs.Stages.{script_rules};
+ghost use Rattle.fj_replay.specs.Starving.{NeedsMemory};
 ghost use Rattle.fj_replay.specs.Stops.{replay_fault};
 ghost use Rattle.fj_replay.specs.Tells.{StopsFrom, seen};
 
@@ -39,6 +41,7 @@ pub fn run<R: Source, W: Sink>(
     ensures ok { OnOk result ((last : ScriptStage) × Finishes script_rules first last (R.remaining r.old) (R.remaining r.new) (W.contents w.old) (W.contents w.new)) }
     ensures fine { OnOk result (IsFine (R.calls r.old) (R.calls r.new) × IsFine (W.calls w.old) (W.calls w.new)) }
     ensures err { IfErr result (StopsFrom first (seen R.remaining R.calls r.old r.new) (seen W.contents W.calls w.old w.new)) }
+    ensures memory { result ≡ Err ReplayFault.Memory → StarvesFrom script_rules NeedsMemory first FilterFault.Memory (R.remaining r.old) (R.remaining r.new) (W.contents w.old) (W.contents w.new) }
 {
     let mut stage = first;
     match filter(alloc, &mut stage, r, w) {

@@ -1,10 +1,11 @@
-ghost use Rattle.std.specs.Prelude.{◌≡◌, Some, OnOk, IfErr, false};
+ghost use Rattle.std.specs.Prelude.{◌≡◌, [], Some, OnOk, IfErr, false};
 ghost use Rattle.std.specs.Io.KnownBytes.{Appends};
 ghost use Rattle.fj_streams.specs.Calls.{IsFine};
 ghost use Rattle.fj_filter.specs.Faults.{StopsAtLine};
 ghost use Rattle.fj_filter.specs.Tells.{WriterTells};
 ghost use Rattle.fj_replay.specs.Plays.{is_title};
 ghost use Rattle.fj_replay.specs.Stages.{stage_after, line_text, script_rules};
+ghost use Rattle.fj_replay.specs.Starving.{NeedsMemory};
 ghost use Rattle.fj_replay.specs.LongLines.{too_long};
 ghost use Rattle.fj_replay.specs.Stops.{IsHeadStop};
 
@@ -40,6 +41,8 @@ impl LineFilter for ScriptStage {
     ghost rules = { script_rules };
 
     ghost too_long = { too_long };
+
+    ghost needs_memory = { NeedsMemory };
 
     fn longest() -> usize {
         MAX_LINE2
@@ -124,6 +127,7 @@ impl ScriptStage {
         ensures err { IfErr result (λ stop. StopsAtLine script_rules ScriptStage.Old line.now stop (W.contents w.old) (W.contents w.new)) }
         ensures fine { OnOk result (IsFine (W.calls w.old) (W.calls w.new)) }
         ensures told { IfErr result (λ stop. WriterTells stop (W.calls w.old) (W.calls w.new)) }
+        ensures memory { result ≡ Err LineStop.Memory → Appends (W.contents w.old) (W.contents w.new) [] }
     {
         let rewriter = Rewriter::open(alloc, line)?;
         *self = ScriptStage::Rewrites(rewriter);

@@ -1,4 +1,4 @@
-ghost use Rattle.std.specs.Prelude.{◌≡◌, Some, None, MatchOption};
+ghost use Rattle.std.specs.Prelude.{◌≡◌, ◌≤◌, length, Some, None, IfSome, MatchOption};
 ghost use Rattle.fj_replay.specs.Namings.{task_told};
 ghost use Rattle.fj_replay.specs.Plays.{is_task};
 
@@ -6,7 +6,8 @@ use fj_rules::{Said, Serial};
 
 /// The first word of a reply that names a task, and the task.
 pub fn task_told(said: &Said) -> Option<(&'static str, Serial)>
-    ensures { MatchOption result (task_told said.now ≡ None) (λ told. task_told said.now ≡ Some (told.0.now, told.1)) }
+    ensures told { MatchOption result (task_told said.now ≡ None) (λ told. task_told said.now ≡ Some (told.0.now, told.1)) }
+    ensures short { IfSome result (λ told. length told.0.now ≤ 7) }
 {
     match *said {
         Said::Task(t) => Some(("task", t)),

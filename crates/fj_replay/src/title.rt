@@ -1,4 +1,4 @@
-ghost use Rattle.std.specs.Prelude.{◌≡◌, OnOk, OnErr, IfOk, IfErr};
+ghost use Rattle.std.specs.Prelude.{◌≡◌, [], OnOk, OnErr, IfOk, IfErr};
 ghost use Rattle.std.specs.Io.KnownBytes.{Appends};
 ghost use Rattle.fj_streams.specs.Calls.{IsFine};
 ghost use Rattle.fj_streams.specs.Beginnings.{AppendsSome};
@@ -20,8 +20,8 @@ pub fn is_title(line: &[u8]) -> bool
     line == b"fj 2".as_slice()
 }
 
-/// Writes the first two lines of a script of version 2: `fj 2` and this heading. At `Memory` or `Write` only a part of them, or nothing,
-/// was written.
+/// Writes the first two lines of a script of version 2: `fj 2` and this heading. At `Memory` nothing was written, at `Write` only a part of
+/// them, or nothing.
 pub fn write_head<W: Sink>(
     alloc: Global,
     heading: &[u8],
@@ -32,6 +32,7 @@ pub fn write_head<W: Sink>(
     ensures fine { OnOk result (IsFine (W.calls w.old) (W.calls w.new)) }
     ensures told { IfErr result (λ fault. WriterTells fault (W.calls w.old) (W.calls w.new)) }
     ensures some { OnErr result (AppendsSome (W.contents w.old) (W.contents w.new) (titled_head heading.now)) }
+    ensures memory { result ≡ Err LineStop.Memory → Appends (W.contents w.old) (W.contents w.new) [] }
 {
     match titled(alloc, heading) {
         Ok(head) => write_all(w, head.as_slice()),

@@ -1,5 +1,6 @@
 //! The upgrade of a script to version 2, from a reader to a writer or in memory.
 ghost use Rattle.std.specs.Prelude.{◌≡◌, ◌≢◌, ℕ, OnOk, IfOk, IfErr, List, [], Option, Some, true, false};
+ghost use Rattle.std.specs.Io.KnownBytes.{Appends};
 ghost use Rattle.fj_streams.specs.Calls.{IsFine};
 ghost use Rattle.fj_filter.specs.Cuts.{lines};
 ghost use Rattle.fj_replay.specs.Tells.{StopsUpgrade, seen};
@@ -19,13 +20,14 @@ use std::alloc::Global;
 /// Task number T gets the name `tT`, and a line that accepts a task names it by the number of tasks accepted before, even if it is
 /// refused. So the steps are made, on a machine of their own.
 ///
-/// The output is `up b` of the bytes `b` that were read; at `Memory` and `Write` it is a prefix of `up b`. Faults are those of
+/// The output is `up b` of the bytes `b` that were read; at `Memory` it is empty, at `Write` a prefix of `up b`. Faults are those of
 /// [`replay`](crate::replay) of a script of version 1: a first line `fj 2` is `Line(1)`. At a faulty heading nothing is written, at
 /// a later fault the lines before it. The writer is flushed before each further read.
 pub fn upgrade<R: Source, W: Sink>(alloc: Global, r: &mut R, w: &mut W) -> Result<(), ReplayFault>
     ensures ok { OnOk result (Upgrades (R.remaining r.old) (R.remaining r.new) (W.contents w.old) (W.contents w.new)) }
     ensures fine { OnOk result (IsFine (R.calls r.old) (R.calls r.new) × IsFine (W.calls w.old) (W.calls w.new)) }
     ensures err { IfErr result (StopsUpgrade (seen R.remaining R.calls r.old r.new) (seen W.contents W.calls w.old w.new)) }
+    ensures memory { result ≡ Err ReplayFault.Memory → Appends (W.contents w.old) (W.contents w.new) [] }
     // The replies to a script of version 1 stay the same, but each task number T in them becomes tT.
     ensures replies { (b : List ℕ) → is_titled (lines b) ≡ false → KeepsReplies b }
     // `up` is `fj 2`, the heading, and the line of each step.

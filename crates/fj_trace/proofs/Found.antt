@@ -1,6 +1,6 @@
 -- What a check has found when it stops.
 use Rattle.std.proofs.Common.{ℕ, ◌≡◌, List, [], ◌∷◌, ◌++◌, Option, Some, None, true, false, refl, sym, ap, ◌∙◌, inl, inr, ⊎_elim, subst}
-use Rattle.std.specs.Prelude.{is_some}
+use Rattle.std.specs.Prelude.{⊤, IfErr, Result, Ok, Err, is_some}
 use Rattle.std.proofs.lemmas.Bool.{true≢false}
 use Rattle.std.proofs.lemmas.List.{append-nil}
 use Rattle.fj_rules.specs.Bounds.{Pool}
@@ -12,6 +12,7 @@ use Rattle.fj_filter.specs.declared.fault.FilterFault.TheVariants as filter
 use Rattle.fj_filter.specs.Cuts.{lines}
 use Rattle.fj_filter.specs.Rules.{state_from, is_good}
 use Rattle.fj_filter.specs.Faults.{StopsAtLine, EndsFrom, Finishes, FaultOf, Stands, IsNoLine}
+use Rattle.fj_filter.specs.Starving.{StarvesAtLine}
 use Rattle.fj_replay.specs.Stages.{start}
 use Rattle.fj_trace.specs.declared.history_check.HistoryCheck.{HistoryCheck}
 use Rattle.fj_trace.specs.declared.history_check.HistoryCheck.TheVariants.{Start, Going}
@@ -167,6 +168,13 @@ pub stops : {Told : List ℕ → Type 0} (fault : FilterFault HistoryStop) (befo
 stops fault before ahead start now s = (s.0, s.1.read, fault_means fault s.0 ahead start now s.1.means)
 
 -- ---- at one line
+
+-- where nothing is ever written, nothing is where memory runs out
+pub silent : {A S T : Type 0} (r : Result T (LineStop S)) (state : A) (line : List ℕ) (old : Option (List ℕ)) → IfErr r (λ fault. StarvesAtLine (λ s l. ⊤) state line fault old old)
+silent (Ok x) state line old = tt
+silent (Err (fails.Stop stop)) state line old = tt
+silent (Err fails.Memory) state line old = (tt, appends_nothing old)
+silent (Err fails.Write) state line old = tt
 
 -- a fault behind the heading, where nothing was written
 pub entry_stops : (past : Past) (n : ℕ) (line : List ℕ) (why : LineStop HistoryStop) (old : Option (List ℕ)) → IsEntryStop past line why → StopsAtLine check_rules (Going past n) line why old old

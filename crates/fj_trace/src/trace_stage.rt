@@ -73,6 +73,7 @@ impl TraceStage {
         ensures err { IfErr result (λ stop. StopsAtLine trace_rules TraceStage.Start line.now stop (W.contents w.old) (W.contents w.new)) }
         ensures fine { OnOk result (IsFine (W.calls w.old) (W.calls w.new)) }
         ensures told { IfErr result (λ stop. WriterTells stop (W.calls w.old) (W.calls w.new)) }
+        ensures memory { result ≡ Err LineStop.Memory → Appends (W.contents w.old) (W.contents w.new) [] }
     {
         if is_title(line) {
             *self = TraceStage::Titled;
@@ -96,6 +97,7 @@ impl TraceStage {
         ensures err { IfErr result (λ stop. StopsAtLine trace_rules TraceStage.Titled line.now stop (W.contents w.old) (W.contents w.new)) }
         ensures fine { OnOk result (IsFine (W.calls w.old) (W.calls w.new)) }
         ensures told { IfErr result (λ stop. WriterTells stop (W.calls w.old) (W.calls w.new)) }
+        ensures memory { result ≡ Err LineStop.Memory → Appends (W.contents w.old) (W.contents w.new) [] }
     {
         let names = Names::new(alloc);
         let tracer = Tracer::open(alloc, line, TaskNaming::Names(names))?;
@@ -105,7 +107,7 @@ impl TraceStage {
     }
 }
 
-/// Writes a heading and a line feed. At `Memory` or `Write` only a part of them, or nothing, was written.
+/// Writes a heading and a line feed. At `Memory` nothing was written, at `Write` only a part of them, or nothing.
 fn write_heading<W: Sink>(
     alloc: Global,
     heading: &[u8],
@@ -116,6 +118,7 @@ fn write_heading<W: Sink>(
     ensures fine { OnOk result (IsFine (W.calls w.old) (W.calls w.new)) }
     ensures told { IfErr result (λ fault. WriterTells fault (W.calls w.old) (W.calls w.new)) }
     ensures some { OnErr result (AppendsSome (W.contents w.old) (W.contents w.new) (heading.now ++ LINE_FEED ∷ [])) }
+    ensures memory { result ≡ Err LineStop.Memory → Appends (W.contents w.old) (W.contents w.new) [] }
 {
     match with_feed(alloc, heading) {
         Ok(text) => write_all(w, text.as_slice()),

@@ -1,4 +1,4 @@
-ghost use Rattle.std.specs.Prelude.{◌≡◌, ◌≤◌, ◌++◌, drop, length, Some, OnOk, OnErr, IfOk, IfErr, string_bytes};
+ghost use Rattle.std.specs.Prelude.{◌≡◌, ◌≤◌, ◌++◌, [], drop, length, Some, OnOk, OnErr, IfOk, IfErr, string_bytes};
 ghost use Rattle.std.specs.Io.KnownBytes.{Appends};
 ghost use Rattle.fj_lines.specs.Words.{Reads};
 ghost use Rattle.fj_streams.specs.Calls.{IsFine};
@@ -62,8 +62,8 @@ impl Tracer {
         self.player.read(line)
     }
 
-    /// Does what is asked for, and writes the entries that it adds to the history. At `Memory` or `Write` only a part of them, or nothing,
-    /// was written.
+    /// Does what is asked for, and writes the entries that it adds to the history. At `Memory` nothing was written, at `Write` only a part of
+    /// them, or nothing.
     pub fn trace<W: Sink>(
         &mut self,
         alloc: Global,
@@ -76,6 +76,7 @@ impl Tracer {
         ensures fine { OnOk result (IsFine (W.calls w.old) (W.calls w.new)) }
         ensures told { IfErr result (λ fault. WriterTells fault (W.calls w.old) (W.calls w.new)) }
         ensures some { OnErr result (AppendsSome (W.contents w.old) (W.contents w.new) (entries_text (entries_of self.old asked))) }
+        ensures memory { result ≡ Err LineStop.Memory → Appends (W.contents w.old) (W.contents w.new) [] }
     {
         self.text.clear();
         let Ok(()) = push_made(alloc, &mut self.player, asked, &mut self.text) else {

@@ -9,6 +9,7 @@ use Rattle.fj_filter.proofs.Begun.{all_some}
 use Rattle.fj_streams.proofs.CallsMade.{fine_failed, fine_twice, goes_failed, goes_fine, goes_forever, goes_further}
 use Rattle.fj_filter.proofs.CallsTold.{ended_told, if_ok, told_later, writer_told}
 use Rattle.fj_filter.proofs.FaultsFound.{ended, finished, flushed_at, good_at}
+use Rattle.fj_filter.proofs.Starving.{starves_from}
 use Rattle.fj_filter.proofs.read_loop.filter_in.Goals as goal
 use Rattle.fj_filter.proofs.read_loop.filter_in.Goals.{in-Ok+in_ok-take_all-in-Ok+else-is_err, in-Err+else-ne}
 
@@ -76,6 +77,15 @@ returns-in_err-take_all-in-Ok-clause-err g c =
       },
       writer_told _ _ _ _ _ _ (goes_fine _ _ _ goes) (told_later _ _ _ _ c.loop-reads.invariant.2 fed.told),
     )
+
+pub returns-in_err-take_all-in-Ok-clause-memory : goal.returns-in_err-take_all-in-Ok-clause-memory
+returns-in_err-take_all-in-Ok-clause-memory g c =
+    let so_far = c.loop-reads.invariant.0 in
+    let fed = c.in_err-take_all-in-Ok.ensures in
+    let p = err_from_is_err_and c.from_residual.result c.from_residual.ensures.1 in
+    rw (p.1, p.2) (starves_from g.F.LineFilter.rules g.F.LineFilter.needs_memory _ _ (so_far.0 ++ take c.in-Ok.n c.pull.new.buf) _ _ _ _
+      (consumes_twice _ _ _ _ _ so_far.1 c.in-Ok.ensures.bytes.0)
+      (fed.memory _ so_far.0 (g.W.Sink.contents c.args.w.now) so_far.2))
 
 pub returns-then-is_err-clause-err : goal.returns-then-is_err-clause-err
 returns-then-is_err-clause-err g c =

@@ -4,10 +4,16 @@ use Rattle.std.proofs.lemmas.Result.{MatchResult-weaker}
 use Rattle.fj_filter.specs.Faults.{StopsAtLine}
 use Rattle.fj_trace.specs.declared.history_check.HistoryCheck.{HistoryCheck}
 use Rattle.fj_trace.specs.Rules.{check_rules}
-use Rattle.fj_trace.proofs.Found.{entry_stops}
+use Rattle.fj_trace.proofs.Found.{entry_stops, silent}
 use Rattle.fj_trace.proofs.history_check.HistoryCheckLineFilter.advance.Goals as goal
 
 pub returns-in-Going-clause-err : goal.returns-in-Going-clause-err
 returns-in-Going-clause-err g c =
     subst (λ (s : HistoryCheck). IfErr c.go_on.result (λ fault. StopsAtLine check_rules s c.args.line.now fault (g.W.Sink.contents c.args.w.now) (g.W.Sink.contents c.args.w.now))) (sym c.in-Going.is)
     (MatchResult-weaker c.go_on.result c.go_on.ensures.err (λ _ same. same) (λ fault stop. entry_stops c.in-Going.checker c.in-Going.events c.args.line.now fault _ stop))
+
+pub returns-in-Start-clause-memory : goal.returns-in-Start-clause-memory
+returns-in-Start-clause-memory g c = silent c.begin.result _ _ _
+
+pub returns-in-Going-clause-memory : goal.returns-in-Going-clause-memory
+returns-in-Going-clause-memory g c = silent c.go_on.result _ _ _
