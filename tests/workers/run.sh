@@ -5,7 +5,7 @@
 #   tests/workers/run.sh
 set -euo pipefail
 cd "$(dirname "${BASH_SOURCE[0]}")/../.."
-crates=(fj_rules fj_lines fj_streams fj_queues fj_tree fj_ledger fj_machine fj_gate fj_lane fj_slots fj_bodies fj_core fj_sleep fj_wake fj_agreement fj_pool fj_jobs fj_run fj_lazy fj_invoke fj_trees fj_fold fj_history fj_checker fj_filter fj_replay fj_trace fj_record)
+crates=(fj_rules fj_lines fj_streams fj_queues fj_tree fj_ledger fj_machine fj_gate fj_lane fj_slots fj_bodies fj_core fj_sleep fj_wake fj_fronts fj_guarded fj_agreement fj_pool fj_jobs fj_run fj_lazy fj_invoke fj_trees fj_fold fj_history fj_checker fj_filter fj_replay fj_trace fj_record)
 build_limit=900
 
 folder=$(mktemp -d)

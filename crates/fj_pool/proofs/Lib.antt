@@ -1,5 +1,3 @@
--- what each call of a core leaves of its lanes
-mod Lanes
 -- the ends of lanes and gate meet, one after another
 mod Settling
 -- a lane for each entrant
@@ -10,12 +8,6 @@ mod Records
 mod Accepted
 -- where all that was admitted was taken in, the lanes are empty
 mod Emptied
--- a hand that holds something asks
-mod Asking
--- what a look at the lanes leaves
-mod Looking
--- an action leaves a hand with its worker
-mod Workers
 -- what calls leave of what the workers hold, and what their ends know of it
 mod Holdings
 -- That it may go to another thread.

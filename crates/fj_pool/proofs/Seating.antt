@@ -7,7 +7,7 @@ use Rattle.std.proofs.lemmas.List.Elements.{All-head, All-tail, All-map}
 use Rattle.atomic_table.specs.Seated.{TableId}
 use Rattle.fj_gate.specs.Ends.{CloserState, EntrantState, new_closer, new_entrant}
 use Rattle.fj_lane.specs.Ends.{DrainState, FeedState, LaneId, new_drain, new_feed}
-use Rattle.fj_pool.specs.Lanes.{lanes_of}
+use Rattle.fj_guarded.specs.Lanes.{lanes_of}
 use Rattle.fj_pool.specs.Parts.{ArePaired, AreSeated}
 use Rattle.fj_pool.specs.Seats.{IsNamed, SeatState, new_seat, seats_for, seats_from}
 use Rattle.fj_pool.specs.Winding.{AreAll}

@@ -8,7 +8,7 @@ use Rattle.std.proofs.lemmas.Option.{slice_get-map}
 use Rattle.fj_gate.specs.Ends.{EntrantState}
 use Rattle.fj_lane.specs.declared.parcel.Parcel.{Parcel}
 use Rattle.fj_lane.specs.Ends.{DrainState, LaneId}
-use Rattle.fj_pool.specs.Lanes.{lanes_of}
+use Rattle.fj_guarded.specs.Lanes.{lanes_of}
 use Rattle.fj_pool.specs.Seats.{IsSeat, SeatState}
 use Rattle.fj_pool.specs.Winding.{AreAll, HaveMet}
 

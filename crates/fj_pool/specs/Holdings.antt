@@ -1,5 +1,5 @@
 -- What a worker holds, by its hand and by the history.
-use Rattle.std.specs.Prelude.{ℕ, ◌≡◌, ◌≢◌, All, List, [], None, Some, length, map, slice_get}
+use Rattle.std.specs.Prelude.{ℕ, ◌≡◌, All, List, [], None, Some, length, map, slice_get}
 use Rattle.atomic_table.specs.Seated.{TableId}
 use Rattle.fj_agreement.specs.Ends.{EndState}
 use Rattle.fj_rules.specs.Pasts.{Past}
@@ -7,7 +7,6 @@ use Rattle.fj_rules.specs.Stacks.{stack as held}
 use Rattle.fj_rules.specs.Hooks.{hand as hook_of}
 use Rattle.fj_slots.specs.Aside.{numbers}
 use Rattle.fj_slots.specs.Hands.{HandState, hook_number}
-use Rattle.fj_core.specs.Hands.{KeepsHand}
 use Rattle.fj_pool.specs.declared.holding.Holding.{Holding}
 
 -- no body and no hook
@@ -56,15 +55,3 @@ module _ {B : Type 0} where
   pub record HaveEnds (past : Past) (tied : List (TiedState B)) (ends : List (EndState Holding)) : Type 0 where
     pub kept : AreKept (pairs_of tied) past ends
     pub each : All (λ t. IsTied (pairs_of tied) t) tied
-
--- ---- what is left of what workers hold
-
--- the pool has changed nothing of the hands of the workers
-pub record KeepsHands (old new : Past) : Type 0 where
-  pub pool : new.pool ≡ old.pool
-  pub hands : (w : ℕ) → KeepsHand w old new
-
--- the same, except of this worker
-pub record KeepsOthers (own : ℕ) (old new : Past) : Type 0 where
-  pub pool : new.pool ≡ old.pool
-  pub hands : (w : ℕ) → w ≢ own → KeepsHand w old new

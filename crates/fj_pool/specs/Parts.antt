@@ -12,13 +12,14 @@ use Rattle.fj_slots.specs.Hands.{HandState}
 use Rattle.fj_core.specs.Cores.{CoreState, IsNew, first_hands}
 use Rattle.fj_pool.specs.Seats.{SeatState, seats_for, seats_from}
 
--- the core, the hand of each worker, the pair of its ends, the ends of each submitter, and the end that closes the gate
+-- the core, the hand of each worker, the pair of its ends, the ends of each submitter, the end that closes the gate, and the log
 pub record PartsState (B K O : Type 0) : Type 0 where
   pub core : CoreState B K O
   pub hands : List (HandState B)
   pub pairs : List TableId
   pub seats : List (SeatState B)
   pub closer : CloserState
+  pub log : TableId
 
 -- each submitter has the ends of this gate and of the lane of its number
 pub record ArePaired {B : Type 0} (closer : CloserState) (lanes : List LaneId) (seats : List (SeatState B)) : Type 0 where

@@ -1,8 +1,8 @@
 ghost use Rattle.std.specs.Prelude.{◌≡◌};
 ghost use Rattle.fj_gate.specs.Ends.{ClosedBy, Watched};
 
-use crate::naming::Naming;
 use fj_gate::{Closing, Look};
+use fj_guarded::Naming;
 use std::marker::{Model, PhantomData};
 
 /// Shuts a pool down. There is one for each pool. Java has no counterpart: there any thread may.

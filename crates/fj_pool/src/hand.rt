@@ -1,7 +1,6 @@
 use crate::holding::Holding;
-use crate::naming::Naming;
-use crate::next::Unneeded;
 use fj_agreement::End;
+use fj_guarded::{Naming, Unneeded};
 use std::marker::{Model, PhantomData};
 
 /// What a worker has in hand: the bodies that it has begun, a hook, and its scan word. A pool makes one for each worker. In Java it is the

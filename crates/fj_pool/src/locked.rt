@@ -1,24 +1,26 @@
 //! What the lock of a pool guards.
 ghost use Rattle.std.specs.Prelude.{◌≡◌, ◌++◌, [], true, IfNone, IfSome};
+ghost use mathlib.Core.List.{IsPrefix};
 ghost use Rattle.fj_core.specs.Closes.{ShutsAt, closed_at, is_finished, stopped_at};
 ghost use Rattle.fj_core.specs.Cores.{CollectsTicket, is_awaited};
 ghost use Rattle.fj_bodies.specs.Fitting.{Fits};
-ghost use Rattle.fj_pool.specs.Asked.{CancelsBehind, CollectsAny};
+ghost use Rattle.fj_guarded.specs.Asked.{CancelsBehind, CollectsAny};
+ghost use Rattle.fj_guarded.specs.Continuing.{EndsIn, EndsWith, IsNow};
 ghost use Rattle.fj_pool.specs.Glances.{IsGlance};
 ghost use Rattle.fj_pool.specs.Holdings.{AreKept};
-ghost use Rattle.fj_pool.specs.Looking.{IsQuietBehind};
-ghost use Rattle.fj_pool.specs.Turning.{LeavesWell, MayAsk, NextRight};
-ghost use Rattle.fj_pool.specs.Working.{Resumes, Serves};
+ghost use Rattle.fj_guarded.specs.Looking.{IsQuietBehind};
+ghost use Rattle.fj_guarded.specs.Turning.{IsSeenLeaving, LeavesWell, MayAsk, NextRight};
+ghost use Rattle.fj_guarded.specs.Working.{Resumes, Serves};
 
 use crate::glance::Glance;
-use crate::guarded::Guarded;
 use crate::hand::Hand;
+use crate::history::History;
 use crate::holding::Holding;
-use crate::naming::Naming;
-use crate::next::Next;
+use crate::still::Still;
 use fj_agreement::End;
 use fj_bodies::{Ask, Body, Outcome};
 use fj_gate::Ticket;
+use fj_guarded::{Front, Guarded, Keeper, Log, Naming, Next};
 use fj_rules::{Refusal, Sealed, WorkerId};
 use fj_wake::ToWake;
 use std::alloc::Global;
@@ -30,26 +32,77 @@ use std::marker::Model;
 pub struct Locked<B: Body, N: Naming> {
     pub(crate) guarded: Guarded<B, N>,
     pub(crate) ends: Vec<End<Holding>>,
+    pub(crate) keeper: Keeper<B, N>,
 }
 
 impl<B: Body, N: Naming> Model for Locked<B, N> {
     ghost use Rattle.fj_core.specs.Cores.{CoreState};
+    ghost use Rattle.fj_guarded.specs.Continuing.{ContinuesAll};
     ghost use Rattle.fj_pool.specs.Holdings.{AreKept};
 
     ghost Value = { CoreState B B.Key B.Out };
 
     ghost view = { λ l. l.guarded };
 
-    ghost invariant = { λ l. AreKept N.hands l.guarded.store.past l.ends.items };
+    // What the log has so far is continued by the core as it is now.
+    ghost invariant = { λ l. record {
+      ends : AreKept N.hands l.guarded.store.past l.ends.items;
+      log : ContinuesAll l.keeper l.guarded;
+    } };
 }
 
 impl<B: Body, N: Naming> Locked<B, N> {
-    /// A new pool's state. Precondition: each worker has an end, which knows what it holds.
-    pub fn new(guarded: Guarded<B, N>, ends: Vec<End<Holding>>) -> Locked<B, N>
-        requires { AreKept N.hands guarded.store.past ends.items }
+    /// A new pool's state. Preconditions: each worker has an end, which knows what it holds; the log is empty.
+    pub fn new(
+        guarded: Guarded<B, N>,
+        ends: Vec<End<Holding>>,
+        keeper: Keeper<B, N>,
+    ) -> Locked<B, N>
+        requires ends { AreKept N.hands guarded.store.past ends.items }
+        requires log { keeper ≡ [] }
         ensures { result ≡ guarded }
     {
-        Locked { guarded, ends }
+        Locked {
+            guarded,
+            ends,
+            keeper,
+        }
+    }
+
+    /// A front that has seen the history so far.
+    pub fn front(&mut self, log: &Log<B, N>) -> Front<B, N>
+        ensures { self.new ≡ self.old }
+    {
+        self.keeper.front(log)
+    }
+
+    /// The caller sees the history up to now.
+    pub fn show(&mut self, log: &Log<B, N>, front: &mut Front<B, N>)
+        ensures same { self.new ≡ self.old }
+        ensures goes_on { IsPrefix front.old front.new }
+        ensures now { IsNow front.new self.old }
+    {
+        self.keeper.append(log, &self.guarded);
+        front.learn(log, &mut self.keeper);
+    }
+
+    /// The outcome under a ticket, if there is one to return, as the caller sees it.
+    pub fn tell(
+        &mut self,
+        log: &Log<B, N>,
+        front: &mut Front<B, N>,
+        ticket: Ticket,
+    ) -> Option<Result<Outcome<B>, Refusal>>
+        ensures collects { CollectsTicket self.old ticket result self.new }
+        ensures awaited { IfNone result (is_awaited self.new ticket ≡ true) }
+        ensures goes_on { IsPrefix front.old front.new }
+        ensures seen { EndsWith front.new (λ old new. CollectsTicket old ticket result new) }
+    {
+        self.keeper.append(log, &self.guarded);
+        let answer = self.guarded.collect(ticket);
+        self.keeper.append(log, &self.guarded);
+        front.learn(log, &mut self.keeper);
+        answer
     }
 
     /// Serves what the hook or the running body asks; without an ask the worker resumes. Precondition: the hand has a body or a hook that may
@@ -68,6 +121,28 @@ impl<B: Body, N: Naming> Locked<B, N> {
             .guarded
             .serve(alloc, &mut hand.held, ask, &mut hand.unneeded);
         end.agree_on(&mut hand.end, &hand.held);
+        next
+    }
+
+    /// The same. A worker that leaves sees the history up to now.
+    #[inline(always)]
+    pub fn serve_seen(
+        &mut self,
+        alloc: Global,
+        log: &Log<B, N>,
+        hand: &mut Hand<B, N>,
+        ask: Option<Ask<B>>,
+        front: &mut Front<B, N>,
+    ) -> Next<B>
+        requires { IfSome ask (λ a. MayAsk B.right B.key_of hand.old a) }
+        ensures right { NextRight B.right result }
+        ensures goes_on { IsPrefix front.old front.new }
+        ensures left { IsSeenLeaving front.new result }
+    {
+        let next = self.serve(alloc, hand, ask);
+        if let Next::Leave(_) = &next {
+            self.show(log, front);
+        }
         next
     }
 
@@ -167,25 +242,49 @@ impl<B: Body, N: Naming> Locked<B, N> {
         self.guarded.stop_at(number);
     }
 
-    /// Whether all queues, stacks and hands are empty, after the history is sealed, if that is due, and submissions are taken in.
-    pub fn is_quiescent(&mut self, alloc: Global) -> bool
-        ensures { IsQuietBehind B.rooted_as self.old result self.new }
+    /// Whether all queues, stacks and hands are empty, after the history is sealed, if that is due, and submissions are taken in, as the
+    /// caller sees it.
+    pub fn tell_quiet(&mut self, alloc: Global, log: &Log<B, N>, front: &mut Front<B, N>) -> bool
+        ensures quiet { IsQuietBehind B.rooted_as self.old result self.new }
+        ensures goes_on { IsPrefix front.old front.new }
+        ensures seen { EndsWith front.new (λ old new. IsQuietBehind B.rooted_as old result new) }
     {
-        self.guarded.is_quiescent(alloc)
+        self.keeper.append(log, &self.guarded);
+        let quiet = self.guarded.is_quiescent(alloc);
+        self.keeper.append(log, &self.guarded);
+        front.learn(log, &mut self.keeper);
+        quiet
     }
 
     /// What the pool does at this moment.
     pub fn glance(&self) -> Glance
         ensures { IsGlance self.now.store.past result }
     {
-        Glance::of(self.guarded.core.machine())
+        Glance::of(self.guarded.machine())
     }
 
-    /// Whether the pool has terminated.
-    pub fn is_terminated(&self) -> bool
-        ensures { result ≡ is_finished self.now }
+    /// Whether the pool has terminated, as the caller sees it.
+    pub fn tell_terminated(&mut self, log: &Log<B, N>, front: &mut Front<B, N>) -> bool
+        ensures goes_on { IsPrefix front.old front.new }
+        ensures now { IsNow front.new self.old }
+        ensures terminated { result ≡ is_finished self.old }
     {
+        self.show(log, front);
         self.guarded.is_terminated()
+    }
+
+    /// Nobody shares it any more: its core stands still, and the history is complete.
+    pub fn stand_still(self, log: Log<B, N>) -> (Still<B, N>, History<B, N>)
+        ensures core { result.0 ≡ self }
+        ensures ends { EndsIn result.1 result.0 }
+    {
+        let Locked {
+            guarded,
+            ends: _,
+            mut keeper,
+        } = self;
+        keeper.append(&log, &guarded);
+        (Still { guarded }, History { keeper, log })
     }
 }
 

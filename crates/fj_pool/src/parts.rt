@@ -10,7 +10,9 @@ use crate::tied::{Tied, tie_all};
 use fj_agreement::End;
 use fj_bodies::Body;
 use fj_core::Core;
+use fj_fronts::Opened;
 use fj_gate::{Entrant, gate};
+use fj_guarded::Moment;
 use fj_lane::{Drain, MAX_CAPACITY, lane};
 use fj_rules::{Limits, Mode, OutOfMemory, Refusal, SubId};
 use std::alloc::Global;
@@ -25,16 +27,17 @@ pub struct Parts<B: Body> {
     pub(crate) ends: Vec<End<Holding>>,
     pub(crate) seats: Vec<Seat<B>>,
     pub(crate) closer: fj_gate::Closer,
+    pub(crate) log: Opened<Moment<B>>,
 }
 
 impl<B: Body> Model for Parts<B> {
     ghost use Rattle.fj_pool.specs.Holdings.{HaveEnds, hands_of, pairs_of};
-    ghost use Rattle.fj_pool.specs.Lanes.{lanes_of};
+    ghost use Rattle.fj_guarded.specs.Lanes.{lanes_of};
     ghost use Rattle.fj_pool.specs.Parts.{ArePaired, PartsState};
 
     ghost Value = { PartsState B B.Key B.Out };
 
-    ghost view = { λ p. record { core = p.core; hands = hands_of p.hands.items; pairs = pairs_of p.hands.items; seats = p.seats.items; closer = p.closer } };
+    ghost view = { λ p. record { core = p.core; hands = hands_of p.hands.items; pairs = pairs_of p.hands.items; seats = p.seats.items; closer = p.closer; log = p.log } };
 
     ghost invariant = { λ p. record {
       paired : ArePaired p.closer (lanes_of p.core.lanes) p.seats.items;
@@ -91,12 +94,18 @@ fn make<B: Body>(
         drop(seats);
         return Err(OutOfMemory);
     };
+    let Ok(log) = Opened::new(alloc) else {
+        drop(core);
+        drop(seats);
+        return Err(OutOfMemory);
+    };
     Ok(Parts {
         core,
         hands,
         ends,
         seats,
         closer,
+        log,
     })
 }
 

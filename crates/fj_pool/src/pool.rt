@@ -2,7 +2,7 @@ ghost use Rattle.std.specs.Prelude.{◌≡◌, ◌≤◌, [], All, IfOk, length,
 ghost use Rattle.fj_sleep.specs.declared.places.TheConstants.{MAX_PLACES};
 ghost use Rattle.fj_wake.specs.Waiting.{NobodyWaits};
 ghost use Rattle.fj_pool.specs.Holdings.{IsTied, hands_of};
-ghost use Rattle.fj_pool.specs.Lanes.{lanes_of};
+ghost use Rattle.fj_guarded.specs.Lanes.{lanes_of};
 ghost use Rattle.fj_pool.specs.Seats.{IsNamed};
 ghost use Rattle.fj_pool.specs.Winding.{AreAll};
 
@@ -12,16 +12,14 @@ mod work;
 
 use crate::closer::Closer;
 use crate::condvars::Condvars;
-use crate::guarded::{Guarded, Room};
 use crate::hand::Hand;
 use crate::locked::Locked;
-use crate::naming::Naming;
-use crate::next::Unneeded;
 use crate::parts::Parts;
 use crate::seat::Seat;
 use crate::submitter::Submitter;
 use crate::tied::Tied;
 use fj_bodies::Body;
+use fj_guarded::{Guarded, Log, LogOf, Naming, Room, Unneeded};
 use fj_rules::OutOfMemory;
 use fj_wake::ToWake;
 use std::alloc::{AllocError, Global};
@@ -38,6 +36,7 @@ pub struct Pool<B: Body, N: Naming> {
     pub(crate) core: Mutex<Locked<B, N>>,
     pub(crate) condvars: Condvars,
     ghost as_many: { vec_len condvars.workers ≡ length N.hands },
+    pub(crate) log: Log<B, N>,
 }
 
 /// An opened pool with its handles: a hand for each worker, a submitter for each submitter, and the closer.
@@ -52,6 +51,7 @@ impl<B: Body, N: Naming> Pool<B, N> {
         requires lanes { N.lanes ≡ lanes_of parts.core.lanes }
         requires pool { N.pool ≡ parts.core.store.past.pool }
         requires hands { N.hands ≡ parts.pairs }
+        requires log { N.log ≡ parts.log }
         ensures hands { IfOk result (λ r. r.1.items ≡ parts.hands) }
         ensures submitters { IfOk result (λ r. r.2.items ≡ parts.seats) }
         ensures closer { IfOk result (λ r. r.3 ≡ parts.closer) }
@@ -63,6 +63,7 @@ impl<B: Body, N: Naming> Pool<B, N> {
             ends,
             seats,
             closer,
+            log,
         } = parts;
         let lanes = seats.len();
         let workers = core.limits().workers() as usize;
@@ -70,6 +71,7 @@ impl<B: Body, N: Naming> Pool<B, N> {
             // Explicit drops are proved faster.
             drop(core);
             drop(ends);
+            drop(log);
             return Err(OutOfMemory);
         };
         let Beside {
@@ -78,11 +80,13 @@ impl<B: Body, N: Naming> Pool<B, N> {
             hands,
             submitters,
         } = beside;
+        let (log, keeper) = log.named::<LogOf<N>>();
         let pool = Pool {
             alloc,
             lanes,
-            core: Mutex::new(Locked::new(Guarded::new(core, room), ends)),
+            core: Mutex::new(Locked::new(Guarded::new(core, room), ends, keeper)),
             condvars,
+            log,
         };
         let closer = Closer {
             end: closer,

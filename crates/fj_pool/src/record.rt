@@ -1,22 +1,16 @@
-ghost use Rattle.std.specs.Prelude.{◌≡◌, ◌≤◌, ◌↔◌, [], ◌++◌, All, IfSome, IsTrue, true, length, map, reverse, vec_len, vec_capacity};
-ghost use Rattle.fj_gate.specs.Numbers.{IsNumbersBelow};
-ghost use Rattle.fj_rules.specs.Epochs.{IsPast};
-ghost use Rattle.fj_core.specs.Cores.{AreParts};
-ghost use Rattle.fj_pool.specs.Lanes.{lanes_of};
-ghost use Rattle.fj_pool.specs.Seats.{IsSeat};
+ghost use Rattle.std.specs.Prelude.{◌≡◌, ◌≤◌, ◌↔◌, [], All, IfSome, IsTrue, length, map, reverse, vec_len, vec_capacity};
 ghost use Rattle.fj_slots.specs.Shelves.{entries};
-ghost use Rattle.fj_pool.specs.Winding.{AreAll, AreEmpty, AreSettled, HaveMet, IsLeft, has_terminated, submissions, tickets_of};
+ghost use Rattle.fj_guarded.specs.Lanes.{lanes_of};
+ghost use Rattle.fj_pool.specs.Seats.{IsSeat};
+ghost use Rattle.fj_pool.specs.Winding.{AreAll, HaveMet, IsLeft};
 
-use crate::closer::Closer;
-use crate::guarded::Guarded;
-use crate::locked::Locked;
-use crate::naming::Naming;
 use crate::pool::Pool;
 use crate::seat::Seat;
 use crate::submitter::Submitter;
 use fj_bodies::{Body, KeptResult, Outcome, told_outcome};
-use fj_core::{Archive, Bookings, Remains};
-use fj_gate::{Entrant, Ticket, meet as meet_gate};
+use fj_core::{Archive, Bookings};
+use fj_gate::{Entrant, Ticket};
+use fj_guarded::Naming;
 use fj_lane::{Drain, Rest, meet};
 use fj_machine::Machine;
 use fj_slots::SerialMap;
@@ -60,74 +54,6 @@ impl<B: Body> Record<B> {
 }
 
 impl<B: Body, N: Naming> Pool<B, N> {
-    /// Takes the pool apart, after its workers have left. It never blocks and allocates nothing; bodies that the core still holds are dropped.
-    /// Java has no counterpart.
-    ///
-    /// Precondition: these are all submitters, in order of their numbers.
-    pub fn wind_up(self, submitters: Vec<Submitter<B, N>>, closer: Closer<N>) -> Record<B>
-        requires { AreAll (length N.lanes) submitters.items }
-        ensures run { IsPast result.machine }
-        // The machine has the mode and the limits of the pool.
-        ensures pool { result.machine.pool ≡ N.pool }
-        // The parts that were handed out, and then those of the record, are the history up to the last seal.
-        ensures history { AreParts (result.archive.handed ++ result.archive.kept) result.machine }
-        // What was taken in from a submitter, and then what its lane still holds, is what it pushed, bodies and all.
-        ensures lanes { AreSettled result.machine.events result.bookings.bookings submitters.items result.lanes.items }
-        // The tickets that were drawn are the numbers below that of the admissions, which is the closing number of a closed gate.
-        ensures admitted { IsNumbersBelow result.admitted (tickets_of submitters.items) }
-        ensures closed { result.closed ≡ closer.closed }
-        ensures at_close { IfSome result.closed (λ n. result.admitted ≡ n) }
-        // As many were taken in as the machine accepted.
-        ensures taken_in { length result.bookings.bookings ≡ submissions result.machine }
-        ensures terminated { result.terminated ≡ has_terminated closer.closed result.machine }
-        ensures emptied { result.terminated ≡ true → AreEmpty result.lanes.items }
-    {
-        let Guarded {
-            core,
-            entrants,
-            rests,
-            first: _,
-            of: _,
-        } = self.into_guarded();
-        let shut = core.is_shut();
-        let quiet = core.is_quiescent();
-        let Remains {
-            machine,
-            results,
-            drains,
-            bookings,
-            archive,
-        } = core.into_remains();
-        let (entrants, lanes) = settle(submitters, drains, entrants, rests);
-        let tickets = meet_gate(entrants, closer.end);
-        let reached = tickets.closed == Some(bookings.len() as u64) && shut;
-        let terminated = reached && quiet;
-        Record {
-            machine,
-            results,
-            bookings,
-            archive,
-            lanes,
-            admitted: tickets.drawn,
-            closed: tickets.closed,
-            terminated,
-        }
-    }
-}
-
-impl<B: Body, N: Naming> Pool<B, N> {
-    /// What the lock guarded.
-    fn into_guarded(self) -> Guarded<B, N> {
-        let Pool {
-            alloc: _,
-            lanes: _,
-            core,
-            condvars: _,
-        } = self;
-        let Locked { guarded, ends: _ } = core.into_inner();
-        guarded
-    }
-
     /// Whether these are all submitters of the pool, in order of their numbers.
     pub fn are_all(&self, submitters: &[Submitter<B, N>]) -> bool
         ensures { IsTrue result ↔ AreAll (length N.lanes) submitters.now }
@@ -145,7 +71,7 @@ impl<B: Body, N: Naming> Pool<B, N> {
 }
 
 /// Joins the ends of each lane to its rest, and collects the entrants, the last first.
-fn settle<B: Drop, N: Naming>(
+pub(crate) fn settle<B: Drop, N: Naming>(
     mut submitters: Vec<Submitter<B, N>>,
     mut drains: Vec<Drain<B>>,
     mut entrants: Vec<Entrant>,

@@ -1,9 +1,9 @@
 ghost use Rattle.std.specs.Prelude.{◌≡◌, ◌+◌, IfOk, IfErr, length};
 ghost use Rattle.fj_pool.specs.Seats.{IsNamed, IsSeat, RefusesSubmission, Submits};
 
-use crate::naming::Naming;
 use crate::seat::Seat;
 use fj_gate::Ticket;
+use fj_guarded::Naming;
 use fj_rules::{Refusal, SubId};
 use std::marker::{Model, PhantomData};
 

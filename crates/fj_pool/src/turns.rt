@@ -1,11 +1,11 @@
 ghost use Rattle.std.specs.Prelude.{IfSome};
 ghost use Rattle.fj_bodies.specs.Turns.{HeardRight};
-ghost use Rattle.fj_pool.specs.Turning.{MayAsk, TakesTurn};
+ghost use Rattle.fj_guarded.specs.Turning.{MayAsk, TakesTurn};
 
 use crate::hand::Hand;
-use crate::naming::Naming;
 use crate::turnstile::Turnstile;
 use fj_bodies::{Ask, Body, Heard};
+use fj_guarded::Naming;
 
 /// The hook of a hand, or else its running body, takes a turn. None if the hand is empty.
 #[inline(always)]

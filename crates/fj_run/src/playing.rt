@@ -1,7 +1,7 @@
 ghost use Rattle.std.specs.Prelude.{◌≡◌, [], ◌++◌, IfErr, IfOk, IfSome, length, true};
 ghost use Rattle.fj_core.specs.Cores.{AreParts};
 ghost use Rattle.fj_rules.specs.Epochs.{IsPast};
-ghost use Rattle.fj_pool.specs.Lanes.{lanes_of};
+ghost use Rattle.fj_guarded.specs.Lanes.{lanes_of};
 ghost use Rattle.fj_pool.specs.Winding.{AreEmpty, has_terminated, submissions};
 
 use crate::crew::{Crew, Ran, run_all};
@@ -92,6 +92,7 @@ where
     requires lanes { N.lanes ≡ lanes_of parts.core.lanes }
     requires pool { N.pool ≡ parts.core.store.past.pool }
     requires hands { N.hands ≡ parts.pairs }
+    requires log { N.log ≡ parts.log }
     ensures run { IfOk result (λ r. IsPast r.record.machine) }
     ensures pool { IfOk result (λ r. r.record.machine.pool ≡ N.pool) }
     ensures history { IfOk result (λ r. AreParts (r.record.archive.handed ++ r.record.archive.kept) r.record.machine) }

@@ -1,19 +1,32 @@
 //! Calls by threads that are no workers of the pool.
-ghost use Rattle.std.specs.Prelude.{◌<◌, IfSome, length};
+ghost use Rattle.std.specs.Prelude.{◌≡◌, ◌<◌, IfOk, IfSome, Some, length};
+ghost use mathlib.Core.List.{IsPrefix};
+ghost use Rattle.fj_core.specs.Closes.{is_finished};
+ghost use Rattle.fj_core.specs.Cores.{CollectsTicket, CoreState};
+ghost use Rattle.fj_guarded.specs.Continuing.{EndsWith, IsNow, IsTold};
+ghost use Rattle.fj_guarded.specs.Looking.{IsQuietBehind};
 
 use crate::closer::Closer;
 use crate::glance::Glance;
-use crate::naming::Naming;
+use crate::locked::Locked;
 use crate::pool::Pool;
 use crate::pool::work::LONGEST_WAIT;
 use fj_bodies::{Body, Outcome};
 use fj_gate::{Closing, Ticket};
+use fj_guarded::{Front, Naming};
 use fj_rules::{Refusal, Sealed};
 use fj_wake::ToWake;
-use std::sync::Wait;
+use std::sync::{MutexGuard, Wait};
 use std::time::Duration;
 
 impl<B: Body, N: Naming> Pool<B, N> {
+    /// A front that has seen the history so far. It waits for the lock alone.
+    pub fn front<R: Wait>(&self, rt: &R) -> Front<B, N> {
+        let mut guard = self.lock(rt);
+        let core = &mut *guard;
+        core.front(&self.log)
+    }
+
     /// Waits for the outcome of the submission under a ticket, which is delivered once: `ForkJoinTask.join`. A result in it is right for the
     /// key beside it.
     ///
@@ -23,11 +36,43 @@ impl<B: Body, N: Naming> Pool<B, N> {
     /// `Unknown` if the outcome was delivered before, if a body had the result by a join or a take, or gave it up, or if the pool was shut down
     /// or stopped and all that was admitted was taken in, nothing of it under this ticket. `LogFull` if the core is stuck.
     pub fn await_done<R: Wait>(&self, rt: &R, ticket: Ticket) -> Result<Outcome<B>, Refusal> {
-        let mut due = ToWake::nobody();
         let mut guard = self.lock(rt);
+        let core = &mut *guard;
+        let mut front = core.front(&self.log);
+        self.await_with(rt, guard, &mut front, ticket)
+    }
+
+    /// The same, as the caller sees it: the history goes on from what it had seen, up to the moment at which the outcome was delivered.
+    pub fn await_seen<R: Wait>(
+        &self,
+        rt: &R,
+        front: &mut Front<B, N>,
+        ticket: Ticket,
+    ) -> Result<Outcome<B>, Refusal>
+        ensures goes_on { IsPrefix front.old front.new }
+        ensures seen { EndsWith front.new (λ old new. CollectsTicket old ticket (Some result) new) }
+        // The ticket is booked for a task, which has the status of the outcome.
+        ensures told { IfOk result (λ outcome. (core : CoreState B B.Key B.Out) × IsNow front.new core × IsTold core ticket outcome) }
+    {
+        self.await_with(rt, self.lock(rt), front, ticket)
+    }
+
+    /// The same, by a caller that has the lock.
+    fn await_with<'p, R: Wait>(
+        &'p self,
+        rt: &R,
+        mut guard: MutexGuard<'p, Locked<B, N>>,
+        front: &mut Front<B, N>,
+        ticket: Ticket,
+    ) -> Result<Outcome<B>, Refusal>
+        ensures goes_on { IsPrefix front.old front.new }
+        ensures seen { EndsWith front.new (λ old new. CollectsTicket old ticket (Some result) new) }
+        ensures told { IfOk result (λ outcome. (core : CoreState B B.Key B.Out) × IsNow front.new core × IsTold core ticket outcome) }
+    {
+        let mut due = ToWake::nobody();
         for _ in rt.forever() {
             let core = &mut *guard;
-            if let Some(answer) = core.collect(ticket) {
+            if let Some(answer) = core.tell(&self.log, front, ticket) {
                 core.take_due(&mut due);
                 drop(guard);
                 self.wake_due(&mut due);
@@ -159,10 +204,28 @@ impl<B: Body, N: Naming> Pool<B, N> {
     /// Submissions that stay in their lanes do not count. Before it takes anything in it seals the history, if that is due, which allocates; a
     /// refusal of that is ignored.
     pub fn is_quiescent<R: Wait>(&self, rt: &R) -> bool {
-        let mut due = ToWake::nobody();
         let mut guard = self.core.lock(rt);
         let core = &mut *guard;
-        let quiescent = core.is_quiescent(self.alloc);
+        let mut front = core.front(&self.log);
+        self.ask_quiet(guard, &mut front)
+    }
+
+    /// The same, as the caller sees it.
+    pub fn is_quiescent_seen<R: Wait>(&self, rt: &R, front: &mut Front<B, N>) -> bool
+        ensures goes_on { IsPrefix front.old front.new }
+        ensures seen { EndsWith front.new (λ old new. IsQuietBehind B.rooted_as old result new) }
+    {
+        self.ask_quiet(self.core.lock(rt), front)
+    }
+
+    /// The same, by a caller that has the lock.
+    fn ask_quiet(&self, mut guard: MutexGuard<'_, Locked<B, N>>, front: &mut Front<B, N>) -> bool
+        ensures goes_on { IsPrefix front.old front.new }
+        ensures seen { EndsWith front.new (λ old new. IsQuietBehind B.rooted_as old result new) }
+    {
+        let mut due = ToWake::nobody();
+        let core = &mut *guard;
+        let quiescent = core.tell_quiet(self.alloc, &self.log, front);
         core.take_due(&mut due);
         drop(guard);
         self.wake_due(&mut due);
@@ -173,7 +236,18 @@ impl<B: Body, N: Naming> Pool<B, N> {
     pub fn is_terminated<R: Wait>(&self, rt: &R) -> bool {
         let mut guard = self.core.lock(rt);
         let core = &mut *guard;
-        core.is_terminated()
+        let mut front = core.front(&self.log);
+        core.tell_terminated(&self.log, &mut front)
+    }
+
+    /// The same, as the caller sees it: of the last moment that it has seen then.
+    pub fn is_terminated_seen<R: Wait>(&self, rt: &R, front: &mut Front<B, N>) -> bool
+        ensures goes_on { IsPrefix front.old front.new }
+        ensures now { (core : CoreState B B.Key B.Out) × IsNow front.new core × (result ≡ is_finished core) }
+    {
+        let mut guard = self.core.lock(rt);
+        let core = &mut *guard;
+        core.tell_terminated(&self.log, front)
     }
 }
 

@@ -1,15 +1,17 @@
 //! What a worker does, from its start to the end of its pool.
 ghost use Rattle.std.specs.Prelude.{◌<◌, IfSome, length};
-ghost use Rattle.fj_pool.specs.Turning.{MayAsk, NextRight};
+ghost use mathlib.Core.List.{IsPrefix};
+ghost use Rattle.fj_core.specs.Cores.{CoreState};
+ghost use Rattle.fj_guarded.specs.Continuing.{IsNow};
+ghost use Rattle.fj_guarded.specs.Turning.{IsSeenLeaving, MayAsk, MayLeave, NextRight};
 
 use crate::hand::Hand;
 use crate::locked::Locked;
-use crate::naming::Naming;
-use crate::next::{Next, Unneeded};
 use crate::pool::Pool;
 use crate::turns::observed_turn;
 use crate::turnstile::Turnstile;
 use fj_bodies::{Ask, Body, Heard};
+use fj_guarded::{Front, Naming, Next, Unneeded};
 use fj_rules::{Refusal, WorkerId};
 use fj_sleep::{Contention, Idle};
 use fj_wake::{ToWake, place_of};
@@ -50,6 +52,21 @@ impl<B: Body, N: Naming> Pool<B, N> {
         hand: &mut Hand<B, N>,
         turnstile: &T,
     ) -> Result<(), Refusal> {
+        let mut front = self.front(rt);
+        self.work_seen(rt, hand, turnstile, &mut front)
+    }
+
+    /// The same, as the worker sees it: in the last moment that it has seen then it may leave.
+    pub fn work_seen<R: Wait, T: Turnstile>(
+        &self,
+        rt: &R,
+        hand: &mut Hand<B, N>,
+        turnstile: &T,
+        front: &mut Front<B, N>,
+    ) -> Result<(), Refusal>
+        ensures goes_on { IsPrefix front.old front.new }
+        ensures left { (core : CoreState B B.Key B.Out) × IsNow front.new core × MayLeave core result }
+    {
         let working = Working {
             rt,
             turnstile,
@@ -63,7 +80,7 @@ impl<B: Body, N: Naming> Pool<B, N> {
             due: ToWake::nobody(),
         };
         for _ in rt.forever() {
-            let next = self.serve(&working, hand, ask, &mut pace);
+            let next = self.serve(&working, hand, ask, &mut pace, front);
             ask = match next {
                 Next::Turn(heard) => observed_turn(hand, heard, turnstile),
                 Next::Begin(t) => {
@@ -85,17 +102,20 @@ impl<B: Body, N: Naming> Pool<B, N> {
         hand: &mut Hand<B, N>,
         ask: Option<Ask<B>>,
         pace: &mut Pace,
+        front: &mut Front<B, N>,
     ) -> Next<B>
         requires there { working.now.worker < length N.hands }
         requires asks { IfSome ask (λ a. MayAsk B.right B.key_of hand.old a) }
-        ensures { NextRight B.right result }
+        ensures right { NextRight B.right result }
+        ensures goes_on { IsPrefix front.old front.new }
+        ensures left { IsSeenLeaving front.new result }
     {
         let mut guard = self.lock_for_work(working.rt, &mut pace.contention);
         let core = &mut *guard;
         if pace.slept {
             core.come_back(working.worker);
         }
-        let next = core.serve(self.alloc, hand, ask);
+        let next = core.serve_seen(self.alloc, &self.log, hand, ask, front);
         if pace.slept && !matches!(next, Next::Rest) {
             core.begin(working.worker);
         }

@@ -2,7 +2,7 @@ use Rattle.std.proofs.Common.{◌≡◌, List, All, length, sym, ap, ◌∙◌, 
 use Rattle.atomic_table.specs.Seated.{TableId}
 use Rattle.fj_lane.specs.Ends.{LaneId}
 use Rattle.fj_pool.specs.Holdings.{IsTied}
-use Rattle.fj_pool.specs.Lanes.{lanes_of}
+use Rattle.fj_guarded.specs.Lanes.{lanes_of}
 use Rattle.fj_pool.specs.Parts.{PartsState}
 use Rattle.fj_pool.specs.Winding.{AreAll}
 use Rattle.fj_pool.proofs.Seating.{all_named, all_seats}

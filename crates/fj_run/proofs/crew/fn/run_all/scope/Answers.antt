@@ -18,7 +18,7 @@ spawn_scoped-requires-send-F g c κs _ =
     let name_sent = param_send 1 g.row.N bounds.1 in
     let hand = hand_send B N g.N.Naming body in
     let crew = crew_sync (record { mir = named 6; lft = κs.1.1.1.1.1.1.0 }) (record { mir = named 7; lft = κs.1.1.1.1.1.1.1.0 }) (record { mir = named 8; lft = κs.1.1.1.1.1.1.1.1.0 })
-    B N (param 3 g.row.T) (param 4 g.row.R) (param 5 g.row.B-Key) (param 6 g.row.B-Out) g.B.Body g.B.Key.PartialEq g.N.Naming
+    B N (param 3 g.row.T) (param 4 g.row.R) (param 5 g.row.B-Key) (param 6 g.row.B-Out) g.B.Body g.B.Key.PartialEq g.B.Key.Eq g.N.Naming
     body (param_send 5 g.row.B-Key bounds.2) (param_send 6 g.row.B-Out bounds.3) name_sent (param_sync 3 g.row.T bounds.5) (param_sync 4 g.row.R bounds.6) in
     let row = arg-2-1 g.row.B g.row.N g.row.P g.row.T g.row.R g.row.B-Key g.row.B-Out g.row.P-Out g.B.laws g.N.laws g.P.laws g.T.laws g.R.laws g.B.Key.laws g.B.Out.laws g.P.Out.laws g.B.Body g.B.Body-dict
     g.B.Key.Eq g.B.Key.Eq-dict g.B.Key.PartialEq g.B.Key.PartialEq-dict g.N.Naming g.N.Naming-dict g.P.Play g.P.Play-dict g.T.Turnstile g.T.Turnstile-dict g.R.Threads g.R.Threads-dict g.R.Wait g.R.Wait-dict

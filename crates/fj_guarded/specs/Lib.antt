@@ -1,0 +1,16 @@
+-- calls from outside, by one ticket or by several
+pub mod Asked
+-- a core that continues another one
+pub mod Continuing
+-- the lanes of a pool
+pub mod Lanes
+-- submissions are taken in
+pub mod Looking
+-- the gate of no pool
+pub mod Names
+-- what a body asks and hears, and why a worker leaves
+pub mod Turning
+-- what a worker does in one holding of the lock
+pub mod Working
+-- what a call leaves of what the workers hold
+pub mod Keeping

@@ -1,0 +1,119 @@
+ghost use Rattle.std.specs.Prelude.{◌≡◌, ◌≤◌, [], IfOk, length, vec_capacity};
+ghost use Rattle.fj_sleep.specs.declared.places.TheConstants.{MAX_PLACES};
+ghost use Rattle.fj_wake.specs.Waiting.{NobodyWaits};
+ghost use Rattle.fj_guarded.specs.Lanes.{lanes_of};
+
+mod outside;
+mod serve;
+mod sleeping;
+
+use crate::naming::Naming;
+use fj_bodies::Body;
+use fj_core::Core;
+use fj_gate::Entrant;
+use fj_lane::Rest;
+use fj_machine::Machine;
+use fj_rules::SubId;
+use fj_wake::{Waits, WakingCore};
+use std::alloc::{AllocError, Global};
+use std::marker::{Model, PhantomData};
+
+/// What the lock of a pool guards: its core, with the account of who sleeps, and room for the rests of the lanes when the pool is wound up.
+#[derive(Drop)]
+pub struct Guarded<B: Body, N: Naming> {
+    pub(crate) core: WakingCore<B>,
+    pub(crate) entrants: Vec<Entrant>,
+    pub(crate) rests: Vec<Rest<B>>,
+    /// The submitter at which the next look at the lanes begins: the first for which the last look found no room.
+    pub(crate) first: SubId,
+    pub(crate) of: PhantomData<N>,
+}
+
+impl<B: Body, N: Naming> Model for Guarded<B, N> {
+    ghost use Rattle.std.specs.Prelude.{◌≡◌, ◌<◌, ◌≤◌, [], length, vec_capacity};
+    ghost use Rattle.fj_core.specs.Cores.{CoreState};
+    ghost use Rattle.fj_guarded.specs.Lanes.{lanes_of};
+
+    ghost Value = { CoreState B B.Key B.Out };
+
+    ghost view = { λ g. g.core };
+
+    ghost invariant = { λ g. record {
+      lanes : lanes_of g.core.lanes ≡ N.lanes;
+      no_entrants : g.entrants.items ≡ [];
+      entrant_room : length N.lanes ≤ vec_capacity g.entrants;
+      no_rests : g.rests.items ≡ [];
+      rest_room : length N.lanes ≤ vec_capacity g.rests;
+      pool : g.core.store.past.pool ≡ N.pool;
+      begins : g.first < N.pool.limits.submitters;
+    } };
+}
+
+impl<B: Body, N: Naming> Guarded<B, N> {
+    /// A new pool's state. Preconditions: the name is that of the core, there is room for its lanes, and nobody waits.
+    pub fn new(core: Core<B>, room: Room<B>) -> Guarded<B, N>
+        requires waits { NobodyWaits room.waits }
+        requires lanes { lanes_of core.lanes ≡ N.lanes }
+        requires pool { core.store.past.pool ≡ N.pool }
+        requires entrants { (room.entrants.items ≡ []) × (length N.lanes ≤ vec_capacity room.entrants) }
+        requires rests { (room.rests.items ≡ []) × (length N.lanes ≤ vec_capacity room.rests) }
+        ensures { result ≡ core }
+    {
+        Guarded {
+            core: WakingCore::new(core, room.waits),
+            entrants: room.entrants,
+            rests: room.rests,
+            first: SubId(0),
+            of: PhantomData,
+        }
+    }
+
+    /// The machine.
+    pub fn machine(&self) -> &Machine
+        ensures { result.now ≡ self.now.store.past }
+    {
+        self.core.machine()
+    }
+
+    /// The core, and empty lists with room for the entrants and for the rests of the lanes.
+    pub fn into_parts(self) -> (WakingCore<B>, Vec<Entrant>, Vec<Rest<B>>)
+        ensures core { result.0 ≡ self }
+        ensures lanes { lanes_of result.0.lanes ≡ N.lanes }
+        ensures pool { result.0.store.past.pool ≡ N.pool }
+        ensures entrants { (result.1.items ≡ []) × (length N.lanes ≤ vec_capacity result.1) }
+        ensures rests { (result.2.items ≡ []) × (length N.lanes ≤ vec_capacity result.2) }
+    {
+        let Guarded {
+            core,
+            entrants,
+            rests,
+            first: _,
+            of: _,
+        } = self;
+        (core, entrants, rests)
+    }
+}
+
+/// What the lock of a new pool guards, except its core.
+#[derive(Drop)]
+pub struct Room<B> {
+    pub waits: Waits,
+    pub entrants: Vec<Entrant>,
+    pub rests: Vec<Rest<B>>,
+}
+
+impl<B> Room<B> {
+    /// For this many workers, at most `MAX_PLACES`, and lanes. An error only if out of memory.
+    pub fn new(alloc: Global, workers: usize, lanes: usize) -> Result<Room<B>, AllocError>
+        requires { workers ≤ MAX_PLACES }
+        ensures waits { IfOk result (λ r. NobodyWaits r.waits) }
+        ensures entrants { IfOk result (λ r. (r.entrants.items ≡ []) × (lanes ≤ vec_capacity r.entrants)) }
+        ensures rests { IfOk result (λ r. (r.rests.items ≡ []) × (lanes ≤ vec_capacity r.rests)) }
+    {
+        Ok(Room {
+            waits: Waits::new(alloc, workers)?,
+            entrants: Vec::with_capacity(alloc, lanes)?,
+            rests: Vec::with_capacity(alloc, lanes)?,
+        })
+    }
+}
