@@ -69,6 +69,11 @@ fj_reply fj_print_event(fj_machine *m, uint64_t place, char *text, size_t size) 
     return m ? fj_c_print_event(m, place, text ? text : &nothing, text ? size : 0) : no_machine;
 }
 
+fj_reply fj_c_check(const char *text, size_t size);
+fj_reply fj_check(const char *text, size_t size) {
+    return text ? fj_c_check(text, size) : bad_argument;
+}
+
 const char *fj_meaning(uint32_t code) {
     static const char *const meanings[] = {
         [FJ_DONE] = "done",
@@ -90,6 +95,8 @@ const char *fj_meaning(uint32_t code) {
         [FJ_IN_USE] = "there is a machine already",
         [FJ_NO_PLACE] = "there is nothing at this place",
         [FJ_TOO_SMALL] = "the text does not fit",
+        [FJ_BAD_LINE] = "the line is none of a history",
+        [FJ_BAD_EVENT] = "the event does not follow those before it",
         [FJ_TASK] = "task",
         [FJ_NONE] = "none",
         [FJ_RUN] = "run",

@@ -51,10 +51,12 @@ enum {
     FJ_BAD_LIMITS = 13,      /* a limit is out of its range */
     FJ_NOT_IDLE = 14,        /* the worker is not idle, or has a completion action in its hand */
     FJ_NO_MACHINE = 17,      /* NULL, or not made, or freed */
-    FJ_BAD_ARGUMENT = 18,    /* an unknown mode or ending, or NULL where something is to be written */
+    FJ_BAD_ARGUMENT = 18,    /* an unknown mode or ending, or NULL where something is to be read or written */
     FJ_IN_USE = 19,          /* there is a machine already */
     FJ_NO_PLACE = 20,        /* the list or the history has nothing at this place */
     FJ_TOO_SMALL = 21,       /* the text does not fit; number: its bytes */
+    FJ_BAD_LINE = 22,        /* the line is none of a history, or has no line feed; number: which, from 1 on */
+    FJ_BAD_EVENT = 23,       /* the event of the line does not follow those before it, or a seal may not stand there; number: which line */
 
     /* Replies, from 32 on. What is named is the number. */
     FJ_TASK = 32,        /* the task that was accepted, or is asked for */
@@ -262,6 +264,12 @@ fj_reply fj_print_heading(uint32_t mode, uint32_t workers, uint32_t submitters, 
 
 /* The line of the event at a place. Refused: FJ_NO_MACHINE, FJ_NO_PLACE, FJ_OUT_OF_MEMORY, FJ_TOO_SMALL. */
 fj_reply fj_print_event(fj_machine *m, uint64_t place, char *text, size_t size);
+
+/* Whether a text, of this machine or from elsewhere, is a history, as `fj check` says: a heading within its limits, and behind it events that
+ * each follow those before it, and seals where they may stand. It is read to its end or to the first line that is at fault, in one pass; some
+ * words are kept for each task until then. FJ_COUNT: its events, seals not counted.
+ * Refused: FJ_BAD_ARGUMENT (NULL), FJ_BAD_LINE, FJ_BAD_EVENT, FJ_BAD_LIMITS (number: 1, the line of the heading), FJ_OUT_OF_MEMORY. */
+fj_reply fj_check(const char *text, size_t size);
 
 #ifdef __cplusplus
 }

@@ -1,5 +1,5 @@
 /* Calls that must be refused and change nothing: of NULL, of a machine that was not made or is freed, with unknown codes, with numbers out of
- * range, and with each allocation failing in turn. Steps must not allocate. Link with -Wl,--wrap=malloc,--wrap=realloc. Says nothing if all is
+ * range, and with each allocation failing in turn; and texts that are no history. Steps must not allocate. Link with -Wl,--wrap=malloc,--wrap=realloc. Says nothing if all is
  * well, with status 0. */
 #include "fj.h"
 
@@ -235,6 +235,109 @@ static void refused_later(void) {
     fj_free(&m);
 }
 
+/* ---- texts */
+
+enum { PARTS = 2, TASKS = 100, EVENTS = PARTS * TASKS * 5, LINES = 1 + EVENTS + PARTS - 1 };
+
+static char text[LINES * FJ_LINE];
+static size_t size;
+
+static void print_event(fj_machine *m, uint64_t place) {
+    fj_reply r = fj_print_event(m, place, text + size, sizeof text - size);
+    expect(__LINE__, "fj_print_event", r.code, FJ_COUNT);
+    size += r.number;
+}
+
+/* A history of 1,000 events, sealed once. Line 2 is that task 0 was accepted, line 3 that it was handed out. */
+static void print_history(void) {
+    fj_machine m = FJ_MACHINE_INIT;
+    EXPECT(fj_new(&m, FJ_ASYNC, 1, 1, 1, TASKS * 5), FJ_DONE);
+    size = fj_print_heading(FJ_ASYNC, 1, 1, 1, TASKS * 5, text, sizeof text).number;
+    for (int part = 0; part < PARTS; part++) {
+        if (part > 0) {
+            EXPECT(fj_seal(&m), FJ_DONE);
+            memcpy(text + size, "seal\n", 5);
+            size += 5;
+        }
+        for (uint64_t i = 0; i < TASKS; i++) {
+            uint64_t t = fj_submit(&m, 0).number;
+            EXPECT(fj_poll(&m, 0, 0), FJ_RUN);
+            EXPECT(fj_end(&m, 0, FJ_OK, 0), FJ_DONE);
+            EXPECT(fj_release(&m, t), FJ_DONE);
+            for (uint64_t place = 5 * i; place < 5 * i + 5; place++) print_event(&m, place);
+        }
+    }
+    fj_free(&m);
+}
+
+/* Of bytes that have none behind them. */
+static void expect_check(int line, const char *bytes, size_t count, uint32_t wanted, uint64_t number) {
+    char *copy = malloc(count + (count == 0));
+    if (!copy) abort();
+    memcpy(copy, bytes, count);
+    fj_reply r = fj_check(copy, count);
+    free(copy);
+    expect(line, "fj_check", r.code, wanted);
+    if (r.number != number) expect(line, "the number of fj_check", (uint32_t)r.number, (uint32_t)number);
+}
+
+#define EXPECT_CHECK(TEXT, CODE, NUMBER) expect_check(__LINE__, TEXT, sizeof TEXT - 1, CODE, NUMBER)
+
+/* Every beginning of the first lines: a history where it ends with a line, and then of an event for each line but the heading. */
+static void check_beginnings(void) {
+    uint64_t lines = 0;
+    for (size_t end = 1; lines < 20; end++) {
+        lines += text[end - 1] == '\n';
+        if (text[end - 1] == '\n') expect_check(__LINE__, text, end, FJ_COUNT, lines - 1);
+        else expect_check(__LINE__, text, end, FJ_BAD_LINE, lines + 1);
+    }
+}
+
+static void check_changed(const char *where, char byte, uint32_t wanted, uint64_t number) {
+    char *at = strstr(text, where), old = *at;
+    *at = byte;
+    expect_check(__LINE__, text, size, wanted, number);
+    *at = old;
+}
+
+static void refused_texts(void) {
+    print_history();
+    expect_check(__LINE__, text, size, FJ_COUNT, EVENTS);
+    expect_check(__LINE__, text, size - 1, FJ_BAD_LINE, LINES);
+    expect_check(__LINE__, text, size - 4, FJ_BAD_LINE, LINES);
+    check_beginnings();
+    check_changed("async 1", 'b', FJ_BAD_LINE, 1);
+    check_changed("0 sub 0", '1', FJ_BAD_EVENT, 2);
+    check_changed("out 0", 'O', FJ_BAD_LINE, 3);
+    check_changed("0 normal", '1', FJ_BAD_EVENT, 5);
+    check_changed("\nout 0", '\0', FJ_BAD_LINE, 2);
+    check_changed("seal", 'S', FJ_BAD_LINE, 2 + EVENTS / PARTS);
+    EXPECT(fj_check(NULL, 0), FJ_BAD_ARGUMENT);
+    EXPECT(fj_check(NULL, 99), FJ_BAD_ARGUMENT);
+    EXPECT_CHECK("", FJ_BAD_LINE, 1);
+    EXPECT_CHECK("\n", FJ_BAD_LINE, 1);
+    EXPECT_CHECK("async 1 1 1 1\n", FJ_COUNT, 0);
+    EXPECT_CHECK("async 1 1 1 1\n\n", FJ_BAD_LINE, 2);
+    EXPECT_CHECK("async 1 1 1 1\r\n", FJ_BAD_LINE, 1);
+    EXPECT_CHECK("async 33 1 1 1\n", FJ_BAD_LIMITS, 1);
+    EXPECT_CHECK("async 33 1 1 1", FJ_BAD_LINE, 1);
+    EXPECT_CHECK("async 1 1 1 1\nacc 0 sub 0 plain\nout 0 0\n", FJ_BAD_EVENT, 3);
+    EXPECT_CHECK("async 1 1 1 9\nacc 0 sub 0 plain\nseal\n", FJ_BAD_EVENT, 3);
+}
+
+/* Each allocation of a check fails in turn. */
+static void refused_check(void) {
+    long number = 0;
+    for (fj_reply r = {0}; r.code != FJ_COUNT; number++) {
+        allocations = 0;
+        fails_at = number;
+        r = fj_check(text, size);
+        fails_at = -1;
+        if (r.code != FJ_COUNT) expect(__LINE__, "fj_check without memory", r.code, FJ_OUT_OF_MEMORY);
+    }
+    if (number < 6) expect(__LINE__, "the number of allocations", (uint32_t)number, 6);
+}
+
 int main(void) {
     fj_machine m = FJ_MACHINE_INIT;
     refused_by_none(NULL);
@@ -251,5 +354,7 @@ int main(void) {
     fj_free(&m);
     refused_memory();
     refused_later();
+    refused_texts();
+    refused_check();
     return failures ? 1 : 0;
 }

@@ -1,7 +1,8 @@
 #!/usr/bin/env bash
-# Tests the C interface, installed in a folder of its own: its codes, the program of docs/C.md, random scripts with the replies of `fj replay`, refusals, histories, the examples in C
-# and Python, C++, and all of it under ASan and valgrind. Needs a C compiler, the built program (cd crates/fj && rt run -- replay < stdin), and
-# what c/install.sh does. What else is not there is left out: a C++ compiler, valgrind, Python 3 as for all tests.
+# Tests the C interface, installed in a folder of its own: its codes, the program of docs/C.md, random scripts with the replies of `fj replay`, refusals,
+# histories and what `fj check` says of them, the examples in C and Python, C++, and all of it under ASan and valgrind. Needs a C compiler, the
+# built program (cd crates/fj && rt run -- replay < stdin), and what c/install.sh does. What else is not there is left out: a C++ compiler,
+# valgrind, Python 3 as for all tests.
 # Usage: tests/c/run.sh [COUNT [SEED]]     COUNT scripts (default: 1000)
 set -euo pipefail
 cd "$(dirname "${BASH_SOURCE[0]}")/../.."
@@ -28,6 +29,7 @@ compile() { cc -std=c99 -Wall -Wextra -Wpedantic -Werror -O2 "${flags[@]}" -o "$
 compile_asan() { compile "$1.asan" "${@:2}" -g -fsanitize=address,undefined -fno-sanitize-recover; }
 for kind in compile compile_asan; do
     "$kind" replay tests/c/replay.c "$folder/lib/libfj.a"
+    "$kind" check tests/c/check.c "$folder/lib/libfj.a"
     "$kind" refusals tests/c/refusals.c "$folder/lib/libfj.a" -Wl,--wrap=malloc,--wrap=realloc
     "$kind" build examples/c/build.c -D_POSIX_C_SOURCE=200809L -pthread -lfj
 done
@@ -48,7 +50,22 @@ if command -v c++ > /dev/null; then
     [[ $("$folder/cpp") == "run 0" ]]
 fi
 
-# Every reply of every script, and the history of its run.
+# wrong NUMBER FILE: the history with a line left out, doubled or made faulty, or without its last byte.
+RANDOM=$seed
+wrong() {
+    local at=$((1 + RANDOM % $(wc -l < "$2")))
+    case $(($1 % 4)) in
+        0) sed "${at}d" "$2" ;;
+        1) sed "${at}p" "$2" ;;
+        2) sed "${at}s/./x/" "$2" ;;
+        3) head -c -1 "$2" ;;
+    esac
+}
+
+# says_alike PROGRAM: whether it says of the wrong history what `fj check` does.
+says_alike() { { "$@" < "$script.wrong" || (($? < 6)); } | cmp - "$script.checked"; }
+
+# Every reply of every script, and the history of its run; and what fj_check says of it, and of a wrong one.
 mkdir "$folder/scripts"
 tests/c/scripts.py "$fj" "$folder/scripts" "$seed" "$count" 200
 for ((n = 0; n < count; n++)); do
@@ -56,6 +73,10 @@ for ((n = 0; n < count; n++)); do
     "$folder/replay" < "$script.script" | cmp - "$script.replies"
     "$folder/replay" history < "$script.script" > "$script.history"
     "$fj" check < "$script.history" > "$script.checked" || { echo "script $n: $(cat "$script.checked")" >&2; exit 1; }
+    "$folder/check" < "$script.history" | cmp - "$script.checked"
+    wrong "$n" "$script.history" > "$script.wrong"
+    { "$fj" check < "$script.wrong" 2>&1 || true; } | sed 's/^\(line [0-9]*\):.*/\1/' > "$script.checked"
+    says_alike "$folder/check"
     if ((n % 3 < 2)); then
         "$fj" trace < "$script.script" | cmp - "$script.history"
     fi
@@ -63,6 +84,8 @@ for ((n = 0; n < count; n++)); do
         "$folder/replay.asan" < "$script.script" | cmp - "$script.replies"
         "${checked[@]}" "$folder/replay" < "$script.script" | cmp - "$script.replies"
         "${checked[@]}" "$folder/replay" history < "$script.script" | cmp - "$script.history"
+        says_alike "$folder/check.asan"
+        says_alike "${checked[@]}" "$folder/check"
     fi
 done
 echo "$count scripts, $(cat "$folder"/scripts/*.replies | wc -l) replies, all the same"

@@ -1,2 +1,3 @@
 mod Nth
 mod Values
+mod WholeText

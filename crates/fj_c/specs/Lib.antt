@@ -1,4 +1,5 @@
 pub mod Calls
+pub mod Checks
 pub mod Held
 pub mod History
 pub mod Lists

@@ -5,6 +5,7 @@
 //! what a caller must uphold.
 #![tactic(auto)]
 
+mod checks;
 mod history;
 mod life;
 mod lists;

@@ -18,6 +18,12 @@ pub const NO_PLACE: u32 = 20;
 /// The text does not fit.
 pub const TOO_SMALL: u32 = 21;
 
+/// The line is no line of a history, or does not end.
+pub const BAD_LINE: u32 = 22;
+
+/// The event of the line does not follow those before it, or a seal may not stand there.
+pub const BAD_EVENT: u32 = 23;
+
 /// The task was accepted.
 pub const TASK: u32 = 32;
 
