@@ -11,8 +11,6 @@ mod building;
 mod fault;
 mod make;
 mod target;
-#[cfg(test)]
-mod tests;
 
 pub use artifact::Artifact;
 pub use building::build;

@@ -11,8 +11,6 @@ mod flow;
 mod item;
 mod processing;
 mod stage;
-#[cfg(test)]
-mod tests;
 
 pub use fault::Fault;
 pub use flow::Flow;

@@ -7,8 +7,6 @@
 
 mod prime;
 mod primes;
-#[cfg(test)]
-mod tests;
 
 pub use prime::is_prime;
 pub use primes::Primes;

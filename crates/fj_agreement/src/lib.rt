@@ -25,8 +25,3 @@ mod word;
 pub use end::End;
 pub use new_pair::pair;
 pub use values::{Agreed, Known, Tells};
-
-#[cfg(test)]
-mod tests;
-#[cfg(test)]
-mod thread_tests;

@@ -12,6 +12,3 @@ mod rules;
 
 pub use checker::Checker;
 pub use objection::Objection;
-
-#[cfg(test)]
-mod tests;

@@ -18,8 +18,6 @@ mod part;
 mod reduce;
 mod reducing;
 mod search;
-#[cfg(test)]
-mod tests;
 mod wanted;
 
 pub use each::Each;

@@ -4,15 +4,11 @@
 //! reads the lines, and its contract says what was read and written, at its end and at each fault, in words of these rules.
 #![tactic(auto)]
 
-#[cfg(test)]
-mod doubling;
 mod fault;
 mod in_memory;
 mod line_buffer;
 mod line_filter;
 mod read_loop;
-#[cfg(test)]
-mod tests;
 mod writing;
 
 pub use fault::{FilterFault, LineStop};

@@ -7,8 +7,6 @@
 
 mod free;
 mod running;
-#[cfg(test)]
-mod tests;
 mod turns;
 mod unfinished;
 

@@ -34,5 +34,3 @@ pub use tickets::{Tickets, meet};
 
 #[cfg(test)]
 mod tests;
-#[cfg(test)]
-mod thread_tests;

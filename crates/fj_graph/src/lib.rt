@@ -27,11 +27,7 @@ mod progress;
 mod refused;
 mod running;
 mod stop_flag;
-#[cfg(test)]
-mod tests;
 mod under_way;
-#[cfg(test)]
-mod watch;
 mod work;
 
 pub use fate::Fate;

@@ -12,6 +12,3 @@ pub use entry::Entry;
 pub use heading::push_heading;
 pub use read::{MAX_ENTRY, read_entry};
 pub use write::push_entries;
-
-#[cfg(test)]
-mod tests;

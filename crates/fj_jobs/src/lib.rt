@@ -16,8 +16,6 @@ mod interval;
 mod linear_mod;
 mod range_min;
 mod range_sum;
-#[cfg(test)]
-mod tests;
 
 pub use blocked_range::BlockedRange;
 pub use divide::{Divide, compute};

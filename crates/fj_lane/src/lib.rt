@@ -29,8 +29,3 @@ pub use feed::Feed;
 pub use new_lane::{MAX_CAPACITY, lane};
 pub use parcel::{LaneSpent, Parcel};
 pub use rest::{Rest, meet};
-
-#[cfg(test)]
-mod tests;
-#[cfg(test)]
-mod thread_tests;

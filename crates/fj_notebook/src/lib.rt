@@ -20,6 +20,3 @@ pub use labelled::Labelled;
 pub use notebook::Notebook;
 pub use noted::Noted;
 pub use writing::write_notes;
-
-#[cfg(test)]
-mod tests;

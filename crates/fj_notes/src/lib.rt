@@ -19,6 +19,3 @@ pub use note::Note;
 pub use notes::Notes;
 pub use read::{MAX_NOTE, read_note};
 pub use reading::read_notes;
-
-#[cfg(test)]
-mod tests;

@@ -25,6 +25,3 @@ pub use sleeper::Sleeper;
 pub use sleepers::Sleepers;
 pub use sleeps::Sleeps;
 pub use wanted::Wanted;
-
-#[cfg(test)]
-mod tests;

@@ -88,6 +88,17 @@ impl<T: Copy> Sleepers<T> {
         self.due
     }
 
+    /// The state of this place; `Awake` if it is out of range.
+    pub fn state(&self, place: usize) -> Sleeper<T>
+        ensures { result ≡ slice_index_or self.now.places place Sleeper.Awake }
+    {
+        if place < self.places.len() {
+            self.places[place]
+        } else {
+            Sleeper::Awake
+        }
+    }
+
     /// What the thread at this place waits for; none if it does not wait.
     #[inline(always)]
     pub fn waited_for(&self, place: usize) -> Option<T>

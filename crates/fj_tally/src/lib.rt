@@ -18,6 +18,3 @@ mod worker_tally;
 
 pub use tally::Tally;
 pub use worker_tally::WorkerTally;
-
-#[cfg(test)]
-mod tests;

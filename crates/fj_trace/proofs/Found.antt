@@ -170,11 +170,11 @@ stops fault before ahead start now s = (s.0, s.1.read, fault_means fault s.0 ahe
 -- ---- at one line
 
 -- where nothing is ever written, nothing is where memory runs out
-pub silent : {A S T : Type 0} (r : Result T (LineStop S)) (state : A) (line : List ℕ) (old : Option (List ℕ)) → IfErr r (λ fault. StarvesAtLine (λ s l. ⊤) state line fault old old)
-silent (Ok x) state line old = tt
-silent (Err (fails.Stop stop)) state line old = tt
-silent (Err fails.Memory) state line old = (tt, appends_nothing old)
-silent (Err fails.Write) state line old = tt
+pub silent : {S T : Type 0} (r : Result T (LineStop S)) (old : Option (List ℕ)) → IfErr r (λ fault. StarvesAtLine {A = ⊤} (λ s l. ⊤) tt [] fault old old)
+silent (Ok x) old = tt
+silent (Err (fails.Stop stop)) old = tt
+silent (Err fails.Memory) old = (tt, appends_nothing old)
+silent (Err fails.Write) old = tt
 
 -- a fault behind the heading, where nothing was written
 pub entry_stops : (past : Past) (n : ℕ) (line : List ℕ) (why : LineStop HistoryStop) (old : Option (List ℕ)) → IsEntryStop past line why → StopsAtLine check_rules (Going past n) line why old old

@@ -13,8 +13,6 @@ mod nodes;
 mod tree_fault;
 mod tree_input;
 mod tree_reader;
-#[cfg(test)]
-mod tree_tests;
 
 pub use node::Node;
 pub use node_values::tree_values;

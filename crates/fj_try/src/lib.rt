@@ -7,8 +7,6 @@
 
 mod fault;
 mod invocation;
-#[cfg(test)]
-mod tests;
 mod tried;
 mod try_divide;
 mod trying;

@@ -74,6 +74,17 @@ fn each_range_has_its_value_with_1_and_with_32_workers(rt: HostRuntime) -> Resul
     Ok(())
 }
 
+/// The sums of the ranges with one number each, from 0 to 100.
+#[test]
+fn each_small_sum_is_written(rt: HostRuntime) -> Result<(), Fail> {
+    for n in 0..=100u32 {
+        let row = format!(in rt.alloc(); "sum --from {n} --to {n} |  | {n};")?;
+        let other = first_other_command(&rt, rt.alloc(), [row.as_str()].as_slice(), "")?;
+        assert_eq!(rt; other.as_str(), "");
+    }
+    Ok(())
+}
+
 #[test]
 fn each_tree_has_its_value_with_1_and_with_32_workers(rt: HostRuntime) -> Result<(), Fail> {
     for workers in ["--workers 1", "--workers 32"] {

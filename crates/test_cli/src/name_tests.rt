@@ -3,7 +3,10 @@ use crate::streams::Halting;
 use crate::test_rows::{REPLAY, Row, bytes, command, first_other, other};
 use fj_cli::{ReplayFault, replay};
 use std::alloc::{AllocError, Global};
+use std::rt::{Clock, Files};
+use std::sync::Wait;
 use std::test::Fail;
+use std::thread::Threads;
 
 /// Scripts of version 2, their replies, and their faults.
 fn rows() -> [&'static str; 24] {
@@ -69,7 +72,10 @@ fn often_sealed_script(alloc: Global) -> Result<(String, String), AllocError> {
     let mut replies = String::new(alloc);
     writeln!(script, "fj 2\nasync 1 1 1 8")?;
     for n in 0..3000u32 {
-        writeln!(script, "submit n{n} 0\npoll 0 0\nend 0 ok\nrelease n{n}\nseal")?;
+        writeln!(
+            script,
+            "submit n{n} 0\npoll 0 0\nend 0 ok\nrelease n{n}\nseal"
+        )?;
         writeln!(replies, "task n{n}\nrun n{n}\ndone\ndone\nsealed {n} 5")?;
     }
     Ok((script, replies))
@@ -98,16 +104,21 @@ fn a_line_has_66_bytes_at_most(rt: HostRuntime) -> Result<(), Fail> {
 }
 
 /// Whether a replay of the script ends well with these replies.
-fn is_replayed(rt: &HostRuntime, script: &str, replies: &str) -> bool {
-    let ran = command(rt, rt.alloc(), REPLAY.as_slice(), &mut script.as_bytes());
+fn is_replayed<H: Threads + Wait + Sync + Files + Clock>(
+    rt: &H,
+    alloc: Global,
+    script: &str,
+    replies: &str,
+) -> bool {
+    let ran = command(rt, alloc, REPLAY.as_slice(), &mut script.as_bytes());
     ran.status == 0 && ran.out.as_slice() == replies.as_bytes()
 }
 
 #[test]
 fn thousands_of_names_and_seals_end_well(rt: HostRuntime) -> Result<(), Fail> {
     let (script, replies) = long_script(rt.alloc())?;
-    assert!(rt; is_replayed(&rt, &script, &replies));
+    assert!(rt; is_replayed(&rt, rt.alloc(), &script, &replies));
     let (script, replies) = often_sealed_script(rt.alloc())?;
-    assert!(rt; is_replayed(&rt, &script, &replies));
+    assert!(rt; is_replayed(&rt, rt.alloc(), &script, &replies));
     Ok(())
 }

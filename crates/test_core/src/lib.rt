@@ -1,6 +1,10 @@
-//! Tests of the core of a pool, driven by hand, and of its bookings.
+//! Tests of the core of a pool, driven by hand, and of its bookings; of gates, lanes and agreements, by threads too; and of who sleeps.
 #![tactic(auto)]
 
+#[cfg(test)]
+mod agreement_tests;
+#[cfg(test)]
+mod agreement_thread_tests;
 #[cfg(test)]
 mod booking_tests;
 #[cfg(test)]
@@ -10,7 +14,17 @@ mod core_tests;
 #[cfg(test)]
 mod driver;
 #[cfg(test)]
+mod gate_thread_tests;
+#[cfg(test)]
+mod lane_tests;
+#[cfg(test)]
+mod lane_thread_tests;
+#[cfg(test)]
+mod number;
+#[cfg(test)]
 mod rows;
+#[cfg(test)]
+mod sleep_tests;
 #[cfg(test)]
 mod tells;
 #[cfg(test)]

@@ -11,7 +11,7 @@ fn said(rt: &HostRuntime, text: &str) -> Result<String, Fail> {
 }
 
 /// Scripts, and what is said of each.
-const SCRIPTS: [(&str, &str); 17] = [
+const SCRIPTS: [(&str, &str); 18] = [
     ("async 1 1 8 64\nsubmit 0 > task 0\npoll 0 0 > run 0\n", ""),
     ("async 1 1 8 64\nsubmit 0\npoll 0 0", ""),
     (
@@ -37,6 +37,7 @@ const SCRIPTS: [(&str, &str); 17] = [
     ),
     ("fj 2 > done\n", "line 1: no reply, and not done"),
     ("async 33 1 8 64 > refused 13\n", ""),
+    ("fj 2\nasync 33 1 8 64 > refused 13\n", ""),
     (
         "async 33 1 8 64 > refused 2\n",
         "line 1: refused 13, and not refused 2",

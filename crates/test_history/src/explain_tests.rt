@@ -45,6 +45,7 @@ submit 0;submit 0;submit 0 | refused 2: 2 tasks are kept, as many as the heading
 submit 0 9 relay;poll 0 0;add 0 0 1;add 0 0 1;add 0 0 1;add 0 0 1;add 0 0 1;add 0 0 1;add 0 0 1;add 0 0 1;add 0 0 1;add 0 0 1;add 0 0 1;add 0 0 1;add 0 0 1;add 0 0 1;add 0 0 1 | refused 3: the history has 16 of at most 16 events, and those of this step do not fit
 submit 0 0 relay;poll 0 0;fork 0 0 0 relay;fault 0 7;end 0 quiet;poll 0 0;end 0 try;hook 0 | spent 0: task 0 is exceptional 7 already
 submit 0 0 relay;poll 0 0;fork 0 0 0 relay;end 0 try;poll 1 1;end 1 pass | spent 0: task 0 fired, or was passed, before
+submit 0 0 relay;poll 0 0;fork 0 0 0 relay;poll 1 1;end 1 try;release 1;end 0 try;hook 0;release 0;hook 1 | spent 0: task 0 was released, and so is spent
 submit 0 0 relay;poll 0 0;fork 0 0 0 relay;poll 1 1;end 1 try;hook 1 | early 0: task 0 is held by worker 0: nothing is counted, and its own body fires it
 submit 0;cancel 0;poll 0 0 | skip 0: task 0 is cancelled: it became so while it waited, and is not run
 submit 0;fault 0 3;poll 0 0 | skip 0: task 0 is exceptional 3: it became so while it waited, and is not run
@@ -54,6 +55,7 @@ submit 0;fault 0 3;fault 0 4 | no: task 0 is exceptional 3 already
 submit 0;quiet | no: task 0 waits in submitter 0's queue: the pool is not quiescent
 submit 0;poll 1 0;quiet | no: worker 1 runs task 0: the pool is not quiescent
 submit 0 0 relay;poll 1 0;end 1 try;quiet | no: worker 1 has the hook of task 0 in its hand: the pool is not quiescent
+submit 0;poll 0 0;fork 0;end 0 ok;quiet | no: task 1 waits in worker 0's queue: the pool is not quiescent
 submit 0;poll 0 0;fork 0;poll 1 1;end 1 ok;join 0 1 0 | join 0 1 0 > normal
 quiet | quiet > yes
 submit 0;cancel 0;cancel 0 | cancel 0 > yes"
@@ -64,6 +66,7 @@ fn named_reasons() -> &'static str {
     "submit job 0;submit job 0 | refused 16: the name belongs to a task already
 submit job 0;seal | refused 14: task job waits in submitter 0's queue: the pool is not quiescent
 submit job 0;poll 0 0;join 0 job 0 | refused 7: task job is on worker 0's own stack: it would wait for itself
+submit job 0;poll 0 0;end 0 ok;release job;state job | refused 5: task job was released
 submit job 0;state other | refused 5: the name belongs to no task
 shutdown;seal | refused 1: a shutdown came before: nothing more is accepted from submitters"
 }
@@ -93,6 +96,7 @@ async 1 1 1 1;submit 4294967296; | fault: line 2: a number above 4294967295
 async 1 1 1 1;cancel job; | fault: line 2: a name where version 1 has a number
 fj 2;async 1 1 1 1;cancel 0; | fault: line 3: a number where version 2 has a name
 async 1 1 1 1;poll 0; | fault: line 2: no words of this step
+async 1 1 1 1;fork 0 - relay stop ok quiet try pass complete fail 0; | fault: line 2: no words of this step
 async 1 1 1 1;submit 0 0 relay relay relay relay relay relay relay relay relay relay relay; | fault: line 2: more than 66 bytes
 async 33 1 1 1; | refused 13: 33 workers, and there are 1 to 32
 async 1 0 1 1; | refused 13: 0 submitters, and there are 1 to 32
@@ -139,6 +143,22 @@ fn each_fault_is_told(rt: HostRuntime) -> Result<(), Fail> {
         let (script, wanted) = row.split_once(" | ").unwrap_or((row, ""));
         let script = with_line_feeds(&rt, script)?;
         assert_eq!(rt; last(&rt, &script)?.as_str(), wanted, "{script}");
+    }
+    Ok(())
+}
+
+#[test]
+fn the_name_of_each_step_is_known(rt: HostRuntime) -> Result<(), Fail> {
+    let steps =
+        "submit fork trigger poll help join end hook add root fault cancel shutdown stop quiet state release";
+    for step in steps.split(' ') {
+        let script = format!(in rt.alloc(); "async 1 1 1 1;{step} 0 0 0 0 0 0;")?;
+        let said = last(&rt, &with_line_feeds(&rt, &script)?)?;
+        assert_eq!(rt;
+            said.as_str(),
+            "fault: line 2: no words of this step",
+            "{step}"
+        );
     }
     Ok(())
 }

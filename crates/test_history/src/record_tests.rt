@@ -55,16 +55,27 @@ rel 1
 close
 ";
 
-/// Writes the history of `SEALED`.
+/// Makes the run of `SEALED` on a new machine, and writes its history.
+fn write_run<W: Sink>(
+    alloc: Global,
+    machine: &mut Machine,
+    w: &mut W,
+) -> Result<Result<(), WriteFault>, Fail>
+    requires { machine.old.pool.mode ≡ Mode.Async }
+{
+    let mut parts = Vec::with_capacity(alloc, 2)?;
+    run_task(machine, 0);
+    parts.push(machine.seal(alloc)?)?;
+    parts.push(machine.seal(alloc)?)?;
+    run_task(machine, 1);
+    machine.step(&Step::Shutdown);
+    Ok(write_history(Mode::Async, machine, parts.as_slice(), alloc, w))
+}
+
+/// Writes the history of `SEALED`. The machine is let go at one place, since each proves its drop.
 fn write_sealed<W: Sink>(alloc: Global, w: &mut W) -> Result<Result<(), WriteFault>, Fail> {
     let mut machine = Machine::new(alloc, Mode::Async, Limits::new(1, 2, 3, 16)?)?;
-    run_task(&mut machine, 0);
-    let mut parts = Vec::new(alloc);
-    parts.push(machine.seal(alloc)?)?;
-    parts.push(machine.seal(alloc)?)?;
-    run_task(&mut machine, 1);
-    machine.step(&Step::Shutdown);
-    Ok(write_history(Mode::Async, &machine, parts.as_slice(), alloc, w))
+    write_run(alloc, &mut machine, w)
 }
 
 #[test]
@@ -75,29 +86,47 @@ fn parts_end_with_seals(rt: HostRuntime) -> Result<(), Fail> {
     Ok(())
 }
 
+/// The history of a machine that was not sealed.
+fn written(alloc: Global, mode: Mode, machine: &Machine) -> Result<Vec<u8>, Fail>
+    requires { mode ≡ machine.now.pool.mode }
+{
+    let mut written = Vec::new(alloc);
+    write_history(mode, machine, &[], alloc, &mut written)?;
+    Ok(written)
+}
+
+fn of_new_machine(alloc: Global, mode: Mode, limits: Limits) -> Result<Vec<u8>, Fail> {
+    let machine = Machine::new(alloc, mode, limits)?;
+    written(alloc, mode, &machine)
+}
+
 #[test]
 fn a_new_machine_has_a_heading_alone(rt: HostRuntime) -> Result<(), Fail> {
     let limits = Limits::new(32, 1, 4_096, 1_048_576)?;
-    let machine = Machine::new(rt.alloc(), Mode::Joining, limits)?;
-    let mut written = Vec::new(rt.alloc());
-    write_history(Mode::Joining, &machine, &[], rt.alloc(), &mut written)?;
-    assert_eq!(rt;
-        written.as_slice(),
-        b"joining 32 1 4096 1048576\n".as_slice()
-    );
+    let text = of_new_machine(rt.alloc(), Mode::Joining, limits)?;
+    assert_eq!(rt; text.as_slice(), b"joining 32 1 4096 1048576\n".as_slice());
     Ok(())
+}
+
+/// The same, and all lines at once.
+fn written_twice(alloc: Global, machine: &Machine) -> Result<(Vec<u8>, String), Fail>
+    requires { machine.now.pool.mode ≡ Mode.Async }
+{
+    let mut text = "async 1 1 1 4096\n".to_string(alloc)?;
+    push_entries(machine.history(), &mut text)?;
+    Ok((written(alloc, Mode::Async, machine)?, text))
+}
+
+fn of_machine_with(alloc: Global, tasks: u64) -> Result<(Vec<u8>, String), Fail> {
+    let machine = machine_with(alloc, tasks)?;
+    written_twice(alloc, &machine)
 }
 
 /// 1,025 events and 2,560: more than one write, and more than two. All lines at once are the same.
 #[test]
 fn long_histories_are_written_whole(rt: HostRuntime) -> Result<(), Fail> {
     for tasks in [205, 512] {
-        let machine = machine_with(rt.alloc(), tasks)?;
-        let mut written = Vec::new(rt.alloc());
-        write_history(Mode::Async, &machine, &[], rt.alloc(), &mut written)?;
-        let mut text = String::new(rt.alloc());
-        text.push_str("async 1 1 1 4096\n")?;
-        push_entries(machine.history(), &mut text)?;
+        let (written, text) = of_machine_with(rt.alloc(), tasks)?;
         assert_eq!(rt; written.as_slice(), text.as_bytes());
     }
     Ok(())

@@ -1,5 +1,5 @@
 //! A core with one worker and one submission, driven by hand: one action after another.
-ghost use Rattle.std.specs.Prelude.{IfSome, IsSome};
+ghost use Rattle.std.specs.Prelude.{◌≡◌, [], IfOk, IfSome, IsSome};
 ghost use Rattle.fj_slots.specs.Hands.{asker};
 ghost use Rattle.fj_bodies.specs.Fitting.{Fits};
 ghost use Rattle.fj_bodies.specs.Turns.{AskRight, HeardRight, ToldRight};
@@ -7,7 +7,7 @@ ghost use Rattle.fj_bodies.specs.Turns.{AskRight, HeardRight, ToldRight};
 use fj_bodies::{Ask, Body, Heard, Outcome, Told};
 use fj_core::{Core, Intake};
 use fj_gate::Ticket;
-use fj_lane::{Parcel, lane};
+use fj_lane::{Drain, Parcel, lane};
 use fj_rules::{Limits, Mode, SubId};
 use fj_slots::Hand;
 use std::alloc::Global;
@@ -166,6 +166,30 @@ impl<B: Body<Out = u64>> ByHand<B> {
         }
     }
 
+    /// Acts until the core has terminated. False if it does not, or where out of memory.
+    fn run(&mut self, close: Close, tells: &mut Vec<Tells>) -> bool {
+        if let Close::First = close {
+            self.core.close_at(SUBMISSIONS);
+        }
+        let mut heard = None;
+        for action in 0..MOST_ACTIONS {
+            if let Close::StopAfter(count) = close {
+                if action == count {
+                    self.core.stop_at(SUBMISSIONS);
+                }
+            }
+            if self.core.is_terminated() {
+                break;
+            }
+            let (told, next) = self.act(heard);
+            heard = next;
+            if tells.push(told).is_err() {
+                break;
+            }
+        }
+        self.core.is_terminated()
+    }
+
     /// An empty hand polls, and where nothing is queued the next submission is taken in.
     fn look(&mut self) -> (Tells, Option<Heard<B>>)
         requires { Fits self.old.core.store.past self.old.hand }
@@ -214,6 +238,21 @@ fn end<B: Body<Out = u64>>(mut core: Core<B>, tells: Vec<Tells>) -> Driven {
     Driven { tells, ended, gone }
 }
 
+/// The drain of a lane with this body in it.
+fn loaded<B: Body>(alloc: Global, body: B) -> Result<Drain<B>, Fail>
+    ensures { IfOk result (λ d. (d.capacity ≡ 1) × (d.drained ≡ [])) }
+{
+    let (mut feed, drain) = lane::<B>(alloc, LANE_CAPACITY)?;
+    let parcel = Parcel {
+        ticket: Ticket(0),
+        body,
+    };
+    match feed.push(parcel) {
+        Ok(()) => Ok(drain),
+        Err(_) => Err(Fail::from(Tells::Lost)),
+    }
+}
+
 /// Submits a body to a new core, and drives it until it has terminated.
 pub fn drive_job<B: Body<Out = u64>>(
     alloc: Global,
@@ -222,16 +261,8 @@ pub fn drive_job<B: Body<Out = u64>>(
     close: Close,
 ) -> Result<Driven, Fail> {
     let limits = Limits::new(1, 1, 64, 256)?;
-    let (mut feed, drain) = lane::<B>(alloc, LANE_CAPACITY)?;
     let mut drains = Vec::new(alloc);
-    drains.push(drain)?;
-    let parcel = Parcel {
-        ticket: Ticket(0),
-        body,
-    };
-    if feed.push(parcel).is_err() {
-        return Err(Fail::from(Tells::Lost));
-    }
+    drains.push(loaded(alloc, body)?)?;
     let (core, mut hands) = Core::new(alloc, mode, limits, LANE_CAPACITY, drains, 0)?;
     match hands.pop() {
         Some(hand) => drive(alloc, ByHand { core, hand }, close),
@@ -239,29 +270,18 @@ pub fn drive_job<B: Body<Out = u64>>(
     }
 }
 
-/// Drives a core until it has terminated.
+/// Drives a core until it has terminated. It is let go at one place, since each proves its drop.
 fn drive<B: Body<Out = u64>>(
     alloc: Global,
     mut by_hand: ByHand<B>,
     close: Close,
 ) -> Result<Driven, Fail> {
     let mut tells = Vec::new(alloc);
-    if let Close::First = close {
-        by_hand.core.close_at(SUBMISSIONS);
+    let is_over = by_hand.run(close, &mut tells);
+    let driven = end(by_hand.core, tells);
+    if is_over {
+        Ok(driven)
+    } else {
+        Err(Fail::from(Tells::Lost))
     }
-    let mut heard = None;
-    for action in 0..MOST_ACTIONS {
-        if let Close::StopAfter(count) = close {
-            if action == count {
-                by_hand.core.stop_at(SUBMISSIONS);
-            }
-        }
-        if by_hand.core.is_terminated() {
-            return Ok(end(by_hand.core, tells));
-        }
-        let (told, next) = by_hand.act(heard);
-        heard = next;
-        tells.push(told)?;
-    }
-    Err(Fail::from(Tells::Lost))
 }

@@ -9,6 +9,8 @@ mod body_tests;
 #[cfg(test)]
 mod by_hand;
 #[cfg(test)]
+mod compute_tests;
+#[cfg(test)]
 mod drawn;
 #[cfg(test)]
 mod failing;

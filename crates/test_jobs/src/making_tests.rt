@@ -1,5 +1,5 @@
 ghost use Rattle.std.specs.Prelude.{◌≡◌};
-ghost use Rattle.fj_pool.specs.Lanes.{lanes_of};
+ghost use Rattle.fj_guarded.specs.Lanes.{lanes_of};
 
 use fj_invoke::{BlockedRange, Limits, Mode, RangeSum, Recursive};
 use fj_pool::{Naming, Parts, Pool, Rest, Submitter};
@@ -45,13 +45,18 @@ fn handed_in<N: Naming>(alloc: Global, parts: Parts<Sum>) -> Result<(u64, u64), 
     requires lanes { N.lanes ≡ lanes_of parts.core.lanes }
     requires pool { N.pool ≡ parts.core.store.past.pool }
     requires hands { N.hands ≡ parts.pairs }
+    requires log { N.log ≡ parts.log }
 {
     let (pool, _hands, mut submitters, closer) = Pool::<Sum, N>::open(alloc, parts)?;
-    hand_in(alloc, &mut submitters)?;
-    if pool.are_all(submitters.as_slice()) {
+    let handed = hand_in(alloc, &mut submitters);
+    if handed.is_ok() && pool.are_all(submitters.as_slice()) {
         let record = pool.wind_up(submitters, closer);
         return Ok((record.admitted, count(record.lanes)));
     }
+    // They are let go at one place, since each proves their drop.
+    drop(pool);
+    drop(submitters);
+    handed?;
     Err("other submitters".into())
 }
 

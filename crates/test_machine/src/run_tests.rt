@@ -36,11 +36,11 @@ fn a_run_gives_the_replies_and_the_machine(rt: HostRuntime) -> Result<(), Fail> 
 /// The second list is made from where the first ended.
 #[test]
 fn a_machine_goes_on_with_another_list(rt: HostRuntime) -> Result<(), Fail> {
-    let mut machine = Machine::new(rt.alloc(), Mode::Async, Limits::new(1, 1, 1, 4)?)?;
     let mut first = Vec::with_capacity(rt.alloc(), 1)?;
+    let mut second = Vec::with_capacity(rt.alloc(), 2)?;
+    let mut machine = Machine::new(rt.alloc(), Mode::Async, Limits::new(1, 1, 1, 4)?)?;
     make_steps(&mut machine, &[submit(0)], &mut first);
     assert_eq!(rt; first.as_slice(), [Said::Task(Serial(0))].as_slice());
-    let mut second = Vec::with_capacity(rt.alloc(), 2)?;
     make_steps(&mut machine, &[submit(0), poll(0, 0)], &mut second);
     let expected = [Said::Refused(Refusal::TooManyTasks), Said::Run(Serial(0))];
     assert_eq!(rt; second.as_slice(), expected.as_slice());

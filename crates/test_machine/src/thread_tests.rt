@@ -121,7 +121,8 @@ fn shared<R: Threads + Wait + Sync>(rt: &R, alloc: Global) -> Result<Machine, Re
 #[test]
 fn threads_share_a_machine(rt: HostRuntime) -> Result<(), Fail> {
     let machine = shared(&rt, rt.alloc())?;
-    let seen = seen(rt.alloc(), &machine)?;
-    assert_eq!(rt; seen, (2 * EACH, (EACH, true), (EACH, true), None));
+    // One way out: each proves the drop of the machine.
+    let seen = seen(rt.alloc(), &machine).ok();
+    assert_eq!(rt; seen, Some((2 * EACH, (EACH, true), (EACH, true), None)));
     Ok(())
 }

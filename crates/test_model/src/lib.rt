@@ -1,4 +1,4 @@
-//! Tests of steps, replies and limits, of the queues and of the tree, each by its public calls.
+//! Tests of steps, replies and limits, of tallies, of the queues and of the tree, each by its public calls.
 #![tactic(auto)]
 
 #[cfg(test)]
@@ -11,5 +11,7 @@ mod queues_tests;
 mod reply_tests;
 #[cfg(test)]
 mod step_tests;
+#[cfg(test)]
+mod tally_tests;
 #[cfg(test)]
 mod tree_tests;

@@ -84,8 +84,8 @@ returns-in_err-take_all-in-Ok-clause-memory g c =
     let fed = c.in_err-take_all-in-Ok.ensures in
     let p = err_from_is_err_and c.from_residual.result c.from_residual.ensures.1 in
     rw (p.1, p.2) (starves_from g.F.LineFilter.rules g.F.LineFilter.needs_memory _ _ (so_far.0 ++ take c.in-Ok.n c.pull.new.buf) _ _ _ _
-      (consumes_twice _ _ _ _ _ so_far.1 c.in-Ok.ensures.bytes.0)
-      (fed.memory _ so_far.0 (g.W.Sink.contents c.args.w.now) so_far.2))
+    (consumes_twice _ _ _ _ _ so_far.1 c.in-Ok.ensures.bytes.0)
+    (fed.memory _ so_far.0 (g.W.Sink.contents c.args.w.now) so_far.2))
 
 pub returns-then-is_err-clause-err : goal.returns-then-is_err-clause-err
 returns-then-is_err-clause-err g c =

@@ -13,7 +13,7 @@ returns-in-Going-clause-err g c =
     (MatchResult-weaker c.go_on.result c.go_on.ensures.err (λ _ same. same) (λ fault stop. entry_stops c.in-Going.checker c.in-Going.events c.args.line.now fault _ stop))
 
 pub returns-in-Start-clause-memory : goal.returns-in-Start-clause-memory
-returns-in-Start-clause-memory g c = silent c.begin.result _ _ _
+returns-in-Start-clause-memory g c = silent c.begin.result _
 
 pub returns-in-Going-clause-memory : goal.returns-in-Going-clause-memory
-returns-in-Going-clause-memory g c = silent c.go_on.result _ _ _
+returns-in-Going-clause-memory g c = silent c.go_on.result _

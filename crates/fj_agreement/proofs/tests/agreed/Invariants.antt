@@ -1,5 +1,0 @@
-use Rattle.fj_agreement.proofs.tests.agreed.Given as goal
-
--- the number of the call
-abbrev pub ghosts-agree_as_picked : goal.ghosts-agree_as_picked
-ghosts-agree_as_picked a = record { value = a._number }

@@ -1,5 +1,0 @@
-use Rattle.fj_agreement.proofs.thread_tests.one_end_goes_back_and_forth.Given as goal
-
--- the pair of the call
-abbrev pub ghosts-race : goal.ghosts-race
-ghosts-race g a = record { pair = a.one.pair }
