@@ -1,4 +1,4 @@
-//! How a call picks the entry to append, by an argument that tells of it.
+//! How a call picks the entry to append, by an argument that determines it.
 use std::marker::Brand;
 
 /// An entry, or none: a call can pick only over an impl without bounds, which does not have an entry of every type.

@@ -8,7 +8,7 @@ pub trait Entry {
     ghost may_follow: { List Self → Self → Type 0 };
 }
 
-/// A type of the program whose values each tell of an entry, as a core tells of its state.
+/// A type of the program whose values each determine an entry, as a core its state.
 pub trait Tells<E> {
     /// The entry.
     ghost told: { Self → E };

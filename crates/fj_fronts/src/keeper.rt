@@ -9,7 +9,7 @@ use crate::naming::Naming;
 use crate::word::{Append, Show, Token};
 use std::marker::{Brand, Model, PhantomData};
 
-/// The keeper of a log: whoever has it knows all entries and may append. There is one of each log. A lock may guard it. It has no bytes.
+/// The keeper of a log: its owner knows all entries and may append. Each log has one, which a lock may guard. It has no bytes.
 pub struct Keeper<E: Entry, N: Naming> {
     pub(crate) token: Token<E>,
     pub(crate) of: PhantomData<N>,
@@ -39,7 +39,7 @@ impl<E: Entry, N: Naming> Drop for Keeper<E, N> {
 }
 
 impl<E: Entry, N: Naming> Keeper<E, N> {
-    /// Appends the entry that `teller` tells of, which is not read. It costs one load. Precondition: the entry may come next.
+    /// Appends the entry that `teller` determines. The value is not read. It costs one load. Precondition: the entry may come next.
     #[inline(always)]
     pub fn append<T: Tells<E>>(&mut self, log: &Log<E, N>, teller: &T)
         requires follows { E.may_follow self.old (T.told teller.now) }
@@ -69,7 +69,7 @@ impl<E: Entry, N: Naming> Keeper<E, N> {
     }
 }
 
-/// Appends the chosen entry. Preconditions: it is the entry that `_teller` tells of; it may come next.
+/// Appends the chosen entry. Preconditions: it is that of `_teller`; it may come next.
 #[inline(always)]
 fn append_as<E: Entry, N: Naming, C: Chosen<E>, T: Tells<E>>(
     keeper: &mut Keeper<E, N>,

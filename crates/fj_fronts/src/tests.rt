@@ -12,7 +12,7 @@ impl Entry for u64 {
     ghost may_follow = { λ log n. All (λ m. m < n) log };
 }
 
-/// A number tells of itself.
+/// The entry of a number is the number.
 impl Tells<u64> for u64 {
     ghost told = { λ n. n };
 }

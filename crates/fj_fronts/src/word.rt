@@ -80,7 +80,7 @@ impl<E> Join<Knowledge<E>> for Together {
     ghost spent = { nothing };
 }
 
-/// A load by which the keeper learns that what stands beside begins the log.
+/// A load by which the keeper learns that what the other ends know begins the log.
 pub struct Check;
 
 impl<E> Play<(), Knowledge<E>> for Check {
@@ -89,7 +89,7 @@ impl<E> Play<(), Knowledge<E>> for Check {
     ghost then = { Checks };
 }
 
-/// A load by which a front learns that of what it knows and what stands beside one begins the other. It knows the longer from then on.
+/// A load by which a front learns that of two beginnings of the log one begins the other. It knows the longer from then on.
 pub struct Compare;
 
 impl<E> Play<(), Knowledge<E>> for Compare {
