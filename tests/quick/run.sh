@@ -1,25 +1,22 @@
 #!/usr/bin/env bash
-# Lays out a repository with the program on the page of fj_free, as one that takes copies of our crates, builds and runs it there by tools/quick. What it
-# writes must stand alone on standard output, the warning before and after it on standard error, and nothing but the program may be left. A crate
+# Lays out a repository with ex_body and copies of the crates that it stands on, as a user's would be, builds and runs it there by tools/quick. What
+# it writes must stand alone on standard output, the warning before and after it on standard error, and nothing but the program may be left. A crate
 # that is nowhere must be told. Usage: tests/quick/run.sh
 set -euo pipefail
 cd "$(dirname "${BASH_SOURCE[0]}")/../.."
-crates=(fj_rules fj_queues fj_tree fj_ledger fj_machine fj_gate fj_lane fj_slots fj_bodies fj_core fj_sleep fj_wake fj_fronts fj_guarded fj_agreement fj_pool fj_run fj_free)
-wanted=102334155
+crates=(fj_rules fj_queues fj_tree fj_ledger fj_machine fj_gate fj_lane fj_slots fj_bodies fj_core fj_sleep fj_wake fj_fronts fj_guarded fj_agreement fj_pool fj_run fj_free ex_body)
+wanted=$(cat crates/ex_body/stdout)
 
 folder=$(mktemp -d)
 trap 'rm -rf "$folder"' EXIT
-fib=$folder/app/crates/fib
+program=$folder/app/crates/ex_body
 quick=$PWD/tools/quick
 
-# The program is the first block of the page.
 lay_out() {
-    mkdir -p "$fib/src"
+    mkdir "$folder/app"
     cp HANDLES "$folder/app"
     tar cf - --exclude=out "${crates[@]/#/crates/}" | tar xf - -C "$folder/app"
     grep -E "^($(IFS='|'; echo "${crates[*]}")):" crates.txt > "$folder/app/crates.txt"
-    echo 'fib: fj_free anyhow' >> "$folder/app/crates.txt"
-    awk '/^```rust$/ { inside = 1; next } /^```$/ && inside { exit } inside' crates/fj_free/README.md > "$fib/src/main.rt"
 }
 
 # fail WHAT: says what is wrong, and what was told.
@@ -30,14 +27,14 @@ fail() {
 }
 
 lay_out
-cd "$fib/src"
+cd "$program/src"
 find "$folder/app" -type f | sort > "$folder/before"
-number=$("$quick" fib -- 2> "$folder/told") || fail "it was not built, or has failed"
+number=$("$quick" ex_body -- 2> "$folder/told") || fail "it was not built, or has failed"
 [[ $number == "$wanted" ]] || fail "it wrote $number"
 [[ $(grep -c UNPROVED "$folder/told") == 2 ]] || fail "it was not said twice that it is unproved"
 left=$(find "$folder/app" -type f | sort | comm -13 "$folder/before" -)
-[[ $left == "$fib/out/quick" ]] || fail "it left $left"
+[[ $left == "$program/out/quick" ]] || fail "it left $left"
 status=0
 "$quick" no_such_crate 2> "$folder/told" || status=$?
 [[ $status == 2 ]] || fail "of a crate that is nowhere the status is $status"
-echo "the program on the page of fj_free, built without a proof, writes $number"
+echo "ex_body, built without a proof, writes $number"
