@@ -8,9 +8,7 @@ use crate::recursive::Recursive;
 use fj_bodies::Outcome;
 use fj_jobs::Divide;
 use fj_rules::{Limits, Mode, Refusal};
-use fj_run::{
-    Record, Recorded, RecordedValue, Settings, Turnstile, record_alone, result_in, run_alone,
-};
+use fj_run::{Record, Recorded, RecordedValue, Settings, Turnstile, record_alone, result_in};
 use std::alloc::Global;
 use std::sync::Wait;
 use std::thread::Threads;
@@ -37,14 +35,22 @@ where
     ensures ok { IfOk result (λ out. out ≡ J.value (J.key_of job)) }
     ensures err { IfErr result RefusesRun }
 {
-    let key = job.key();
-    let Ok(body) = Recursive::new(alloc, job) else {
-        return Err(Refusal::OutOfMemory);
-    };
-    let settings = Settings::with_limits(limits)
+    let RecordedValue {
+        value,
+        machine: _,
+        archive: _,
+    } = record_job(rt, alloc, settings_of(mode, limits, start), job, turnstile)?;
+    value
+}
+
+/// The settings of a pool in this mode, with these limits and this scan word of worker 0.
+fn settings_of(mode: Mode, limits: Limits, start: u32) -> Settings
+    ensures pool { (result.mode ≡ mode) × (result.limits ≡ limits) }
+    ensures start { result.start ≡ start }
+{
+    Settings::with_limits(limits)
         .in_mode(mode)
-        .starting_at(start);
-    Recursive::value_in(run_alone(rt, alloc, settings, body, turnstile), key)
+        .starting_at(start)
 }
 
 /// Computes a job as `invoke`, in a pool with these settings, and hands out the history of the run.
@@ -87,7 +93,7 @@ where
 }
 
 impl<J: Divide> Recursive<J> {
-    /// The value of the jobs with this key, from what came of a body of one: the answer of [`run_alone`], or of a pool to which it was
+    /// The value of the jobs with this key, from what came of a body of one: the answer of `run_alone`, or of a pool to which it was
     /// submitted.
     ///
     /// `LogFull` if the answer is that refusal, or the body failed with its number. `OutOfMemory` if there is no result under this key for any

@@ -10,5 +10,7 @@ mod Accepted
 mod Emptied
 -- what calls leave of what the workers hold, and what their ends know of it
 mod Holdings
+-- what a caller has seen told
+mod Telling
 -- That it may go to another thread.
 pub mod Crossing

@@ -8,3 +8,5 @@ pub mod Winding
 pub mod Holdings
 -- what a pool does at one moment
 pub mod Glances
+-- what is told under one of several tickets
+pub mod Telling

@@ -195,29 +195,41 @@ impl<B: Body, N: Naming> Locked<B, N> {
         self.guarded.stand_up(seat);
     }
 
-    /// The outcome under a ticket, if there is one to return.
-    pub fn collect(&mut self, ticket: Ticket) -> Option<Result<Outcome<B>, Refusal>>
-        ensures collects { CollectsTicket self.old ticket result self.new }
-        ensures awaited { IfNone result (is_awaited self.new ticket ≡ true) }
-    {
-        self.guarded.collect(ticket)
-    }
-
-    /// The outcome under the first of these tickets that has one, with the index of that ticket.
-    pub fn collect_any(
+    /// The outcome under the first of these tickets that has one, with the index of that ticket, as the caller sees it.
+    pub fn tell_any(
         &mut self,
+        log: &Log<B, N>,
+        front: &mut Front<B, N>,
         tickets: &[Ticket],
     ) -> Option<(usize, Result<Outcome<B>, Refusal>)>
-        ensures { CollectsAny tickets.now self.old result self.new }
+        ensures collects { CollectsAny tickets.now self.old result self.new }
+        ensures goes_on { IsPrefix front.old front.new }
+        ensures seen { EndsWith front.new (λ old new. CollectsAny tickets.now old result new) }
     {
-        self.guarded.collect_any(tickets)
+        self.keeper.append(log, &self.guarded);
+        let told = self.guarded.collect_any(tickets);
+        self.keeper.append(log, &self.guarded);
+        front.learn(log, &mut self.keeper);
+        told
     }
 
-    /// Cancels the submission under a ticket, after a look at the lanes.
-    pub fn cancel(&mut self, alloc: Global, ticket: Ticket) -> Result<bool, Refusal>
-        ensures { CancelsBehind B.rooted_as self.old ticket result self.new }
+    /// Cancels the submission under a ticket, after a look at the lanes, as the caller sees it.
+    pub fn tell_cancelled(
+        &mut self,
+        alloc: Global,
+        log: &Log<B, N>,
+        front: &mut Front<B, N>,
+        ticket: Ticket,
+    ) -> Result<bool, Refusal>
+        ensures cancels { CancelsBehind B.rooted_as self.old ticket result self.new }
+        ensures goes_on { IsPrefix front.old front.new }
+        ensures seen { EndsWith front.new (λ old new. CancelsBehind B.rooted_as old ticket result new) }
     {
-        self.guarded.cancel(alloc, ticket)
+        self.keeper.append(log, &self.guarded);
+        let cancelled = self.guarded.cancel(alloc, ticket);
+        self.keeper.append(log, &self.guarded);
+        front.learn(log, &mut self.keeper);
+        cancelled
     }
 
     /// Hands out the sealed parts that are kept.

@@ -4,3 +4,5 @@ pub mod Runs
 pub mod Asks
 -- the result in an outcome
 pub mod Results
+-- what a player sees of its pool
+pub mod Playing

@@ -1,6 +1,7 @@
 ghost use Rattle.std.specs.Prelude.{◌≡◌, ◌++◌, IfErr, IfOk};
 ghost use Rattle.fj_core.specs.Cores.{AreParts};
 ghost use Rattle.fj_rules.specs.Epochs.{IsPast};
+ghost use Rattle.fj_run.specs.Playing.{IsOutcomeOf};
 ghost use Rattle.fj_run.specs.Runs.{RefusesRun, told_of};
 
 use crate::play::Play;
@@ -21,7 +22,12 @@ struct Alone<B> {
 }
 
 impl<B: Body> Play<B> for Alone<B> {
+    ghost use Rattle.std.specs.Prelude.{IfOk};
+    ghost use Rattle.fj_run.specs.Playing.{SawOne};
+
     type Out = Result<Outcome<B>, Refusal>;
+
+    ghost told = { λ last answer. IfOk answer (λ outcome. SawOne last outcome) };
 
     fn play<N: Naming, R: Wait>(
         &mut self,
@@ -78,6 +84,8 @@ where
     ensures pool { IfOk result (λ r. r.record.machine.pool ≡ record { mode = settings.mode; limits = settings.limits }) }
     // The parts that were handed out, and then those of the record, are the history up to the last seal.
     ensures history { IfOk result (λ r. AreParts (r.record.archive.handed ++ r.record.archive.kept) r.record.machine) }
+    // The outcome is that of the one body that was admitted, by the history.
+    ensures told { IfOk result (λ r. IfOk r.answer (λ outcome. IsOutcomeOf r.record outcome)) }
     ensures answer { IfOk result (λ r. IfErr r.answer RefusesRun) }
     ensures err { IfErr result (λ refusal. refusal ≡ Refusal.OutOfMemory) }
 {

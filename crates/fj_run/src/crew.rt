@@ -1,8 +1,9 @@
 use crate::play::Play;
 use crate::running::Running;
-use crate::submitters::Submitters;
-use fj_pool::{Body, Closer, Hand, Naming, Pool, Turnstile};
+use crate::submitters::{Submitters, Unused};
+use fj_pool::{Body, Closer, Front, Hand, Naming, Pool, Turnstile};
 use std::alloc::{AllocError, Global};
+use std::marker::Model;
 use std::sync::Wait;
 use std::thread;
 use std::thread::{Builder, Threads};
@@ -20,17 +21,28 @@ pub struct Crew<'p, 'r, 't, B: Body, N: Naming, T, R> {
     pub places: u32,
 }
 
-/// The outcome of a pool's run, and what is needed to wind it up.
+/// The outcome of a pool's run, and what is needed to wind it up. What the player tells at the end is its invariant, as a closure with a loop has
+/// no clause.
 #[derive(Drop)]
-pub struct Ran<B: Body, N: Naming, P, O> {
+pub struct Ran<B: Body, N: Naming, P: Play<B, Out = O>, O> {
     /// The player.
     pub player: P,
-    /// The result of the play. None if it did not begin, as a thread could not be started.
-    pub out: Option<O>,
+    /// The result of the play, and what the player has seen of the history. None if it did not begin, as a thread could not be started.
+    pub played: Option<(O, Front<B, N>)>,
     /// The submitters of the pool.
     pub submitters: Submitters<B, N>,
     /// Its closer.
     pub closer: Closer<N>,
+}
+
+impl<B: Body, N: Naming, P: Play<B, Out = O>, O> Model for Ran<B, N, P, O> {
+    ghost use Rattle.fj_run.specs.Playing.{HasTold};
+
+    ghost Value = { Unit {0} };
+
+    ghost view = { λ _. tt };
+
+    ghost invariant = { λ r. HasTold P.told r.played r.submitters.all.items };
 }
 
 impl<B: Body, N: Naming, T: Turnstile, R: Wait> Crew<'_, '_, '_, B, N, T, R> {
@@ -43,32 +55,35 @@ impl<B: Body, N: Naming, T: Turnstile, R: Wait> Crew<'_, '_, '_, B, N, T, R> {
     /// Plays, and shuts the pool down.
     fn play<P: Play<B> + Drop>(
         &self,
-        submitters: Submitters<B, N>,
+        unused: Unused<B, N>,
         mut closer: Closer<N>,
         mut player: P,
     ) -> Ran<B, N, P, P::Out> {
+        let Unused { submitters } = unused;
         let mut running = Running::new(self.pool, self.rt, submitters, self.places);
         let out = player.play(&mut running);
         self.pool.shutdown(self.rt, &mut closer);
+        let (submitters, front) = running.into_ends();
         Ran {
             player,
-            out: Some(out),
-            submitters: running.into_submitters(),
+            played: Some((out, front)),
+            submitters,
             closer,
         }
     }
 
     /// Stops the pool. Nothing was submitted.
-    fn stop<P: Drop, O: Drop>(
+    fn stop<P: Play<B> + Drop>(
         &self,
-        submitters: Submitters<B, N>,
+        unused: Unused<B, N>,
         mut closer: Closer<N>,
         player: P,
-    ) -> Ran<B, N, P, O> {
+    ) -> Ran<B, N, P, P::Out> {
+        let Unused { submitters } = unused;
         self.pool.shutdown_now(self.rt, &mut closer);
         Ran {
             player,
-            out: None,
+            played: None,
             submitters,
             closer,
         }
@@ -95,7 +110,7 @@ pub fn run_all<
     alloc: Global,
     crew: &Crew<B, N, T, R>,
     mut hands: Vec<Hand<B, N>>,
-    submitters: Submitters<B, N>,
+    unused: Unused<B, N>,
     closer: Closer<N>,
     player: P,
 ) -> Ran<B, N, P, P::Out>
@@ -110,9 +125,9 @@ where
             all = all && thread.spawn_scoped(scope, move || crew.work(hand)).is_ok();
         }
         if all {
-            crew.play(submitters, closer, player)
+            crew.play(unused, closer, player)
         } else {
-            crew.stop(submitters, closer, player)
+            crew.stop(unused, closer, player)
         }
     })
 }

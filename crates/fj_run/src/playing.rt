@@ -2,12 +2,14 @@ ghost use Rattle.std.specs.Prelude.{◌≡◌, [], ◌++◌, IfErr, IfOk, IfSome
 ghost use Rattle.fj_core.specs.Cores.{AreParts};
 ghost use Rattle.fj_rules.specs.Epochs.{IsPast};
 ghost use Rattle.fj_guarded.specs.Lanes.{lanes_of};
-ghost use Rattle.fj_pool.specs.Winding.{AreEmpty, has_terminated, submissions};
+ghost use Rattle.fj_pool.specs.Parts.{AreNew};
+ghost use Rattle.fj_pool.specs.Winding.{AreEmpty, has_terminated, submissions, tickets_of};
+ghost use Rattle.fj_run.specs.Playing.{IsLeftOf, RunningState};
 
 use crate::crew::{Crew, Ran, run_all};
 use crate::play::Play;
 use crate::settings::Settings;
-use crate::submitters::Submitters;
+use crate::submitters::{Submitters, Unused};
 use fj_pool::{Body, Naming, Parts, Pool, Record, Turnstile};
 use fj_rules::Refusal;
 use std::alloc::Global;
@@ -53,16 +55,12 @@ where
     ensures taken_in { IfOk result (λ r. length r.record.bookings.bookings ≡ submissions r.record.machine) }
     ensures terminated { IfOk result (λ r. r.record.terminated ≡ has_terminated r.record.closed r.record.machine) }
     ensures emptied { IfOk result (λ r. r.record.terminated ≡ true → AreEmpty r.record.lanes.items) }
+    // What the player tells at the end of its play, by what it has seen then. The history goes on from there, up to the record.
+    ensures told { IfOk result (λ r. (last : RunningState B B.Key B.Out) × P.told last r.out × IsLeftOf last r.record) }
     ensures err { IfErr result (λ e. e.0 ≡ Refusal.OutOfMemory) }
 {
     let places = settings.limits().tasks();
-    match Parts::new(
-        alloc,
-        settings.mode(),
-        settings.limits(),
-        settings.lane_capacity(),
-        settings.start(),
-    ) {
+    match new_parts(alloc, settings) {
         Ok(parts) => open_and_play::<B, Brand, P, T, R>(
             rt, alloc, parts, places, player, turnstile,
         ),
@@ -70,7 +68,20 @@ where
     }
 }
 
-/// The same with these parts, under this name. Precondition: the name is that of the parts.
+/// The parts of a new pool with these settings. Refused as `Parts::new` is.
+fn new_parts<B: Body>(alloc: Global, settings: Settings) -> Result<Parts<B>, Refusal>
+    ensures { IfOk result (λ parts. AreNew settings.mode settings.limits settings.lane_capacity settings.start parts) }
+{
+    Parts::new(
+        alloc,
+        settings.mode(),
+        settings.limits(),
+        settings.lane_capacity(),
+        settings.start(),
+    )
+}
+
+/// The same as `with_pool` with these parts, under this name. Preconditions: the name is that of the parts; nothing was submitted yet.
 fn open_and_play<
     B: Body + Send,
     N: Naming + Send + Sync,
@@ -93,6 +104,7 @@ where
     requires pool { N.pool ≡ parts.core.store.past.pool }
     requires hands { N.hands ≡ parts.pairs }
     requires log { N.log ≡ parts.log }
+    requires unused { tickets_of parts.seats ≡ [] }
     ensures run { IfOk result (λ r. IsPast r.record.machine) }
     ensures pool { IfOk result (λ r. r.record.machine.pool ≡ N.pool) }
     ensures history { IfOk result (λ r. AreParts (r.record.archive.handed ++ r.record.archive.kept) r.record.machine) }
@@ -100,6 +112,7 @@ where
     ensures taken_in { IfOk result (λ r. length r.record.bookings.bookings ≡ submissions r.record.machine) }
     ensures terminated { IfOk result (λ r. r.record.terminated ≡ has_terminated r.record.closed r.record.machine) }
     ensures emptied { IfOk result (λ r. r.record.terminated ≡ true → AreEmpty r.record.lanes.items) }
+    ensures told { IfOk result (λ r. (last : RunningState B B.Key B.Out) × P.told last r.out × IsLeftOf last r.record) }
     ensures err { IfErr result (λ e. e.0 ≡ Refusal.OutOfMemory) }
 {
     match Pool::<B, N>::open(alloc, parts) {
@@ -110,20 +123,26 @@ where
                 turnstile,
                 places,
             };
-            let submitters = Submitters::new(submitters);
+            let unused = Unused {
+                submitters: Submitters::new(submitters),
+            };
             let Ran {
                 player,
-                out,
+                played,
                 submitters,
                 closer,
-            } = run_all(alloc, &crew, hands, submitters, closer, player);
-            let record = pool.wind_up(submitters.into_all(), closer);
-            match out {
-                Some(out) => Ok(Played {
-                    player,
-                    out,
-                    record,
-                }),
+            } = run_all(alloc, &crew, hands, unused, closer, player);
+            let (still, mut history) = pool.stand_still();
+            let record = still.wind_up(submitters.into_all(), closer);
+            match played {
+                Some((out, mut front)) => {
+                    history.begins_with(&mut front);
+                    Ok(Played {
+                        player,
+                        out,
+                        record,
+                    })
+                }
                 None => Err((Refusal::OutOfMemory, player)),
             }
         }

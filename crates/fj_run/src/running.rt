@@ -1,20 +1,35 @@
-ghost use Rattle.std.specs.Prelude.{◌<◌, IfSome, length};
+ghost use Rattle.std.specs.Prelude.{◌≡◌, ◌<◌, IfErr, IfOk, IfSome, Some, length};
+ghost use mathlib.Core.List.{IsPrefix};
+ghost use Rattle.fj_core.specs.Cores.{CollectsTicket, CoreState};
+ghost use Rattle.fj_guarded.specs.Continuing.{EndsWith, IsNow, IsTold};
+ghost use Rattle.fj_run.specs.Playing.{SubmitsBy};
 
 use crate::submitters::Submitters;
-use fj_pool::{Body, Glance, Naming, Outcome, Pool, Ticket};
+use fj_pool::{Body, Front, Glance, Naming, Outcome, Pool, Ticket};
 use fj_rules::{Refusal, Sealed, SubId};
+use std::marker::Model;
 use std::sync::Wait;
 
-/// A pool whose workers are running, with all its submitters.
+/// A pool whose workers are running, with all its submitters. Contracts see what of its history was seen, and what was submitted.
 #[derive(Drop)]
 pub struct Running<'p, 'r, B: Body, N: Naming, R> {
     pool: &'p Pool<B, N>,
     rt: &'r R,
     submitters: Submitters<B, N>,
+    /// What was seen of the history. It has no bytes.
+    front: Front<B, N>,
     /// The limit of live tasks.
     places: u32,
     /// How many outcomes were not asked for yet.
     outstanding: u32,
+}
+
+impl<'p, 'r, B: Body, N: Naming, R> Model for Running<'p, 'r, B, N, R> {
+    ghost use Rattle.fj_run.specs.Playing.{RunningState};
+
+    ghost Value = { RunningState B B.Key B.Out };
+
+    ghost view = { λ r. record { seen = r.front; seats = r.submitters.all.items } };
 }
 
 impl<'p, 'r, B: Body, N: Naming, R: Wait> Running<'p, 'r, B, N, R> {
@@ -24,26 +39,33 @@ impl<'p, 'r, B: Body, N: Naming, R: Wait> Running<'p, 'r, B, N, R> {
         rt: &'r R,
         submitters: Submitters<B, N>,
         places: u32,
-    ) -> Running<'p, 'r, B, N, R> {
+    ) -> Running<'p, 'r, B, N, R>
+        ensures { result.seats ≡ submitters.all.items }
+    {
         Running {
             pool,
             rt,
             submitters,
+            front: pool.front(rt),
             places,
             outstanding: 0,
         }
     }
 
-    /// All submitters, in order of their numbers.
-    pub(crate) fn into_submitters(self) -> Submitters<B, N> {
+    /// All submitters, in order of their numbers, and what was seen of the history.
+    pub(crate) fn into_ends(self) -> (Submitters<B, N>, Front<B, N>)
+        ensures seats { result.0.all.items ≡ self.entry.seats }
+        ensures seen { result.1 ≡ self.entry.seen }
+    {
         let Running {
             pool: _,
             rt: _,
             submitters,
+            front,
             places: _,
             outstanding: _,
         } = self;
-        submitters
+        (submitters, front)
     }
 
     /// How many submitters there are, each with a lane of its own.
@@ -65,7 +87,11 @@ impl<'p, 'r, B: Body, N: Naming, R: Wait> Running<'p, 'r, B, N, R> {
     ///
     /// `TooManyTasks` if as many outcomes are outstanding as there may be live tasks, so that each submission finds room. `NoSuch` if there is
     /// no such submitter, `LaneSpent` if that has taken as many as it takes in its life. The body comes back each time.
-    pub fn submit(&mut self, submitter: SubId, body: B) -> Result<Ticket, (Refusal, B)> {
+    pub fn submit(&mut self, submitter: SubId, body: B) -> Result<Ticket, (Refusal, B)>
+        ensures ok { IfOk result (λ ticket. SubmitsBy submitter self.old.seats ticket body self.new.seats) }
+        ensures body { IfErr result (λ e. e.1 ≡ body) }
+        ensures seen { self.new.seen ≡ self.old.seen }
+    {
         if self.outstanding >= self.places {
             return Err((Refusal::TooManyTasks, body));
         }
@@ -74,15 +100,22 @@ impl<'p, 'r, B: Body, N: Naming, R: Wait> Running<'p, 'r, B, N, R> {
         Ok(ticket)
     }
 
-    /// Waits for an outcome, which is delivered once: `Pool::await_done`.
-    pub fn await_done(&mut self, ticket: Ticket) -> Result<Outcome<B>, Refusal> {
-        let answer = self.pool.await_done(self.rt, ticket);
+    /// Waits for an outcome, which is delivered once: `Pool::await_seen`.
+    pub fn await_done(&mut self, ticket: Ticket) -> Result<Outcome<B>, Refusal>
+        ensures goes_on { IsPrefix self.old.seen self.new.seen }
+        ensures seen { EndsWith self.new.seen (λ old new. CollectsTicket old ticket (Some result) new) }
+        ensures told { IfOk result (λ outcome. (core : CoreState B B.Key B.Out) × IsNow self.new.seen core × IsTold core ticket outcome) }
+        ensures seats { self.new.seats ≡ self.old.seats }
+    {
+        let answer = self.pool.await_seen(self.rt, &mut self.front, ticket);
         self.outstanding = self.outstanding.saturating_sub(1);
         answer
     }
 
     /// The outcome, if it is ready: `Pool::try_done`.
-    pub fn try_done(&mut self, ticket: Ticket) -> Option<Result<Outcome<B>, Refusal>> {
+    pub fn try_done(&mut self, ticket: Ticket) -> Option<Result<Outcome<B>, Refusal>>
+        ensures same { self.new ≡ self.old }
+    {
         let answer = self.pool.try_done(self.rt, ticket)?;
         self.outstanding = self.outstanding.saturating_sub(1);
         Some(answer)
@@ -91,6 +124,7 @@ impl<'p, 'r, B: Body, N: Naming, R: Wait> Running<'p, 'r, B, N, R> {
     /// Waits until one of several outcomes is ready, and returns the first in their order, with its index: `Pool::await_any`.
     pub fn await_any(&mut self, tickets: &[Ticket]) -> Option<(usize, Result<Outcome<B>, Refusal>)>
         ensures place { IfSome result (λ told. told.0 < length tickets.now) }
+        ensures same { self.new ≡ self.old }
     {
         let told = self.pool.await_any(self.rt, tickets)?;
         self.outstanding = self.outstanding.saturating_sub(1);

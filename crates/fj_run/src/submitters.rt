@@ -1,5 +1,6 @@
-ghost use Rattle.std.specs.Prelude.{◌≡◌, length};
-ghost use Rattle.fj_pool.specs.Winding.{AreAll};
+ghost use Rattle.std.specs.Prelude.{◌≡◌, [], IfErr, IfOk, length};
+ghost use Rattle.fj_pool.specs.Winding.{AreAll, tickets_of};
+ghost use Rattle.fj_run.specs.Playing.{SubmitsBy};
 
 use fj_pool::{Body, Naming, Submitter, Ticket};
 use fj_rules::{Refusal, SubId};
@@ -11,17 +12,26 @@ pub struct Submitters<B: Body, N: Naming> {
     ghost are_all: { AreAll (length N.lanes) all.items },
 }
 
+/// The same, before they have submitted anything.
+#[derive(Drop)]
+pub struct Unused<B: Body, N: Naming> {
+    pub submitters: Submitters<B, N>,
+    ghost unused: { tickets_of submitters.all.items ≡ [] },
+}
+
 impl<B: Body, N: Naming> Submitters<B, N> {
     /// Precondition: these are all, in order of their numbers.
     pub fn new(all: Vec<Submitter<B, N>>) -> Submitters<B, N>
         requires { AreAll (length N.lanes) all.items }
+        ensures { result.all ≡ all }
     {
         Submitters { all }
     }
 
     /// All, in order of their numbers.
     pub fn into_all(self) -> Vec<Submitter<B, N>>
-        ensures { AreAll (length N.lanes) result.items }
+        ensures all { AreAll (length N.lanes) result.items }
+        ensures these { result ≡ self.all }
     {
         self.all
     }
@@ -37,7 +47,10 @@ impl<B: Body, N: Naming> Submitters<B, N> {
     }
 
     /// This one submits a body: `NoSuch` if there is no such submitter, `LaneSpent` or `Closed` as `Submitter::submit`.
-    pub fn submit(&mut self, submitter: SubId, body: B) -> Result<Ticket, (Refusal, B)> {
+    pub fn submit(&mut self, submitter: SubId, body: B) -> Result<Ticket, (Refusal, B)>
+        ensures ok { IfOk result (λ ticket. SubmitsBy submitter self.old.all.items ticket body self.new.all.items) }
+        ensures body { IfErr result (λ e. e.1 ≡ body) }
+    {
         let place = submitter.0 as usize;
         if place >= self.all.len() {
             return Err((Refusal::NoSuch, body));

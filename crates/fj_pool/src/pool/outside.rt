@@ -3,7 +3,9 @@ ghost use Rattle.std.specs.Prelude.{◌≡◌, ◌<◌, IfOk, IfSome, Some, leng
 ghost use mathlib.Core.List.{IsPrefix};
 ghost use Rattle.fj_core.specs.Closes.{is_finished};
 ghost use Rattle.fj_core.specs.Cores.{CollectsTicket, CoreState};
+ghost use Rattle.fj_guarded.specs.Asked.{CancelsBehind, CollectsAt};
 ghost use Rattle.fj_guarded.specs.Continuing.{EndsWith, IsNow, IsTold};
+ghost use Rattle.fj_pool.specs.Telling.{IsToldAt};
 ghost use Rattle.fj_guarded.specs.Looking.{IsQuietBehind};
 
 use crate::closer::Closer;
@@ -93,10 +95,40 @@ impl<B: Body, N: Naming> Pool<B, N> {
     /// The outcome of the submission under a ticket, if it is ready: `ForkJoinTask.isDone`, and then `join`. It waits for the lock alone. None
     /// while the outcome is still to come. Refused as [`await_done`](Pool::await_done) is.
     pub fn try_done<R: Wait>(&self, rt: &R, ticket: Ticket) -> Option<Result<Outcome<B>, Refusal>> {
-        let mut due = ToWake::nobody();
         let mut guard = self.lock(rt);
         let core = &mut *guard;
-        let answer = core.collect(ticket);
+        let mut front = core.front(&self.log);
+        self.try_with(guard, &mut front, ticket)
+    }
+
+    /// The same, as the caller sees it.
+    pub fn try_seen<R: Wait>(
+        &self,
+        rt: &R,
+        front: &mut Front<B, N>,
+        ticket: Ticket,
+    ) -> Option<Result<Outcome<B>, Refusal>>
+        ensures goes_on { IsPrefix front.old front.new }
+        ensures seen { EndsWith front.new (λ old new. CollectsTicket old ticket result new) }
+        ensures told { IfSome result (λ answer. IfOk answer (λ outcome. (core : CoreState B B.Key B.Out) × IsNow front.new core × IsTold core ticket outcome)) }
+    {
+        self.try_with(self.lock(rt), front, ticket)
+    }
+
+    /// The same, by a caller that has the lock.
+    fn try_with(
+        &self,
+        mut guard: MutexGuard<'_, Locked<B, N>>,
+        front: &mut Front<B, N>,
+        ticket: Ticket,
+    ) -> Option<Result<Outcome<B>, Refusal>>
+        ensures goes_on { IsPrefix front.old front.new }
+        ensures seen { EndsWith front.new (λ old new. CollectsTicket old ticket result new) }
+        ensures told { IfSome result (λ answer. IfOk answer (λ outcome. (core : CoreState B B.Key B.Out) × IsNow front.new core × IsTold core ticket outcome)) }
+    {
+        let mut due = ToWake::nobody();
+        let core = &mut *guard;
+        let answer = core.tell(&self.log, front, ticket);
         core.take_due(&mut due);
         drop(guard);
         self.wake_due(&mut due);
@@ -115,14 +147,48 @@ impl<B: Body, N: Naming> Pool<B, N> {
     ) -> Option<(usize, Result<Outcome<B>, Refusal>)>
         ensures place { IfSome result (λ told. told.0 < length tickets.now) }
     {
+        let mut guard = self.lock(rt);
+        let core = &mut *guard;
+        let mut front = core.front(&self.log);
+        self.await_any_with(rt, guard, &mut front, tickets)
+    }
+
+    /// The same, as the caller sees it.
+    pub fn await_any_seen<R: Wait>(
+        &self,
+        rt: &R,
+        front: &mut Front<B, N>,
+        tickets: &[Ticket],
+    ) -> Option<(usize, Result<Outcome<B>, Refusal>)>
+        ensures goes_on { IsPrefix front.old front.new }
+        ensures seen { IfSome result (λ told. EndsWith front.new (λ old new. CollectsAt tickets.now old told.0 told.1 new)) }
+        ensures place { IfSome result (λ told. told.0 < length tickets.now) }
+        // The first ticket that has an outcome is booked for a task, which has the status of the outcome.
+        ensures told { IfSome result (λ told. IfOk told.1 (λ outcome. (core : CoreState B B.Key B.Out) × IsNow front.new core × IsToldAt core tickets.now told.0 outcome)) }
+    {
+        self.await_any_with(rt, self.lock(rt), front, tickets)
+    }
+
+    /// The same, by a caller that has the lock.
+    fn await_any_with<'p, R: Wait>(
+        &'p self,
+        rt: &R,
+        mut guard: MutexGuard<'p, Locked<B, N>>,
+        front: &mut Front<B, N>,
+        tickets: &[Ticket],
+    ) -> Option<(usize, Result<Outcome<B>, Refusal>)>
+        ensures goes_on { IsPrefix front.old front.new }
+        ensures seen { IfSome result (λ told. EndsWith front.new (λ old new. CollectsAt tickets.now old told.0 told.1 new)) }
+        ensures place { IfSome result (λ told. told.0 < length tickets.now) }
+        ensures told { IfSome result (λ told. IfOk told.1 (λ outcome. (core : CoreState B B.Key B.Out) × IsNow front.new core × IsToldAt core tickets.now told.0 outcome)) }
+    {
         if tickets.is_empty() {
             return None;
         }
         let mut due = ToWake::nobody();
-        let mut guard = self.lock(rt);
         for _ in rt.forever() {
             let core = &mut *guard;
-            if let Some(told) = core.collect_any(tickets) {
+            if let Some(told) = core.tell_any(&self.log, front, tickets) {
                 core.take_due(&mut due);
                 drop(guard);
                 self.wake_due(&mut due);
@@ -144,10 +210,38 @@ impl<B: Body, N: Naming> Pool<B, N> {
     /// First it looks at the lanes, as a worker does. `Unknown` if the submission is still in its lane after that, behind others or without
     /// room for it, or if its task was released. `LogFull` if the core is stuck, or the history is full.
     pub fn cancel<R: Wait>(&self, rt: &R, ticket: Ticket) -> Result<bool, Refusal> {
-        let mut due = ToWake::nobody();
         let mut guard = self.lock(rt);
         let core = &mut *guard;
-        let answer = core.cancel(self.alloc, ticket);
+        let mut front = core.front(&self.log);
+        self.cancel_with(guard, &mut front, ticket)
+    }
+
+    /// The same, as the caller sees it.
+    pub fn cancel_seen<R: Wait>(
+        &self,
+        rt: &R,
+        front: &mut Front<B, N>,
+        ticket: Ticket,
+    ) -> Result<bool, Refusal>
+        ensures goes_on { IsPrefix front.old front.new }
+        ensures seen { EndsWith front.new (λ old new. CancelsBehind B.rooted_as old ticket result new) }
+    {
+        self.cancel_with(self.lock(rt), front, ticket)
+    }
+
+    /// The same, by a caller that has the lock.
+    fn cancel_with(
+        &self,
+        mut guard: MutexGuard<'_, Locked<B, N>>,
+        front: &mut Front<B, N>,
+        ticket: Ticket,
+    ) -> Result<bool, Refusal>
+        ensures goes_on { IsPrefix front.old front.new }
+        ensures seen { EndsWith front.new (λ old new. CancelsBehind B.rooted_as old ticket result new) }
+    {
+        let mut due = ToWake::nobody();
+        let core = &mut *guard;
+        let answer = core.tell_cancelled(self.alloc, &self.log, front, ticket);
         core.take_due(&mut due);
         drop(guard);
         self.wake_due(&mut due);
