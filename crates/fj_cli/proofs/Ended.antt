@@ -7,8 +7,9 @@ use Rattle.fj_cli.specs.declared.command_line.Subcommand.{Subcommand}
 use Rattle.fj_cli.specs.declared.command_line.Subcommand.TheVariants.{Replay, Upgrade, Compute, Record, Check, Trace, Test, Explain, View}
 use Rattle.fj_cli.specs.declared.command_line.Job.{Job}
 use Rattle.fj_cli.specs.declared.command_line.Job.TheVariants.{Sum, Min, Find, Tree}
-use Rattle.fj_cli.specs.Answers.{EndsRange, EndsTree, status_of_fault}
-use Rattle.fj_cli.specs.Statuses.{EndsCommand, EndsCompute, EndsHistory, EndsReplay}
+use Rattle.fj_cli.specs.Answers.{EndsRange, EndsTree, HasTooManyBlocks, status_of_fault}
+use Rattle.fj_cli.specs.Statuses.{EndsCommand, EndsCompute, EndsHistory, EndsReplay, EndsRun, IsOfFailure}
+use Rattle.fj_cli.specs.Failures.{IsTooMuch}
 use Rattle.fj_replay.specs.Faults.{Replays}
 
 -- an exit status of a command that does not end by 2
@@ -49,12 +50,44 @@ module _ (status : ℕ) (before ahead start now : Option (List ℕ)) where
   status_of_command Replay ends = with_two status ends.known
   status_of_command Upgrade ends = with_two status ends.known
   status_of_command (Compute job) ends = of_job job ends
-  status_of_command (Record job notes) ends = ⊎_elim (λ zero. inl zero.0) (λ others. inr (inr others)) ends
+  status_of_command (Record job notes) ends = ⊎_elim (λ run. ⊎_elim (λ zero. inl zero.0) (λ failed. inr (inr (inr failed))) run) (λ two. inr (inr (inl two.0))) ends
   status_of_command Check ends = of_history ends
   status_of_command Explain ends = with_two status ends
   status_of_command Trace ends = with_two status ends.known
   status_of_command Test ends = ⊎_elim (λ zero. inl zero.0) (λ others. inr (⊎_elim (λ one. inl one) (λ failed. inr (inr failed)) others)) ends
   status_of_command (View o) ends = ⊎_elim (λ unread. inr (inr (⊎_elim (λ two. inl two.0) (λ failed. inr failed.0) unread.0))) (λ read. of_history read) ends.0
+
+  -- ---- a command that ends by 2
+
+  not_failed : IsOfFailure status → status ≡ 2 → ⊥
+  not_failed failed two = ⊎_elim (λ a. omega (arith, a, two)) (⊎_elim (λ b. omega (arith, b, two)) (λ c. omega (arith, c, two))) failed
+
+  too_much_range : (o : RangeOptions) (line : List ℕ) → EndsRange o status line start now → status ≡ 2 → HasTooManyBlocks (Sum o)
+  too_much_range o line ends two = ⊎_elim (λ many. many.0) (λ few. absurd (not_two status few.1.known two)) ends
+
+  too_much_job : (job : Job) → EndsCompute job status before ahead start now → status ≡ 2 → HasTooManyBlocks job
+  too_much_job (Sum o) ends two = too_much_range o _ ends.1 two
+  too_much_job (Min o f) ends two = too_much_range o _ ends.1 two
+  too_much_job (Find o f want) ends two = too_much_range o _ ends.1 two
+  too_much_job (Tree workers) ends two = absurd (not_two status (of_tree ends) two)
+
+  history_not_two : {Done : ℕ → Type 0} → EndsHistory Done status before ahead start now → status ≡ 2 → ⊥
+  history_not_two ends two = ⊎_elim (λ a. omega (arith, a, two)) (⊎_elim (λ b. omega (arith, b, two)) (λ failed. not_failed failed two)) ends.known
+
+  run_not_two : EndsRun status start now → status ≡ 2 → ⊥
+  run_not_two ends two = ⊎_elim (λ zero. let is = zero.0 in omega (arith, is, two)) (λ failed. not_failed failed two) ends
+
+  -- it was asked for too much
+  pub too_much : (asked : Subcommand) → EndsCommand asked status before ahead start now → status ≡ 2 → IsTooMuch asked
+  too_much Replay ends two = absurd (not_two status ends.known two)
+  too_much Upgrade ends two = absurd (not_two status ends.known two)
+  too_much (Compute job) ends two = too_much_job job ends two
+  too_much (Record job notes) ends two = ⊎_elim (λ run. absurd (run_not_two run two)) (λ many. many.1) ends
+  too_much Check ends two = absurd (history_not_two ends two)
+  too_much Trace ends two = absurd (not_two status ends.known two)
+  too_much Test ends two = absurd (⊎_elim (λ zero. let is = zero.0 in omega (arith, is, two)) (⊎_elim (λ one. omega (arith, one, two)) (λ failed. not_failed failed two)) ends)
+  too_much Explain ends two = absurd (not_two status ends two)
+  too_much (View o) ends two = ⊎_elim (λ unread. ⊎_elim (λ none. none.1) (λ failed. absurd (not_failed failed.0 two)) unread.0) (λ read. absurd (history_not_two read two)) ends.0
 
   -- a replay that is asked for does not end by 2, and at 0 the script was replayed
   pub known_of_replay : (asked : Subcommand) → EndsCommand asked status before ahead start now → asked ≡ Replay → (status ≢ 2) × (status ≡ 0 → Replays before ahead start now)

@@ -12,3 +12,9 @@ pub mod TraceEnds
 pub mod Numbers
 -- a flag is given where its text is true
 pub mod Flags
+-- what the arguments do not ask for
+pub mod Unasked
+-- which calls failed
+pub mod Failed
+-- how a job over a range ended
+pub mod JobEnds

@@ -12,6 +12,8 @@ use Rattle.fj_jobs.specs.Ranges.{range_sum, residues_hit, residues_least}
 use Rattle.fj_trees.specs.Trees.{FaultOf, IsTree, tree_text}
 use Rattle.fj_trees.specs.TreeValues.{node_value}
 use Rattle.fj_streams.specs.Beginnings.{AppendsSome}
+use Rattle.fj_cli.specs.declared.command_line.Job.{Job}
+use Rattle.fj_cli.specs.declared.command_line.Job.TheVariants.{Sum, Min, Find, Tree}
 use Rattle.fj_cli.specs.declared.command_line.options.RangeOptions.{RangeOptions}
 use Rattle.fj_cli.specs.declared.command_line.options.FunctionOptions.{FunctionOptions}
 use Rattle.fj_cli.specs.declared.job_commands.TheConstants.{MAX_BLOCKS}
@@ -68,6 +70,13 @@ pub record EndsJob (status : ℕ) (line : List ℕ) (start now : Option (List �
 abbrev pub EndsRange : RangeOptions → ℕ → List ℕ → Option (List ℕ) → Option (List ℕ) → Type 0
 EndsRange o status line start now =
     ((MAX_BLOCKS < blocks_of o) × (status ≡ 2) × (now ≡ start)) ⊎ ((blocks_of o ≤ MAX_BLOCKS) × EndsJob status line start now)
+
+-- the job has more blocks than may be run
+abbrev pub HasTooManyBlocks : Job → Type 0
+HasTooManyBlocks (Sum o) = MAX_BLOCKS < blocks_of o
+HasTooManyBlocks (Min o f) = MAX_BLOCKS < blocks_of o
+HasTooManyBlocks (Find o f want) = MAX_BLOCKS < blocks_of o
+HasTooManyBlocks (Tree workers) = ⊥
 
 -- ---- trees
 

@@ -8,7 +8,8 @@ use Rattle.clap.specs.declared.error.Error.{Error}
 use Rattle.clap.specs.declared.error.kind.ErrorKind.TheVariants.{DisplayHelp, DisplayVersion, OutOfMemory}
 use Rattle.fj_cli.specs.declared.command_line.Subcommand.{Subcommand}
 use Rattle.fj_cli.specs.declared.command_line.Subcommand.TheVariants.{Replay, Upgrade}
-use Rattle.fj_cli.specs.Given.{IsAsked}
+use Rattle.fj_cli.specs.declared.command_line.Job.{Job}
+use Rattle.fj_cli.specs.Given.{IsAsked, IsAskedJob, IsJob, IsPlain}
 use Rattle.fj_cli.specs.Options.{file_rule, sum_line, min_line, find_line, tree_line, view_line}
 
 -- the program with its first command
@@ -80,9 +81,14 @@ Asks words asked = IsAsked (command_in words) asked
 abbrev pub Names : Text → List Text → Type 0
 Names command words = name_in (command_in words) ≡ Some command
 
--- they name neither of the commands for scripts
-abbrev pub NamesNoScript : List Text → Type 0
-NamesNoScript words = (¬ Names (codes "replay") words) × (¬ Names (codes "upgrade") words)
+-- where these are the words from `record` on, they ask for no job, and else the words for no other command: none has this name, or the
+-- text of an option is no number in its range
+abbrev pub AsksNothingBy : Option (List Text) → List Text → Type 0
+AsksNothingBy None words = (asked : Subcommand) → IsPlain asked → ¬ IsAsked (subcommand_of whole_line words) asked
+AsksNothingBy (Some recorded) words = (job : Job) → IsJob job → ¬ IsAskedJob (subcommand_of record_line recorded) job
+
+abbrev pub AsksNothing : List Text → Type 0
+AsksNothing words = AsksNothingBy (recorded_in words) words
 
 -- what was read asks for this, unless out of memory
 abbrev pub ReadsAs : Subcommand → Result (Option Subcommand) Error → Type 0

@@ -1,8 +1,9 @@
 -- The values of a command's options in the arguments.
-use Rattle.std.specs.Prelude.{ℕ, ⊤, ◌≡◌, ◌≢◌, ◌↔◌, ◌++◌, Bool, true, List, Option, Some, None}
+use Rattle.std.specs.Prelude.{ℕ, ⊤, ◌≡◌, ◌≢◌, ◌≤◌, ◌↔◌, ◌++◌, Bool, true, List, Option, Some, None}
 use Rattle.std.specs.Prelude.{codes}
 use Rattle.std.specs.Str.Parse.{IsNumeral, digits_value, without_leading_plus}
 use Rattle.clap.specs.Words.{Row, Text, first_of, one_of}
+use Rattle.fj_rules.specs.declared.limits.TheConstants.{MAX_WORKERS}
 use Rattle.fj_cli.specs.declared.command_line.Subcommand.{Subcommand}
 use Rattle.fj_cli.specs.declared.command_line.Subcommand.TheVariants.{Replay, Upgrade, Compute, Record, Check, Trace, Test, Explain, View}
 use Rattle.fj_cli.specs.declared.command_line.Job.{Job}
@@ -72,6 +73,42 @@ GivesOptions rows Trace = ⊤
 GivesOptions rows Test = ⊤
 GivesOptions rows Explain = ⊤
 GivesOptions rows (View o) = GivesView rows o
+
+-- ---- ranges
+
+-- each number is in its range
+abbrev pub IsInRange : ℕ → ℕ → ℕ → Type 0
+IsInRange n least most = (least ≤ n) × (n ≤ most)
+
+pub record IsRange (o : RangeOptions) : Type 0 where
+  pub from : IsInRange o.from 0 4294967295
+  pub to : IsInRange o.to 0 4294967295
+  pub grain : IsInRange o.grain 1 4294967295
+  pub workers : IsInRange o.workers.count 1 MAX_WORKERS
+
+pub record IsFunction (f : FunctionOptions) : Type 0 where
+  pub mul : IsInRange f.mul 0 4294967295
+  pub add : IsInRange f.add 0 4294967295
+  pub modulus : IsInRange f.modulus 1 4294967295
+
+pub record IsWindow (o : ViewOptions) : Type 0 where
+  pub from : IsInRange o.from 1 4294967295
+  pub to : IsInRange o.to 1 4294967295
+
+abbrev pub IsJob : Job → Type 0
+IsJob (Sum o) = IsRange o
+IsJob (Min o f) = IsRange o × IsFunction f
+IsJob (Find o f want) = IsRange o × IsFunction f × IsInRange want 0 4294967295
+IsJob (Tree workers) = IsInRange workers.count 1 MAX_WORKERS
+
+-- it records nothing, and the numbers of its options are in their ranges
+abbrev pub IsPlain : Subcommand → Type 0
+IsPlain (Compute job) = IsJob job
+IsPlain (Record job notes) = ⊥
+IsPlain (View o) = IsWindow o
+IsPlain _ = ⊤
+
+-- ---- names
 
 -- the name of a job
 abbrev pub job_name : Job → Text

@@ -11,3 +11,5 @@ pub mod Commands
 pub mod Answers
 -- the meaning of exit statuses
 pub mod Statuses
+-- why the exit status is 5, or 2
+pub mod Failures

@@ -25,8 +25,8 @@ use Rattle.fj_cli.specs.declared.command_line.Subcommand.{Subcommand}
 use Rattle.fj_cli.specs.declared.command_line.Subcommand.TheVariants.{Replay, Upgrade, Compute, Record, Check, Trace, Test, Explain, View}
 use Rattle.fj_cli.specs.declared.command_line.Job.{Job}
 use Rattle.fj_cli.specs.declared.command_line.Job.TheVariants.{Sum, Min, Find, Tree}
-use Rattle.fj_cli.specs.Answers.{EndsRange, EndsTree, hit_line, hit_of, least_line, least_of, number_line, sum_of}
-use Rattle.fj_cli.specs.Commands.{Asks, AsksToShow, IsAtFault, NamesNoScript, replay_words, upgrade_words}
+use Rattle.fj_cli.specs.Answers.{EndsRange, EndsTree, HasTooManyBlocks, hit_line, hit_of, least_line, least_of, number_line, sum_of}
+use Rattle.fj_cli.specs.Commands.{Asks, AsksNothing, AsksToShow, IsAtFault, replay_words, upgrade_words}
 use Rattle.fj_replay.specs.declared.script_stage.ScriptStage.{ScriptStage}
 use Rattle.fj_replay.specs.declared.script_stage.ScriptStage.TheVariants.{Start, Old}
 use Rattle.fj_replay.specs.Faults.{Begins, BeginsUpgrade, EndsFrom, Replays, Upgrades}
@@ -165,29 +165,33 @@ EndsExplain status = (status ≡ 0) ⊎ IsOfFailure status
 abbrev pub WritesHistory : Option (List ℕ) → Option (List ℕ) → Type 0
 WritesHistory start now = (text : List ℕ) × (n : ℕ) × IsHistory text n × Appends start now text
 
--- a recorded job ended with this exit status: at 0 a history was written
-abbrev pub EndsRecord : ℕ → Option (List ℕ) → Option (List ℕ) → Type 0
-EndsRecord status start now = ((status ≡ 0) × WritesHistory start now) ⊎ ((status ≡ 2) ⊎ IsOfFailure status)
+-- a job was run, with this exit status: at 0 a history was written
+abbrev pub EndsRun : ℕ → Option (List ℕ) → Option (List ℕ) → Type 0
+EndsRun status start now = ((status ≡ 0) × WritesHistory start now) ⊎ IsOfFailure status
+
+-- a recorded job ended with this exit status: 2 only for too many blocks
+abbrev pub EndsRecord : Job → ℕ → Option (List ℕ) → Option (List ℕ) → Type 0
+EndsRecord job status start now = EndsRun status start now ⊎ ((status ≡ 2) × HasTooManyBlocks job)
 
 -- this command ended with this exit status
 abbrev pub EndsCommand : Subcommand → ℕ → Option (List ℕ) → Option (List ℕ) → Option (List ℕ) → Option (List ℕ) → Type 0
 EndsCommand Replay status before ahead start now = EndsReplay status before ahead start now
 EndsCommand Upgrade status before ahead start now = EndsUpgrade status before ahead start now
 EndsCommand (Compute job) status before ahead start now = EndsCompute job status before ahead start now
-EndsCommand (Record job notes) status before ahead start now = EndsRecord status start now
+EndsCommand (Record job notes) status before ahead start now = EndsRecord job status start now
 EndsCommand Check status before ahead start now = EndsCheck status before ahead start now
 EndsCommand Trace status before ahead start now = EndsTrace status before ahead start now
 EndsCommand Test status before ahead start now = EndsTest status start now
 EndsCommand Explain status before ahead start now = EndsExplain status
 EndsCommand (View o) status before ahead start now = EndsView o status before ahead start now
 
--- no command was run, and nothing read: at 0 the words ask for help or the version, at 2 they have a usage error, or they name no
--- command for scripts; at 2 and 4 nothing was written
+-- no command was run, and nothing read: at 0 the words ask for help or the version, at 2 they have a usage error, or ask for no command;
+-- at 2 and 4 nothing was written
 pub record EndsUnrun (words : List Text) (status : ℕ) (before ahead start now : Option (List ℕ)) : Type 0 where
   pub known : (status ≡ 0) ⊎ ((status ≡ 2) ⊎ ((status ≡ 4) ⊎ (status ≡ 5)))
   pub unread : ahead ≡ before
   pub shown : status ≡ 0 → AsksToShow words
-  pub fault : status ≡ 2 → IsAtFault words ⊎ NamesNoScript words
+  pub fault : status ≡ 2 → IsAtFault words ⊎ AsksNothing words
   pub silent : (status ≡ 2) ⊎ (status ≡ 4) → now ≡ start
 
 -- how the program ends: as the command that the words ask for, or without one

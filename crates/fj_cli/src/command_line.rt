@@ -2,8 +2,10 @@
 ghost use Rattle.std.specs.Prelude.{◌≡◌, ◌≢◌, ◌↔◌, Some, None, IfOk, IfErr, IfSome, IfNone, codes, option_map};
 ghost use Rattle.clap.specs.Walk.{texts};
 ghost use Rattle.clap.specs.Words.{HasKind, fault_of, subcommand_name_of, subcommand_of, subcommand_rows_of};
-ghost use Rattle.fj_cli.specs.Commands.{Asks, Names, ReadsScript, faults_in, name_in, record_line, recorded_as, recorded_in, whole_line};
-ghost use Rattle.fj_cli.specs.Given.{IsAsked, IsAskedJob};
+ghost use Rattle.fj_cli.specs.Commands.{Asks, AsksNothing, Names, ReadsScript, faults_in, name_in, record_line, recorded_as, recorded_in, whole_line};
+ghost use Rattle.fj_cli.specs.declared.command_line.Job.{Job};
+ghost use Rattle.fj_cli.specs.declared.command_line.Subcommand.{Subcommand};
+ghost use Rattle.fj_cli.specs.Given.{IsAsked, IsAskedJob, IsJob, IsPlain};
 
 mod arguments;
 mod commands;
@@ -57,6 +59,7 @@ pub enum Subcommand<'a> {
 /// the version, or out of memory.
 pub fn read<'a>(alloc: Global, words: &'a [&'a str]) -> Result<Option<Subcommand<'a>>, Error>
     ensures asked { IfOk result (λ asked. IfSome asked (λ a. Asks (texts words.entry.now) a)) }
+    ensures none { IfOk result (λ asked. asked ≡ None → AsksNothing (texts words.entry.now)) }
     ensures replay { IfOk result (λ asked. (asked ≡ Some Subcommand.Replay) ↔ Names (codes "replay") (texts words.entry.now)) }
     ensures upgrade { IfOk result (λ asked. (asked ≡ Some Subcommand.Upgrade) ↔ Names (codes "upgrade") (texts words.entry.now)) }
     ensures fault { IfErr result (λ error. HasKind (faults_in (texts words.entry.now)) error) }
@@ -82,6 +85,7 @@ fn recorded<'a>(words: &'a [&'a str]) -> Option<&'a [&'a str]>
 /// Parses `record` and the arguments behind it.
 fn read_recorded<'a>(alloc: Global, words: &'a [&'a str]) -> Result<Option<Subcommand<'a>>, Error>
     ensures asked { IfOk result (λ asked. IfSome asked (λ a. IsAsked (option_map recorded_as (subcommand_of record_line (texts words.entry.now))) a)) }
+    ensures none { IfOk result (λ asked. asked ≡ None → (job : Job) → IsJob job → IsAskedJob (subcommand_of record_line (texts words.entry.now)) job → ⊥) }
     ensures job { IfOk result (λ asked. (asked ≢ Some Subcommand.Replay) × (asked ≢ Some Subcommand.Upgrade)) }
     ensures fault { IfErr result (λ error. HasKind (fault_of record_line (texts words.entry.now)) error) }
 {
@@ -97,6 +101,7 @@ fn read_recorded<'a>(alloc: Global, words: &'a [&'a str]) -> Result<Option<Subco
 /// Parses the arguments of any other command.
 fn read_plain<'a>(alloc: Global, words: &'a [&'a str]) -> Result<Option<Subcommand<'a>>, Error>
     ensures asked { IfOk result (λ asked. IfSome asked (λ a. IsAsked (subcommand_of whole_line (texts words.entry.now)) a)) }
+    ensures none { IfOk result (λ asked. asked ≡ None → (a : Subcommand) → IsPlain a → IsAsked (subcommand_of whole_line (texts words.entry.now)) a → ⊥) }
     ensures replay { IfOk result (λ asked. (asked ≡ Some Subcommand.Replay) ↔ (name_in (subcommand_of whole_line (texts words.entry.now)) ≡ Some (codes "replay"))) }
     ensures upgrade { IfOk result (λ asked. (asked ≡ Some Subcommand.Upgrade) ↔ (name_in (subcommand_of whole_line (texts words.entry.now)) ≡ Some (codes "upgrade"))) }
     ensures fault { IfErr result (λ error. HasKind (fault_of whole_line (texts words.entry.now)) error) }
@@ -111,6 +116,7 @@ fn read_plain<'a>(alloc: Global, words: &'a [&'a str]) -> Result<Option<Subcomma
 /// The command that the arguments ask for.
 fn asked<'a>(matches: &ArgMatches<'a>) -> Option<Subcommand<'a>>
     ensures asked { IfSome result (λ a. IsAsked (subcommand_rows_of matches.now) a) }
+    ensures none { IfNone result ((a : Subcommand) → IsPlain a → IsAsked (subcommand_rows_of matches.now) a → ⊥) }
     ensures replay { (result ≡ Some Subcommand.Replay) ↔ (subcommand_name_of matches.now ≡ Some (codes "replay")) }
     ensures upgrade { (result ≡ Some Subcommand.Upgrade) ↔ (subcommand_name_of matches.now ≡ Some (codes "upgrade")) }
 {
@@ -127,6 +133,7 @@ fn asked<'a>(matches: &ArgMatches<'a>) -> Option<Subcommand<'a>>
 fn asked_other<'a>(matches: &ArgMatches<'a>) -> Option<Subcommand<'a>>
     ensures asked { IfSome result (λ a. IsAsked (subcommand_rows_of matches.now) a) }
     ensures other { IfSome result (λ a. (a ≢ Subcommand.Replay) × (a ≢ Subcommand.Upgrade)) }
+    ensures none { IfNone result ((a : Subcommand) → (a ≢ Subcommand.Replay) → (a ≢ Subcommand.Upgrade) → IsPlain a → IsAsked (subcommand_rows_of matches.now) a → ⊥) }
 {
     if matches.subcommand_matches("check").is_some() {
         return Some(Subcommand::Check);
@@ -148,7 +155,8 @@ fn asked_other<'a>(matches: &ArgMatches<'a>) -> Option<Subcommand<'a>>
 
 /// The job that the arguments ask for.
 fn asked_job(matches: &ArgMatches) -> Option<Job>
-    ensures { IfSome result (λ job. IsAskedJob (subcommand_rows_of matches.now) job) }
+    ensures asked { IfSome result (λ job. IsAskedJob (subcommand_rows_of matches.now) job) }
+    ensures none { IfNone result ((job : Job) → IsJob job → IsAskedJob (subcommand_rows_of matches.now) job → ⊥) }
 {
     if let Some(given) = matches.subcommand_matches("sum") {
         return Some(Job::Sum(read_range(given)?));

@@ -1,25 +1,28 @@
 //! The command that writes a script with its replies and their reasons.
 ghost use Rattle.std.specs.Prelude.{◌≡◌, ◌⊎◌};
-ghost use Rattle.fj_cli.specs.Statuses.{EndsExplain, IsOfFailure};
+ghost use Rattle.fj_streams.specs.Calls.{HasFailed};
+ghost use Rattle.fj_cli.specs.Statuses.{EndsExplain};
 
-use crate::answer::{told, unread, written};
+use crate::answer::{told, told_line, written};
+use crate::script_text::{read_script, told_of_unread};
 use fj_explain::{ExplainFault, explain};
+use fj_streams::{Sink, Source};
 use std::alloc::Global;
-use std::io::{Read, Write};
 
 /// Reads a script, writes its lines with their replies and reasons, and answers the exit status.
-pub fn run_explain<R: Read, W: Write, E: Write>(
+pub fn run_explain<R: Source, W: Sink, E: Sink>(
     alloc: Global,
     input: &mut R,
     out: &mut W,
     err: &mut E,
 ) -> u8
-    ensures { EndsExplain result }
+    ensures ends { EndsExplain result }
+    ensures failed { result ≡ 5 → HasFailed (R.calls input.old) (R.calls input.new) ⊎ HasFailed (W.calls out.old) (W.calls out.new) }
 {
-    let mut script = String::new(alloc);
-    if let Err(error) = input.read_to_string(&mut script) {
-        return unread(&error, err);
-    }
+    let script = match read_script(alloc, input) {
+        Ok(script) => script,
+        Err(unread) => return told_of_unread(unread, err),
+    };
     let mut text = String::new(alloc);
     let ended = explain(alloc, &script, &mut text);
     if written(out, &text).is_err() {
@@ -32,14 +35,11 @@ pub fn run_explain<R: Read, W: Write, E: Write>(
 }
 
 /// Writes a fault to standard error, and answers the exit status.
-fn told_of_fault<E: Write>(fault: ExplainFault, err: &mut E) -> u8
-    ensures { IsOfFailure result }
+fn told_of_fault<E: Sink>(fault: ExplainFault, err: &mut E) -> u8
+    ensures { (result ≡ 3) ⊎ (result ≡ 4) }
 {
     match fault {
-        ExplainFault::Line(_, _) | ExplainFault::Limits(_) => {
-            let _ = writeln!(err, "{fault}");
-            3
-        }
+        ExplainFault::Line(_, _) | ExplainFault::Limits(_) => told_line(err, "", fault, 3),
         // A write to a string fails only if out of memory.
         ExplainFault::Memory | ExplainFault::Write => told(err, "out of memory\n", 4),
     }

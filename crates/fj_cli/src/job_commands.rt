@@ -2,6 +2,7 @@
 ghost use Rattle.std.specs.Prelude.{◌≡◌, ◌<◌, ◌≤◌, IfNone, IfOk, IfSome};
 ghost use Rattle.fj_rules.specs.declared.limits.TheConstants.{MAX_EVENTS, MAX_TASKS};
 ghost use Rattle.fj_rules.specs.Bounds.{bounds};
+ghost use Rattle.fj_streams.specs.Calls.{HasFailed};
 ghost use Rattle.fj_cli.specs.declared.job_commands.TheConstants.{MAX_BLOCKS};
 ghost use Rattle.fj_cli.specs.Answers.{EndsRange, blocks_of, count_of, hit_line, hit_of, least_line, least_of, number_line, sum_of};
 
@@ -12,8 +13,8 @@ use fj_invoke::{
     invoke_lazily,
 };
 use fj_rules::{Limits, MAX_EVENTS, MAX_TASKS, Mode, Refusal};
+use fj_streams::Sink;
 use std::alloc::Global;
-use std::io::Write;
 use std::sync::Wait;
 use std::thread::Threads;
 
@@ -24,14 +25,15 @@ pub const MAX_BLOCKS: u64 = 200_000;
 pub const TOO_MANY: &str = "too many leaves\n";
 
 /// Writes the sum of a range, and answers the exit status.
-pub fn run_sum<H: Threads + Wait + Sync, W: Write, E: Write>(
+pub fn run_sum<H: Threads + Wait + Sync, W: Sink, E: Sink>(
     rt: &H,
     alloc: Global,
     options: RangeOptions,
     out: &mut W,
     err: &mut E,
 ) -> u8
-    ensures { EndsRange options result (number_line (sum_of options)) (W.contents out.old) (W.contents out.new) }
+    ensures ends { EndsRange options result (number_line (sum_of options)) (W.contents out.old) (W.contents out.new) }
+    ensures failed { result ≡ 5 → HasFailed (W.calls out.old) (W.calls out.new) }
 {
     let Some(range) = blocks(options) else {
         return told(err, TOO_MANY, 2);
@@ -44,7 +46,7 @@ pub fn run_sum<H: Threads + Wait + Sync, W: Write, E: Write>(
 
 /// Writes the least value of a function over a range with the first number that has it, `none` where the range is empty, and answers
 /// the exit status.
-pub fn run_min<H: Threads + Wait + Sync, W: Write, E: Write>(
+pub fn run_min<H: Threads + Wait + Sync, W: Sink, E: Sink>(
     rt: &H,
     alloc: Global,
     options: RangeOptions,
@@ -52,7 +54,8 @@ pub fn run_min<H: Threads + Wait + Sync, W: Write, E: Write>(
     out: &mut W,
     err: &mut E,
 ) -> u8
-    ensures { EndsRange options result (least_line (least_of options function)) (W.contents out.old) (W.contents out.new) }
+    ensures ends { EndsRange options result (least_line (least_of options function)) (W.contents out.old) (W.contents out.new) }
+    ensures failed { result ≡ 5 → HasFailed (W.calls out.old) (W.calls out.new) }
 {
     let Some(range) = blocks(options) else {
         return told(err, TOO_MANY, 2);
@@ -66,7 +69,7 @@ pub fn run_min<H: Threads + Wait + Sync, W: Write, E: Write>(
 }
 
 /// Writes the first number of a range at which a function has a value, `none` where there is none, and answers the exit status.
-pub fn run_find<H: Threads + Wait + Sync, W: Write, E: Write>(
+pub fn run_find<H: Threads + Wait + Sync, W: Sink, E: Sink>(
     rt: &H,
     alloc: Global,
     options: RangeOptions,
@@ -75,7 +78,8 @@ pub fn run_find<H: Threads + Wait + Sync, W: Write, E: Write>(
     out: &mut W,
     err: &mut E,
 ) -> u8
-    ensures { EndsRange options result (hit_line (hit_of options function want)) (W.contents out.old) (W.contents out.new) }
+    ensures ends { EndsRange options result (hit_line (hit_of options function want)) (W.contents out.old) (W.contents out.new) }
+    ensures failed { result ≡ 5 → HasFailed (W.calls out.old) (W.calls out.new) }
 {
     let Some(range) = blocks(options) else {
         return told(err, TOO_MANY, 2);

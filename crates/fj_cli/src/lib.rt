@@ -16,6 +16,7 @@ mod program;
 mod record_command;
 mod replay_command;
 mod script_end;
+mod script_text;
 mod test_command;
 mod trace_command;
 mod tree_command;

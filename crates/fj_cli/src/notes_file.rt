@@ -1,15 +1,15 @@
 //! The file of notes that an option names.
-ghost use Rattle.std.specs.Prelude.{◌≡◌, ◌⊎◌};
+ghost use Rattle.std.specs.Prelude.{◌≡◌, ◌⊎◌, IfOk, OnErr, is_some, true};
 ghost use Rattle.fj_cli.specs.Statuses.{IsOfFailure};
 
-use crate::answer::told;
+use crate::answer::{told, told_line};
 use fj_notebook::{Notebook, WriteFault, write_notes};
 use fj_run::{Serial, Turnstile, WorkerId};
 use fj_story::{Notes, NotesFault, read_notes};
-use fj_streams::flush_whole;
+use fj_streams::{Sink, flush_whole};
 use std::alloc::Global;
 use std::fs;
-use std::io::{self, ErrorKind, Write};
+use std::io::{self, ErrorKind};
 use std::rt::{Clock, Files};
 
 /// Why there are no notes.
@@ -34,36 +34,38 @@ pub fn notes_in<F: Files>(files: &F, alloc: Global, name: &str) -> Result<Notes,
 }
 
 /// Writes why there are no notes, and answers the exit status.
-pub fn told_of_none<E: Write>(none: NoNotes, err: &mut E) -> u8
+pub fn told_of_none<E: Sink>(none: NoNotes, err: &mut E) -> u8
     ensures { IsOfFailure result }
 {
     match none {
         NoNotes::System(error) => told_of_error(&error, err),
         NoNotes::Text(NotesFault::Memory) => told(err, "out of memory\n", 4),
         NoNotes::Text(fault) => {
-            let _ = writeln!(err, "notes: {fault}");
-            if matches!(fault, NotesFault::Line(_)) {
+            let status = if matches!(fault, NotesFault::Line(_)) {
                 3
             } else {
                 5
-            }
+            };
+            told_line(err, "notes: ", fault, status)
         }
     }
 }
 
 /// Writes why the file or the clock cannot be used, and answers the exit status.
-pub fn told_of_error<E: Write>(error: &io::Error, err: &mut E) -> u8
+pub fn told_of_error<E: Sink>(error: &io::Error, err: &mut E) -> u8
     ensures { IsOfFailure result }
 {
     if error.kind() == ErrorKind::OutOfMemory {
         return told(err, "out of memory\n", 4);
     }
-    let _ = writeln!(err, "notes: {error}");
-    5
+    told_line(err, "notes: ", error, 5)
 }
 
 /// Opens a new file of this name, if one is named.
-pub fn create_file<F: Files>(files: &F, name: Option<&str>) -> io::Result<Option<F::File>> {
+pub fn create_file<F: Files>(files: &F, name: Option<&str>) -> io::Result<Option<F::File>>
+    ensures named { IfOk result (λ file. is_some file ≡ is_some name.entry) }
+    ensures err { OnErr result (is_some name.entry ≡ true) }
+{
     match name {
         Some(name) => Ok(Some(fs::create(files, name)?)),
         None => Ok(None),
@@ -81,6 +83,7 @@ impl<C: Clock> Watch<C> {
     pub fn new(alloc: Global, clock: C, is_wanted: bool, tasks: u64) -> io::Result<Watch<C>>
     where
         C: Drop,
+        ensures { OnErr result (is_wanted ≡ true) }
     {
         if !is_wanted {
             return Ok(Watch { notebook: None });
@@ -92,7 +95,10 @@ impl<C: Clock> Watch<C> {
     }
 
     /// Writes what was noted to the file, and flushes it.
-    pub fn write<F: Write>(&self, alloc: Global, file: &mut Option<F>) -> Result<(), WriteFault> {
+    pub fn write<F: Sink>(&self, alloc: Global, file: &mut Option<F>) -> Result<(), WriteFault>
+        ensures named { OnErr result (is_some file.old ≡ true) }
+        ensures file { is_some file.new ≡ is_some file.old }
+    {
         let (Some(notebook), Some(file)) = (&self.notebook, file) else {
             return Ok(());
         };

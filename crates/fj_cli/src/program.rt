@@ -2,10 +2,13 @@ ghost use Rattle.std.specs.Prelude.{◌≡◌, ◌≢◌, ◌⊎◌};
 ghost use Rattle.clap.specs.Walk.{texts};
 ghost use Rattle.clap.specs.Words.{kind_of};
 ghost use Rattle.std.specs.IoError.{error_kind};
+ghost use Rattle.fj_streams.specs.Calls.{HasFailed};
+ghost use Rattle.fj_filter.specs.Tells.{seen};
 ghost use Rattle.fj_cli.specs.Commands.{IsForScript, TellsOfFault};
+ghost use Rattle.fj_cli.specs.Failures.{FailsProgram, FailsToCopy, IsMisused, NamesFile};
 ghost use Rattle.fj_cli.specs.Statuses.{EndsCommand, EndsCompute, EndsKnown, EndsProgram, StatusOfNoWords};
 
-use crate::answer::told;
+use crate::answer::{answered, told};
 use crate::check_command::run_check;
 use crate::command_line::{Job, Subcommand, read};
 use crate::explain_command::run_explain;
@@ -19,9 +22,9 @@ use crate::upgrade_command::run_upgrade;
 use crate::view_command::run_view;
 use clap::Error;
 use clap::error::ErrorKind;
-use fj_streams::flush_whole;
-use std::alloc::Global;
-use std::io::{self, Read, Write};
+use fj_streams::{Sink, Source, write_whole};
+use std::alloc::{AllocError, Global};
+use std::io;
 use std::rt::{Clock, Files};
 use std::sync::Wait;
 use std::thread::Threads;
@@ -33,7 +36,7 @@ use std::thread::Threads;
 /// the pool refused. 4: out of memory. 5: a read or a write failed. For all but 0 a text is sent to `err`, which may fail. `out` is
 /// flushed after a command, and after help or the version; a failed flush gives 5. A file is opened only where an option names one.
 #[tactic(auto, using(crate::proofs::Answered::shown_asks, crate::proofs::Answered::else_at_fault, crate::proofs::Ended::status_of_command, crate::proofs::Ended::known_of_replay))]
-pub fn fj<H: Threads + Wait + Sync + Files + Clock, R: Read, W: Write, E: Write>(
+pub fn fj<H: Threads + Wait + Sync + Files + Clock, R: Source, W: Sink, E: Sink>(
     rt: &H,
     alloc: Global,
     words: &[&str],
@@ -45,18 +48,21 @@ pub fn fj<H: Threads + Wait + Sync + Files + Clock, R: Read, W: Write, E: Write>
     // The arguments of a replay and of an upgrade run one, to its end where the status is 0.
     ensures known { IsForScript (texts words.entry.now) → result ≢ 2 }
     ensures done { EndsKnown (texts words.entry.now) result (R.remaining input.old) (R.remaining input.new) (W.contents out.old) (W.contents out.new) }
+    // 5 only where a read, a write or a flush failed, 2 only for a usage error, for any arguments.
+    ensures failed { result ≡ 5 → FailsProgram (texts words.entry.now) (seen R.remaining R.calls input.old input.new) (W.calls out.old) (W.calls out.new) (E.calls err.old) (E.calls err.new) }
+    ensures misused { result ≡ 2 → IsMisused (texts words.entry.now) }
     // The meaning of the status, for any arguments.
     ensures ends { EndsProgram (texts words.entry.now) result (R.remaining input.old) (R.remaining input.new) (W.contents out.old) (W.contents out.new) }
 {
     match read(alloc, words) {
         Ok(Some(asked)) => run(rt, alloc, asked, input, out, err),
         Ok(None) => told(err, "no such command\n", 2),
-        Err(error) => without_command(&error, out, err),
+        Err(error) => without_command(alloc, &error, out, err),
     }
 }
 
 /// Runs the command that is asked for.
-fn run<H: Threads + Wait + Sync + Files + Clock, R: Read, W: Write, E: Write>(
+fn run<H: Threads + Wait + Sync + Files + Clock, R: Source, W: Sink, E: Sink>(
     rt: &H,
     alloc: Global,
     asked: Subcommand<'_>,
@@ -64,7 +70,8 @@ fn run<H: Threads + Wait + Sync + Files + Clock, R: Read, W: Write, E: Write>(
     out: &mut W,
     err: &mut E,
 ) -> u8
-    ensures { EndsCommand asked.entry result (R.remaining input.old) (R.remaining input.new) (W.contents out.old) (W.contents out.new) }
+    ensures ends { EndsCommand asked.entry result (R.remaining input.old) (R.remaining input.new) (W.contents out.old) (W.contents out.new) }
+    ensures failed { result ≡ 5 → FailsToCopy (seen R.remaining R.calls input.old input.new) (W.calls out.old) (W.calls out.new) ⊎ NamesFile asked.entry }
 {
     match asked {
         Subcommand::Replay => run_replay(alloc, input, out, err),
@@ -80,7 +87,7 @@ fn run<H: Threads + Wait + Sync + Files + Clock, R: Read, W: Write, E: Write>(
 }
 
 /// Runs a job, and writes its value.
-fn compute<H: Threads + Wait + Sync, R: Read, W: Write, E: Write>(
+fn compute<H: Threads + Wait + Sync, R: Source, W: Sink, E: Sink>(
     rt: &H,
     alloc: Global,
     job: Job,
@@ -88,7 +95,8 @@ fn compute<H: Threads + Wait + Sync, R: Read, W: Write, E: Write>(
     out: &mut W,
     err: &mut E,
 ) -> u8
-    ensures { EndsCompute job result (R.remaining input.old) (R.remaining input.new) (W.contents out.old) (W.contents out.new) }
+    ensures ends { EndsCompute job result (R.remaining input.old) (R.remaining input.new) (W.contents out.old) (W.contents out.new) }
+    ensures failed { result ≡ 5 → HasFailed (R.calls input.old) (R.calls input.new) ⊎ HasFailed (W.calls out.old) (W.calls out.new) }
 {
     match job {
         Job::Sum(options) => run_sum(rt, alloc, options, out, err),
@@ -101,7 +109,7 @@ fn compute<H: Threads + Wait + Sync, R: Read, W: Write, E: Write>(
 }
 
 /// Writes why the arguments could not be read, and answers the exit status: 2 where one is not UTF-8, otherwise 4, as out of memory.
-pub fn without_words<E: Write>(error: &io::Error, err: &mut E) -> u8
+pub fn without_words<E: Sink>(error: &io::Error, err: &mut E) -> u8
     ensures { StatusOfNoWords (error_kind error.now) result }
 {
     if error.kind() == io::ErrorKind::InvalidData {
@@ -116,26 +124,34 @@ pub fn without_words<E: Write>(error: &io::Error, err: &mut E) -> u8
 }
 
 /// Writes why the arguments name no command, or the help or version that they ask for, and answers the exit status.
-fn without_command<W: Write, E: Write>(error: &Error, out: &mut W, err: &mut E) -> u8
+fn without_command<W: Sink, E: Sink>(alloc: Global, error: &Error, out: &mut W, err: &mut E) -> u8
     ensures status { (result ≡ 0) ⊎ ((result ≡ 2) ⊎ ((result ≡ 4) ⊎ (result ≡ 5))) }
     ensures out_of_memory { kind_of error.now ≡ ErrorKind.OutOfMemory → result ≡ 4 }
     ensures shown { result ≡ 0 → (kind_of error.now ≡ ErrorKind.DisplayHelp) ⊎ (kind_of error.now ≡ ErrorKind.DisplayVersion) }
     ensures words { result ≡ 2 → W.contents out.new ≡ W.contents out.old }
     ensures fault_of_words { result ≡ 2 → TellsOfFault (kind_of error.now) }
     ensures memory { result ≡ 4 → W.contents out.new ≡ W.contents out.old }
+    ensures failed { result ≡ 5 → HasFailed (W.calls out.old) (W.calls out.new) ⊎ HasFailed (E.calls err.old) (E.calls err.new) }
 {
     match error.kind() {
         ErrorKind::OutOfMemory => told(err, "out of memory\n", 4),
         ErrorKind::DisplayHelp | ErrorKind::DisplayVersion => {
-            if write!(out, "{error}").is_ok() && flush_whole(out).is_ok() {
-                0
-            } else {
-                told(err, "write failed\n", 5)
-            }
+            answered(format!(in alloc; "{error}"), out, err)
         }
-        _ => match write!(err, "{error}") {
-            Ok(()) => 2,
-            Err(_) => 5,
-        },
+        _ => misused(format!(in alloc; "{error}"), err),
+    }
+}
+
+/// Writes the text of a usage error: 2 where it was written, 4 where out of memory for it, 5 where a write failed.
+fn misused<E: Sink>(text: Result<String, AllocError>, err: &mut E) -> u8
+    ensures status { (result ≡ 2) ⊎ ((result ≡ 4) ⊎ (result ≡ 5)) }
+    ensures failed { result ≡ 5 → HasFailed (E.calls err.old) (E.calls err.new) }
+{
+    let Ok(text) = text else {
+        return told(err, "out of memory\n", 4);
+    };
+    match write_whole(err, text.as_bytes()) {
+        Ok(()) => 2,
+        Err(_) => 5,
     }
 }

@@ -1,6 +1,7 @@
 //! The command that runs a job and writes the history of the run.
-ghost use Rattle.std.specs.Prelude.{◌≡◌, OnOk};
-ghost use Rattle.fj_cli.specs.Statuses.{EndsRecord, WritesHistory};
+ghost use Rattle.std.specs.Prelude.{◌≡◌, ◌⊎◌, IfErr, OnOk, is_some, true};
+ghost use Rattle.fj_streams.specs.Calls.{HasFailed};
+ghost use Rattle.fj_cli.specs.Statuses.{EndsRecord, EndsRun, WritesHistory};
 
 use crate::answer::{refused, told};
 use crate::command_line::{Job, Workers};
@@ -12,9 +13,8 @@ use fj_invoke::{BlockedRange, Divide, FirstHit, RangeMin, RangeSum, Settings, re
 use fj_record::{WriteFault, write_history};
 use fj_rules::Mode;
 use fj_run::{Machine, RecordedValue};
-use fj_streams::flush_whole;
+use fj_streams::{Sink, Source, flush_whole};
 use std::alloc::Global;
-use std::io::{Read, Write};
 use std::rt::{Clock, Files};
 use std::sync::Wait;
 use std::thread::Threads;
@@ -37,7 +37,7 @@ impl Size {
 }
 
 /// Runs a job, writes the history of the run, and the times of its tasks to the file of this name, and answers the exit status.
-pub fn run_record<H: Threads + Wait + Sync + Files + Clock, R: Read, W: Write, E: Write>(
+pub fn run_record<H: Threads + Wait + Sync + Files + Clock, R: Source, W: Sink, E: Sink>(
     rt: &H,
     alloc: Global,
     job: Job,
@@ -46,17 +46,34 @@ pub fn run_record<H: Threads + Wait + Sync + Files + Clock, R: Read, W: Write, E
     out: &mut W,
     err: &mut E,
 ) -> u8
-    ensures { EndsRecord result (W.contents out.old) (W.contents out.new) }
+    ensures ends { EndsRecord job result (W.contents out.old) (W.contents out.new) }
+    ensures failed { result ≡ 5 → HasFailed (R.calls input.old) (R.calls input.new) ⊎ (HasFailed (W.calls out.old) (W.calls out.new) ⊎ (is_some notes.entry ≡ true)) }
 {
     let mut file = match create_file(rt, notes) {
         Ok(file) => file,
         Err(error) => return told_of_error(&error, err),
     };
+    record_job_to(rt, alloc, job, &mut file, input, out, err)
+}
+
+/// The same with this file, if there is one.
+fn record_job_to<H: Threads + Wait + Sync + Files + Clock, R: Source, W: Sink, E: Sink>(
+    rt: &H,
+    alloc: Global,
+    job: Job,
+    file: &mut Option<H::File>,
+    input: &mut R,
+    out: &mut W,
+    err: &mut E,
+) -> u8
+    ensures ends { EndsRecord job result (W.contents out.old) (W.contents out.new) }
+    ensures failed { result ≡ 5 → HasFailed (R.calls input.old) (R.calls input.new) ⊎ (HasFailed (W.calls out.old) (W.calls out.new) ⊎ (is_some file.old ≡ true)) }
+{
     match job {
         Job::Sum(options) => match blocks(options) {
             Some(range) => {
                 let size = Size::of_range(options.workers, &range);
-                record(rt, alloc, size, RangeSum { range }, &mut file, out, err)
+                record(rt, alloc, size, RangeSum { range }, file, out, err)
             }
             None => told(err, TOO_MANY, 2),
         },
@@ -65,7 +82,7 @@ pub fn run_record<H: Threads + Wait + Sync + Files + Clock, R: Read, W: Write, E
                 let size = Size::of_range(options.workers, &range);
                 let function = linear(function);
                 let job = RangeMin { range, function };
-                record(rt, alloc, size, job, &mut file, out, err)
+                record(rt, alloc, size, job, file, out, err)
             }
             None => told(err, TOO_MANY, 2),
         },
@@ -77,19 +94,19 @@ pub fn run_record<H: Threads + Wait + Sync + Files + Clock, R: Read, W: Write, E
                     function: linear(function),
                     want: u64::from(want),
                 };
-                record(rt, alloc, size, job, &mut file, out, err)
+                record(rt, alloc, size, job, file, out, err)
             }
             None => told(err, TOO_MANY, 2),
         },
         Job::Tree(workers) => match read_tree(alloc, input) {
-            Ok(nodes) => record_tree(rt, alloc, workers, &nodes, &mut file, out, err),
+            Ok(nodes) => record_tree(rt, alloc, workers, &nodes, file, out, err),
             Err(fault) => told_of_fault(fault, err),
         },
     }
 }
 
 /// Runs a job over a range, writes the history of the run, and answers the exit status.
-fn record<J: Divide + Send, H: Threads + Wait + Sync + Files + Clock, W: Write, E: Write>(
+fn record<J: Divide + Send, H: Threads + Wait + Sync + Files + Clock, W: Sink, E: Sink>(
     rt: &H,
     alloc: Global,
     size: Size,
@@ -101,7 +118,8 @@ fn record<J: Divide + Send, H: Threads + Wait + Sync + Files + Clock, W: Write, 
 where
     J::Key: Send,
     J::Out: Send + Drop,
-    ensures { EndsRecord result (W.contents out.old) (W.contents out.new) }
+    ensures ends { EndsRun result (W.contents out.old) (W.contents out.new) }
+    ensures failed { result ≡ 5 → HasFailed (W.calls out.old) (W.calls out.new) ⊎ (is_some file.old ≡ true) }
 {
     let watch = match Watch::new(alloc, rt, file.is_some(), size.tasks) {
         Ok(watch) => watch,
@@ -115,7 +133,7 @@ where
 }
 
 /// Folds the tree, writes the history of the run, and answers the exit status.
-fn record_tree<H: Threads + Wait + Sync + Files + Clock, W: Write, E: Write>(
+fn record_tree<H: Threads + Wait + Sync + Files + Clock, W: Sink, E: Sink>(
     rt: &H,
     alloc: Global,
     workers: Workers,
@@ -124,7 +142,8 @@ fn record_tree<H: Threads + Wait + Sync + Files + Clock, W: Write, E: Write>(
     out: &mut W,
     err: &mut E,
 ) -> u8
-    ensures { EndsRecord result (W.contents out.old) (W.contents out.new) }
+    ensures ends { EndsRun result (W.contents out.old) (W.contents out.new) }
+    ensures failed { result ≡ 5 → HasFailed (W.calls out.old) (W.calls out.new) ⊎ (is_some file.old ≡ true) }
 {
     let tasks = nodes.as_slice().len() as u64;
     let watch = match Watch::new(alloc, rt, file.is_some(), tasks) {
@@ -138,7 +157,7 @@ fn record_tree<H: Threads + Wait + Sync + Files + Clock, W: Write, E: Write>(
 }
 
 /// Writes the history of a run that has a value, or why it has none, and answers the exit status. Precondition: the pool had this mode.
-fn told_of_run<V: Drop, C: Clock, F: Write, W: Write, E: Write>(
+fn told_of_run<V: Drop, C: Clock, F: Sink, W: Sink, E: Sink>(
     alloc: Global,
     mode: Mode,
     run: RecordedValue<V>,
@@ -148,7 +167,8 @@ fn told_of_run<V: Drop, C: Clock, F: Write, W: Write, E: Write>(
     err: &mut E,
 ) -> u8
     requires { mode ≡ run.machine.pool.mode }
-    ensures { EndsRecord result (W.contents out.old) (W.contents out.new) }
+    ensures ends { EndsRun result (W.contents out.old) (W.contents out.new) }
+    ensures failed { result ≡ 5 → HasFailed (W.calls out.old) (W.calls out.new) ⊎ (is_some file.old ≡ true) }
 {
     if let Err(refusal) = run.value {
         return refused(refusal, err);
@@ -165,7 +185,7 @@ fn told_of_run<V: Drop, C: Clock, F: Write, W: Write, E: Write>(
 }
 
 /// Writes the history of a machine, flushes it, and writes what was watched. Preconditions: it has this mode, and was never sealed.
-fn write_run<C: Clock, F: Write, W: Write>(
+fn write_run<C: Clock, F: Sink, W: Sink>(
     alloc: Global,
     mode: Mode,
     machine: &Machine,
@@ -175,9 +195,12 @@ fn write_run<C: Clock, F: Write, W: Write>(
 ) -> Result<(), WriteFault>
     requires mode { mode ≡ machine.now.pool.mode }
     requires whole { machine.now.seals ≡ 0 }
-    ensures { OnOk result (WritesHistory (W.contents out.old) (W.contents out.new)) }
+    ensures ok { OnOk result (WritesHistory (W.contents out.old) (W.contents out.new)) }
+    ensures failed { IfErr result (λ fault. fault ≡ WriteFault.Write → HasFailed (W.calls out.old) (W.calls out.new) ⊎ (is_some file.old ≡ true)) }
 {
-    write_history(mode, machine, &[], alloc, out)?;
+    if let Err(fault) = write_history(mode, machine, &[], alloc, out) {
+        return Err(fault);
+    }
     match flush_whole(out) {
         Ok(()) => watch.write(alloc, file),
         Err(_) => Err(WriteFault::Write),

@@ -1,6 +1,9 @@
 //! The command that writes a view of a history.
 ghost use Rattle.std.specs.Prelude.{◌≡◌, ◌⊎◌, ℕ, List, Some, IfOk, IfSome, OnErr, string_bytes};
 ghost use Rattle.std.specs.Io.KnownBytes.{Appends};
+ghost use Rattle.fj_streams.specs.Calls.{HasFailed};
+ghost use Rattle.fj_filter.specs.Tells.{seen};
+ghost use Rattle.fj_trace.specs.Checks.{FailsToRead};
 ghost use Rattle.fj_views.specs.Tables.{table_text};
 ghost use Rattle.fj_cli.specs.Statuses.{EndsView, HasNotes, HasWindow, IsUnviewed, IsWritten};
 
@@ -9,9 +12,9 @@ use crate::check_command::told_of_fault;
 use crate::command_line::{ViewName, ViewOptions};
 use crate::notes_file::{NoNotes, notes_in, told_of_none};
 use fj_story::{Notes, Story, read_story};
+use fj_streams::{Sink, Source};
 use fj_views::{Moment, View, Window, write_view};
 use std::alloc::{AllocError, Global};
-use std::io::{Read, Write};
 use std::rt::Files;
 
 const NO_VIEW: &str = "no such view: there are tasks, stats, path, chrome, dot and svg\n";
@@ -20,7 +23,7 @@ const NO_PICTURE: &str = "--from and --to are of svg alone\n";
 
 /// Reads the notes that the options name and a history, each to its end, writes a view of it, and answers the exit status; of what is no
 /// history what a check writes and answers.
-pub fn run_view<F: Files, R: Read, W: Write, E: Write>(
+pub fn run_view<F: Files, R: Source, W: Sink, E: Sink>(
     files: &F,
     alloc: Global,
     options: ViewOptions<'_>,
@@ -28,7 +31,8 @@ pub fn run_view<F: Files, R: Read, W: Write, E: Write>(
     out: &mut W,
     err: &mut E,
 ) -> u8
-    ensures { EndsView options.entry result (R.remaining input.old) (R.remaining input.new) (W.contents out.old) (W.contents out.new) }
+    ensures ends { EndsView options.entry result (R.remaining input.old) (R.remaining input.new) (W.contents out.old) (W.contents out.new) }
+    ensures failed { result ≡ 5 → (FailsToRead (seen R.remaining R.calls input.old input.new) ⊎ HasFailed (W.calls out.old) (W.calls out.new)) ⊎ HasNotes options.entry }
 {
     let view = match view_of(options) {
         Ok(view) => view,
@@ -101,10 +105,11 @@ fn text_of(alloc: Global, story: &Story, view: View) -> Result<String, AllocErro
 }
 
 /// Writes the text of a view, and answers the exit status.
-fn shown<W: Write, E: Write>(text: Result<String, AllocError>, out: &mut W, err: &mut E) -> u8
+fn shown<W: Sink, E: Sink>(text: Result<String, AllocError>, out: &mut W, err: &mut E) -> u8
     ensures status { (result ≡ 0) ⊎ ((result ≡ 4) ⊎ (result ≡ 5)) }
     ensures written { result ≡ 0 → IsWritten (W.contents out.old) (W.contents out.new) }
     ensures text { (bytes : List ℕ) → IfOk text (λ s. string_bytes s ≡ bytes) → result ≡ 0 → Appends (W.contents out.old) (W.contents out.new) bytes }
+    ensures failed { result ≡ 5 → HasFailed (W.calls out.old) (W.calls out.new) }
 {
     match text {
         Ok(text) => answered(Ok(text), out, err),

@@ -1,6 +1,7 @@
-ghost use Rattle.std.specs.Prelude.{IfOk, IfErr, OnOk};
+ghost use Rattle.std.specs.Prelude.{◌≡◌, IfOk, IfErr, OnOk};
+ghost use Rattle.fj_filter.specs.Tells.{seen};
 ghost use Rattle.fj_streams.specs.Calls.{IsFine};
-ghost use Rattle.fj_trace.specs.Checks.{IsReadAs, StopsCheck};
+ghost use Rattle.fj_trace.specs.Checks.{FailsToRead, IsReadAs, StopsCheck};
 
 use crate::looking::Looking;
 use crate::story::Story;
@@ -16,6 +17,7 @@ pub fn read_story<R: Source>(alloc: Global, r: &mut R) -> Result<Story, CheckFau
     ensures ok { IfOk result (λ story. IsReadAs story (R.remaining r.old) (R.remaining r.new)) }
     ensures err { IfErr result (StopsCheck (R.remaining r.old) (R.remaining r.new)) }
     ensures fine { OnOk result (IsFine (R.calls r.old) (R.calls r.new)) }
+    ensures failed { IfErr result (λ fault. fault ≡ CheckFault.Read → FailsToRead (seen R.remaining R.calls r.old r.new)) }
 {
     let mut state = Looking::new();
     // Nothing is written to it.

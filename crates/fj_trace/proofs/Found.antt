@@ -10,7 +10,10 @@ use Rattle.fj_history.specs.Entries.{entry_in}
 use Rattle.fj_filter.specs.declared.fault.FilterFault.{FilterFault}
 use Rattle.fj_filter.specs.declared.fault.FilterFault.TheVariants as filter
 use Rattle.fj_filter.specs.Cuts.{lines}
-use Rattle.fj_filter.specs.Rules.{state_from, is_good}
+use Rattle.fj_filter.specs.Rules.{Rules, state_from, is_good}
+use Rattle.fj_filter.specs.Tells.{FaultTells}
+use Rattle.fj_streams.specs.Calls.{Calls}
+use Rattle.fj_trace.specs.declared.fault.CheckFault.TheVariants as check
 use Rattle.fj_filter.specs.Faults.{StopsAtLine, EndsFrom, Finishes, FaultOf, Stands, IsNoLine}
 use Rattle.fj_filter.specs.Starving.{StarvesAtLine}
 use Rattle.fj_replay.specs.Stages.{start}
@@ -20,7 +23,7 @@ use Rattle.fj_trace.specs.declared.history_stop.HistoryStop.{HistoryStop}
 use Rattle.fj_trace.specs.declared.history_stop.HistoryStop.TheVariants as stop
 use Rattle.fj_trace.specs.Entries.{past_from, event_count}
 use Rattle.fj_trace.specs.Histories.{AreHistory}
-use Rattle.fj_trace.specs.Checks.{IsChecked, IsReadAs, AreGood, IsNoEntry, IsFaulty, FaultMeans, StopsCheck}
+use Rattle.fj_trace.specs.Checks.{FailsToRead, IsChecked, IsReadAs, AreGood, IsNoEntry, IsFaulty, FaultMeans, StopsCheck}
 use Rattle.fj_filter.specs.declared.fault.LineStop.{LineStop}
 use Rattle.fj_filter.specs.declared.fault.LineStop.TheVariants as fails
 use Rattle.fj_trace.specs.Rules.{check_rules, has_heading, StopsHere, IsStopAt, IsEntryStop, check_fault, events_in}
@@ -166,6 +169,19 @@ fault_means filter.Write b ahead start now means = tt
 
 pub stops : {Told : List ℕ → Type 0} (fault : FilterFault HistoryStop) (before ahead start now : Option (List ℕ)) → ((b : List ℕ) × EndsFrom check_rules Start fault b before ahead start now × Told b) → StopsCheck before ahead (check_fault fault)
 stops fault before ahead start now s = (s.0, s.1.read, fault_means fault s.0 ahead start now s.1.means)
+
+-- a check that failed to read is a filter that did
+pub read_failed : {A : Type 0} (rules : Rules A HistoryStop) (first : A) (fault : FilterFault HistoryStop) (before ahead start now : Option (List ℕ)) (calls after written flushed : Option Calls)
+    → ((b : List ℕ) × EndsFrom rules first fault b before ahead start now × FaultTells fault b calls after written flushed) → check_fault fault ≡ check.Read
+    → FailsToRead (record { bytes = before; bytes_after = ahead; calls = calls; calls_after = after })
+read_failed rules first (filter.Stop n (stop.Objection why)) before ahead start now calls after written flushed s is = absurd cc
+read_failed rules first (filter.Stop n stop.Line) before ahead start now calls after written flushed s is = absurd cc
+read_failed rules first (filter.Stop n stop.Limits) before ahead start now calls after written flushed s is = absurd cc
+read_failed rules first (filter.Line n) before ahead start now calls after written flushed s is = absurd cc
+read_failed rules first filter.Memory before ahead start now calls after written flushed s is = absurd cc
+read_failed rules first filter.Write before ahead start now calls after written flushed s is = absurd cc
+read_failed rules first filter.Read before ahead start now calls after written flushed s is =
+    ⊎_elim (λ failed. inl failed) (λ many. inr (s.0, s.1.read, many)) s.2.0
 
 -- ---- at one line
 

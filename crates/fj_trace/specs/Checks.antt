@@ -1,5 +1,5 @@
 -- What the result of a check says of the bytes that were read.
-use Rattle.std.specs.Prelude.{ℕ, ◌≡◌, ◌≢◌, ◌+◌, ◌<◌, ◌⊎◌, ⊤, List, [], ◌∷◌, ◌++◌, Option, Some, None, length}
+use Rattle.std.specs.Prelude.{ℕ, ◌≡◌, ◌≢◌, ◌+◌, ◌-◌, ◌^◌, ◌<◌, ◌≤◌, ◌⊎◌, ⊤, List, [], ◌∷◌, ◌++◌, Option, Some, None, length}
 use Rattle.std.specs.Io.KnownBytes.{Consumes, IsAtEnd}
 use Rattle.fj_rules.specs.Bounds.{Pool}
 use Rattle.fj_rules.specs.Pasts.{Past}
@@ -7,7 +7,10 @@ use Rattle.fj_history.specs.declared.entry.Entry.{Entry}
 use Rattle.fj_history.specs.declared.read.TheConstants.{MAX_ENTRY}
 use Rattle.fj_history.specs.Entries.{entry_in}
 use Rattle.fj_lines.specs.Lines.{head_in}
+use Rattle.fj_streams.specs.Calls.{HasFailed}
+use Rattle.fj_filter.specs.declared.read_loop.TheConstants.{CHUNK}
 use Rattle.fj_filter.specs.Cuts.{lines, rest}
+use Rattle.fj_filter.specs.Tells.{Seen}
 use Rattle.fj_replay.specs.Stages.{start}
 use Rattle.fj_replay.specs.Stages.{IsOutOfLimits}
 use Rattle.fj_trace.specs.declared.fault.CheckFault.{CheckFault}
@@ -89,3 +92,7 @@ FaultMeans Read b ahead = AreGood (lines b)
 -- some bytes were read, and this is what the fault says of them
 abbrev pub StopsCheck : Option (List ℕ) → Option (List ℕ) → CheckFault → Type 0
 StopsCheck before ahead fault = (b : List ℕ) × Consumes before ahead b × FaultMeans fault b ahead
+
+-- a read of this input failed, or it has more lines than 64 bits count
+abbrev pub FailsToRead : Seen → Type 0
+FailsToRead r = HasFailed r.calls r.calls_after ⊎ ((b : List ℕ) × Consumes r.bytes r.bytes_after b × (2 ^ 64 - 1 - CHUNK ≤ length (lines b)))

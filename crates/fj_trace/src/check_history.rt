@@ -1,6 +1,7 @@
 ghost use Rattle.std.specs.Prelude.{◌≡◌, IfOk, IfErr, OnOk};
 ghost use Rattle.fj_streams.specs.Calls.{IsFine};
-ghost use Rattle.fj_trace.specs.Checks.{IsChecked, StopsCheck};
+ghost use Rattle.fj_filter.specs.Tells.{seen};
+ghost use Rattle.fj_trace.specs.Checks.{FailsToRead, IsChecked, StopsCheck};
 ghost use Rattle.fj_trace.specs.Rules.{check_fault, events_in};
 
 use crate::fault::CheckFault;
@@ -18,6 +19,7 @@ pub fn check<R: Source>(alloc: Global, r: &mut R) -> Result<u64, CheckFault>
     ensures ok { IfOk result (λ n. IsChecked n (R.remaining r.old) (R.remaining r.new)) }
     ensures err { IfErr result (StopsCheck (R.remaining r.old) (R.remaining r.new)) }
     ensures fine { OnOk result (IsFine (R.calls r.old) (R.calls r.new)) }
+    ensures failed { IfErr result (λ fault. fault ≡ CheckFault.Read → FailsToRead (seen R.remaining R.calls r.old r.new)) }
 {
     let mut state = HistoryCheck::Start;
     // Nothing is written to it.

@@ -1,7 +1,12 @@
 //! The values of the options.
-ghost use Rattle.std.specs.Prelude.{◌≤◌, IfSome, codes};
+ghost use Rattle.std.specs.Prelude.{ℕ, ◌≤◌, IfNone, IfSome, Option, codes};
 ghost use Rattle.clap.specs.Words.{found_of, rows_of};
-ghost use Rattle.fj_cli.specs.Given.{Gives, GivesFlag, GivesFunction, GivesRange, GivesView, GivesViewName, NamesView};
+ghost use Rattle.fj_rules.specs.declared.limits.TheConstants.{MAX_WORKERS};
+ghost use Rattle.fj_cli.specs.declared.command_line.options.FunctionOptions.{FunctionOptions};
+ghost use Rattle.fj_cli.specs.declared.command_line.options.RangeOptions.{RangeOptions};
+ghost use Rattle.fj_cli.specs.declared.command_line.options.ViewName.{ViewName};
+ghost use Rattle.fj_cli.specs.declared.command_line.options.ViewOptions.{ViewOptions};
+ghost use Rattle.fj_cli.specs.Given.{Gives, GivesFlag, GivesFunction, GivesRange, GivesView, GivesViewName, IsFunction, IsInRange, IsRange, IsWindow, NamesView};
 
 use crate::command_line::options::{FunctionOptions, RangeOptions, ViewName, ViewOptions, Workers};
 use clap::ArgMatches;
@@ -11,6 +16,7 @@ use fj_rules::MAX_WORKERS;
 fn number(matches: &ArgMatches, name: &str, least: u32, most: u32) -> Option<u32>
     ensures range { IfSome result (λ n. (least ≤ n) × (n ≤ most)) }
     ensures given { IfSome result (λ n. Gives (rows_of (found_of matches.now)) name.now n) }
+    ensures none { IfNone result ((n : ℕ) → IsInRange n least most → Gives (rows_of (found_of matches.now)) name.now n → ⊥) }
 {
     let number = matches.get_one::<u32>(name)?;
     if number < least || most < number {
@@ -28,7 +34,8 @@ fn flag(matches: &ArgMatches, name: &str) -> bool
 
 /// The number of workers.
 pub fn read_workers(matches: &ArgMatches) -> Option<Workers>
-    ensures { IfSome result (λ w. Gives (rows_of (found_of matches.now)) (codes "workers") w.count) }
+    ensures given { IfSome result (λ w. Gives (rows_of (found_of matches.now)) (codes "workers") w.count) }
+    ensures none { IfNone result ((n : ℕ) → IsInRange n 1 MAX_WORKERS → Gives (rows_of (found_of matches.now)) (codes "workers") n → ⊥) }
 {
     let count = number(matches, "workers", 1, MAX_WORKERS)?;
     Some(Workers { count })
@@ -36,7 +43,8 @@ pub fn read_workers(matches: &ArgMatches) -> Option<Workers>
 
 /// The options of a job over a range.
 pub fn read_range(matches: &ArgMatches) -> Option<RangeOptions>
-    ensures { IfSome result (λ o. GivesRange (rows_of (found_of matches.now)) o) }
+    ensures given { IfSome result (λ o. GivesRange (rows_of (found_of matches.now)) o) }
+    ensures none { IfNone result ((o : RangeOptions) → IsRange o → GivesRange (rows_of (found_of matches.now)) o → ⊥) }
 {
     let from = number(matches, "from", 0, u32::MAX)?;
     let to = number(matches, "to", 0, u32::MAX)?;
@@ -54,7 +62,8 @@ pub fn read_range(matches: &ArgMatches) -> Option<RangeOptions>
 
 /// The options of a function.
 pub fn read_function(matches: &ArgMatches) -> Option<FunctionOptions>
-    ensures { IfSome result (λ f. GivesFunction (rows_of (found_of matches.now)) f) }
+    ensures given { IfSome result (λ f. GivesFunction (rows_of (found_of matches.now)) f) }
+    ensures none { IfNone result ((f : FunctionOptions) → IsFunction f → GivesFunction (rows_of (found_of matches.now)) f → ⊥) }
 {
     let mul = number(matches, "mul", 0, u32::MAX)?;
     let add = number(matches, "add", 0, u32::MAX)?;
@@ -64,7 +73,8 @@ pub fn read_function(matches: &ArgMatches) -> Option<FunctionOptions>
 
 /// The wanted value.
 pub fn read_want(matches: &ArgMatches) -> Option<u32>
-    ensures { IfSome result (λ n. Gives (rows_of (found_of matches.now)) (codes "want") n) }
+    ensures given { IfSome result (λ n. Gives (rows_of (found_of matches.now)) (codes "want") n) }
+    ensures none { IfNone result ((n : ℕ) → IsInRange n 0 4294967295 → Gives (rows_of (found_of matches.now)) (codes "want") n → ⊥) }
 {
     number(matches, "want", 0, u32::MAX)
 }
@@ -86,7 +96,8 @@ fn view_named(name: &str) -> Option<ViewName>
 
 /// The view that is named, None if there is none of this name; None also without a name.
 fn read_view_name(matches: &ArgMatches) -> Option<Option<ViewName>>
-    ensures { IfSome result (λ name. GivesViewName (rows_of (found_of matches.now)) name) }
+    ensures given { IfSome result (λ name. GivesViewName (rows_of (found_of matches.now)) name) }
+    ensures none { IfNone result ((name : Option ViewName) → GivesViewName (rows_of (found_of matches.now)) name → ⊥) }
 {
     match matches.get_str("as") {
         Some(name) => Some(view_named(name)),
@@ -96,7 +107,8 @@ fn read_view_name(matches: &ArgMatches) -> Option<Option<ViewName>>
 
 /// The options of a view.
 pub fn read_view<'a>(matches: &ArgMatches<'a>) -> Option<ViewOptions<'a>>
-    ensures { IfSome result (λ o. GivesView (rows_of (found_of matches.now)) o) }
+    ensures given { IfSome result (λ o. GivesView (rows_of (found_of matches.now)) o) }
+    ensures none { IfNone result ((o : ViewOptions) → IsWindow o → GivesView (rows_of (found_of matches.now)) o → ⊥) }
 {
     let name = read_view_name(matches)?;
     let from = number(matches, "from", 1, u32::MAX)?;

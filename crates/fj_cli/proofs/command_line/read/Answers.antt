@@ -4,7 +4,7 @@ use Rattle.std.proofs.lemmas.Result.{MatchResult-weaker}
 use Rattle.clap.specs.Walk.{texts}
 use Rattle.clap.specs.Words.{HasKind, Row, Text}
 use Rattle.fj_cli.specs.declared.command_line.Subcommand.TheVariants.{Replay, Upgrade}
-use Rattle.fj_cli.specs.Commands.{command_by, faults_by, name_in, recorded_as, recorded_in, replay_words, upgrade_words}
+use Rattle.fj_cli.specs.Commands.{AsksNothingBy, command_by, faults_by, name_in, recorded_as, recorded_in, replay_words, upgrade_words}
 use Rattle.fj_cli.specs.Given.{IsAsked}
 use Rattle.fj_cli.proofs.command_line.read.Goals as goal
 
@@ -36,6 +36,10 @@ pub returns-in-Some-clause-asked : goal.returns-in-Some-clause-asked
 returns-in-Some-clause-asked c =
     subst (λ (o : Option (List Text)). IfOk c.read_recorded.result (λ asked. IfSome asked (λ a. IsAsked (command_by o (texts c.args.words.now)) a))) (sym c.in-Some.ensures.some) c.read_recorded.ensures.asked
 
+pub returns-in-Some-clause-none : goal.returns-in-Some-clause-none
+returns-in-Some-clause-none c =
+    subst (λ (o : Option (List Text)). IfOk c.read_recorded.result (λ asked. asked ≡ None → AsksNothingBy o (texts c.args.words.now))) (sym c.in-Some.ensures.some) c.read_recorded.ensures.none
+
 pub returns-in-Some-clause-replay : goal.returns-in-Some-clause-replay
 returns-in-Some-clause-replay c =
     subst (λ (o : Option (List Text)). IfOk c.read_recorded.result (λ asked. (asked ≡ Some Replay) ↔ (name_in (command_by o (texts c.args.words.now)) ≡ Some (codes "replay")))) (sym c.in-Some.ensures.some)
@@ -59,6 +63,10 @@ returns-in-Some-clause-known c = (
 pub returns-in-None-clause-asked : goal.returns-in-None-clause-asked
 returns-in-None-clause-asked c =
     subst (λ (o : Option (List Text)). IfOk c.read_plain.result (λ asked. IfSome asked (λ a. IsAsked (command_by o (texts c.args.words.now)) a))) (sym c.in-None.ensures.none) c.read_plain.ensures.asked
+
+pub returns-in-None-clause-none : goal.returns-in-None-clause-none
+returns-in-None-clause-none c =
+    subst (λ (o : Option (List Text)). IfOk c.read_plain.result (λ asked. asked ≡ None → AsksNothingBy o (texts c.args.words.now))) (sym c.in-None.ensures.none) c.read_plain.ensures.none
 
 pub returns-in-None-clause-replay : goal.returns-in-None-clause-replay
 returns-in-None-clause-replay c =

@@ -1,12 +1,12 @@
-use Rattle.std.proofs.Common.{◌≡◌, ◌∙◌, sym, subst, ap, ap₂, refl, map, codes, true, Some, None, option_map, List}
-use Rattle.clap.specs.Words.{App, HasKind, HasMatchesOf, Text, fault_of, is_simple, is_simple_and_free, takes, subcommand_of, subcommand_rows_of, subcommand_rows, subcommand_name_of}
+use Rattle.std.proofs.Common.{◌≡◌, ◌∙◌, sym, subst, ap, ap₂, refl, map, codes, true, Some, Option, List}
+use Rattle.clap.specs.Words.{App, HasKind, HasMatchesOf, Text, fault_of, is_simple, is_simple_and_free, takes, subcommand_of, subcommand_rows_of, subcommand_name_of}
 use Rattle.clap.specs.declared.parser.matches.ArgMatches.{ArgMatches}
-use Rattle.clap.specs.declared.parser.matches.ArgMatches.TheViews.{out-ArgMatches, out-SubCommand}
-use Rattle.std.specs.Box.{box_value}
-use Rattle.std.specs.Prelude.{IfSome}
+use Rattle.std.specs.Prelude.{IfNone, IfSome}
 use Rattle.clap.proofs.OnLiterals.{clap_on_literals}
 use Rattle.fj_cli.specs.Commands.{name_in, whole_line, replay_words, upgrade_words}
-use Rattle.fj_cli.specs.Given.{IsAsked}
+use Rattle.fj_cli.specs.declared.command_line.Subcommand.{Subcommand}
+use Rattle.fj_cli.specs.Given.{IsAsked, IsPlain}
+use Rattle.fj_cli.proofs.Unasked.{names}
 use Rattle.fj_cli.proofs.command_line.read_plain.Goals as goal
 
 replay_taken : takes whole_line replay_words ≡ true
@@ -29,14 +29,6 @@ upgrade_met : name_in (subcommand_of whole_line upgrade_words) ≡ Some (codes "
 unfolding clap_on_literals
 upgrade_met = refl
 
--- the name of the rows is the name
-names : (m : ArgMatches) → name_in (subcommand_rows_of m) ≡ subcommand_name_of m
-names m =
-    elim ((out-ArgMatches m).subcommand) as (λ o. name_in (subcommand_rows o) ≡ option_map (λ b. (out-SubCommand (box_value b)).name.now) o) [
-      | None ↦ refl
-      | Some b ↦ refl
-    ]
-
 -- the command that the matches have is the one in the words
 met : (m : ArgMatches) (line : App) (words : List Text) → line ≡ whole_line → HasMatchesOf line words m → subcommand_rows_of m ≡ subcommand_of whole_line words
 met m line words is has = (has (ap is_simple is)).1 ∙ ap (λ a. subcommand_of a words) is
@@ -47,6 +39,11 @@ named m line words is has = sym (names m) ∙ ap name_in (met m line words is ha
 pub returns-in-Ok-clause-asked : goal.returns-in-Ok-clause-asked
 returns-in-Ok-clause-asked c =
     subst (λ there. IfSome c.asked.result (λ a. IsAsked there a)) (met c.in-Ok.matches _ _ c.in_ok-command.ensures c.in-Ok.ensures.matches) c.asked.ensures.asked
+
+pub returns-in-Ok-clause-none : goal.returns-in-Ok-clause-none
+returns-in-Ok-clause-none c = λ is a plain there.
+    let none = subst (λ (o : Option Subcommand). IfNone o ((b : Subcommand) → IsPlain b → IsAsked (subcommand_rows_of c.in-Ok.matches) b → ⊥)) is c.asked.ensures.none in
+    none a plain (subst (λ rows. IsAsked rows a) (sym (met c.in-Ok.matches _ _ c.in_ok-command.ensures c.in-Ok.ensures.matches)) there)
 
 pub returns-in-Ok-clause-replay : goal.returns-in-Ok-clause-replay
 returns-in-Ok-clause-replay c =

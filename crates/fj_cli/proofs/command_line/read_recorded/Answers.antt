@@ -3,6 +3,7 @@ use Rattle.clap.specs.Words.{App, HasKind, HasMatchesOf, Text, fault_of, is_simp
 use Rattle.clap.specs.declared.parser.matches.ArgMatches.{ArgMatches}
 use Rattle.clap.proofs.OnLiterals.{clap_on_literals}
 use Rattle.fj_cli.specs.Commands.{record_line, recorded_as}
+use Rattle.fj_cli.specs.Given.{IsAskedJob}
 use Rattle.fj_cli.proofs.command_line.read_recorded.Goals as goal
 
 is_free : is_simple_and_free record_line ≡ true
@@ -15,9 +16,13 @@ met m line words is has = (has (ap is_simple is)).1 ∙ ap (λ a. subcommand_of 
 
 pub returns-in-Some-clause-asked : goal.returns-in-Some-clause-asked
 returns-in-Some-clause-asked c =
-    let asked = c.in-Some.ensures in
+    let asked = c.in-Some.ensures.asked in
     let there = met c.in-Ok.matches _ _ c.in_ok-record_command.ensures c.in-Ok.ensures.matches in
     (asked.0, ap (option_map recorded_as) (sym there ∙ asked.1), asked.2)
+
+pub returns-in-Ok-clause-none : goal.returns-in-Ok-clause-none
+returns-in-Ok-clause-none c = λ is job numbers there.
+    c.in-None.ensures.none job numbers (subst (λ rows. IsAskedJob rows job) (sym (met c.in-Ok.matches _ _ c.in_ok-record_command.ensures c.in-Ok.ensures.matches)) there)
 
 pub returns-clause-fault : goal.returns-clause-fault
 returns-clause-fault c =

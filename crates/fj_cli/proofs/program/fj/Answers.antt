@@ -1,8 +1,18 @@
-use Rattle.std.proofs.Common.{◌≡◌, ◌∙◌, ⊎_elim, inl, inr, refl, sym, arith, Some, None}
+use Rattle.std.proofs.Common.{⊎_elim, inl, inr, refl, subst, arith}
+use Rattle.std.specs.Prelude.{IfSome}
 use Rattle.clap.specs.Walk.{texts}
-use Rattle.fj_cli.specs.declared.command_line.Subcommand.TheVariants.{Replay, Upgrade}
+use Rattle.fj_cli.specs.Commands.{Asks}
 use Rattle.fj_cli.proofs.Answered.{else_at_fault, shown_asks}
+use Rattle.fj_cli.proofs.Ended.{too_much}
+use Rattle.fj_cli.proofs.Failed.{failed_broken}
 use Rattle.fj_cli.proofs.program.fj.Goals as goal
+
+pub returns-in-Ok-Some-clause-failed : goal.returns-in-Ok-Some-clause-failed
+returns-in-Ok-Some-clause-failed g c = λ five.
+    ⊎_elim (λ copy. inl copy) (λ file. inr (inr (c.in-Ok-Some.asked, subst (λ o. IfSome o (λ a. Asks (texts c.args.words.now) a)) c.in-Ok-Some.field-0-is c.in-Ok-Some.ensures.asked, file))) (c.run.ensures.failed five)
+
+pub returns-in-Ok-Some-clause-misused : goal.returns-in-Ok-Some-clause-misused
+returns-in-Ok-Some-clause-misused g c = λ two. inr (inr (c.in-Ok-Some.asked, subst (λ o. IfSome o (λ a. Asks (texts c.args.words.now) a)) c.in-Ok-Some.field-0-is c.in-Ok-Some.ensures.asked, too_much _ _ _ _ _ c.in-Ok-Some.asked c.run.ensures.ends two))
 
 pub returns-in-Ok-None-clause-ends : goal.returns-in-Ok-None-clause-ends
 returns-in-Ok-None-clause-ends g c =
@@ -10,12 +20,12 @@ returns-in-Ok-None-clause-ends g c =
       known = inr (inl c.told.ensures);
       unread = refl;
       shown = λ zero. absurd (omega (arith, zero, c.told.ensures));
-      fault = λ two. inr (
-        (λ names. let is : None ≡ Some Replay = sym c.in-Ok-None.field-0-is ∙ c.in-Ok-None.ensures.replay.1 names in absurd cc),
-        (λ names. let is : None ≡ Some Upgrade = sym c.in-Ok-None.field-0-is ∙ c.in-Ok-None.ensures.upgrade.1 names in absurd cc),
-      );
+      fault = λ two. inr (c.in-Ok-None.ensures.none c.in-Ok-None.field-0-is);
       silent = λ is. refl;
     })
+
+pub returns-in-Ok-None-clause-misused : goal.returns-in-Ok-None-clause-misused
+returns-in-Ok-None-clause-misused g c = λ two. inr (inl (c.in-Ok-None.ensures.none c.in-Ok-None.field-0-is))
 
 pub returns-in-Err-clause-ends : goal.returns-in-Err-clause-ends
 returns-in-Err-clause-ends g c =
@@ -26,3 +36,9 @@ returns-in-Err-clause-ends g c =
       fault = λ two. inl (else_at_fault c.in-Err.error (texts c.args.words.now) c.in-Err.ensures.fault (c.without_command.ensures.fault_of_words two));
       silent = λ is. ⊎_elim c.without_command.ensures.words c.without_command.ensures.memory is;
     })
+
+pub returns-in-Err-clause-failed : goal.returns-in-Err-clause-failed
+returns-in-Err-clause-failed g c = λ five. ⊎_elim (λ written. inl (inr (failed_broken _ _ written))) (λ told. inr (inl told)) (c.without_command.ensures.failed five)
+
+pub returns-in-Err-clause-misused : goal.returns-in-Err-clause-misused
+returns-in-Err-clause-misused g c = λ two. inl (else_at_fault c.in-Err.error (texts c.args.words.now) c.in-Err.ensures.fault (c.without_command.ensures.fault_of_words two))

@@ -1,4 +1,5 @@
-use Rattle.fj_trace.proofs.Found.{checked, stops}
+use Rattle.std.proofs.Common.{sym, ◌∙◌}
+use Rattle.fj_trace.proofs.Found.{checked, read_failed, stops}
 use Rattle.fj_trace.proofs.check_history.check.Goals as goal
 
 pub returns-in-Ok-clause-ok : goal.returns-in-Ok-clause-ok
@@ -6,3 +7,6 @@ returns-in-Ok-clause-ok g c = rw c.events_in.ensures (checked c.filter-run.new.s
 
 pub returns-clause-err : goal.returns-clause-err
 returns-clause-err g c = rw c.check_fault.ensures (stops c.in-Err.fault _ _ _ _ c.in-Err.ensures.err)
+
+pub returns-clause-failed : goal.returns-clause-failed
+returns-clause-failed g c = λ is. read_failed _ _ c.in-Err.fault _ _ _ _ _ _ _ _ c.in-Err.ensures.err (sym c.check_fault.ensures ∙ is)
