@@ -1,6 +1,6 @@
 #!/usr/bin/env python3
 """Counts what the documents and the help count: samples, scripts, limits; the files of tests by threads beside their table, the crates of others beside what is
-trusted, our own in the tables that have one for each and in the scripts that copy some. Tells what differs; the exit status is 1 if anything does. Usage: tests/documents/counts.py
+trusted, our own in the table of all and where some are copied. Tells what differs; the exit status is 1 if anything does. Usage: tests/documents/counts.py
 """
 import glob
 import os
@@ -34,14 +34,12 @@ def differing_numbers():
     replayed = laws.count("IsReplayed")
     others = len(laws) - replayed - refused
     scripts = sum(int(it) for it in re.findall(r": (\d+)$", text_of("crates/test_machine/stdout"), flags=re.M))
-    rows = int(re.search(r"const ROWS: \[&str; (\d+)\]", text_of("crates/test_cli/src/upgrade_row_tests.rt"))[1])
     limits = [constant(f"MAX_{it}") for it in ("WORKERS", "SUBMITTERS", "TASKS", "EVENTS")]
     pool = [*limits[:2], constant("MAX_TICKETS"), *limits[2:]]
     for page, said, there in [
         ("docs/PROOFS.md", r"\| (\d+) sample scripts .* Of (\w+) more", [replayed, others]),
         ("docs/PROOFS.md", r"\| (\w+) small histories are refused", [refused]),
         ("docs/PROOFS.md", r"\| (\d+) scripts, by values from outside", [scripts]),
-        ("docs/PROOFS.md", r"written of (\d+) scripts by an upgrade", [rows]),
         ("crates/fj_rules/README.md", r"computes (\d+) sample scripts .* and (\w+) small histories", [replayed + others, refused]),
         ("README.md", r"Bounds: (\S+) workers, (\S+) submitters of (\S+) bodies each, (\S+) live tasks, (\S+) events", pool),
         ("docs/MODEL.md", r"1 to (\S+) workers, 1 to (\S+) submitters, 1 to (\S+) kept tasks and 1 to (\S+) events", limits),
@@ -65,18 +63,19 @@ def missing_names():
     foreign = {it for _, below in names for it in below.split() if it not in dict(names)}
     trusted = text_of("docs/PROOFS.md").partition("## What is trusted")[2]
     yield from (f"docs/PROOFS.md, what is trusted: {it}" for it in sorted(foreign) if f"`{it}`" not in trusted)
-    for page in ("CONTRIBUTING.md", "docs/ARCHITECTURE.md"):
-        yield from (f"{page}: {it}" for it, _ in names if not re.search(rf"\b{it}\b", text_of(page)))
+    page = text_of("docs/ARCHITECTURE.md")
+    yield from (f"docs/ARCHITECTURE.md: {it}" for it, _ in names if not re.search(rf"\b{it}\b", page))
     for crate, _ in names:
         if len(glob.glob(f"crates/{crate}/must-fail/*.edit")) > 30:
             yield f"crates/{crate}/must-fail: more than 30"
 
 
 def missing_crates():
-    """What a script does not copy of the crates on which those stand that it copies."""
+    """What a script, or the README, does not copy of the crates on which those stand that it copies."""
     below = {it: rest.split() for it, rest in re.findall(r"^(\w+): ?(.*)$", text_of("crates.txt"), flags=re.M)}
-    for script in [*glob.glob("bench/*.sh"), *glob.glob("tests/*/*.sh")]:
-        for listed in re.findall(r"^(?:crates=\(|(?:build|lay_out)_loader \w+ )((?:(?:fj|ex)_\w+ ?)+)\)?$", text_of(script), flags=re.M):
+    for script in ["README.md", *glob.glob("bench/*.sh"), *glob.glob("tests/*/*.sh")]:
+        text = re.sub(r"^for crate in fj_\{(.*)\}; do$", lambda it: "crates=(fj_" + it[1].replace(",", " fj_") + ")", text_of(script), flags=re.M)
+        for listed in re.findall(r"^(?:crates=\(|(?:build|lay_out)_loader \w+ )((?:(?:fj|ex)_\w+ ?)+)\)?$", text, flags=re.M):
             copied = listed.split()
             needed = {it for crate in copied for it in below[crate] if it in below}
             yield from (f"{script}: {it}" for it in sorted(needed - {*copied}))

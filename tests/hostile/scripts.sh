@@ -101,6 +101,17 @@ awk 'BEGIN { for (i = 0; i < 209715; i++) print "task " i "\nrun " i "\ndone\ndo
 (ulimit -v 131072; run replay < "$folder/in" > "$folder/out"; ended "the largest history" 0 "")
 cmp "$folder/replies" "$folder/out"
 
+# 3,000 names in as many epochs, and in ten, end well.
+for each in 1 300; do
+    awk -v each=$each 'BEGIN { print "fj 2\nasync 1 1 1", 5 * each
+        for (i = 0; i < 3000; i++) print "submit n" i " 0\npoll 0 0\nend 0 ok\nrelease n" i ((i + 1) % each ? "" : "\nseal") }' > "$folder/in"
+    awk -v each=$each 'BEGIN { for (i = 0; i < 3000; i++)
+        print "task n" i "\nrun n" i "\ndone\ndone" ((i + 1) % each ? "" : "\nsealed " int(i / each) " " 5 * each) }' > "$folder/replies"
+    run replay < "$folder/in" > "$folder/out"
+    ended "3,000 names, sealed after each $each" 0 ""
+    cmp "$folder/replies" "$folder/out"
+done
+
 # Of names there is no end, so they come to the end of what memory there is, here 24 MB of addresses: a beginning of the replies has gone out.
 awk 'BEGIN { print "fj 2\nasync 1 1 2 16"
     for (i = 0; i < 600000; i++) print "submit a" i " 0\npoll 0 0\nend 0 ok\nrelease a" i "\nseal" }' > "$folder/in"

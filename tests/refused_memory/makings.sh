@@ -1,6 +1,6 @@
 #!/usr/bin/env bash
 # Refuses each allocation of some tests in turn. Those of what the test makes must be answered by it as out of memory; no other comes
-# beside them or later, so with any later one refused the test must pass. The two of cores make one for each of their scenarios.
+# beside them or later, so with any later one refused the test must pass.
 # Needs a C compiler, and the built tests, as `rt ci` leaves them, or `rt test` in a crate's folder.
 set -euo pipefail
 . "$(dirname "${BASH_SOURCE[0]}")/trial.bash"
@@ -15,7 +15,5 @@ test_model tree_tests::a_task_is_found_behind_thousands_that_were_released tree 
 test_machine run_tests::the_largest_limits_hold machine 100
 fj_gate tests::a_look_is_remembered gate 20
 test_core lane_tests::a_hundred_parcels_in_order lane 20
-test_core core_tests::trees cores 140
-test_core core_tests::asks cores 200
 test_jobs making_tests::a_pool_is_made_and_wound_up pool 80
 END

@@ -1,30 +1,16 @@
-//! Tests of the command line, of its jobs, and of the replay and the upgrade of scripts.
+//! Tests of the command line, of the replay and of the upgrade of scripts, by streams that no shell has.
 #![tactic(auto)]
 
 #[cfg(test)]
-mod check_tests;
-#[cfg(test)]
-mod job_tests;
-#[cfg(test)]
-mod name_tests;
-#[cfg(test)]
-mod random_upgrade_tests;
+mod commands;
 #[cfg(test)]
 mod read_tests;
+#[cfg(test)]
+mod script;
 #[cfg(test)]
 mod stream_tests;
 #[cfg(test)]
 mod streams;
-#[cfg(test)]
-mod test_rows;
-#[cfg(test)]
-mod tests;
-#[cfg(test)]
-mod upgrade_row_tests;
-#[cfg(test)]
-mod upgrade_scripts;
-#[cfg(test)]
-mod upgrade_tests;
 #[cfg(test)]
 mod word_tests;
 #[cfg(test)]

@@ -1,7 +1,8 @@
+use crate::commands::{REPLAY, bytes, command};
+use crate::script::{REPLIES, SCRIPT, ended, first_lines};
 use crate::streams::Halting;
-use crate::test_rows::{REPLAY, bytes, command};
-use crate::tests::{REPLIES, SCRIPT, ended, first_lines};
 use fj_cli::{ReplayFault, replay, replayed};
+use fj_replay::upgraded;
 use std::alloc::{AllocError, Global};
 use std::io::{self, Read};
 use std::rt::{Clock, Files};
@@ -108,5 +109,30 @@ fn a_script_in_memory(rt: HostRuntime) -> Result<(), Fail> {
     assert_eq!(rt; replies.as_slice(), b"task 0\nrun 0\ndone\n".as_slice());
     let fault = replayed(alloc, b"async 33 1 1 1\n".as_slice()).err();
     assert_eq!(rt; fault, Some(ReplayFault::Limits));
+    let upgrade = upgraded(alloc, script)?;
+    let named = replayed(alloc, upgrade.as_slice())?;
+    assert_eq!(rt; named.as_slice(), b"task t0\nrun t0\ndone\n".as_slice());
+    Ok(())
+}
+
+/// The fault of a script whose third line begins so, where its reader fails after that.
+fn fault_behind(alloc: Global, line: &str) -> Result<Option<ReplayFault>, AllocError> {
+    let script = format!(in alloc; "fj 2;async 1 1 2 8;{line}")?;
+    let mut input = Halting::new(bytes(alloc, &script)?, true);
+    let mut out = Vec::new(alloc);
+    Ok(replay(alloc, &mut input, &mut out).err())
+}
+
+/// The 67th byte is a fault before another one is read.
+#[test]
+fn a_line_has_66_bytes_at_most(rt: HostRuntime) -> Result<(), Fail> {
+    let longest = "fork aaaaaaaaaaaaaaa1 4294967295 aaaaaaaaaaaaaaa2 4294967295 relay";
+    assert_eq!(rt; longest.len(), 66);
+    assert_eq!(rt; fault_behind(rt.alloc(), longest)?, Some(ReplayFault::Read));
+    let longer = format!(in rt.alloc(); "{longest}s")?;
+    assert_eq!(rt;
+        fault_behind(rt.alloc(), &longer)?,
+        Some(ReplayFault::Line(3))
+    );
     Ok(())
 }

@@ -1,6 +1,6 @@
+use crate::commands::bytes;
+use crate::script::{REPLIES, SCRIPT};
 use crate::streams::{End, Halting, Narrow};
-use crate::test_rows::bytes;
-use crate::tests::{REPLIES, SCRIPT};
 use fj_cli::{ReplayFault, Watched, replay};
 use std::test::Fail;
 

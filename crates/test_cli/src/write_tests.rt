@@ -1,6 +1,6 @@
+use crate::commands::{REPLAY, Ran, bytes};
+use crate::script::{REPLIES, SCRIPT};
 use crate::streams::{End, Narrow};
-use crate::test_rows::{REPLAY, Ran, bytes};
-use crate::tests::{REPLIES, SCRIPT};
 use fj_cli::fj;
 use std::alloc::{AllocError, Global};
 use std::rt::{Clock, Files};

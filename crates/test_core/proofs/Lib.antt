@@ -1,2 +1,0 @@
--- A hand that holds nothing.
-mod Idle

@@ -1,4 +1,4 @@
-//! Tests of the core of a pool, driven by hand, and of its bookings; of gates, lanes and agreements, by threads too; and of who sleeps.
+//! Tests of bookings; of gates, lanes and agreements, by threads too; and of who sleeps.
 #![tactic(auto)]
 
 #[cfg(test)]
@@ -8,12 +8,6 @@ mod agreement_thread_tests;
 #[cfg(test)]
 mod booking_tests;
 #[cfg(test)]
-mod calls;
-#[cfg(test)]
-mod core_tests;
-#[cfg(test)]
-mod driver;
-#[cfg(test)]
 mod gate_thread_tests;
 #[cfg(test)]
 mod lane_tests;
@@ -22,10 +16,4 @@ mod lane_thread_tests;
 #[cfg(test)]
 mod number;
 #[cfg(test)]
-mod rows;
-#[cfg(test)]
 mod sleep_tests;
-#[cfg(test)]
-mod tells;
-#[cfg(test)]
-mod work;

@@ -1,5 +1,5 @@
-//! Tests of jobs: `invoke` and folded trees, by worker threads, against worked values and against loops; bodies that fail, and stops, at
-//! each turn and after each action, in a core driven by hand and in a pool of threads. Each wait for another thread is bounded.
+//! Tests of jobs: `invoke` and folded trees, by worker threads, against worked values and against loops. Each wait for another thread is
+//! bounded.
 #![tactic(auto)]
 
 #[cfg(test)]
@@ -7,23 +7,11 @@ mod body_by_hand;
 #[cfg(test)]
 mod body_tests;
 #[cfg(test)]
-mod by_hand;
-#[cfg(test)]
 mod compute_tests;
 #[cfg(test)]
 mod drawn;
 #[cfg(test)]
-mod failing;
-#[cfg(test)]
-mod failing_tests;
-#[cfg(test)]
 mod fold_tests;
-#[cfg(test)]
-mod folds;
-#[cfg(test)]
-mod hungry;
-#[cfg(test)]
-mod lazies;
 #[cfg(test)]
 mod lazy_tests;
 #[cfg(test)]
@@ -34,10 +22,6 @@ mod meeting;
 mod one_by_one;
 #[cfg(test)]
 mod range_tests;
-#[cfg(test)]
-mod stop_tests;
-#[cfg(test)]
-mod sums;
 #[cfg(test)]
 mod trees;
 #[cfg(test)]

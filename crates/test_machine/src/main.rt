@@ -1,4 +1,4 @@
-//! Tests of the machine from outside: a program that replays the scripts of text files, and tests with threads and random steps.
+//! Tests of the machine from outside: a program that replays the scripts of text files.
 //!
 //! `test_machine FILE..` prints how many scripts each file has. A script with another reply than in the file is reported on standard
 //! error, with its place; then the exit status is 1.
@@ -7,14 +7,6 @@
 mod answers;
 #[cfg(test)]
 mod epoch_tests;
-#[cfg(test)]
-mod open_tests;
-#[cfg(test)]
-mod picks;
-#[cfg(test)]
-mod place_tests;
-#[cfg(test)]
-mod random_epoch_tests;
 mod report;
 #[cfg(test)]
 mod report_tests;
@@ -22,10 +14,6 @@ mod report_tests;
 mod run_tests;
 mod script;
 mod shown;
-#[cfg(test)]
-mod tally;
-#[cfg(test)]
-mod thread_tests;
 
 use crate::report::report_on;
 use anyhow::{Result, bail};

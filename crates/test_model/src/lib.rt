@@ -2,15 +2,11 @@
 #![tactic(auto)]
 
 #[cfg(test)]
-mod fault_tests;
-#[cfg(test)]
-mod heading_tests;
+mod line_tests;
 #[cfg(test)]
 mod queues_tests;
 #[cfg(test)]
 mod reply_tests;
-#[cfg(test)]
-mod step_tests;
 #[cfg(test)]
 mod tally_tests;
 #[cfg(test)]
