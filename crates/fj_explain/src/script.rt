@@ -8,89 +8,85 @@ use fj_replay::{Names, Player, ScriptStop, TaskNaming, is_title};
 use std::alloc::Global;
 use std::fmt::Write;
 
-/// What comes next.
-#[derive(Drop)]
-enum Stage {
-    /// The first line.
-    Start,
-    /// The heading, behind `fj 2`.
-    Titled,
-    /// A step.
-    Going(Explainer, bool),
-}
-
 /// Runs a script of either version, and writes each line with its reply, and below it why nothing was done: below each refusal, and the
 /// replies `spent`, `early`, `skip`, `none` and `no`. What is written is a script for `fj test`, with the reasons as comments.
 ///
 /// `Line` at the first line that may not stand where it does, and `Limits` where a limit is out of its range, each with the reason; what
 /// is written then are the lines before it. `Memory` if out of memory, `Write` if the writer fails.
 pub fn explain<W: Write>(alloc: Global, script: &str, w: &mut W) -> Result<(), ExplainFault> {
-    let mut stage = Stage::Start;
-    let mut number = 1u64;
-    for line in script.split_inclusive('\n') {
-        let Some(words) = line.strip_suffix('\n') else {
-            return Err(ExplainFault::Line(number, Flaw::NoLineFeed));
-        };
-        stage = next(alloc, stage, number, words, w)?;
-        number = number.saturating_add(1);
+    let (first, others) = cut(script, 1)?;
+    if !is_title(first.as_bytes()) {
+        return explain_from(alloc, TaskNaming::Numbers, 1, first, others, w);
     }
-    match stage {
-        Stage::Going(_, _) => Ok(()),
-        _ => Err(ExplainFault::Line(number, Flaw::Missing)),
+    writeln!(w, "{first}")?;
+    let (heading, steps) = cut(others, 2)?;
+    let naming = TaskNaming::Names(Names::new(alloc));
+    explain_from(alloc, naming, 2, heading, steps, w)
+}
+
+/// The first line of a text, without its line feed, and the lines behind it. The line has this number.
+fn cut(text: &str, number: u64) -> Result<(&str, &str), ExplainFault> {
+    match text.split_once('\n') {
+        Some(parts) => Ok(parts),
+        None if text.is_empty() => Err(ExplainFault::Line(number, Flaw::Missing)),
+        None => Err(ExplainFault::Line(number, Flaw::NoLineFeed)),
     }
 }
 
-/// Handles a line, without its line feed.
-fn next<W: Write>(
-    alloc: Global,
-    stage: Stage,
-    number: u64,
-    line: &str,
-    w: &mut W,
-) -> Result<Stage, ExplainFault> {
-    match stage {
-        Stage::Start if is_title(line.as_bytes()) => {
-            writeln!(w, "{line}")?;
-            Ok(Stage::Titled)
-        }
-        Stage::Start => open(alloc, TaskNaming::Numbers, false, number, line, w),
-        Stage::Titled => open(
-            alloc,
-            TaskNaming::Names(Names::new(alloc)),
-            true,
-            number,
-            line,
-            w,
-        ),
-        Stage::Going(mut explainer, has_names) => {
-            let Some(asked) = explainer.read(line) else {
-                return Err(ExplainFault::Line(number, flaw(line, has_names)));
-            };
-            explainer.explain(alloc, line, asked, w)?;
-            Ok(Stage::Going(explainer, has_names))
-        }
-    }
-}
-
-/// Handles the heading.
-fn open<W: Write>(
+/// Runs a script from its heading on, the line of this number. The machine is let go at this place alone, since each proves its drop.
+fn explain_from<W: Write>(
     alloc: Global,
     naming: TaskNaming,
+    number: u64,
+    heading: &str,
+    steps: &str,
+    w: &mut W,
+) -> Result<(), ExplainFault> {
+    let has_names = matches!(&naming, TaskNaming::Names(_));
+    let mut explainer = open(alloc, naming, number, heading)?;
+    explain_steps(alloc, &mut explainer, has_names, number, heading, steps, w)
+}
+
+/// Writes the heading, and handles the steps behind it.
+fn explain_steps<W: Write>(
+    alloc: Global,
+    explainer: &mut Explainer,
     has_names: bool,
     number: u64,
     heading: &str,
+    steps: &str,
     w: &mut W,
-) -> Result<Stage, ExplainFault> {
-    let player = match Player::open(alloc, heading.as_bytes(), naming) {
-        Ok(player) => player,
-        Err(LineStop::Stop(ScriptStop::Faulty)) => {
-            return Err(ExplainFault::Line(number, of_heading(heading)));
-        }
-        Err(LineStop::Stop(ScriptStop::Limits)) => return Err(of_limits(number, heading)),
-        Err(LineStop::Memory | LineStop::Write) => return Err(ExplainFault::Memory),
-    };
+) -> Result<(), ExplainFault> {
     writeln!(w, "{heading}")?;
-    Ok(Stage::Going(Explainer::new(alloc, player), has_names))
+    let mut number = number;
+    for line in steps.split_inclusive('\n') {
+        number = number.saturating_add(1);
+        let Some(words) = line.strip_suffix('\n') else {
+            return Err(ExplainFault::Line(number, Flaw::NoLineFeed));
+        };
+        let Some(asked) = explainer.read(words) else {
+            return Err(ExplainFault::Line(number, flaw(words, has_names)));
+        };
+        explainer.explain(alloc, words, asked, w)?;
+    }
+    Ok(())
+}
+
+/// A machine by the heading.
+fn open(
+    alloc: Global,
+    naming: TaskNaming,
+    number: u64,
+    heading: &str,
+) -> Result<Explainer, ExplainFault> {
+    match Player::open(alloc, heading.as_bytes(), naming) {
+        Ok(player) => Ok(Explainer::new(alloc, player)),
+        Err(LineStop::Stop(ScriptStop::Faulty)) => {
+            Err(ExplainFault::Line(number, of_heading(heading)))
+        }
+        Err(LineStop::Stop(ScriptStop::Limits)) => Err(of_limits(number, heading)),
+        Err(LineStop::Memory | LineStop::Write) => Err(ExplainFault::Memory),
+    }
 }
 
 fn of_limits(number: u64, heading: &str) -> ExplainFault {
