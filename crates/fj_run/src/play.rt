@@ -12,7 +12,7 @@ pub trait Play<B: Body> {
     /// The result of the play.
     type Out: Drop;
 
-    /// What the result tells of the pool, by what the player has seen of its history at the end of the play, and what it has submitted.
+    /// A relation of the result to what the player has seen of the history at the end of the play, and to what it has submitted.
     /// By default nothing.
     ghost told: { RunningState B B.Key B.Out → Self.Out → Type 0 } = { λ _ _. Unit {0} };
 
