@@ -1,8 +1,8 @@
 #!/usr/bin/env bash
-# Runs the trials that are no part of `rt ci`, on the programs that it left: what `fj` answers beside what is written, the samples of the
-# documents, the laws that nothing names, the mutants that do not fit the code, the program through pipes and as an attacker would use it, a
-# program that is built without a proof by tools/quick, views of random histories beside their lines, where there is a JDK scripts beside
-# Java's pool, where there is a C compiler each allocation refused in turn, and a pool by threads, whose tests are built here.
+# Runs the trials that are no part of `rt ci`, on the programs that it left: what `fj` and `test_machine` answer beside what is written, the
+# samples of the documents, the laws that nothing names, the mutants that do not fit the code, the program through pipes and as an attacker
+# would use it, a program that is built without a proof by tools/quick, views of random histories beside their lines, where there is a JDK
+# scripts beside Java's pool, where there is a C compiler each allocation refused in turn, and the tests by threads and of texts, built here.
 #
 #   tests/all.sh            the tests by threads 30 times each, ten minutes of load, a service in flat memory, whether jobs that use no
 #                           workers are told, and with a C compiler the C interface
@@ -25,7 +25,7 @@ tests/threads/run.sh --load "$load" "$runs" > "$log" 2>&1 &
 by_threads=$!
 trap 'kill "$by_threads" 2> /dev/null || true; rm -f "$log"' EXIT
 
-trials=(tests/answers/*.py tests/documents/*.sh tests/documents/*.py tests/proofs/*.py tests/mutants/edits.py tests/quick/*.sh tests/pipes/*.sh tests/hostile/*.sh tests/views/*.sh)
+trials=(tests/answers/*.py tests/documents/*.sh tests/documents/*.py tests/proofs/*.py tests/mutants/edits.py tests/quick/*.sh tests/pipes/*.sh tests/hostile/*.sh tests/views/*.sh tests/texts/*.sh)
 if ((runs)); then
     trials+=(tests/workers/*.sh tests/load/service.sh)
     if command -v cc > /dev/null; then

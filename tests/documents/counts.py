@@ -1,5 +1,5 @@
 #!/usr/bin/env python3
-"""Counts what the documents and the help count: samples, scripts, limits; the files of tests by threads beside their table, the crates of others beside what is
+"""Counts what the documents and the help count: samples, scripts, limits; the folders of tests by threads beside their table, the crates of others beside what is
 trusted, our own in the table of all and where some are copied. Tells what differs; the exit status is 1 if anything does. Usage: tests/documents/counts.py
 """
 import glob
@@ -45,8 +45,8 @@ def differing_numbers():
         ("docs/MODEL.md", r"1 to (\S+) workers, 1 to (\S+) submitters, 1 to (\S+) kept tasks and 1 to (\S+) events", limits),
         ("docs/POOL.md", r"1 to (\S+) workers and submitters, 1 to (\S+) tasks, 1 to (\S+) events", limits[1:]),
         ("docs/MANUAL.md", r"More than (\S+) are a fault of the command line", [constant("MAX_BLOCKS")]),
-        ("crates/fj_cli/src/command_line/help.rt", r"at least 1 of each, at\s+most (\d+), (\d+), (\d+) and (\d+)", limits),
-        ("crates/fj_cli/src/command_line/help.rt", r"At most (\d+) blocks", [constant("MAX_BLOCKS")]),
+        ("crates/fj_arguments/src/help.rt", r"at least 1 of each, at\s+most (\d+), (\d+), (\d+) and (\d+)", limits),
+        ("crates/fj_arguments/src/help.rt", r"At most (\d+) blocks", [constant("MAX_BLOCKS")]),
     ]:
         given = re.search(said, text_of(page))
         numbers = [number(it) for it in given.groups()] if given else "nothing like"
@@ -56,8 +56,8 @@ def differing_numbers():
 
 def missing_names():
     """What should stand in a table, and does not; and what stands there alone."""
-    tests = {os.path.basename(it).removesuffix(".rt.in") for it in glob.glob("tests/threads/*_tests.rt.in")}
-    told = set(re.findall(r"^\| `(\w+)` \|", text_of("tests/threads/README.md").partition("## What they refuse")[0], flags=re.M))
+    tests = {os.path.basename(os.path.dirname(it)) for it in glob.glob("tests/threads/*/*_tests.rt.in")}
+    told = set(re.findall(r"^\| `(\w+)/` \|", text_of("tests/threads/README.md"), flags=re.M))
     yield from (f"tests/threads/README.md: {it}" for it in sorted(tests ^ told))
     names = re.findall(r"^(\w+)(?: staticlib)?: ?(.*)$", text_of("crates.txt"), flags=re.M)
     foreign = {it for _, below in names for it in below.split() if it not in dict(names)}

@@ -19,7 +19,7 @@ import time
 TOP = os.path.dirname(os.path.dirname(os.path.dirname(os.path.realpath(__file__))))
 HEAD = re.compile(r"\s*(//|#\[)")
 IMPL = re.compile(r"(?:unsafe )?impl(?:<[^{]*?>)? (?:(?:\w+::)*(\w+)[^{]* for )?(\w+)")
-FUNCTION = re.compile(r"(\s*)(?:pub(?:\([^)]*\))? )?(?:const |unsafe )*fn (\w+)")
+FUNCTION = re.compile(r"(\s*)(?:pub(?:\([^)]*\))? )?(?:const |unsafe |extern \"C\" )*fn (\w+)")
 # what is said of a proof that names what the edit took away: that judges no contract
 FORM = re.compile(r"has no field|is not in scope|has no `|was not admitted")
 # what is said of a function that waits for the proof of another

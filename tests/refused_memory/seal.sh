@@ -1,7 +1,7 @@
 #!/usr/bin/env bash
 # Refuses each allocation of tests of a seal in turn. One of the making of its machine must end the test with that answer. One of the
 # seal must be answered by it: with the machine unchanged, after which one test seals once more, and the list of moves of the other goes on.
-# Needs a C compiler, and the built tests: cd crates/test_machine && rt test
+# Needs a C compiler, and the built tests: cd crates/test_model && rt test
 set -euo pipefail
 . "$(dirname "${BASH_SOURCE[0]}")/trial.bash"
 
@@ -9,7 +9,7 @@ for test in a_seal_without_memory_changes_nothing a_list_goes_on_behind_a_seal_w
     making=0
     sealing=0
     for ((number = 1; number <= 100; number++)); do
-        if refuse "$number" "$crates/test_machine/out/test_machine_tests" "epoch_tests::$test"; then
+        if refuse "$number" "$crates/test_model/out/test_model_tests" "epoch_tests::$test"; then
             grep -q 'a seal was refused' "$folder/out" || break
             sealing=$((sealing + 1))
         else

@@ -2,13 +2,14 @@
 use Rattle.std.proofs.Common.{ℕ, ◌≡◌, ◌≢◌, ◌⊎◌, refl, sym, subst, inl, inr, ⊎_elim, arith, List, Option}
 use Rattle.fj_trees.specs.declared.tree_fault.TreeFault.{TreeFault}
 use Rattle.fj_trees.specs.declared.tree_fault.TreeFault.TheVariants.{Line, Memory, Read}
-use Rattle.fj_cli.specs.declared.command_line.options.RangeOptions.{RangeOptions}
-use Rattle.fj_cli.specs.declared.command_line.Subcommand.{Subcommand}
-use Rattle.fj_cli.specs.declared.command_line.Subcommand.TheVariants.{Replay, Upgrade, Compute, Record, Check, Trace, Test, Explain, View}
-use Rattle.fj_cli.specs.declared.command_line.Job.{Job}
-use Rattle.fj_cli.specs.declared.command_line.Job.TheVariants.{Sum, Min, Find, Tree}
+use Rattle.fj_arguments.specs.declared.options.RangeOptions.{RangeOptions}
+use Rattle.fj_arguments.specs.declared.command_line.Subcommand.{Subcommand}
+use Rattle.fj_arguments.specs.declared.command_line.Subcommand.TheVariants.{Replay, Upgrade, Compute, Record, Check, Trace, Test, Explain, View}
+use Rattle.fj_arguments.specs.declared.command_line.Job.{Job}
+use Rattle.fj_arguments.specs.declared.command_line.Job.TheVariants.{Sum, Min, Find, Tree}
 use Rattle.fj_cli.specs.Answers.{EndsRange, EndsTree, HasTooManyBlocks, status_of_fault}
-use Rattle.fj_cli.specs.Statuses.{EndsCommand, EndsCompute, EndsHistory, EndsReplay, EndsRun, IsOfFailure}
+use Rattle.fj_commands.specs.Statuses.{EndsHistory, EndsReplay, IsOfFailure}
+use Rattle.fj_cli.specs.Statuses.{EndsCommand, EndsCompute, EndsRun}
 use Rattle.fj_cli.specs.Failures.{IsTooMuch}
 use Rattle.fj_replay.specs.Faults.{Replays}
 

@@ -1,10 +1,11 @@
 -- How a job over a range ended, by the numbers of the range that it had.
 use Rattle.std.proofs.Common.{ℕ, ◌≡◌, ◌≤◌, ◌∙◌, sym, subst, ap, inr, List, Option}
 use Rattle.fj_jobs.specs.Ranges.{range_sum, residues_hit, residues_least}
-use Rattle.fj_cli.specs.declared.command_line.options.RangeOptions.{RangeOptions}
-use Rattle.fj_cli.specs.declared.command_line.options.FunctionOptions.{FunctionOptions}
+use Rattle.fj_arguments.specs.declared.options.RangeOptions.{RangeOptions}
+use Rattle.fj_arguments.specs.declared.options.FunctionOptions.{FunctionOptions}
 use Rattle.fj_cli.specs.declared.job_commands.TheConstants.{MAX_BLOCKS}
-use Rattle.fj_cli.specs.Answers.{EndsJob, EndsRange, blocks_of, count_of, hit_line, hit_of, least_line, least_of, number_line, sum_of}
+use Rattle.fj_commands.specs.Answers.{EndsJob, number_line}
+use Rattle.fj_cli.specs.Answers.{EndsRange, blocks_of, count_of, hit_line, hit_of, least_line, least_of, sum_of}
 
 module _ (o : RangeOptions) (from count status : ℕ) (start now : Option (List ℕ)) (begins : from ≡ o.from) (counted : count ≡ count_of o) (few : blocks_of o ≤ MAX_BLOCKS) where
   pub sum_ended : (n : ℕ) → n ≡ range_sum from count → EndsJob status (number_line n) start now → EndsRange o status (number_line (sum_of o)) start now

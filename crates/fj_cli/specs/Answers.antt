@@ -1,7 +1,7 @@
 -- What the commands that run a job write, and how they end.
 use Rattle.std.specs.Prelude.{ℕ, ◌≡◌, ◌+◌, ◌-◌, ◌<◌, ◌≤◌, ◌⊎◌, List, [], ◌∷◌, ◌++◌, codes, decimal, Option, Some, None}
 use Rattle.std.specs.Int.{div_ceil}
-use Rattle.std.specs.Io.KnownBytes.{Appends, IsAtEnd}
+use Rattle.std.specs.Io.KnownBytes.{IsAtEnd}
 use Rattle.fj_lines.specs.declared.read.TheConstants.{LINE_FEED}
 use Rattle.fj_rules.specs.declared.refusal.Refusal.{Refusal}
 use Rattle.fj_rules.specs.declared.refusal.Refusal.TheVariants.{OutOfMemory}
@@ -11,11 +11,11 @@ use Rattle.fj_trees.specs.declared.tree_fault.TreeFault.TheVariants.{Line, Memor
 use Rattle.fj_jobs.specs.Ranges.{range_sum, residues_hit, residues_least}
 use Rattle.fj_trees.specs.Trees.{FaultOf, IsTree, tree_text}
 use Rattle.fj_trees.specs.TreeValues.{node_value}
-use Rattle.fj_streams.specs.Beginnings.{AppendsSome}
-use Rattle.fj_cli.specs.declared.command_line.Job.{Job}
-use Rattle.fj_cli.specs.declared.command_line.Job.TheVariants.{Sum, Min, Find, Tree}
-use Rattle.fj_cli.specs.declared.command_line.options.RangeOptions.{RangeOptions}
-use Rattle.fj_cli.specs.declared.command_line.options.FunctionOptions.{FunctionOptions}
+use Rattle.fj_arguments.specs.declared.command_line.Job.{Job}
+use Rattle.fj_arguments.specs.declared.command_line.Job.TheVariants.{Sum, Min, Find, Tree}
+use Rattle.fj_arguments.specs.declared.options.RangeOptions.{RangeOptions}
+use Rattle.fj_arguments.specs.declared.options.FunctionOptions.{FunctionOptions}
+use Rattle.fj_commands.specs.Answers.{EndsJob, number_line}
 use Rattle.fj_cli.specs.declared.job_commands.TheConstants.{MAX_BLOCKS}
 
 -- ---- values
@@ -39,10 +39,7 @@ hit_of o f want = residues_hit f.mul f.add f.modulus want o.from (count_of o)
 
 -- ---- lines
 
--- how they are written, each on a line of its own
-abbrev pub number_line : ℕ → List ℕ
-number_line n = decimal n ++ LINE_FEED ∷ []
-
+-- how they are written, each on a line of its own; a number as `number_line`
 abbrev pub least_line : Option (ℕ × ℕ) → List ℕ
 least_line (Some p) = decimal p.0 ++ 32 ∷ number_line p.1
 least_line None = codes "none" ++ LINE_FEED ∷ []
@@ -57,14 +54,6 @@ hit_line None = codes "none" ++ LINE_FEED ∷ []
 abbrev pub status_of_refusal : Refusal → ℕ
 status_of_refusal OutOfMemory = 4
 status_of_refusal _ = 3
-
--- a job, whose value has this line, ended with this exit status: 0 where the line was written; where a write failed a prefix of it was;
--- else nothing
-pub record EndsJob (status : ℕ) (line : List ℕ) (start now : Option (List ℕ)) : Type 0 where
-  pub known : (status ≡ 0) ⊎ ((status ≡ 3) ⊎ ((status ≡ 4) ⊎ (status ≡ 5)))
-  pub written : status ≡ 0 → Appends start now line
-  pub begun : status ≡ 5 → AppendsSome start now line
-  pub silent : (status ≡ 3) ⊎ (status ≡ 4) → now ≡ start
 
 -- the same of a job over a range, which is run if it has at most `MAX_BLOCKS` blocks, and else ends with 2
 abbrev pub EndsRange : RangeOptions → ℕ → List ℕ → Option (List ℕ) → Option (List ℕ) → Type 0

@@ -1,12 +1,9 @@
 pub use Rattle.fj_replay.specs.Cuts
 pub use Rattle.fj_replay.specs.Scripts
 pub use Rattle.fj_replay.specs.Faults
--- how an option is declared
-pub mod Options
--- the values of a command's options in the arguments
-pub mod Given
--- the command line, and what its arguments ask for
-pub mod Commands
+pub use Rattle.fj_arguments.specs.Options
+pub use Rattle.fj_arguments.specs.Given
+pub use Rattle.fj_arguments.specs.Commands
 -- what the commands that run a job write
 pub mod Answers
 -- the meaning of exit statuses

@@ -4,10 +4,12 @@ ghost use Rattle.fj_rules.specs.declared.limits.TheConstants.{MAX_EVENTS, MAX_TA
 ghost use Rattle.fj_rules.specs.Bounds.{bounds};
 ghost use Rattle.fj_streams.specs.Calls.{HasFailed};
 ghost use Rattle.fj_cli.specs.declared.job_commands.TheConstants.{MAX_BLOCKS};
-ghost use Rattle.fj_cli.specs.Answers.{EndsRange, blocks_of, count_of, hit_line, hit_of, least_line, least_of, number_line, sum_of};
+ghost use Rattle.fj_commands.specs.Answers.{number_line};
+ghost use Rattle.fj_cli.specs.Answers.{EndsRange, blocks_of, count_of, hit_line, hit_of, least_line, least_of, sum_of};
 
-use crate::answer::{answered, refused, told};
-use crate::command_line::{FunctionOptions, RangeOptions, Workers};
+use crate::refused::refused;
+use fj_arguments::{FunctionOptions, RangeOptions, Workers};
+use fj_commands::{answered, told};
 use fj_invoke::{
     BlockedRange, Divide, FirstHit, LinearMod, Open, RangeMin, RangeSum, Settings, invoke,
     invoke_lazily,

@@ -6,22 +6,12 @@
 //! [`read_tree`] and [`fold_tree`].
 #![tactic(auto)]
 
-mod answer;
-mod check_command;
-mod command_line;
-mod explain_command;
 mod job_commands;
 mod notes_file;
 mod program;
 mod record_command;
-mod replay_command;
-mod script_end;
-mod script_text;
-mod test_command;
-mod trace_command;
+mod refused;
 mod tree_command;
-mod upgrade_command;
-mod view_command;
 
 pub use fj_expect::{Mismatch, TestFault, test};
 pub use fj_explain::{ExplainFault, Flaw, LimitFlaw, explain};

@@ -4,24 +4,20 @@ ghost use Rattle.clap.specs.Words.{kind_of};
 ghost use Rattle.std.specs.IoError.{error_kind};
 ghost use Rattle.fj_streams.specs.Calls.{HasFailed};
 ghost use Rattle.fj_filter.specs.Tells.{seen};
-ghost use Rattle.fj_cli.specs.Commands.{IsForScript, TellsOfFault};
-ghost use Rattle.fj_cli.specs.Failures.{FailsProgram, FailsToCopy, IsMisused, NamesFile};
+ghost use Rattle.fj_arguments.specs.Commands.{IsForScript, TellsOfFault};
+ghost use Rattle.fj_commands.specs.Failures.{FailsToCopy};
+ghost use Rattle.fj_cli.specs.Failures.{FailsProgram, IsMisused, NamesFile};
 ghost use Rattle.fj_cli.specs.Statuses.{EndsCommand, EndsCompute, EndsKnown, EndsProgram, StatusOfNoWords};
 
-use crate::answer::{answered, told};
-use crate::check_command::run_check;
-use crate::command_line::{Job, Subcommand, read};
-use crate::explain_command::run_explain;
 use crate::job_commands::{run_find, run_min, run_sum};
 use crate::record_command::run_record;
-use crate::replay_command::run_replay;
-use crate::test_command::run_test;
-use crate::trace_command::run_trace;
 use crate::tree_command::run_tree;
-use crate::upgrade_command::run_upgrade;
-use crate::view_command::run_view;
 use clap::Error;
 use clap::error::ErrorKind;
+use fj_arguments::{Job, Subcommand, read};
+use fj_commands::{
+    answered, run_check, run_explain, run_replay, run_test, run_trace, run_upgrade, run_view, told,
+};
 use fj_streams::{Sink, Source, write_whole};
 use std::alloc::{AllocError, Global};
 use std::io;
@@ -35,7 +31,7 @@ use std::thread::Threads;
 /// script has another reply than the one behind it. 2: a usage error. 3: a fault of the input, or a job that
 /// the pool refused. 4: out of memory. 5: a read or a write failed. For all but 0 a text is sent to `err`, which may fail. `out` is
 /// flushed after a command, and after help or the version; a failed flush gives 5. A file is opened only where an option names one.
-#[tactic(auto, using(crate::proofs::Answered::shown_asks, crate::proofs::Answered::else_at_fault, crate::proofs::Ended::status_of_command, crate::proofs::Ended::known_of_replay))]
+#[tactic(auto, using(fj_arguments::proofs::Answered::shown_asks, fj_arguments::proofs::Answered::else_at_fault, crate::proofs::Ended::status_of_command, crate::proofs::Ended::known_of_replay))]
 pub fn fj<H: Threads + Wait + Sync + Files + Clock, R: Source, W: Sink, E: Sink>(
     rt: &H,
     alloc: Global,

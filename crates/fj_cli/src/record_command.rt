@@ -3,11 +3,12 @@ ghost use Rattle.std.specs.Prelude.{◌≡◌, ◌⊎◌, IfErr, OnOk, is_some, 
 ghost use Rattle.fj_streams.specs.Calls.{HasFailed};
 ghost use Rattle.fj_cli.specs.Statuses.{EndsRecord, EndsRun, WritesHistory};
 
-use crate::answer::{refused, told};
-use crate::command_line::{Job, Workers};
 use crate::job_commands::{TOO_MANY, blocks, limits_of, linear};
-use crate::notes_file::{Watch, create_file, told_of_error};
+use crate::notes_file::{Watch, create_file};
+use crate::refused::refused;
 use crate::tree_command::told_of_fault;
+use fj_arguments::{Job, Workers};
+use fj_commands::{told, told_of_error};
 use fj_fold::{Nodes, read_tree, record_fold};
 use fj_invoke::{BlockedRange, Divide, FirstHit, RangeMin, RangeSum, Settings, record_job};
 use fj_record::{WriteFault, write_history};

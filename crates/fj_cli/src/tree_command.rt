@@ -3,11 +3,13 @@ ghost use Rattle.std.specs.Prelude.{◌≡◌, ◌⊎◌};
 ghost use Rattle.fj_streams.specs.Calls.{HasFailed};
 ghost use Rattle.fj_trees.specs.Trees.{IsTree};
 ghost use Rattle.fj_trees.specs.TreeValues.{node_value};
-ghost use Rattle.fj_cli.specs.Answers.{EndsJob, EndsTree, number_line, status_of_fault};
-ghost use Rattle.fj_cli.specs.Statuses.{IsOfFailure};
+ghost use Rattle.fj_commands.specs.Answers.{EndsJob, number_line};
+ghost use Rattle.fj_cli.specs.Answers.{EndsTree, status_of_fault};
+ghost use Rattle.fj_commands.specs.Statuses.{IsOfFailure};
 
-use crate::answer::{answered, refused, told_line};
-use crate::command_line::Workers;
+use crate::refused::refused;
+use fj_arguments::Workers;
+use fj_commands::{answered, told_line};
 use fj_fold::{Nodes, Open, TreeFault, fold_tree, read_tree};
 use fj_streams::{Sink, Source};
 use std::alloc::Global;

@@ -31,6 +31,3 @@ pub use look::Look;
 pub use new_gate::{MAX_TICKETS, gate};
 pub use ticket::{Closed, Ticket};
 pub use tickets::{Tickets, meet};
-
-#[cfg(test)]
-mod tests;

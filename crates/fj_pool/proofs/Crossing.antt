@@ -1,31 +1,21 @@
 -- A pool may be lent to other threads, where its bodies, keys and results may go to them.
 use denote.Param.Send.{IsSend, IsSync, sendable}
-use denote.Param.SendFields.{declared_send, declared_sync, as_row_send, as_row_sync}
+use denote.Param.SendFields.{declared_sync, as_row_sync}
 use denote.RattleType.{RattleType}
 use Rattle.std.proofs.Crossing.{crosses, sync}
 use Rattle.std.specs.declared.cmp.Eq as Eq
 use Rattle.std.specs.declared.cmp.PartialEq as PartialEq
-use Rattle.fj_agreement.proofs.end.End.TheSendSync.{the_send as end_send}
 use Rattle.fj_bodies.specs.declared.body.Body as Body
-use Rattle.fj_fronts.proofs.keeper.Keeper.TheSendSync.{the_send as keeper_send}
 use Rattle.fj_fronts.proofs.log.Log.TheSendSync.{the_sync as log_sync}
-use Rattle.fj_pool.proofs.condvars.Condvars.TheSendSync.{the_sync as condvars_sync}
 use Rattle.fj_guarded.specs.declared.naming.Naming as Naming
-use Rattle.fj_guarded.proofs.Crossing.{guarded_send}
-use Rattle.fj_guarded.specs.contracts.guarded.Guarded as Guarded
-use Rattle.fj_pool.specs.contracts.locked.Locked as Locked
-use Rattle.fj_pool.specs.contracts.locked.Locked.TheInside as LockedInside
+use Rattle.fj_parts.proofs.Crossing.{locked_send}
+use Rattle.fj_parts.specs.contracts.locked.Locked as Locked
+use Rattle.fj_pool.proofs.condvars.Condvars.TheSendSync.{the_sync as condvars_sync}
 use Rattle.fj_pool.specs.contracts.pool.Pool as Pool
 
 module _ (B N K O : RattleType) (g : Body.Ghosts B.Denot K.Denot O.Denot) (e : PartialEq.Ghosts K.Denot) (q : Eq.Ghosts K.Denot) (n : Naming.Ghosts N.Denot) (b : IsSend B) (k : IsSend K) (o : IsSend O) (named : IsSend N) where
-  locked_inner : IsSend (LockedInside.the_row B N K O g q e n)
-  locked_inner = declared_send (LockedInside.the_type B N K O g q e n) (
-    as_row_send (Guarded.the_field B N K O g e n) (guarded_send B N K O g e n b k o named),
-    (search (sendable, crosses, as_row_send, end_send), (search (sendable, crosses, as_row_send, keeper_send) depth 20, tt)),
-  )
-
-  locked_send : IsSend (Locked.the_row B N K O g q e n)
-  locked_send = record { owned = λ d vs x. (locked_inner.owned x.0 vs, tt); leaving = λ k d w. tt }
+  locked_row : IsSend (Locked.the_row B N K O g q e n)
+  locked_row = locked_send B N K O g e q n b k o named
 
   pub pool_sync : IsSync (Pool.the_row B N K O g e n q)
   pool_sync = declared_sync (Pool.the_type B N K O g e n q) (
@@ -33,7 +23,7 @@ module _ (B N K O : RattleType) (g : Body.Ghosts B.Denot K.Denot O.Denot) (e : P
     (
       search (sendable, as_row_sync) depth 20,
       (
-        search (sendable, crosses, as_row_sync, locked_send) depth 20,
+        search (sendable, crosses, as_row_sync, locked_row) depth 20,
         (
           search (sendable, crosses, as_row_sync, condvars_sync) depth 20,
           (search (sendable, crosses, as_row_sync, log_sync) depth 20, tt),

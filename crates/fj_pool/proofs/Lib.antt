@@ -1,15 +1,3 @@
--- the ends of lanes and gate meet, one after another
-mod Settling
--- a lane for each entrant
-mod Seating
--- the tickets, the lanes and the end that a record tells of
-mod Records
--- as many submissions were booked as the machine accepted
-mod Accepted
--- where all that was admitted was taken in, the lanes are empty
-mod Emptied
--- what calls leave of what the workers hold, and what their ends know of it
-mod Holdings
 -- what a caller has seen told
 mod Telling
 -- That it may go to another thread.

@@ -11,38 +11,19 @@
 //! ```
 #![tactic(auto)]
 
-mod closer;
 mod condvars;
-mod glance;
-mod hand;
-mod history;
-mod holding;
-mod locked;
-mod parts;
 mod pool;
-mod record;
-mod seat;
-mod still;
-mod submitter;
-mod tied;
 mod turns;
 mod turnstile;
 
-pub use closer::Closer;
 pub use fj_bodies::{Ask, Body, Heard, KeptResult, Outcome, Told};
 pub use fj_core::{Archive, Booking, Bookings, Core, Intake};
 pub use fj_gate::{Closing, Ticket};
 pub use fj_guarded::{Front, Naming};
 pub use fj_lane::{Parcel, Rest};
 pub use fj_machine::Machine;
+pub use fj_parts::{Closer, Glance, Hand, History, Parts, Record, Still, Submitter};
 pub use fj_rules::{Kind, Limits, Mode, Refusal, Sealed, Serial, SubId, WorkerId};
 pub use fj_slots::SerialMap;
-pub use glance::Glance;
-pub use hand::Hand;
-pub use history::History;
-pub use parts::Parts;
 pub use pool::{Opened, Pool};
-pub use record::Record;
-pub use still::Still;
-pub use submitter::Submitter;
 pub use turnstile::{Open, Turnstile};

@@ -44,7 +44,25 @@ pub fn run<R: Source, W: Sink>(
     ensures memory { result ≡ Err ReplayFault.Memory → StarvesFrom script_rules NeedsMemory first FilterFault.Memory (R.remaining r.old) (R.remaining r.new) (W.contents w.old) (W.contents w.new) }
 {
     let mut stage = first;
-    match filter(alloc, &mut stage, r, w) {
+    let ended = run_on(alloc, &mut stage, r, w);
+    // Explicit drops are proved faster.
+    drop(stage);
+    ended
+}
+
+/// The same, on a stage that the caller lets go.
+fn run_on<R: Source, W: Sink>(
+    alloc: Global,
+    stage: &mut ScriptStage,
+    r: &mut R,
+    w: &mut W,
+) -> Result<(), ReplayFault>
+    ensures ok { OnOk result (Finishes script_rules stage.old stage.new (R.remaining r.old) (R.remaining r.new) (W.contents w.old) (W.contents w.new)) }
+    ensures fine { OnOk result (IsFine (R.calls r.old) (R.calls r.new) × IsFine (W.calls w.old) (W.calls w.new)) }
+    ensures err { IfErr result (StopsFrom stage.old (seen R.remaining R.calls r.old r.new) (seen W.contents W.calls w.old w.new)) }
+    ensures memory { result ≡ Err ReplayFault.Memory → StarvesFrom script_rules NeedsMemory stage.old FilterFault.Memory (R.remaining r.old) (R.remaining r.new) (W.contents w.old) (W.contents w.new) }
+{
+    match filter(alloc, stage, r, w) {
         Ok(()) => Ok(()),
         Err(fault) => Err(replay_fault(fault)),
     }

@@ -92,11 +92,11 @@ impl ScriptStage {
         ensures err { IfErr result (λ stop. (is_title line.now ≡ false) × IsHeadStop line.now stop) }
     {
         if is_title(line) {
-            *self = ScriptStage::Titled;
+            self.set(ScriptStage::Titled);
             return Ok(());
         }
         let responder = Responder::open(alloc, line, TaskNaming::Numbers)?;
-        *self = ScriptStage::Plays(responder);
+        self.set(ScriptStage::Plays(responder));
         Ok(())
     }
 
@@ -109,7 +109,7 @@ impl ScriptStage {
     {
         let names = Names::new(alloc);
         let responder = Responder::open(alloc, line, TaskNaming::Names(names))?;
-        *self = ScriptStage::Plays(responder);
+        self.set(ScriptStage::Plays(responder));
         Ok(())
     }
 
@@ -130,7 +130,14 @@ impl ScriptStage {
         ensures memory { result ≡ Err LineStop.Memory → Appends (W.contents w.old) (W.contents w.new) [] }
     {
         let rewriter = Rewriter::open(alloc, line)?;
-        *self = ScriptStage::Rewrites(rewriter);
+        self.set(ScriptStage::Rewrites(rewriter));
         write_head(alloc, line, w)
+    }
+
+    /// Goes on to another stage. A function of its own, since each assignment proves the drop of the stage before.
+    fn set(&mut self, next: ScriptStage)
+        ensures { self.new ≡ next }
+    {
+        *self = next;
     }
 }

@@ -5,8 +5,8 @@ use Rattle.std.proofs.lemmas.Bool.{eqb-true}
 use Rattle.fj_gate.specs.Numbers.{IsNumbersBelow}
 use Rattle.fj_lane.specs.Ends.{LaneId}
 use Rattle.fj_gate.specs.Ends.{CloserState}
-use Rattle.fj_pool.specs.Seats.{SeatState, seats_from}
-use Rattle.fj_pool.specs.Winding.{tickets_of}
+use Rattle.fj_parts.specs.Seats.{SeatState, seats_from}
+use Rattle.fj_parts.specs.Winding.{tickets_of}
 use Rattle.fj_rules.specs.Lists.{times_in}
 use Rattle.fj_rules.proofs.Lists.Members.{times_in_cons}
 use Rattle.fj_run.specs.Playing.{SubmitsBy}

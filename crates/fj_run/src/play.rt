@@ -1,5 +1,5 @@
 ghost use Rattle.std.specs.Prelude.{◌≡◌, []};
-ghost use Rattle.fj_pool.specs.Winding.{tickets_of};
+ghost use Rattle.fj_parts.specs.Winding.{tickets_of};
 
 use crate::running::Running;
 use fj_pool::{Body, Naming};

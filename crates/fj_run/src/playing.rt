@@ -2,8 +2,8 @@ ghost use Rattle.std.specs.Prelude.{◌≡◌, [], ◌++◌, IfErr, IfOk, IfSome
 ghost use Rattle.fj_core.specs.Cores.{AreParts};
 ghost use Rattle.fj_rules.specs.Epochs.{IsPast};
 ghost use Rattle.fj_guarded.specs.Lanes.{lanes_of};
-ghost use Rattle.fj_pool.specs.Parts.{AreNew};
-ghost use Rattle.fj_pool.specs.Winding.{AreEmpty, has_terminated, submissions, tickets_of};
+ghost use Rattle.fj_parts.specs.Parts.{AreNew};
+ghost use Rattle.fj_parts.specs.Winding.{AreEmpty, has_terminated, submissions, tickets_of};
 ghost use Rattle.fj_run.specs.Playing.{IsLeftOf, RunningState};
 
 use crate::crew::{Crew, Ran, run_all};
@@ -137,13 +137,20 @@ where
             match played {
                 Some((out, mut front)) => {
                     history.begins_with(&mut front);
+                    // Explicit drops are proved faster.
+                    drop(front);
+                    drop(history);
                     Ok(Played {
                         player,
                         out,
                         record,
                     })
                 }
-                None => Err((Refusal::OutOfMemory, player)),
+                None => {
+                    drop(history);
+                    drop(record);
+                    Err((Refusal::OutOfMemory, player))
+                }
             }
         }
         Err(_) => Err((Refusal::OutOfMemory, player)),

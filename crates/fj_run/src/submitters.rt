@@ -1,5 +1,5 @@
 ghost use Rattle.std.specs.Prelude.{◌≡◌, [], IfErr, IfOk, length};
-ghost use Rattle.fj_pool.specs.Winding.{AreAll, tickets_of};
+ghost use Rattle.fj_parts.specs.Winding.{AreAll, tickets_of};
 ghost use Rattle.fj_run.specs.Playing.{SubmitsBy};
 
 use fj_pool::{Body, Naming, Submitter, Ticket};

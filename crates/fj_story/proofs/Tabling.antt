@@ -9,9 +9,7 @@ use Rattle.std.proofs.Math.ListN.{get_or-append}
 use Rattle.std.proofs.Math.Seq.{get_or-append_seam}
 use Rattle.fj_rules.specs.declared.event.Event.{Event}
 use Rattle.fj_rules.specs.declared.event.Event.TheVariants.{Acc, Make, Out, Skip, End, Add, Dec, Fire, Pass, Hooked, Settle, Close, Stop, Rel}
-use Rattle.fj_rules.specs.declared.kind.Kind.{Kind}
 use Rattle.fj_rules.specs.declared.kind.Kind.TheVariants.{Plain}
-use Rattle.fj_rules.specs.declared.owner.Owner.{Owner}
 use Rattle.fj_rules.specs.Bounds.{Pool}
 use Rattle.fj_rules.specs.Lists.{is_in}
 use Rattle.fj_rules.specs.Tasks.{tasks, accepted, accepted_by, is_completer}
@@ -26,7 +24,7 @@ use Rattle.fj_rules.proofs.Events.Lawful.{accept_number, allowed_more, by_events
 use Rattle.fj_rules.proofs.Completers.Climbed.{climbs_more, climbs_none}
 use Rattle.fj_story.specs.declared.row.TaskRow.{TaskRow}
 use Rattle.fj_story.specs.Rows.{row, rows}
-use Rattle.fj_story.specs.Changes.{FitsAdd, changed, first_row, row_at, rows_after, rows_other, rows_told, stopped, told_by}
+use Rattle.fj_story.specs.Changes.{FitsAdd, changed, first_row, row_at, rows_after, rows_told, stopped, told_by}
 use Rattle.fj_story.specs.Tabled.{Tabled}
 use Rattle.fj_story.proofs.RowsKept.{row_same}
 use Rattle.fj_story.proofs.RowsChanged.{made_row, stopped_row, submitted_row, told_known, told_row}
@@ -223,10 +221,3 @@ rows_are past rs now tabled =
 
 pub numbers_are : (past : Past) (rs : List TaskRow) (now : ℕ) → Tabled past rs now → tasks past.events ≡ range_with_len 0 (length rs)
 numbers_are past rs now tabled = are_numbered past.pool past.events tabled.lawful ∙ ap (range_with_len 0) (sym tabled.count)
-
--- an event of another kind
-pub other_rows : (rs : List TaskRow) (e : Event) (n : ℕ) → ((t : ℕ) (o : Owner) (k : Kind) → e ≡ Acc t o k → ⊥) → ((t : ℕ) (k : Kind) → e ≡ Make t k → ⊥) → (e ≡ Stop → ⊥) → rows_other rs e n ≡ rs
-other_rows rs (Acc t o k) n accepts makes stops = absurd (accepts t o k refl)
-other_rows rs (Make t k) n accepts makes stops = absurd (makes t k refl)
-other_rows rs Stop n accepts makes stops = absurd (stops refl)
-other_rows rs _ n accepts makes stops = refl

@@ -76,13 +76,12 @@ impl TraceStage {
         ensures memory { result ≡ Err LineStop.Memory → Appends (W.contents w.old) (W.contents w.new) [] }
     {
         if is_title(line) {
-            *self = TraceStage::Titled;
+            self.set(TraceStage::Titled);
             return Ok(());
         }
         let tracer = Tracer::open(alloc, line, TaskNaming::Numbers)?;
-        write_heading(alloc, line, w)?;
-        *self = TraceStage::Going(tracer);
-        Ok(())
+        self.set(TraceStage::Going(tracer));
+        write_heading(alloc, line, w)
     }
 
     /// Handles the heading, at `Titled`.
@@ -101,9 +100,15 @@ impl TraceStage {
     {
         let names = Names::new(alloc);
         let tracer = Tracer::open(alloc, line, TaskNaming::Names(names))?;
-        write_heading(alloc, line, w)?;
-        *self = TraceStage::Going(tracer);
-        Ok(())
+        self.set(TraceStage::Going(tracer));
+        write_heading(alloc, line, w)
+    }
+
+    /// Goes on to another stage. A function of its own, since each assignment proves the drop of the stage before.
+    fn set(&mut self, next: TraceStage)
+        ensures { self.new ≡ next }
+    {
+        *self = next;
     }
 }
 

@@ -1,4 +1,4 @@
-//! Tests of bookings; of gates, lanes and agreements, by threads too; and of who sleeps.
+//! Tests of gates, lanes and agreements.
 #![tactic(auto)]
 
 #[cfg(test)]
@@ -6,14 +6,8 @@ mod agreement_tests;
 #[cfg(test)]
 mod agreement_thread_tests;
 #[cfg(test)]
-mod booking_tests;
-#[cfg(test)]
-mod gate_thread_tests;
+mod gate_tests;
 #[cfg(test)]
 mod lane_tests;
 #[cfg(test)]
-mod lane_thread_tests;
-#[cfg(test)]
 mod number;
-#[cfg(test)]
-mod sleep_tests;

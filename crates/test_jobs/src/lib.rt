@@ -1,30 +1,11 @@
-//! Tests of jobs: `invoke` and folded trees, by worker threads, against worked values and against loops. Each wait for another thread is
-//! bounded.
+//! Tests whose built program also runs with allocations refused, and a large one.
 #![tactic(auto)]
 
 #[cfg(test)]
-mod body_by_hand;
+mod deep_tests;
 #[cfg(test)]
-mod body_tests;
-#[cfg(test)]
-mod compute_tests;
-#[cfg(test)]
-mod drawn;
-#[cfg(test)]
-mod fold_tests;
-#[cfg(test)]
-mod lazy_tests;
+mod graph_tests;
 #[cfg(test)]
 mod making_tests;
 #[cfg(test)]
-mod meeting;
-#[cfg(test)]
 mod one_by_one;
-#[cfg(test)]
-mod range_tests;
-#[cfg(test)]
-mod trees;
-#[cfg(test)]
-mod value_tests;
-#[cfg(test)]
-mod worker_tests;

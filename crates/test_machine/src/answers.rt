@@ -12,7 +12,7 @@ use std::str;
 
 /// How the lines of a script are run: one by one on a machine, which also shows its state; in one list by `run_epochs`; as text by
 /// `replayed`; or as text by `upgraded`, and its output by `replayed`.
-#[derive(Clone, Copy, Debug, PartialEq)]
+#[derive(Clone, Copy, Debug)]
 pub enum Way {
     Machine,
     RunEpochs,
@@ -28,6 +28,11 @@ impl Way {
             Way::RunEpochs => move_of(asked).is_some(),
             Way::Replayed | Way::Upgraded => read_step(asked.as_bytes()).is_ok(),
         }
+    }
+
+    /// Whether it runs text.
+    pub fn is_text(self) -> bool {
+        matches!(self, Way::Replayed | Way::Upgraded)
     }
 
     /// The answers to the lines that it takes, a line each.
@@ -144,16 +149,28 @@ fn told(alloc: Global, limits: &Limits, parts: &[Sealed], answers: &[Answer]) ->
     let mut text = String::new(alloc);
     let mut parts = parts.iter();
     for answer in answers {
-        match answer {
-            Answer::Said(said) => writeln!(text, "{}", Reply::new(*said, limits))?,
-            Answer::Sealed => match parts.next() {
-                Some(sealed) => writeln!(text, "{}", part(alloc, sealed)?)?,
-                None => writeln!(text, "no part")?,
-            },
-            Answer::Refused(refusal) => writeln!(text, "refused {}", refusal.number())?,
-        }
+        let sealed = match answer {
+            Answer::Sealed => parts.next(),
+            _ => None,
+        };
+        writeln!(text, "{}", line_of(alloc, limits, answer, sealed)?)?;
     }
     Ok(text)
+}
+
+/// The line of an answer, with the part that a seal handed out.
+fn line_of(
+    alloc: Global,
+    limits: &Limits,
+    answer: &Answer,
+    sealed: Option<&Sealed>,
+) -> Result<String> {
+    match (answer, sealed) {
+        (Answer::Said(said), _) => Ok(format!(in alloc; "{}", Reply::new(*said, limits))?),
+        (Answer::Sealed, Some(sealed)) => part(alloc, sealed),
+        (Answer::Sealed, None) => Ok(format!(in alloc; "no part")?),
+        (Answer::Refused(refusal), _) => Ok(format!(in alloc; "refused {}", refusal.number())?),
+    }
 }
 
 /// The heading, and the steps among the lines.

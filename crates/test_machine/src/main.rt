@@ -5,19 +5,23 @@
 #![tactic(auto)]
 
 mod answers;
-#[cfg(test)]
-mod epoch_tests;
 mod report;
-#[cfg(test)]
-mod report_tests;
-#[cfg(test)]
-mod run_tests;
 mod script;
 mod shown;
 
 use crate::report::report_on;
 use anyhow::{Result, bail};
+use std::alloc::Global;
 use std::{env, fs};
+
+/// Replays the scripts of a file, and prints how many it has, and which reply of each is wrong. Whether none is.
+fn replay(rt: &HostRuntime, alloc: Global, name: &String) -> Result<bool> {
+    let text = fs::read_to_string(rt, name.as_str())?;
+    let found = report_on(alloc, name, &text)?;
+    println!(rt; "scripts in {name}: {}", found.scripts)?;
+    eprint!(rt; "{}", found.mismatches)?;
+    Ok(found.mismatches.is_empty())
+}
 
 fn main(rt: HostRuntime) -> Result<()> {
     let alloc = rt.alloc();
@@ -27,13 +31,7 @@ fn main(rt: HostRuntime) -> Result<()> {
     }
     let mut is_well = true;
     for name in args.iter().skip(1) {
-        let text = fs::read_to_string(&rt, name.as_str())?;
-        let found = report_on(alloc, name, &text)?;
-        println!(rt; "scripts in {name}: {}", found.scripts)?;
-        if !found.mismatches.is_empty() {
-            eprint!(rt; "{}", found.mismatches)?;
-            is_well = false;
-        }
+        is_well &= replay(&rt, alloc, name)?;
     }
     if !is_well {
         bail!("not each script gave its replies");

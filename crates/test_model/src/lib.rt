@@ -1,6 +1,8 @@
-//! Tests of steps, replies and limits, of tallies, of the queues and of the tree, each by its public calls.
+//! Tests of steps, replies and limits, of the queues, the tree and the machine.
 #![tactic(auto)]
 
+#[cfg(test)]
+mod epoch_tests;
 #[cfg(test)]
 mod line_tests;
 #[cfg(test)]
@@ -8,6 +10,6 @@ mod queues_tests;
 #[cfg(test)]
 mod reply_tests;
 #[cfg(test)]
-mod tally_tests;
+mod run_tests;
 #[cfg(test)]
 mod tree_tests;

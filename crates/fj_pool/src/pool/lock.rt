@@ -1,8 +1,8 @@
 //! How the lock is taken.
-use crate::locked::Locked;
 use crate::pool::Pool;
 use fj_bodies::Body;
 use fj_guarded::Naming;
+use fj_parts::Locked;
 use fj_sleep::Contention;
 use std::sync::{MutexGuard, Wait};
 use std::{hint, thread};

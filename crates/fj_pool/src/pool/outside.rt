@@ -8,14 +8,12 @@ ghost use Rattle.fj_guarded.specs.Continuing.{EndsWith, IsNow, IsTold};
 ghost use Rattle.fj_pool.specs.Telling.{IsToldAt};
 ghost use Rattle.fj_guarded.specs.Looking.{IsQuietBehind};
 
-use crate::closer::Closer;
-use crate::glance::Glance;
-use crate::locked::Locked;
 use crate::pool::Pool;
 use crate::pool::work::LONGEST_WAIT;
 use fj_bodies::{Body, Outcome};
 use fj_gate::{Closing, Ticket};
 use fj_guarded::{Front, Naming};
+use fj_parts::{Closer, Glance, Locked};
 use fj_rules::{Refusal, Sealed};
 use fj_wake::ToWake;
 use std::sync::{MutexGuard, Wait};

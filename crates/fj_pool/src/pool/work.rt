@@ -5,13 +5,12 @@ ghost use Rattle.fj_core.specs.Cores.{CoreState};
 ghost use Rattle.fj_guarded.specs.Continuing.{IsNow};
 ghost use Rattle.fj_guarded.specs.Turning.{IsSeenLeaving, MayAsk, MayLeave, NextRight};
 
-use crate::hand::Hand;
-use crate::locked::Locked;
 use crate::pool::Pool;
 use crate::turns::observed_turn;
 use crate::turnstile::Turnstile;
 use fj_bodies::{Ask, Body, Heard};
-use fj_guarded::{Front, Naming, Next, Unneeded};
+use fj_guarded::{Front, Naming, Next};
+use fj_parts::{Hand, Locked};
 use fj_rules::{Refusal, WorkerId};
 use fj_sleep::{Contention, Idle};
 use fj_wake::{ToWake, place_of};
@@ -70,7 +69,7 @@ impl<B: Body, N: Naming> Pool<B, N> {
         let working = Working {
             rt,
             turnstile,
-            worker: hand.held.worker(),
+            worker: hand.worker(),
         };
         let mut ask: Option<Ask<B>> = None;
         let mut pace = Pace {
@@ -124,32 +123,27 @@ impl<B: Body, N: Naming> Pool<B, N> {
         match next {
             Next::Wait => {
                 pace.slept = true;
-                self.wait_in_join(working, guard, &mut pace.due, &mut hand.unneeded);
+                self.wait_in_join(working, guard, &mut pace.due, hand);
             }
             Next::Rest => {
                 pace.slept = true;
-                self.rest(working, guard, pace, &mut hand.unneeded);
+                self.rest(working, guard, pace, hand);
             }
             Next::Begin(_) => {
                 pace.idle = Idle::new();
-                self.let_go(guard, &mut pace.due, &mut hand.unneeded);
+                self.let_go(guard, &mut pace.due, hand);
             }
-            _ => self.let_go(guard, &mut pace.due, &mut hand.unneeded),
+            _ => self.let_go(guard, &mut pace.due, hand),
         }
         next
     }
 
     /// Releases the lock, notifies the threads that are due, and drops what is not needed any more.
     #[inline(always)]
-    fn let_go(
-        &self,
-        guard: MutexGuard<'_, Locked<B, N>>,
-        due: &mut ToWake,
-        unneeded: &mut Unneeded<B>,
-    ) {
+    fn let_go(&self, guard: MutexGuard<'_, Locked<B, N>>, due: &mut ToWake, hand: &mut Hand<B, N>) {
         drop(guard);
         self.wake_due(due);
-        unneeded.clear();
+        hand.clear();
     }
 
     /// The same, and sleeps until what was joined may have changed.
@@ -158,13 +152,13 @@ impl<B: Body, N: Naming> Pool<B, N> {
         working: &Working<'_, '_, R, T>,
         guard: MutexGuard<'_, Locked<B, N>>,
         due: &mut ToWake,
-        unneeded: &mut Unneeded<B>,
+        hand: &mut Hand<B, N>,
     )
         requires { working.now.worker < length N.hands }
     {
         let place = &self.condvars.workers[place_of(working.worker)];
         let seen = place.notifications();
-        self.let_go(guard, due, unneeded);
+        self.let_go(guard, due, hand);
         // If this leads to a task being queued, that notification comes after those that were seen.
         working.turnstile.idle(working.worker);
         place.sleep(working.rt, seen, Duration::from_secs(LONGEST_WAIT));
@@ -176,7 +170,7 @@ impl<B: Body, N: Naming> Pool<B, N> {
         working: &Working<'_, '_, R, T>,
         guard: MutexGuard<'_, Locked<B, N>>,
         pace: &mut Pace,
-        unneeded: &mut Unneeded<B>,
+        hand: &mut Hand<B, N>,
     )
         requires { working.now.worker < length N.hands }
     {
@@ -184,7 +178,7 @@ impl<B: Body, N: Naming> Pool<B, N> {
         let seen = place.notifications();
         let core = &*guard;
         let looks = core.is_lookout(working.worker);
-        self.let_go(guard, &mut pace.due, unneeded);
+        self.let_go(guard, &mut pace.due, hand);
         working.turnstile.idle(working.worker);
         match pace.idle.next_sleep() {
             Some(sleep) if looks => place.sleep(working.rt, seen, sleep),

@@ -1,6 +1,6 @@
 use Rattle.std.proofs.Common.{◌≡◌, string_bytes}
 use Rattle.std.specs.Prelude.{IfOk}
-use Rattle.fj_cli.specs.Answers.{number_line}
+use Rattle.fj_commands.specs.Answers.{number_line}
 use Rattle.fj_cli.proofs.Failed.{refused_unfailed}
 use Rattle.fj_cli.proofs.JobEnds.{sum_ended}
 use Rattle.fj_cli.proofs.job_commands.run_sum.Goals as goal

@@ -1,10 +1,10 @@
 use Rattle.std.proofs.Common.{⊎_elim, inl, inr, refl, subst, arith}
 use Rattle.std.specs.Prelude.{IfSome}
 use Rattle.clap.specs.Walk.{texts}
-use Rattle.fj_cli.specs.Commands.{Asks}
-use Rattle.fj_cli.proofs.Answered.{else_at_fault, shown_asks}
+use Rattle.fj_arguments.specs.Commands.{Asks}
+use Rattle.fj_arguments.proofs.Answered.{else_at_fault, shown_asks}
 use Rattle.fj_cli.proofs.Ended.{too_much}
-use Rattle.fj_cli.proofs.Failed.{failed_broken}
+use Rattle.fj_commands.proofs.Failed.{failed_broken}
 use Rattle.fj_cli.proofs.program.fj.Goals as goal
 
 pub returns-in-Ok-Some-clause-failed : goal.returns-in-Ok-Some-clause-failed

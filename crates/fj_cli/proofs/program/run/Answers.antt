@@ -2,7 +2,7 @@ use Rattle.std.proofs.Common.{⊎_elim, inl, inr, sym, subst}
 use Rattle.fj_filter.specs.Tells.{seen}
 use Rattle.fj_cli.specs.Failures.{NamesFile}
 use Rattle.fj_cli.specs.Statuses.{EndsCommand}
-use Rattle.fj_cli.proofs.Failed.{copy_failed, either_call}
+use Rattle.fj_commands.proofs.Failed.{copy_failed, either_call}
 use Rattle.fj_cli.proofs.program.run.Goals as goal
 
 pub returns-in-Replay-clause-failed : goal.returns-in-Replay-clause-failed

@@ -1,6 +1,6 @@
 use Rattle.std.proofs.Common.{◌≡◌, subst, string_bytes}
 use Rattle.std.specs.Prelude.{IfOk}
-use Rattle.fj_cli.specs.Answers.{EndsJob, number_line}
+use Rattle.fj_commands.specs.Answers.{EndsJob, number_line}
 use Rattle.fj_cli.proofs.tree_command.fold.Goals as goal
 
 pub returns-in-Ok-clause-job : goal.returns-in-Ok-clause-job

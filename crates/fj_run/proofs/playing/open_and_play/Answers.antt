@@ -1,7 +1,7 @@
 use Rattle.std.proofs.Common.{rules, List, ap, subst}
 use Rattle.fj_gate.specs.Numbers.{IsNumbersBelow}
-use Rattle.fj_pool.specs.Seats.{SeatState}
-use Rattle.fj_pool.specs.Winding.{AreSettled, tickets_of}
+use Rattle.fj_parts.specs.Seats.{SeatState}
+use Rattle.fj_parts.specs.Winding.{AreSettled, tickets_of}
 use Rattle.fj_run.specs.Playing.{RunningState}
 use Rattle.fj_run.proofs.playing.open_and_play.Goals as goal
 

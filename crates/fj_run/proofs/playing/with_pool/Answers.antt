@@ -1,5 +1,5 @@
 use Rattle.std.proofs.Common.{◌≡◌, IfOk, ap, ◌∙◌, subst}
-use Rattle.fj_pool.specs.Winding.{tickets_of}
+use Rattle.fj_parts.specs.Winding.{tickets_of}
 use Rattle.fj_run.proofs.Tickets.{none_drawn}
 use Rattle.fj_run.proofs.playing.with_pool.Goals as goal
 

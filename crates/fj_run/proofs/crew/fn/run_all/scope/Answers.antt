@@ -2,8 +2,8 @@ use base.Fraction.{full_share}
 use mir.Syntax.{named}
 use denote.Param.{param}
 use denote.Param.Send.{IsSend, param_send, param_sync, part_keyless}
-use Rattle.fj_pool.specs.contracts.hand.Hand as Hand
-use Rattle.fj_pool.proofs.hand.Hand.TheSendSync.{the_send as hand_send}
+use Rattle.fj_parts.specs.contracts.hand.Hand as Hand
+use Rattle.fj_parts.proofs.hand.Hand.TheSendSync.{the_send as hand_send}
 use Rattle.fj_run.proofs.Crossing.{crew_sync}
 use Rattle.fj_run.proofs.crew.fn.run_all.scope.Lts.{arg-2-1}
 use Rattle.fj_run.proofs.crew.fn.run_all.scope.Goals as goal

@@ -1,0 +1,24 @@
+//! The command that writes the history of a script's run.
+ghost use Rattle.std.specs.Prelude.{◌≡◌};
+ghost use Rattle.fj_filter.specs.Tells.{seen};
+ghost use Rattle.fj_commands.specs.Failures.{FailsToCopy};
+ghost use Rattle.fj_commands.specs.Statuses.{EndsTrace};
+
+use crate::script_end::end_script;
+use fj_streams::{Sink, Source};
+use fj_trace::trace;
+use std::alloc::Global;
+
+/// Runs a script, writes the history of its run, and answers the exit status.
+pub fn run_trace<R: Source, W: Sink, E: Sink>(
+    alloc: Global,
+    input: &mut R,
+    out: &mut W,
+    err: &mut E,
+) -> u8
+    ensures ends { EndsTrace result (R.remaining input.old) (R.remaining input.new) (W.contents out.old) (W.contents out.new) }
+    ensures failed { result ≡ 5 → FailsToCopy (seen R.remaining R.calls input.old input.new) (W.calls out.old) (W.calls out.new) }
+{
+    let ended = trace(alloc, input, out);
+    end_script(ended, out, err)
+}

@@ -1,0 +1,21 @@
+use Rattle.std.proofs.Common.{sym, ◌∙◌, subst}
+use Rattle.fj_guarded.specs.Continuing.{ContinuesAll}
+use Rattle.fj_guarded.proofs.GoesOn.{all_after, all_with, collects_on}
+use Rattle.fj_guarded.proofs.Keeping.{collects_keep}
+use Rattle.fj_parts.proofs.Holdings.{kept_still}
+use Rattle.fj_parts.proofs.locked.Locked.tell.Goals as goal
+
+pub append-requires-2 : goal.append-requires-2
+append-requires-2 g c = record {
+  follows = subst (λ log. ContinuesAll log c.collect-answer.new.self) (sym c.append.ensures)
+      (all_after _ _ _ c.self.invariant.log (collects_on _ _ c.args.ticket c.collect-answer.result c.collect-answer.ensures.collects));
+}
+
+pub invariant_of-self : goal.invariant_of-self
+invariant_of-self g c = record {
+  ends = kept_still g.N.Naming.hands c.self.inside.guarded.store.past c.collect-answer.new.self.store.past c.self.inside.ends.items c.self.invariant.ends
+      (collects_keep _ _ c.args.ticket c.collect-answer.result c.collect-answer.ensures.collects);
+  log = subst (λ log. ContinuesAll log c.collect-answer.new.self) (sym (c.learn.ensures.stays ∙ c.append-2.ensures))
+      (all_with _ _ (subst (λ log. ContinuesAll log c.collect-answer.new.self) (sym c.append.ensures)
+      (all_after _ _ _ c.self.invariant.log (collects_on _ _ c.args.ticket c.collect-answer.result c.collect-answer.ensures.collects))));
+}

@@ -1,0 +1,42 @@
+use Rattle.std.proofs.Common.{◌≡◌, List, All, length, sym, ap, ◌∙◌, subst}
+use Rattle.std.proofs.lemmas.List.{length-map}
+use Rattle.atomic_table.specs.Seated.{TableId}
+use Rattle.fj_lane.specs.Ends.{LaneId}
+use Rattle.fj_parts.specs.Holdings.{IsTied}
+use Rattle.fj_guarded.specs.Lanes.{lanes_of}
+use Rattle.fj_parts.specs.Parts.{PartsState}
+use Rattle.fj_parts.specs.Winding.{AreAll}
+use Rattle.fj_parts.proofs.Seating.{all_named, all_seats}
+use Rattle.fj_parts.proofs.parts.Parts.named.Goals as goal
+
+module _ {B K O : Type 0} where
+  -- the name has the lanes of the parts
+  lanes_named : (named : List LaneId) (made parts : PartsState B K O) → named ≡ lanes_of parts.core.lanes → made ≡ parts → named ≡ lanes_of made.core.lanes
+  lanes_named named made parts lanes is = lanes ∙ sym (ap (λ (p : PartsState B K O). lanes_of p.core.lanes) is)
+
+  -- and their pairs
+  pairs_named : (named : List TableId) (made parts : PartsState B K O) → named ≡ parts.pairs → made ≡ parts → named ≡ made.pairs
+  pairs_named named made parts pairs is = pairs ∙ sym (ap (λ (p : PartsState B K O). p.pairs) is)
+
+pub new-requires-clause-hands : goal.new-requires-clause-hands
+new-requires-clause-hands g c =
+    let inside = c.self.inside in
+    subst (λ ps. All (λ t. IsTied ps t) inside.hands.items) (sym (pairs_named g.N.Naming.hands _ c.args.self c.requires.hands c.self.view_is)) c.self.invariant.held.each
+
+pub new-requires-clause-named : goal.new-requires-clause-named
+new-requires-clause-named g c =
+    let inside = c.self.inside in
+    all_named inside.closer g.N.Naming.gate (lanes_of inside.core.lanes) g.N.Naming.lanes inside.seats.items c.self.invariant.paired
+    (c.requires.gate ∙ sym (ap (λ (p : PartsState g.row.B.Denot g.row.B-Key.Denot g.row.B-Out.Denot). p.closer.gate) c.self.view_is)) (lanes_named g.N.Naming.lanes _ c.args.self c.requires.lanes c.self.view_is)
+
+pub returns-clause-workers : goal.returns-clause-workers
+returns-clause-workers g c =
+    let tied = c.self.inside.hands.items in
+    let named : length g.N.Naming.hands ≡ length tied = ap length (pairs_named g.N.Naming.hands _ c.args.self c.requires.hands c.self.view_is) ∙ length-map tied (λ t. t.pair) in
+    ap length c.in-Ok.ensures.hands ∙ length-map tied (λ t. t.hand) ∙ sym named
+
+pub returns-clause-all : goal.returns-clause-all
+returns-clause-all g c =
+    let inside = c.self.inside in
+    subst (λ seats. AreAll (length g.N.Naming.lanes) seats) (sym c.in-Ok.ensures.submitters)
+    (all_seats inside.closer (lanes_of inside.core.lanes) g.N.Naming.lanes inside.seats.items c.self.invariant.paired (lanes_named g.N.Naming.lanes _ c.args.self c.requires.lanes c.self.view_is))

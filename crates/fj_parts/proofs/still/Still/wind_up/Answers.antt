@@ -1,0 +1,87 @@
+use Rattle.std.proofs.Common.{ℕ, ◌≡◌, ◌&&◌, true, List, Some, length, map, sym, ap, ◌∙◌, subst}
+use Rattle.std.specs.Prelude.{IfSome, slice_get}
+use Rattle.std.specs.List.{sum_by}
+use Rattle.std.specs.Option.{option_eq}
+use Rattle.std.proofs.Math.Dec.{eqb}
+use Rattle.fj_rules.specs.Answers.{is_quiet}
+use Rattle.fj_rules.specs.Pasts.{Past}
+use Rattle.fj_core.specs.Closes.{is_number}
+use Rattle.fj_core.specs.Closings.{is_over}
+use Rattle.fj_gate.specs.Ends.{EntrantState, drawn_by}
+use Rattle.fj_gate.specs.Numbers.{IsNumbersBelow}
+use Rattle.fj_lane.specs.Ends.{DrainState}
+use Rattle.fj_rules.specs.declared.event.Event.{Event}
+use Rattle.fj_core.specs.declared.booking.Booking.{Booking}
+use Rattle.fj_core.specs.Booked.{IsBooked}
+use Rattle.fj_slots.specs.Shelves.{entries}
+use Rattle.fj_guarded.specs.Lanes.{lanes_of}
+use Rattle.fj_parts.specs.Seats.{SeatState}
+use Rattle.fj_parts.specs.Winding.{has_terminated, submissions}
+use Rattle.fj_parts.proofs.Accepted.{booked_accepted}
+use Rattle.fj_parts.proofs.Emptied.{all_admitted, emptied}
+use Rattle.fj_parts.proofs.Records.{all_settled, numbers_either_way, same_number, second_made, second_spared, third_after}
+use Rattle.fj_parts.proofs.still.Still.wind_up.Goals.{then-eq, else-eq, then-reached, else-reached}
+use Rattle.fj_parts.proofs.still.Still.wind_up.Goals as goal
+
+pub settle-entrants-requires-clause-lanes : goal.settle-entrants-requires-clause-lanes
+settle-entrants-requires-clause-lanes g c =
+    ap (λ (ds : List (DrainState g.row.B.Denot)). lanes_of ds) c.into_remains-machine.ensures.drains ∙ c.into_parts-core.ensures.lanes
+
+pub meet-tickets-requires-clause-same : goal.meet-tickets-requires-clause-same
+meet-tickets-requires-clause-same g c = λ k e low. c.settle-entrants.ensures.gates k e low ∙ sym c.closer.invariant.gate
+
+pub returns-clause-results : goal.returns-clause-results
+returns-clause-results g c = c.into_remains-machine.ensures.results ∙ ap (λ core. entries core.store.results) (c.into_parts-core.ensures.core ∙ c.self.view_is)
+
+pub returns-clause-lanes : goal.returns-clause-lanes
+returns-clause-lanes g c =
+    let ended = c.into_remains-machine.result in
+    let left = c.into_remains-machine.ensures in
+    let events : ended.machine.events ≡ c.into_parts-core.result.0.store.past.events = ap (λ past. past.events) left.past in
+    all_settled ended.machine.events ended.bookings.bookings ended.drains.items c.args.submitters.items c.settle-entrants.result.1.items c.settle-entrants.ensures.rests
+    (λ k d at.
+    subst (λ (x : List Event × List Booking). IsBooked x.0 x.1 k d) (λ i. (sym events i, sym left.bookings i))
+    (left.booked.each k d (ap (λ (ds : List (DrainState g.row.B.Denot)). slice_get ds k) (sym left.drains) ∙ at)))
+    c.requires.1
+
+pub returns-clause-admitted : goal.returns-clause-admitted
+returns-clause-admitted g c =
+    let entrants : List EntrantState = map (λ (s : SeatState g.row.B.Denot). s.entrant) c.args.submitters.items in
+    numbers_either_way c.meet-tickets.result.drawn entrants (subst (λ (es : List EntrantState). IsNumbersBelow c.meet-tickets.result.drawn (drawn_by es)) c.settle-entrants.ensures.entrants c.meet-tickets.ensures.numbers)
+
+pub returns-clause-taken_in : goal.returns-clause-taken_in
+returns-clause-taken_in g c =
+    let left = c.into_remains-machine.ensures in
+    ap (λ (bs : List Booking). length bs) left.bookings ∙ booked_accepted c.into_parts-core.result.0.store.past c.into_parts-core.result.0.lanes c.into_parts-core.result.0.bookings left.booked ∙ ap (λ (past : Past). submissions past) (sym left.past)
+
+pub returns-clause-terminated : goal.returns-clause-terminated
+returns-clause-terminated g c =
+    let machine = c.into_remains-machine.result.machine in
+    let past : c.into_parts-core.result.0.store.past ≡ machine = sym c.into_remains-machine.ensures.past in
+    let closed : c.meet-tickets.result.closed ≡ c.args.closer.closed = c.meet-tickets.ensures.closed ∙ ap (λ closer. closer.closed) c.closer.view_is in
+    let number : c.eq.result ≡ is_number c.args.closer.closed (submissions machine) =
+    c.eq.ensures ∙ (λ i. option_eq eqb (closed i) (Some (c.len.ensures i))) ∙ same_number c.args.closer.closed (length c.into_remains-machine.result.bookings.bookings) ∙ ap (λ (n : ℕ). is_number c.args.closer.closed n) (returns-clause-taken_in g c) in
+    let shut : c.is_shut-shut.result ≡ is_over machine.events = c.is_shut-shut.ensures ∙ ap (λ p. is_over p.events) past in
+    let quiet : c.is_quiescent-quiet.result ≡ is_quiet machine.pool.limits machine.events = c.is_quiescent-quiet.ensures ∙ ap (λ p. is_quiet p.pool.limits p.events) past in
+    let reached : c.if-eq.reached ≡ (c.eq.result && c.is_shut-shut.result) = elim c.if-eq.branch [
+      | then-eq w ↦ second_made c.eq.result c.is_shut-shut.result c.if-eq.reached w.if-eq.true w.reached-is
+      | else-eq w ↦ second_spared c.eq.result c.is_shut-shut.result c.if-eq.reached w.if-eq.false w.reached-is
+    ] in
+    let both : c.if-reached.terminated ≡ (c.if-eq.reached && c.is_quiescent-quiet.result) = elim c.if-reached.branch [
+      | then-reached w ↦ second_made c.if-eq.reached c.is_quiescent-quiet.result c.if-reached.terminated w.if-reached.true w.terminated-is
+      | else-reached w ↦ second_spared c.if-eq.reached c.is_quiescent-quiet.result c.if-reached.terminated w.if-reached.false w.terminated-is
+    ] in
+    third_after c.eq.result c.is_shut-shut.result c.is_quiescent-quiet.result c.if-eq.reached c.if-reached.terminated reached both ∙ (λ i. number i && shut i && quiet i)
+
+pub returns-clause-emptied : goal.returns-clause-emptied
+returns-clause-emptied g c terminated =
+    let left = c.into_remains-machine.ensures in
+    let machine = c.into_remains-machine.result.machine in
+    let bookings = c.into_remains-machine.result.bookings.bookings in
+    let reached : has_terminated c.args.closer.closed machine ≡ true = sym (returns-clause-terminated g c) ∙ terminated in
+    let closed : c.meet-tickets.result.closed ≡ c.args.closer.closed = c.meet-tickets.ensures.closed ∙ ap (λ closer. closer.closed) c.closer.view_is in
+    let admitted : c.meet-tickets.result.drawn ≡ length bookings =
+    all_admitted c.args.closer.closed machine c.meet-tickets.result.drawn reached (subst (λ o. IfSome o (λ m. c.meet-tickets.result.drawn ≡ m)) closed c.meet-tickets.ensures.at_close) ∙ sym (returns-clause-taken_in g c) in
+    emptied c.into_remains-machine.result.drains.items c.args.submitters.items c.settle-entrants.result.1.items (length bookings) c.settle-entrants.ensures.rests c.settle-entrants.ensures.seats
+    (ap (λ (bs : List Booking). length bs) left.bookings ∙ left.booked.all ∙ ap (λ (ds : List (DrainState g.row.B.Denot)). sum_by (λ d. length d.drained) ds) (sym left.drains))
+    ((returns-clause-admitted g c).0 ∙ admitted)

@@ -1,0 +1,132 @@
+ghost use Rattle.std.specs.Prelude.{◌≡◌, ◌≤◌, All, IfOk, IfErr, vec_len};
+ghost use Rattle.fj_rules.specs.declared.limits.TheConstants.{MAX_SUBMITTERS};
+ghost use Rattle.fj_lane.specs.declared.new_lane.TheConstants.{MAX_CAPACITY};
+ghost use Rattle.fj_gate.specs.Ends.{new_entrant};
+ghost use Rattle.fj_parts.specs.Parts.{AreNew, AreSeated, RefusesPool};
+
+use crate::holding::Holding;
+use crate::seat::Seat;
+use crate::tied::{Tied, tie_all};
+use fj_agreement::End;
+use fj_bodies::Body;
+use fj_core::Core;
+use fj_fronts::Opened;
+use fj_gate::{Entrant, gate};
+use fj_guarded::Moment;
+use fj_lane::{Drain, MAX_CAPACITY, lane};
+use fj_rules::{Limits, Mode, OutOfMemory, Refusal, SubId};
+use std::alloc::Global;
+use std::marker::Model;
+
+/// All parts of a pool, before the caller picks a name for them. In Java that is part of one call, the constructor of `ForkJoinPool`.
+#[derive(Drop)]
+pub struct Parts<B: Body> {
+    pub(crate) core: Core<B>,
+    pub(crate) hands: Vec<Tied<B>>,
+    pub(crate) ends: Vec<End<Holding>>,
+    pub(crate) seats: Vec<Seat<B>>,
+    pub(crate) closer: fj_gate::Closer,
+    pub(crate) log: Opened<Moment<B>>,
+}
+
+impl<B: Body> Model for Parts<B> {
+    ghost use Rattle.fj_parts.specs.Holdings.{HaveEnds, hands_of, pairs_of};
+    ghost use Rattle.fj_guarded.specs.Lanes.{lanes_of};
+    ghost use Rattle.fj_parts.specs.Parts.{ArePaired, PartsState};
+
+    ghost Value = { PartsState B B.Key B.Out };
+
+    ghost view = { λ p. record { core = p.core; hands = hands_of p.hands.items; pairs = pairs_of p.hands.items; seats = p.seats.items; closer = p.closer; log = p.log } };
+
+    ghost invariant = { λ p. record {
+      paired : ArePaired p.closer (lanes_of p.core.lanes) p.seats.items;
+      held : HaveEnds p.core.store.past p.hands.items p.ends.items;
+    } };
+}
+
+impl<B: Body> Parts<B> {
+    /// The parts of a new pool. Allocates all memory, except that for seals and that which is allocated as the pool is opened: for the lock, for
+    /// the lists of hands and submitters, and for winding up.
+    ///
+    /// `lane_capacity` is the number of bodies that each submitter may submit over its life: `BadLimits` if it is not from 1 to 65,536.
+    /// `OutOfMemory` if an allocation fails. `start` is the scan word of worker 0; that of each further worker is one more, modulo 2^32.
+    pub fn new(
+        alloc: Global,
+        mode: Mode,
+        limits: Limits,
+        lane_capacity: u32,
+        start: u32,
+    ) -> Result<Parts<B>, Refusal>
+        ensures ok { IfOk result (λ parts. AreNew mode limits lane_capacity start parts) }
+        ensures err { IfErr result (λ refusal. RefusesPool lane_capacity refusal) }
+    {
+        if lane_capacity == 0 || lane_capacity > MAX_CAPACITY {
+            return Err(Refusal::BadLimits);
+        }
+        match make(alloc, mode, limits, lane_capacity, start) {
+            Ok(parts) => Ok(parts),
+            Err(_) => Err(Refusal::OutOfMemory),
+        }
+    }
+}
+
+/// The same, within its range.
+fn make<B: Body>(
+    alloc: Global,
+    mode: Mode,
+    limits: Limits,
+    lane_capacity: u32,
+    start: u32,
+) -> Result<Parts<B>, OutOfMemory>
+    requires capacity { (1 ≤ lane_capacity) × (lane_capacity ≤ MAX_CAPACITY) }
+    ensures { IfOk result (λ parts. AreNew mode limits lane_capacity start parts) }
+{
+    let (entrants, closer) = gate(alloc, limits.submitters(), lane_capacity)?;
+    let (seats, drains) = seat_all(alloc, entrants, lane_capacity)?;
+    let Ok((core, untied)) = Core::new(alloc, mode, limits, lane_capacity, drains, start) else {
+        drop(seats);
+        return Err(OutOfMemory);
+    };
+    let Ok((hands, ends)) = tie_all(alloc, untied) else {
+        // Explicit drops are proved faster.
+        drop(core);
+        drop(seats);
+        return Err(OutOfMemory);
+    };
+    let Ok(log) = Opened::new(alloc) else {
+        drop(core);
+        drop(seats);
+        return Err(OutOfMemory);
+    };
+    Ok(Parts {
+        core,
+        hands,
+        ends,
+        seats,
+        closer,
+        log,
+    })
+}
+
+/// A numbered lane for each entrant. Preconditions: the capacity is in range, the entrants are new, and at most `MAX_SUBMITTERS`.
+fn seat_all<B: Drop>(
+    alloc: Global,
+    entrants: Vec<Entrant>,
+    lane_capacity: u32,
+) -> Result<(Vec<Seat<B>>, Vec<Drain<B>>), OutOfMemory>
+    requires capacity { (1 ≤ lane_capacity) × (lane_capacity ≤ MAX_CAPACITY) }
+    requires new { All (λ e. e ≡ new_entrant e.gate lane_capacity) entrants.items }
+    requires few { vec_len entrants ≤ MAX_SUBMITTERS }
+    ensures { IfOk result (λ r. AreSeated lane_capacity entrants.items r.0.items r.1.items) }
+{
+    let mut seats = Vec::with_capacity(alloc, entrants.len())?;
+    let mut drains = Vec::with_capacity(alloc, entrants.len())?;
+    let mut number = 0u32;
+    for entrant in entrants {
+        let (feed, drain) = lane(alloc, lane_capacity)?;
+        seats.push(Seat::new(SubId(number), entrant, feed, lane_capacity))?;
+        drains.push(drain)?;
+        number += 1;
+    }
+    Ok((seats, drains))
+}

@@ -1,0 +1,85 @@
+ghost use Rattle.std.specs.Prelude.{◌≡◌, ◌≤◌, [], All, IfSome, length, map, reverse, vec_len, vec_capacity};
+ghost use Rattle.fj_slots.specs.Shelves.{entries};
+ghost use Rattle.fj_guarded.specs.Lanes.{lanes_of};
+ghost use Rattle.fj_parts.specs.Seats.{IsSeat};
+ghost use Rattle.fj_parts.specs.Winding.{AreAll, HaveMet, IsLeft};
+
+use crate::seat::Seat;
+use crate::submitter::Submitter;
+use fj_bodies::{Body, KeptResult, Outcome, told_outcome};
+use fj_core::{Archive, Bookings};
+use fj_gate::{Entrant, Ticket};
+use fj_guarded::Naming;
+use fj_lane::{Drain, Rest, meet};
+use fj_machine::Machine;
+use fj_slots::SerialMap;
+
+/// What is left of a pool. Java has no counterpart.
+#[derive(Drop)]
+pub struct Record<B: Body> {
+    /// The machine, with the history since the last seal.
+    pub machine: Machine,
+    /// The results that were not taken, each under its task's number.
+    pub results: SerialMap<KeptResult<B>>,
+    /// What was taken in, in order.
+    pub bookings: Bookings,
+    /// The sealed parts of the history that were not handed out, the oldest first.
+    pub archive: Archive,
+    /// What each lane still holds, by the number of its submitter.
+    pub lanes: Vec<Rest<B>>,
+    /// How many submissions were admitted.
+    pub admitted: u64,
+    /// The number at which the gate was closed, if it was.
+    pub closed: Option<u64>,
+    /// Whether it had terminated: it was shut down or stopped, exactly the closing number of submissions was taken in, and all is quiet.
+    pub terminated: bool,
+}
+
+impl<B: Body> Record<B> {
+    /// The outcome of the submission under a ticket, if its task has ended and was not released: the one that `await_done` returned, or would
+    /// have, also if the pool got stuck. Only the first call gets a result.
+    pub fn take_outcome(&mut self, ticket: Ticket) -> Option<Outcome<B>>
+        ensures { IfSome result (λ outcome. IsLeft self.old.machine.events self.old.bookings.bookings (entries self.old.results) ticket outcome) }
+    {
+        let t = self.bookings.find(ticket)?;
+        match self.machine.status(t) {
+            Some(status) if !status.is_undone() => {
+                let kept = self.results.take(t);
+                Some(told_outcome(status, kept))
+            }
+            _ => None,
+        }
+    }
+}
+
+/// Joins the ends of each lane to its rest, and collects the entrants, the last first.
+pub(crate) fn settle<B: Drop, N: Naming>(
+    mut submitters: Vec<Submitter<B, N>>,
+    mut drains: Vec<Drain<B>>,
+    mut entrants: Vec<Entrant>,
+    mut rests: Vec<Rest<B>>,
+) -> (Vec<Entrant>, Vec<Rest<B>>)
+    requires all { AreAll (length N.lanes) submitters.items }
+    requires lanes { lanes_of drains.items ≡ N.lanes }
+    requires empty { (entrants.items ≡ []) × (rests.items ≡ []) }
+    requires room { (vec_len submitters ≤ vec_capacity entrants) × (vec_len submitters ≤ vec_capacity rests) }
+    ensures entrants { result.0.items ≡ reverse (map (λ s. s.entrant) submitters.items) }
+    ensures gates { All (λ e. e.gate ≡ N.gate) result.0.items }
+    ensures seats { All (λ s. IsSeat s) submitters.items }
+    ensures rests { HaveMet drains.items submitters.items result.1.items }
+{
+    while let Some(submitter) = submitters.pop() {
+        let Some(drain) = drains.pop() else {
+            unreachable!();
+        };
+        let Seat {
+            number: _,
+            entrant,
+            feed,
+        } = submitter.seat;
+        entrants.push_reserved(entrant);
+        rests.push_reserved(meet(feed, drain));
+    }
+    rests.reverse();
+    (entrants, rests)
+}
