@@ -1,6 +1,6 @@
 -- What the arguments do not ask for.
-use Rattle.std.proofs.Common.{ℕ, ◌≡◌, ◌+◌, ◌*◌, ◌∙◌, sym, subst, ap, refl, arith, List, [], ◌∷◌, Option, Some, None, option_map, codes}
-use Rattle.std.specs.Option.{unwrap_or}
+use Rattle.std.proofs.Common.{ℕ, ◌≡◌, ◌≢◌, ◌+◌, ◌*◌, ◌∙◌, sym, subst, ap, ap₂, refl, arith, List, [], ◌∷◌, Option, Some, None, option_map, codes}
+use Rattle.std.specs.Option.{IfNone, unwrap_or}
 use Rattle.std.specs.Box.{box_value}
 use Rattle.clap.specs.Words.{Row, Text, subcommand_rows, subcommand_rows_of, subcommand_name_of}
 use Rattle.clap.specs.declared.parser.matches.ArgMatches.{ArgMatches}
@@ -14,7 +14,7 @@ use Rattle.fj_arguments.specs.declared.options.FunctionOptions.{FunctionOptions}
 use Rattle.fj_arguments.specs.declared.options.RangeOptions.{RangeOptions}
 use Rattle.fj_arguments.specs.declared.options.ViewOptions.{ViewOptions}
 use Rattle.fj_arguments.specs.Commands.{name_in}
-use Rattle.fj_arguments.specs.Given.{Gives, GivesFunction, GivesJob, GivesOptions, GivesRange, GivesView, IsAsked, IsAskedJob, IsFunction, IsInRange, IsJob, IsPlain, IsRange, IsWindow, job_name, name_of}
+use Rattle.fj_arguments.specs.Given.{AsksForNoText, Gives, GivesFunction, GivesJob, GivesOptions, GivesRange, GivesView, IsAsked, IsAskedJob, IsFunction, IsInRange, IsJob, IsMetJob, IsPlain, IsRange, IsWindow, job_name, name_of}
 
 -- the name of the rows is the name
 pub names : (m : ArgMatches) → name_in (subcommand_rows_of m) ≡ subcommand_name_of m
@@ -29,6 +29,11 @@ text_in a b e = ap (λ (o : Option Text). unwrap_or o []) e
 
 rows_in : (a b : List Row) → Some a ≡ Some b → a ≡ b
 rows_in a b e = ap (λ (o : Option (List Row)). unwrap_or o []) e
+
+-- what follows from what a clause says where there is no value
+pub if_none_then : {X P Q : Type 0} (o : Option X) → IfNone o P → (P → Q) → IfNone o Q
+if_none_then None p follows = follows p
+if_none_then (Some x) p follows = p
 
 -- another number for each name of a command
 abbrev tag : Text → ℕ
@@ -54,6 +59,15 @@ module _ (m : ArgMatches) (name : Text) (given : List Row) (is : subcommand_name
   pub met_command : (a : Subcommand) → IsAsked (subcommand_rows_of m) a → (name ≡ name_of a) × GivesOptions given a
   met_command a asked =
       (same_name (name_of a) asked.0 asked.1, subst (λ (rows : List Row). GivesOptions rows a) (same_rows (name_of a) asked.0 asked.1) asked.2)
+
+  met_both : (o : Option (Text × List Row)) → name_in o ≡ Some name → option_map (λ (p : Text × List Row). p.1) o ≡ Some given → o ≡ Some (name, given)
+  met_both None none gives = absurd cc
+  met_both (Some met) names gives = ap₂ (λ (a : Text) (b : List Row). Some (a, b)) (text_in met.0 name names) (rows_in met.1 given gives)
+
+  -- a job of this name that has these options is asked for
+  pub asks_job : (job : Job) → IsMetJob name given job → IsAskedJob (subcommand_rows_of m) job
+  asks_job job met =
+      (given, met_both (subcommand_rows_of m) (names m ∙ is) has ∙ ap (λ (t : Text). Some (t, given)) met.0, met.1)
 
 -- ---- a job that was met, of which some option gives no number
 
@@ -100,3 +114,16 @@ no_view rows none Trace is met = let other : 691 ≡ 677 = ap tag met.0 in omega
 no_view rows none Test is met = let other : 691 ≡ 695 = ap tag met.0 in omega (arith, other)
 no_view rows none Explain is met = let other : 691 ≡ 617 = ap tag met.0 in omega (arith, other)
 no_view rows none (View o) is met = none o is met.1
+
+-- no other command was met
+pub no_other : (m : ArgMatches) → AsksForNoText (subcommand_rows_of m) → (subcommand_name_of m ≢ Some (codes "view")) → ((job : Job) → IsJob job → IsAskedJob (subcommand_rows_of m) job → ⊥)
+    → (a : Subcommand) → (a ≢ Replay) → (a ≢ Upgrade) → IsPlain a → IsAsked (subcommand_rows_of m) a → ⊥
+no_other m texts view jobs Replay replay upgrade is asked = replay refl
+no_other m texts view jobs Upgrade replay upgrade is asked = upgrade refl
+no_other m texts view jobs (Compute job) replay upgrade is asked = jobs job is asked
+no_other m texts view jobs (Record job notes) replay upgrade is asked = absurd is
+no_other m texts view jobs Check replay upgrade is asked = texts.check asked
+no_other m texts view jobs Trace replay upgrade is asked = texts.trace asked
+no_other m texts view jobs Test replay upgrade is asked = texts.test asked
+no_other m texts view jobs Explain replay upgrade is asked = texts.explain asked
+no_other m texts view jobs (View o) replay upgrade is asked = view (named m (codes "view") asked.0 asked.1)

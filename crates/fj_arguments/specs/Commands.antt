@@ -37,13 +37,17 @@ with_plain line name = with_subcommand line (new_app name).top
 abbrev pub with_texts : App → App
 with_texts line = with_plain (with_plain (with_plain (with_plain line (codes "check")) (codes "trace")) (codes "test")) (codes "explain")
 
--- the whole command line, as a parse sees it, but for what stands behind `record`
+-- the whole command line, as a parse sees it, but for the arguments of `record`
 abbrev pub whole_line : App
 whole_line = with_subcommand (with_plain (with_texts (with_jobs script_line)) (codes "record")) view_line.top
 
+-- the program from `record` on, without its options and jobs
+abbrev pub recorder_line : App
+recorder_line = on_top (λ top. record top { subcommand_required = true }) (new_app (codes "fj record"))
+
 -- the command line from `record` on
 abbrev pub record_line : App
-record_line = with_jobs (with_rule (on_top (λ top. record top { subcommand_required = true }) (new_app (codes "fj record"))) (file_rule (codes "notes")))
+record_line = with_jobs (with_rule recorder_line (file_rule (codes "notes")))
 
 -- the words of a replay
 abbrev pub replay_words : List Text

@@ -129,6 +129,10 @@ name_of Test = codes "test"
 name_of Explain = codes "explain"
 name_of (View o) = codes "view"
 
+-- the name is that of the job, and the options are its options
+abbrev pub IsMetJob : Text → List Row → Job → Type 0
+IsMetJob name rows job = (name ≡ job_name job) × GivesJob rows job
+
 -- the command of this name, with these options, is the job
 abbrev pub IsAskedJob : Option (Text × List Row) → Job → Type 0
 IsAskedJob met job = (rows : List Row) × (met ≡ Some (job_name job, rows)) × GivesJob rows job
@@ -136,3 +140,10 @@ IsAskedJob met job = (rows : List Row) × (met ≡ Some (job_name job, rows)) ×
 -- the command of this name, with these options, is the command to run
 abbrev pub IsAsked : Option (Text × List Row) → Subcommand → Type 0
 IsAsked met asked = (rows : List Row) × (met ≡ Some (name_of asked, rows)) × GivesOptions rows asked
+
+-- no command that has a text as input, and no options, is the command to run
+pub record AsksForNoText (met : Option (Text × List Row)) : Type 0 where
+  pub check : ¬ IsAsked met Check
+  pub trace : ¬ IsAsked met Trace
+  pub test : ¬ IsAsked met Test
+  pub explain : ¬ IsAsked met Explain

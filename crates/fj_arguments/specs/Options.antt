@@ -1,9 +1,19 @@
 -- The options of the commands.
-use Rattle.std.specs.Prelude.{ℕ, Bool, true, false, [], ◌∷◌, codes, Some}
-use Rattle.clap.specs.Words.{App, Rule, Text, new_app, new_rule, with_rule}
+use Rattle.std.specs.Prelude.{ℕ, ◌≡◌, Bool, true, false, [], ◌∷◌, codes, Some, Result, IfOk}
+use Rattle.clap.specs.Words.{App, Rule, Text, app_of, new_app, new_rule, with_rule}
+use Rattle.clap.specs.declared.builder.command.Command.{Command}
+use Rattle.clap.specs.declared.builder.command.Command.TheViews.{out-Command}
 use Rattle.clap.specs.declared.builder.action.ArgAction.TheVariants.{Set, SetTrue}
 use Rattle.clap.specs.declared.builder.value_parser.ValueParser.TheVariants.{Unsigned}
 use Rattle.fj_rules.specs.declared.limits.TheConstants.{MAX_WORKERS}
+
+-- a parse sees the command that was made as this line, unless memory ran out
+abbrev pub Makes : {E : Type 0} → Result Command E → App → Type 0
+Makes made line = IfOk made (λ c. app_of c ≡ line)
+
+-- the command that was made has no option that its subcommands share
+abbrev pub IsLocal : {E : Type 0} → Result Command E → Type 0
+IsLocal made = IfOk made (λ c. (out-Command c).has_globals ≡ false)
 
 -- an option with a number in this range
 abbrev pub required_rule : Text → ℕ → ℕ → Bool → Rule

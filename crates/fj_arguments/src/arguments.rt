@@ -7,17 +7,27 @@ use clap::builder::ValueParser;
 use clap::{Arg, ArgAction};
 use std::alloc::Global;
 
+/// An option with a text.
+fn valued<'a>(alloc: Global, name: &'a str, value: &'a str, help: &'a str) -> Arg<'a>
+    ensures rule { rule_of result ≡ file_rule name.entry.now }
+    ensures local { result.global ≡ false }
+{
+    Arg::new(alloc, name)
+        .long(name)
+        .value_name(value)
+        .action(ArgAction::Set)
+        .help(help)
+}
+
 /// An option with a number in this range.
 fn option<'a>(alloc: Global, name: &'a str, least: u32, most: u32, help: &'a str) -> Arg<'a>
     ensures rule { rule_of result ≡ required_rule name.entry.now least most false }
     ensures local { result.global ≡ false }
 {
-    Arg::new(alloc, name)
-        .long(name)
-        .value_name("N")
-        .action(ArgAction::Set)
-        .value_parser(ValueParser::unsigned(u64::from(least), u64::from(most)))
-        .help(help)
+    valued(alloc, name, "N", help).value_parser(ValueParser::unsigned(
+        u64::from(least),
+        u64::from(most),
+    ))
 }
 
 /// A required option: a number from `least` to 4,294,967,295.
@@ -49,12 +59,7 @@ pub fn word<'a>(alloc: Global, name: &'a str, value: &'a str, help: &'a str) -> 
     ensures rule { rule_of result ≡ word_rule name.entry.now }
     ensures local { result.global ≡ false }
 {
-    Arg::new(alloc, name)
-        .long(name)
-        .value_name(value)
-        .action(ArgAction::Set)
-        .required(true)
-        .help(help)
+    valued(alloc, name, value, help).required(true)
 }
 
 /// An option with a file's name, which may be left out.
@@ -62,11 +67,7 @@ pub fn file<'a>(alloc: Global, name: &'a str, help: &'a str) -> Arg<'a>
     ensures rule { rule_of result ≡ file_rule name.entry.now }
     ensures local { result.global ≡ false }
 {
-    Arg::new(alloc, name)
-        .long(name)
-        .value_name("FILE")
-        .action(ArgAction::Set)
-        .help(help)
+    valued(alloc, name, "FILE", help)
 }
 
 /// An option without a value.

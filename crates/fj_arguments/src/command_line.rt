@@ -1,11 +1,11 @@
 //! The command line: parses the arguments.
 ghost use Rattle.std.specs.Prelude.{◌≡◌, ◌≢◌, ◌↔◌, Some, None, IfOk, IfErr, IfSome, IfNone, codes, option_map};
 ghost use Rattle.clap.specs.Walk.{texts};
-ghost use Rattle.clap.specs.Words.{HasKind, fault_of, subcommand_name_of, subcommand_of, subcommand_rows_of};
+ghost use Rattle.clap.specs.Words.{HasKind, fault_of, found_of, rows_of, subcommand_name_of, subcommand_of, subcommand_rows_of};
 ghost use Rattle.fj_arguments.specs.Commands.{Asks, AsksNothing, Names, ReadsScript, faults_in, name_in, record_line, recorded_as, recorded_in, whole_line};
 ghost use Rattle.fj_arguments.specs.declared.command_line.Job.{Job};
 ghost use Rattle.fj_arguments.specs.declared.command_line.Subcommand.{Subcommand};
-ghost use Rattle.fj_arguments.specs.Given.{IsAsked, IsAskedJob, IsJob, IsPlain};
+ghost use Rattle.fj_arguments.specs.Given.{AsksForNoText, IsAsked, IsAskedJob, IsJob, IsMetJob, IsPlain};
 
 use crate::commands::{command, record_command};
 use crate::given::{read_function, read_range, read_view, read_want, read_workers};
@@ -129,6 +129,21 @@ fn asked_other<'a>(matches: &ArgMatches<'a>) -> Option<Subcommand<'a>>
     ensures other { IfSome result (λ a. (a ≢ Subcommand.Replay) × (a ≢ Subcommand.Upgrade)) }
     ensures none { IfNone result ((a : Subcommand) → (a ≢ Subcommand.Replay) → (a ≢ Subcommand.Upgrade) → IsPlain a → IsAsked (subcommand_rows_of matches.now) a → ⊥) }
 {
+    if let Some(asked) = asked_text(matches) {
+        return Some(asked);
+    }
+    if let Some(given) = matches.subcommand_matches("view") {
+        return Some(Subcommand::View(read_view(given)?));
+    }
+    Some(Subcommand::Compute(asked_job(matches)?))
+}
+
+/// The command that the arguments ask for, if it has a text as input, and no options.
+fn asked_text<'a>(matches: &ArgMatches<'a>) -> Option<Subcommand<'a>>
+    ensures asked { IfSome result (λ a. IsAsked (subcommand_rows_of matches.now) a) }
+    ensures other { IfSome result (λ a. (a ≢ Subcommand.Replay) × (a ≢ Subcommand.Upgrade)) }
+    ensures none { IfNone result (AsksForNoText (subcommand_rows_of matches.now)) }
+{
     if matches.subcommand_matches("check").is_some() {
         return Some(Subcommand::Check);
     }
@@ -141,10 +156,7 @@ fn asked_other<'a>(matches: &ArgMatches<'a>) -> Option<Subcommand<'a>>
     if matches.subcommand_matches("explain").is_some() {
         return Some(Subcommand::Explain);
     }
-    if let Some(given) = matches.subcommand_matches("view") {
-        return Some(Subcommand::View(read_view(given)?));
-    }
-    Some(Subcommand::Compute(asked_job(matches)?))
+    None
 }
 
 /// The job that the arguments ask for.
@@ -153,16 +165,48 @@ fn asked_job(matches: &ArgMatches) -> Option<Job>
     ensures none { IfNone result ((job : Job) → IsJob job → IsAskedJob (subcommand_rows_of matches.now) job → ⊥) }
 {
     if let Some(given) = matches.subcommand_matches("sum") {
-        return Some(Job::Sum(read_range(given)?));
+        return asked_sum(given);
     }
     if let Some(given) = matches.subcommand_matches("min") {
-        return Some(Job::Min(read_range(given)?, read_function(given)?));
+        return asked_min(given);
     }
     if let Some(given) = matches.subcommand_matches("find") {
-        return Some(Job::Find(read_range(given)?, read_function(given)?, read_want(given)?));
+        return asked_find(given);
     }
     if let Some(given) = matches.subcommand_matches("tree") {
-        return Some(Job::Tree(read_workers(given)?));
+        return asked_tree(given);
     }
     None
+}
+
+/// The sum that these options ask for.
+fn asked_sum(given: &ArgMatches) -> Option<Job>
+    ensures asked { IfSome result (λ job. IsMetJob (codes "sum") (rows_of (found_of given.now)) job) }
+    ensures none { IfNone result ((job : Job) → IsJob job → IsMetJob (codes "sum") (rows_of (found_of given.now)) job → ⊥) }
+{
+    Some(Job::Sum(read_range(given)?))
+}
+
+/// The least value that these options ask for.
+fn asked_min(given: &ArgMatches) -> Option<Job>
+    ensures asked { IfSome result (λ job. IsMetJob (codes "min") (rows_of (found_of given.now)) job) }
+    ensures none { IfNone result ((job : Job) → IsJob job → IsMetJob (codes "min") (rows_of (found_of given.now)) job → ⊥) }
+{
+    Some(Job::Min(read_range(given)?, read_function(given)?))
+}
+
+/// The search that these options ask for.
+fn asked_find(given: &ArgMatches) -> Option<Job>
+    ensures asked { IfSome result (λ job. IsMetJob (codes "find") (rows_of (found_of given.now)) job) }
+    ensures none { IfNone result ((job : Job) → IsJob job → IsMetJob (codes "find") (rows_of (found_of given.now)) job → ⊥) }
+{
+    Some(Job::Find(read_range(given)?, read_function(given)?, read_want(given)?))
+}
+
+/// The tree that these options ask for.
+fn asked_tree(given: &ArgMatches) -> Option<Job>
+    ensures asked { IfSome result (λ job. IsMetJob (codes "tree") (rows_of (found_of given.now)) job) }
+    ensures none { IfNone result ((job : Job) → IsJob job → IsMetJob (codes "tree") (rows_of (found_of given.now)) job → ⊥) }
+{
+    Some(Job::Tree(read_workers(given)?))
 }

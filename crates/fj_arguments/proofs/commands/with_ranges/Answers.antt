@@ -1,13 +1,4 @@
-use Rattle.std.proofs.Common.{◌≡◌, ◌∙◌, ap, ap₂, subst}
-use Rattle.std.specs.Prelude.{IfOk}
-use Rattle.clap.specs.Words.{App, app_of, with_subcommand}
 use Rattle.fj_arguments.proofs.commands.with_ranges.Goals as goal
 
--- with the shape of one command more
-abbrev with_shape : App → App → App
-with_shape above sub = with_subcommand above sub.top
-
 pub returns : goal.returns
-returns c =
-    let summed = c.in_ok-with_sum.ensures ∙ ap (with_shape (app_of c.args.command)) c.in_ok-sum.ensures.app in
-    subst (λ a. IfOk c.with_one-2.result (λ command. app_of command ≡ a)) (ap₂ with_shape summed c.in_ok-min.ensures.app) c.with_one-2.ensures
+returns c = λ line is. c.with_one.ensures _ _ (c.with_one-with_sum.ensures line _ is c.sum.ensures.app) c.min.ensures.app
