@@ -15,6 +15,7 @@ mod script_text;
 mod test_command;
 mod trace_command;
 mod upgrade_command;
+mod view;
 mod view_command;
 
 pub use answer::{answered, told, told_line};
@@ -25,4 +26,5 @@ pub use replay_command::run_replay;
 pub use test_command::run_test;
 pub use trace_command::run_trace;
 pub use upgrade_command::run_upgrade;
+pub use view::{View, write_view};
 pub use view_command::run_view;

@@ -10,10 +10,11 @@ ghost use Rattle.fj_commands.specs.Statuses.{EndsView, HasNotes, HasWindow, IsUn
 use crate::answer::{answered, told};
 use crate::check_command::told_of_fault;
 use crate::notes_file::{NoNotes, notes_in, told_of_none};
+use crate::view::{View, write_view};
 use fj_arguments::{ViewName, ViewOptions};
-use fj_story::{Notes, Story, read_story};
+use fj_picture::Window;
+use fj_story::{Moment, Notes, Story, read_story};
 use fj_streams::{Sink, Source};
-use fj_views::{Moment, View, Window, write_view};
 use std::alloc::{AllocError, Global};
 use std::rt::Files;
 

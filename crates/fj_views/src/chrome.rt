@@ -18,22 +18,34 @@ use times::Times;
 /// It is written as it goes, an event of the trace a line. A history does not say at which worker a trigger was made.
 pub fn write_chrome<W: fmt::Write>(alloc: Global, story: &Story, out: &mut W) -> fmt::Result {
     let times = Times::of(alloc, story)?;
+    let written = write_all(alloc, story, &times, out);
+    drop(times);
+    written
+}
+
+/// The same, with these times.
+fn write_all<W: fmt::Write>(
+    alloc: Global,
+    story: &Story,
+    times: &Times,
+    out: &mut W,
+) -> fmt::Result {
     out.write_str("{\"displayTimeUnit\":\"ns\",\"traceEvents\":[\n")?;
     threads::write_process(alloc, out)?;
     threads::write_workers(alloc, story, out)?;
     threads::write_submitters(alloc, story, out)?;
     for stretch in story.stretches().iter() {
         match stretch.work {
-            Work::Body(t) => bodies::write_body(alloc, story, &times, stretch, t, out)?,
-            Work::Hook(c) => bodies::write_hook(alloc, story, &times, stretch, c, out)?,
+            Work::Body(t) => bodies::write_body(alloc, story, times, stretch, t, out)?,
+            Work::Hook(c) => bodies::write_hook(alloc, story, times, stretch, c, out)?,
         }
     }
     for (n, task) in story.tasks().iter().enumerate() {
-        flows::write_acceptance(alloc, &times, n as u64, task, out)?;
-        flows::write_way(alloc, &times, n as u64, task, out)?;
+        flows::write_acceptance(alloc, times, n as u64, task, out)?;
+        flows::write_way(alloc, times, n as u64, task, out)?;
     }
     for mark in story.marks().iter() {
-        marks::write_mark(alloc, &times, mark, out)?;
+        marks::write_mark(alloc, times, mark, out)?;
     }
     out.write_str("\n]}\n")
 }

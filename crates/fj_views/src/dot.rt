@@ -22,15 +22,23 @@ pub fn write_dot<W: fmt::Write>(story: &Story, out: &mut W) -> fmt::Result {
 
 /// A completer, and the edge from its parent.
 fn write_node<W: fmt::Write>(story: &Story, n: u64, row: &TaskRow, out: &mut W) -> fmt::Result {
-    let pending = row.pending;
-    let went = went(story, n, row);
-    let status = row.status;
-    let fill = fill(row);
     write!(out, "  t{n} [label=\"{n}")?;
     if let Some(label) = story.label_of(n) {
         out.write_str(" ")?;
         write_quoted(label, out)?;
     }
+    write_look(row, went(story, n, row), out)?;
+    match row.kind.parent() {
+        Some(p) => writeln!(out, "  t{} -> t{n};", p.0),
+        None => Ok(()),
+    }
+}
+
+/// The rest of its label, and its looks.
+fn write_look<W: fmt::Write>(row: &TaskRow, went: &str, out: &mut W) -> fmt::Result {
+    let pending = row.pending;
+    let status = row.status;
+    let fill = fill(row);
     write!(
         out,
         "\\ncount {pending}, {went}\\n{status}\", fillcolor=\"{fill}\""
@@ -41,11 +49,7 @@ fn write_node<W: fmt::Write>(story: &Story, n: u64, row: &TaskRow, out: &mut W) 
     if !row.kind.relays() {
         out.write_str(", peripheries=2")?;
     }
-    out.write_str("];\n")?;
-    match row.kind.parent() {
-        Some(p) => writeln!(out, "  t{} -> t{n};", p.0),
-        None => Ok(()),
-    }
+    out.write_str("];\n")
 }
 
 /// A text within quotes.

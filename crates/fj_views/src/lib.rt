@@ -1,5 +1,5 @@
-//! Views of a history: a table of its tasks, counts, the path that decided its end, a trace for Perfetto and Chrome, the trees of its
-//! completers, and the picture of `fj_picture`.
+//! Views of a history as text: a table of its tasks, counts, the path that decided its end, a trace for Perfetto and Chrome, and the trees of
+//! its completers.
 //!
 //! Each is written of a [`Story`]. Contracts see the text of the table.
 //!
@@ -15,13 +15,10 @@ mod label;
 mod path;
 mod stats;
 mod tasks;
-mod view;
 
 pub use chrome::write_chrome;
 pub use dot::write_dot;
-pub use fj_picture::{Window, write_svg};
 pub use fj_story::{Moment, Story};
 pub use path::write_path;
 pub use stats::write_stats;
 pub use tasks::write_tasks;
-pub use view::{View, write_view};

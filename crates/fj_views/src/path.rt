@@ -15,7 +15,14 @@ use std::fmt;
 /// worker, so that is a part of its run. An error where the writer fails, or if out of memory.
 pub fn write_path<W: fmt::Write>(alloc: Global, story: &Story, out: &mut W) -> fmt::Result {
     let links = walk::links(alloc, story)?;
-    write_sums(links.as_slice(), out)?;
+    let written = write_links(story, links.as_slice(), out);
+    drop(links);
+    written
+}
+
+/// What the links come to, and then each.
+fn write_links<W: fmt::Write>(story: &Story, links: &[Link], out: &mut W) -> fmt::Result {
+    write_sums(links, out)?;
     for link in links.iter().rev() {
         write_link(story, link, out)?;
     }

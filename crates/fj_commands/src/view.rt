@@ -2,13 +2,9 @@ ghost use Rattle.std.specs.Prelude.{◌≡◌, OnOk};
 ghost use Rattle.std.specs.Fmt.{WritesInCalls};
 ghost use Rattle.fj_views.specs.Tables.{table_text};
 
-use crate::chrome::write_chrome;
-use crate::dot::write_dot;
-use crate::path::write_path;
-use crate::stats::write_stats;
-use crate::tasks::write_tasks;
 use fj_picture::{Window, write_svg};
 use fj_story::Story;
+use fj_views::{write_chrome, write_dot, write_path, write_stats, write_tasks};
 use std::alloc::Global;
 use std::fmt;
 
