@@ -20,7 +20,7 @@ use crate::body::{Body, Heard, Told};
 use crate::due::Due;
 use crate::kept_result::KeptResult;
 use fj_machine::Machine;
-use fj_rules::{Limits, Mode, OutOfMemory, Refusal};
+use fj_rules::{Limits, Mode, OutOfMemory, Refusal, both};
 use fj_slots::{SerialMap, SerialSet};
 use std::alloc::Global;
 use std::marker::Model;
@@ -71,16 +71,12 @@ impl<B: Body> Store<B> {
         let room = limits.tasks() as usize;
         // For the proof: the limits are in range.
         let _workers = limits.workers();
-        let bodies = SerialMap::new(alloc, room)?;
-        let results = SerialMap::new(alloc, room)?;
-        let taken = SerialSet::new(alloc, room)?;
-        let Ok(machine) = Machine::new(alloc, mode, limits) else {
-            // Explicit drops are proved faster.
-            drop(bodies);
-            drop(results);
-            drop(taken);
-            return Err(OutOfMemory);
-        };
+        let kept = both(SerialMap::new(alloc, room), SerialMap::new(alloc, room));
+        let moved = both(
+            SerialSet::new(alloc, room),
+            Machine::new(alloc, mode, limits),
+        );
+        let ((bodies, results), (taken, machine)) = both(kept, moved)?;
         Ok(Store {
             machine,
             bodies,

@@ -25,7 +25,7 @@ use fj_bodies::{Body, Heard, Outcome, Store, Told};
 use fj_gate::Ticket;
 use fj_lane::Drain;
 use fj_machine::Machine;
-use fj_rules::{Limits, Mode, OutOfMemory, Refusal, Serial};
+use fj_rules::{Limits, Mode, OutOfMemory, Refusal, Serial, both};
 use fj_slots::Hand;
 pub use remains::Remains;
 use std::alloc::Global;
@@ -73,9 +73,11 @@ impl<B: Body> Core<B> {
         ensures core { IfOk result (λ r. IsNew mode limits drains.items r.0) }
         ensures hands { IfOk result (λ r. r.1.items ≡ first_hands limits.workers start) }
     {
-        let bookings = Bookings::new(alloc, limits.submitters() * lane_capacity)?;
-        let hands = new_hands(alloc, limits.workers(), start)?;
-        let store = Store::new(alloc, mode, limits)?;
+        let hands = both(
+            Bookings::new(alloc, limits.submitters() * lane_capacity),
+            new_hands(alloc, limits.workers(), start),
+        );
+        let ((bookings, hands), store) = both(hands, Store::new(alloc, mode, limits))?;
         let core = Core {
             store,
             drains,

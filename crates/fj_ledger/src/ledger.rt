@@ -30,7 +30,7 @@ use crate::log::Log;
 use crate::open::OpenTasks;
 use crate::stacks::Stacks;
 use fj_queues::{Numbers, Queues};
-use fj_rules::{Event, Limits, Mode, OutOfMemory, Owner, Serial, SubId, WorkerId};
+use fj_rules::{Event, Limits, Mode, OutOfMemory, Owner, Serial, SubId, WorkerId, both};
 use fj_tree::{Handle, Record, Tree};
 use std::alloc::Global;
 use std::marker::Model;
@@ -83,17 +83,31 @@ impl Ledger {
         let events = limits.events() as usize;
         let workers = limits.workers() as usize;
         let queues = limits.submitters() as usize + workers;
+        let lists = both(
+            Queues::new(alloc, queues, tasks),
+            Stacks::new(alloc, workers, tasks),
+        );
+        let kept = both(Tree::new(alloc, tasks), OpenTasks::new(alloc, tasks));
+        // By a stop, tasks that were opened before the last seal may become gone.
+        let past = both(
+            Log::new(alloc, events),
+            Vec::with_capacity(alloc, events + tasks),
+        );
+        let hands = Vec::from_elem(alloc, None, workers);
+        let (((queues, stacks), (tree, open_tasks)), ((log, gone), hands)) = both(
+            both(lists, kept),
+            both(past, hands),
+        )?;
         Ok(Ledger {
             mode,
             limits,
-            log: Log::new(alloc, events)?,
-            queues: Queues::new(alloc, queues, tasks)?,
-            stacks: Stacks::new(alloc, workers, tasks)?,
-            hands: Vec::from_elem(alloc, None, workers)?,
-            tree: Tree::new(alloc, tasks)?,
-            open_tasks: OpenTasks::new(alloc, tasks)?,
-            // By a stop, tasks that were opened before the last seal may become gone.
-            gone: Vec::with_capacity(alloc, events + tasks)?,
+            log,
+            queues,
+            stacks,
+            hands,
+            tree,
+            open_tasks,
+            gone,
         })
     }
 

@@ -10,5 +10,7 @@ pub mod Completers
 pub mod Steps
 -- What holds of each run.
 pub mod Headline
+-- Results of several makings.
+pub mod Making
 -- Sample scripts, computed by the definitions.
 pub mod Samples

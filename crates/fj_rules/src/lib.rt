@@ -25,7 +25,7 @@ pub use ids::{Serial, SubId, WorkerId};
 pub use inner_types::InnerTypes;
 pub use kind::{Kind, SubmittedKind};
 pub use limits::{Limits, MAX_EVENTS, MAX_PENDING, MAX_SUBMITTERS, MAX_TASKS, MAX_WORKERS};
-pub use memory::OutOfMemory;
+pub use memory::{OutOfMemory, both};
 pub use mode::Mode;
 pub use owner::Owner;
 pub use place::Place;

@@ -1,3 +1,5 @@
+ghost use Rattle.std.specs.Prelude.{◌≡◌, Ok, IfOk};
+
 use crate::refusal::Refusal;
 use std::alloc::{AllocError, AllocFailed};
 use thiserror::Error;
@@ -38,5 +40,18 @@ impl From<OutOfMemory> for Refusal {
 
     fn from(_error: OutOfMemory) -> Refusal {
         Refusal::OutOfMemory
+    }
+}
+
+/// Two values that were made, where both were. So no function holds the first at a `?` after the second, and proves its drop there.
+pub fn both<A: Drop, B: Drop, E: Drop, F: Drop>(
+    first: Result<A, E>,
+    second: Result<B, F>,
+) -> Result<(A, B), OutOfMemory>
+    ensures { IfOk result (λ made. (first ≡ Ok made.0) × (second ≡ Ok made.1)) }
+{
+    match (first, second) {
+        (Ok(first), Ok(second)) => Ok((first, second)),
+        _ => Err(OutOfMemory),
     }
 }

@@ -1,16 +1,33 @@
-use Rattle.std.proofs.Common.{arith}
+use Rattle.std.proofs.Common.{ap, arith}
+use Rattle.fj_rules.proofs.Making.{made}
+use Rattle.fj_slots.specs.Marked.{SerialList}
 use Rattle.fj_bodies.proofs.Stored.{fresh_stored}
 use Rattle.fj_bodies.proofs.store.Store.new.Goals as goal
 
 pub invariant_of-result : goal.invariant_of-result
 invariant_of-result g c =
-    rw (c.in-Ok.ensures.ok, c.in_ok-taken.ensures) (record {
-      stored = fresh_stored c.args.mode c.args.limits _ _ c.in_ok-bodies.ensures.entries c.in_ok-results.ensures.entries;
+    let all = c.in_ok-bodies.ensures in
+    let kept = made _ all.0 c.both-kept.ensures in
+    let moved = made _ all.1 c.both-moved.ensures in
+    rw (made _ moved.1 c.new-4.ensures.ok, made _ moved.0 c.new-3.ensures) (record {
+      stored = fresh_stored c.args.mode c.args.limits _ _ (made _ kept.0 c.new.ensures.entries) (made _ kept.1 c.new-2.ensures.entries);
       room = record {
-        bodies = omega (arith, c.tasks-room.ensures.number, c.in_ok-bodies.ensures.room);
-        results = omega (arith, c.tasks-room.ensures.number, c.in_ok-results.ensures.room);
+        bodies = omega (arith, c.tasks-room.ensures.number, made _ kept.0 c.new.ensures.room);
+        results = omega (arith, c.tasks-room.ensures.number, made _ kept.1 c.new-2.ensures.room);
         taken = omega (arith, c.tasks-room.ensures.number);
         few = c.workers-workers.ensures.within.few_tasks;
       };
       due = λ free u there. absurd cc;
     })
+
+pub returns-clause-past : goal.returns-clause-past
+returns-clause-past g c = made _ (made _ c.in_ok-bodies.ensures.1 c.both-moved.ensures).1 c.new-4.ensures.ok
+
+pub returns-clause-bodies : goal.returns-clause-bodies
+returns-clause-bodies g c = made _ (made _ c.in_ok-bodies.ensures.0 c.both-kept.ensures).0 c.new.ensures.entries
+
+pub returns-clause-results : goal.returns-clause-results
+returns-clause-results g c = made _ (made _ c.in_ok-bodies.ensures.0 c.both-kept.ensures).1 c.new-2.ensures.entries
+
+pub returns-clause-taken : goal.returns-clause-taken
+returns-clause-taken g c = ap (λ (l : SerialList). l.items) (made _ (made _ c.in_ok-bodies.ensures.1 c.both-moved.ensures).0 c.new-3.ensures)
