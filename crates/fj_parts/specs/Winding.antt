@@ -11,7 +11,7 @@ use Rattle.fj_lane.specs.declared.parcel.Parcel.{Parcel}
 use Rattle.fj_lane.specs.Ends.{DrainState}
 use Rattle.fj_core.specs.declared.booking.Booking.{Booking}
 use Rattle.fj_rules.specs.Statuses.{status}
-use Rattle.fj_slots.specs.Shelves.{Entries}
+use Rattle.fj_slots.specs.Shelves.{Entries, without_entry}
 use Rattle.fj_bodies.specs.declared.outcomes.Outcome.{Outcome}
 use Rattle.fj_bodies.specs.Results.{outcome_of}
 use Rattle.fj_core.specs.Booked.{booked_by, booked_under}
@@ -59,6 +59,10 @@ module _ {B : Type 0} where
 -- the outcome of the task that was taken in first under a ticket, with the result that was kept for it
 abbrev pub IsLeft : {B K O : Type 0} → List Event → List Booking → Entries (K × O) → ℕ → Outcome B K O → Type 0
 IsLeft h bookings results ticket outcome = (t : ℕ) × (booked_under bookings ticket ≡ Some t) × (outcome ≡ outcome_of (status h t) (results t))
+
+-- of the results, that of the task that was taken in first under a ticket is taken out
+abbrev pub IsTaken : {R : Type 0} → List Booking → ℕ → Entries R → Entries R → Type 0
+IsTaken bookings ticket old new = (t : ℕ) × (booked_under bookings ticket ≡ Some t) × (new ≡ without_entry old t)
 
 -- how many submissions the machine accepted, from all submitters
 abbrev pub submissions : Past → ℕ

@@ -135,6 +135,9 @@ impl<B: Body, N: Naming> Locked<B, N> {
         front: &mut Front<B, N>,
     ) -> Next<B>
         requires { IfSome ask (λ a. MayAsk B.right B.key_of hand.old a) }
+        ensures fits { Fits self.old.store.past hand.old }
+        ensures serves { IfSome ask (λ a. Serves B.key_of B.rooted_as self.old hand.old a result self.new hand.new) }
+        ensures resumes { IfNone ask (Resumes B.key_of B.rooted_as self.old hand.old result self.new hand.new) }
         ensures right { NextRight B.right result }
         ensures goes_on { IsPrefix front.old front.new }
         ensures left { IsSeenLeaving front.new result }

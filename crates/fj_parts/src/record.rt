@@ -1,8 +1,8 @@
-ghost use Rattle.std.specs.Prelude.{◌≡◌, ◌≤◌, [], All, IfSome, length, map, reverse, vec_len, vec_capacity};
+ghost use Rattle.std.specs.Prelude.{◌≡◌, ◌≤◌, [], All, IfNone, IfSome, length, map, reverse, vec_len, vec_capacity};
 ghost use Rattle.fj_slots.specs.Shelves.{entries};
 ghost use Rattle.fj_guarded.specs.Lanes.{lanes_of};
 ghost use Rattle.fj_parts.specs.Seats.{IsSeat};
-ghost use Rattle.fj_parts.specs.Winding.{AreAll, HaveMet, IsLeft};
+ghost use Rattle.fj_parts.specs.Winding.{AreAll, HaveMet, IsLeft, IsTaken};
 
 use crate::seat::Seat;
 use crate::submitter::Submitter;
@@ -39,7 +39,11 @@ impl<B: Body> Record<B> {
     /// The outcome of the submission under a ticket, if its task has ended and was not released: the one that `await_done` returned, or would
     /// have, also if the pool got stuck. Only the first call gets a result.
     pub fn take_outcome(&mut self, ticket: Ticket) -> Option<Outcome<B>>
-        ensures { IfSome result (λ outcome. IsLeft self.old.machine.events self.old.bookings.bookings (entries self.old.results) ticket outcome) }
+        ensures outcome { IfSome result (λ outcome. IsLeft self.old.machine.events self.old.bookings.bookings (entries self.old.results) ticket outcome) }
+        // Nothing but the result of that task is taken out of the record.
+        ensures stays { self.new ≡ record self.old { results = self.new.results } }
+        ensures taken { IfSome result (λ _. IsTaken self.old.bookings.bookings ticket (entries self.old.results) (entries self.new.results)) }
+        ensures none { IfNone result (self.new ≡ self.old) }
     {
         let t = self.bookings.find(ticket)?;
         match self.machine.status(t) {
