@@ -69,13 +69,10 @@ impl<B: Body, N: Naming> Pool<B, N> {
         ensures seen { EndsWith front.new (λ old new. CollectsTicket old ticket (Some result) new) }
         ensures told { IfOk result (λ outcome. (core : CoreState B B.Key B.Out) × IsNow front.new core × IsTold core ticket outcome) }
     {
-        let mut due = ToWake::nobody();
         for _ in rt.forever() {
             let core = &mut *guard;
             if let Some(answer) = core.tell(&self.log, front, ticket) {
-                core.take_due(&mut due);
-                drop(guard);
-                self.wake_due(&mut due);
+                self.release(guard);
                 return answer;
             }
             let seat = core.sit(ticket);
@@ -124,12 +121,9 @@ impl<B: Body, N: Naming> Pool<B, N> {
         ensures seen { EndsWith front.new (λ old new. CollectsTicket old ticket result new) }
         ensures told { IfSome result (λ answer. IfOk answer (λ outcome. (core : CoreState B B.Key B.Out) × IsNow front.new core × IsTold core ticket outcome)) }
     {
-        let mut due = ToWake::nobody();
         let core = &mut *guard;
         let answer = core.tell(&self.log, front, ticket);
-        core.take_due(&mut due);
-        drop(guard);
-        self.wake_due(&mut due);
+        self.release(guard);
         answer
     }
 
@@ -183,13 +177,10 @@ impl<B: Body, N: Naming> Pool<B, N> {
         if tickets.is_empty() {
             return None;
         }
-        let mut due = ToWake::nobody();
         for _ in rt.forever() {
             let core = &mut *guard;
             if let Some(told) = core.tell_any(&self.log, front, tickets) {
-                core.take_due(&mut due);
-                drop(guard);
-                self.wake_due(&mut due);
+                self.release(guard);
                 return Some(told);
             }
             core.sit_for_any();
@@ -237,12 +228,9 @@ impl<B: Body, N: Naming> Pool<B, N> {
         ensures goes_on { IsPrefix front.old front.new }
         ensures seen { EndsWith front.new (λ old new. CancelsBehind B.rooted_as old ticket result new) }
     {
-        let mut due = ToWake::nobody();
         let core = &mut *guard;
         let answer = core.tell_cancelled(self.alloc, &self.log, front, ticket);
-        core.take_due(&mut due);
-        drop(guard);
-        self.wake_due(&mut due);
+        self.release(guard);
         answer
     }
 
@@ -261,23 +249,26 @@ impl<B: Body, N: Naming> Pool<B, N> {
     /// It completes only if all that was admitted can be taken in: a task counts against the limit until its outcome was delivered.
     pub fn shutdown<R: Wait>(&self, rt: &R, closer: &mut Closer<N>) {
         let number = number_of(closer.close());
-        let mut due = ToWake::nobody();
         let mut guard = self.core.lock(rt);
         let core = &mut *guard;
         core.close_at(number);
-        core.take_due(&mut due);
-        drop(guard);
-        self.wake_due(&mut due);
+        self.release(guard);
     }
 
     /// Admits nothing more; once all that was admitted was taken in, every undone task is cancelled, and the workers leave:
     /// `ForkJoinPool.shutdownNow`. It may follow a shutdown. A repeat has no effect. It needs the same as a shutdown to complete.
     pub fn shutdown_now<R: Wait>(&self, rt: &R, closer: &mut Closer<N>) {
         let number = number_of(closer.close());
-        let mut due = ToWake::nobody();
         let mut guard = self.core.lock(rt);
         let core = &mut *guard;
         core.stop_at(number);
+        self.release(guard);
+    }
+
+    /// Releases the lock, and notifies the threads that are due.
+    fn release(&self, mut guard: MutexGuard<'_, Locked<B, N>>) {
+        let mut due = ToWake::nobody();
+        let core = &mut *guard;
         core.take_due(&mut due);
         drop(guard);
         self.wake_due(&mut due);
@@ -315,12 +306,9 @@ impl<B: Body, N: Naming> Pool<B, N> {
         ensures goes_on { IsPrefix front.old front.new }
         ensures seen { EndsWith front.new (λ old new. IsQuietBehind B.rooted_as old result new) }
     {
-        let mut due = ToWake::nobody();
         let core = &mut *guard;
         let quiescent = core.tell_quiet(self.alloc, &self.log, front);
-        core.take_due(&mut due);
-        drop(guard);
-        self.wake_due(&mut due);
+        self.release(guard);
         quiescent
     }
 
