@@ -30,8 +30,3 @@ pub use keeper::Keeper;
 pub use log::Log;
 pub use naming::Naming;
 pub use opened::Opened;
-
-#[cfg(test)]
-mod tests;
-#[cfg(test)]
-mod thread_tests;
