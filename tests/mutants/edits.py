@@ -9,11 +9,11 @@ import os
 import sys
 
 sys.dont_write_bytecode = True
-from run import KEPT, MORE, TOP, mutants_in
+from run import BY_TESTS, KEPT, MORE, TOP, mutants_in
 
 
 def main():
-    mutants = [it for place in (KEPT, MORE) for it in mutants_in(place)]
+    mutants = [it for place in (KEPT, MORE, BY_TESTS) for it in mutants_in(place)]
     told = [f"{it.name}: {it.bad or 'changes nothing'}" for it in mutants if it.bad or not it.lines]
     told += [f"{name}: {times} have this name" for name, times in collections.Counter(it.name for it in mutants).items() if times > 1]
     folders = [it for it in sorted(os.listdir(f"{TOP}/tests/mutants")) if os.path.isdir(MORE % it)]

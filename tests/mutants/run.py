@@ -26,6 +26,8 @@ FORM = re.compile(r"has no field|is not in scope|has no `|was not admitted")
 WAITS = re.compile(r"(no proof|not proved)[:;] it (calls|waits)")
 # where the mutants of a crate stand: those that `rt ci` tries, and all others
 KEPT, MORE = f"{TOP}/crates/%s/must-fail", f"{TOP}/tests/mutants/%s"
+# those that a test detects, and no proof: `by_tests.py` tries them
+BY_TESTS = f"{MORE}/by_tests"
 
 
 def functions(crate, file, lines):
@@ -51,11 +53,13 @@ class Mutant:
 
     def __init__(self, crate, edit):
         self.name = f"{crate}/{os.path.basename(edit)[: -len('.edit')]}"
-        self.lines, self.functions, self.bad, self.told = {}, set(), "", ""
+        self.lines, self.functions, self.bad, self.told, self.test = {}, set(), "", "", ""
         file, old, texts, names = "", "", {}, {}
         with open(edit, encoding="utf-8") as text:
             for word, _, rest in (it.rstrip("\n").partition(": ") for it in text):
-                if word == "file":
+                if word == "test":
+                    self.test = rest
+                elif word == "file":
                     file = rest
                     if not os.path.isfile(f"{TOP}/crates/{crate}/{file}"):
                         self.bad = f"there is no file {file}"
