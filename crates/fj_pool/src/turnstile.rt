@@ -10,8 +10,8 @@ pub trait Turnstile {
     /// called again.
     fn after(&self, _w: WorkerId, _t: Serial) {}
 
-    /// Worker `w` has found nothing to do, and is about to rest or to wait in a join. Called each time the worker has looked in vain. No
-    /// wake-up is lost: if this call leads to a task for the worker, it looks again before it sleeps.
+    /// Worker `w` has found nothing to do, and is about to rest or to wait in a join. Called each time the worker has looked in vain. If
+    /// a task is queued meanwhile, the worker looks again before it sleeps; of what is submitted into a lane only the lookout learns.
     fn idle(&self, _w: WorkerId) {}
 }
 

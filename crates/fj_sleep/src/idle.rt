@@ -14,8 +14,8 @@ const FIRST_SLEEP: u64 = 16;
 /// The longest sleep, in microseconds.
 const LONGEST_SLEEP: u64 = 800;
 
-/// The back-off of a worker that finds nothing to do: it yields, and after some rounds it sleeps, longer and longer. It looks again by
-/// itself, since a push into a lane wakes nobody.
+/// The back-off of a worker that finds nothing to do: it yields, and after some rounds it sleeps, the lookout longer and longer. The lookout
+/// looks again by itself, since a push into a lane wakes nobody.
 #[derive(Drop)]
 pub struct Idle {
     rounds: u32,

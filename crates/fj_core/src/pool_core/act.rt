@@ -12,7 +12,7 @@ use fj_bodies::{Ask, Body, Told};
 use fj_slots::Hand;
 
 impl<B: Body> Core<B> {
-    /// Serves what the running body or the hook asks: one step of the machine, which also moves the body.
+    /// Serves what the running body or the hook asks: at most one step of the machine, and the releases that follow, which also move bodies.
     ///
     /// A stuck core answers `Stuck`, returns a body that came, and changes nothing. In a hook only `Take` and `HookDone` are served; any
     /// other ask hears `NotIdle`, gets its body back, and changes nothing. `HookDone` without a hook is refused by the machine.

@@ -25,7 +25,7 @@ pub enum TakenIn {
 }
 
 impl<B: Body, N: Naming> Guarded<B, N> {
-    /// A worker's look at the lanes: seals the history if that is due, and then takes in submissions, unless the core holds back.
+    /// A look at the lanes, by a worker or a caller that cancels: seals the history if that is due, and then takes in submissions, unless the core holds back.
     pub(crate) fn look_at_lanes(&mut self, alloc: Global) -> TakenIn
         ensures { LooksAtLanes B.rooted_as self.old result self.new }
     {
