@@ -4,10 +4,12 @@
 #![tactic(auto)]
 
 mod arguments;
+mod builders;
 mod command_line;
 mod commands;
 mod given;
 mod help;
+mod jobs;
 mod options;
 
 pub use command_line::{Job, Subcommand, read};

@@ -1,7 +1,7 @@
 use Rattle.std.proofs.Common.{ap, ap₂, subst}
 use Rattle.clap.specs.Words.{with_rule}
 use Rattle.fj_arguments.specs.Options.{Makes}
-use Rattle.fj_arguments.proofs.commands.of_function.Goals as goal
+use Rattle.fj_arguments.proofs.jobs.of_function.Goals as goal
 
 pub returns-clause-app : goal.returns-clause-app
 returns-clause-app c = λ line is.

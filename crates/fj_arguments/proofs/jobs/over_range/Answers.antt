@@ -1,7 +1,7 @@
 use Rattle.std.proofs.Common.{ap, ap₂, subst}
 use Rattle.clap.specs.Words.{with_rule}
 use Rattle.fj_arguments.specs.Options.{Makes, with_numbers}
-use Rattle.fj_arguments.proofs.commands.over_range.Goals as goal
+use Rattle.fj_arguments.proofs.jobs.over_range.Goals as goal
 
 pub returns-clause-app : goal.returns-clause-app
 returns-clause-app c = λ line is.

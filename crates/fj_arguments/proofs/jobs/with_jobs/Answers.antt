@@ -1,4 +1,4 @@
-use Rattle.fj_arguments.proofs.commands.with_jobs.Goals as goal
+use Rattle.fj_arguments.proofs.jobs.with_jobs.Goals as goal
 
 pub returns : goal.returns
 returns c = λ line is.

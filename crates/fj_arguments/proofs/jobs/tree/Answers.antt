@@ -1,7 +1,7 @@
 use Rattle.std.proofs.Common.{codes, subst}
 use Rattle.clap.specs.Words.{new_app, with_rule}
 use Rattle.fj_arguments.specs.Options.{Makes}
-use Rattle.fj_arguments.proofs.commands.tree.Goals as goal
+use Rattle.fj_arguments.proofs.jobs.tree.Goals as goal
 
 pub returns-clause-app : goal.returns-clause-app
 returns-clause-app c =

@@ -1,7 +1,7 @@
 use Rattle.std.proofs.Common.{codes, subst}
 use Rattle.clap.specs.Words.{new_app, with_rule}
 use Rattle.fj_arguments.specs.Options.{Makes, with_function, with_range}
-use Rattle.fj_arguments.proofs.commands.find.Goals as goal
+use Rattle.fj_arguments.proofs.jobs.find.Goals as goal
 
 pub returns-clause-app : goal.returns-clause-app
 returns-clause-app c =
