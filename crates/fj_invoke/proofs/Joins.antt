@@ -1,8 +1,6 @@
 -- The tasks of the left halves, with one more left half.
-use Rattle.std.specs.Prelude.{ℕ, filter_map}
-use Rattle.std.proofs.Common.{◌≡◌, List, [], ◌∷◌, ◌++◌, refl, ap, ◌∙◌, Option, Some, None}
-use Rattle.std.proofs.lemmas.List.{append-nil}
-use Rattle.std.proofs.lemmas.List.Elements.{filter_map-append}
+use Rattle.std.specs.Prelude.{ℕ}
+use Rattle.std.proofs.Common.{◌≡◌, List, [], ◌∷◌, ◌++◌, refl}
 use Rattle.fj_bodies.specs.declared.body.Ask.{Ask}
 use Rattle.fj_bodies.specs.declared.body.Heard.{Heard}
 use Rattle.fj_bodies.specs.declared.body.Heard.TheVariants as hears
@@ -10,24 +8,8 @@ use Rattle.fj_invoke.specs.declared.recursive_stage.Left.{Left}
 use Rattle.fj_invoke.specs.declared.recursive_stage.Left.TheVariants.{Forked, Done}
 use Rattle.fj_invoke.specs.declared.recursive_stage.RecursiveStage.TheVariants.{Waiting}
 use Rattle.fj_lazy.specs.Asks.{JoinsOwn}
+use Rattle.fj_lazy.proofs.Joins.{forked_more, forked_same}
 use Rattle.fj_invoke.specs.Asks.{forked_by, forked_in, task_of}
-
-filtered_none : {L : Type 0} (f : L → Option ℕ) (x : L) → f x ≡ None → filter_map f (x ∷ []) ≡ []
-filtered_none f x e = rw e refl
-
-filtered_some : {L : Type 0} (f : L → Option ℕ) (x : L) (t : ℕ) → f x ≡ Some t → filter_map f (x ∷ []) ≡ t ∷ []
-filtered_some f x t e = rw e refl
-
--- one that was not forked
-pub forked_same : {L : Type 0} (f : L → Option ℕ) (all xs : List L) (x : L) → all ≡ xs ++ x ∷ [] → f x ≡ None → filter_map f all ≡ filter_map f xs
-forked_same f all xs x e none =
-    let nothing : filter_map f xs ++ [] ≡ filter_map f xs = rw append-nil refl in
-    ap (filter_map f) e ∙ filter_map-append f xs (x ∷ []) ∙ ap (λ l. filter_map f xs ++ l) (filtered_none f x none) ∙ nothing
-
--- one that was
-pub forked_more : {L : Type 0} (f : L → Option ℕ) (all xs : List L) (x : L) (t : ℕ) → all ≡ xs ++ x ∷ [] → f x ≡ Some t → filter_map f all ≡ filter_map f xs ++ t ∷ []
-forked_more f all xs x t e some =
-    ap (filter_map f) e ∙ filter_map-append f xs (x ∷ []) ∙ ap (λ l. filter_map f xs ++ l) (filtered_some f x t some)
 
 pub joins_forked : {B J K O : Type 0} (lefts : List (Left J K O)) (t : ℕ) (k : K) (news : List ℕ) (ask : Ask B K O) → JoinsOwn (forked_in (lefts ++ Forked t k ∷ [])) news ask → JoinsOwn (forked_in lefts ++ t ∷ []) news ask
 joins_forked lefts t k news ask joins = rw (forked_more task_of (lefts ++ Forked t k ∷ []) lefts (Forked t k) t refl refl) at joins

@@ -1,13 +1,12 @@
 //! The notes of a run, as text.
 ghost use Rattle.std.specs.Prelude.{◌<◌, ◌≤◌, ◌^◌, OnOk, string_bytes};
-ghost use Rattle.fj_record.specs.Writes.{Writes};
 ghost use Rattle.fj_notebook.specs.Writes.{PushesNotes, WritesNotes};
 
 use crate::notebook::Notebook;
 use fj_notes::{Milestone, Note};
-use fj_record::WriteFault;
+use fj_record::{WriteFault, write_text};
 use fj_run::Serial;
-use fj_streams::{Sink, write_whole};
+use fj_streams::Sink;
 use std::alloc::{AllocError, Global};
 use std::rt::Clock;
 
@@ -52,16 +51,6 @@ fn write_chunk<C: Clock, W: Sink>(
     match push_tasks(notebook, from, to, text) {
         Ok(()) => write_text(text.as_str(), w),
         Err(_) => Err(WriteFault::Memory),
-    }
-}
-
-/// Writes the whole text.
-fn write_text<W: Sink>(text: &str, w: &mut W) -> Result<(), WriteFault>
-    ensures { Writes result (W.contents w.old) (W.contents w.new) (W.calls w.old) (W.calls w.new) text.now }
-{
-    match write_whole(w, text.as_bytes()) {
-        Ok(()) => Ok(()),
-        Err(_) => Err(WriteFault::Write),
     }
 }
 

@@ -8,3 +8,4 @@ mod writing;
 
 pub use fault::WriteFault;
 pub use history::write_history;
+pub use writing::write_text;

@@ -54,8 +54,8 @@ pub fn write_seal<W: Sink>(text: &mut String, w: &mut W) -> Result<(), WriteFaul
     }
 }
 
-/// Writes the whole text.
-fn write_text<W: Sink>(text: &str, w: &mut W) -> Result<(), WriteFault>
+/// Writes the whole text. `Write` where a write failed.
+pub fn write_text<W: Sink>(text: &str, w: &mut W) -> Result<(), WriteFault>
     ensures { Writes result (W.contents w.old) (W.contents w.new) (W.calls w.old) (W.calls w.new) text.now }
 {
     match write_whole(w, text.as_bytes()) {

@@ -2,7 +2,7 @@ use Rattle.std.proofs.Common.{arith, ◌∙◌, sym, refl}
 use Rattle.fj_invoke.specs.Recursions.{left_value}
 use Rattle.fj_invoke.specs.Asks.{task_of}
 use Rattle.fj_invoke.proofs.Tails.{fold_step}
-use Rattle.fj_invoke.proofs.Joins.{forked_more, forked_same}
+use Rattle.fj_lazy.proofs.Joins.{forked_more, forked_same}
 use Rattle.fj_invoke.proofs.lefts.fold_done.Goals as goal
 
 pub loop-left-preserved : goal.loop-left-preserved

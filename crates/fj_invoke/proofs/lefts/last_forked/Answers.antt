@@ -1,6 +1,6 @@
 use Rattle.std.proofs.Common.{◌∙◌, refl, sym, arith}
 use Rattle.fj_invoke.specs.Asks.{task_of}
-use Rattle.fj_invoke.proofs.Joins.{forked_more, forked_same}
+use Rattle.fj_lazy.proofs.Joins.{forked_more, forked_same}
 use Rattle.fj_invoke.proofs.lefts.last_forked.Goals as goal
 
 pub returns-in-Forked-clause-some : goal.returns-in-Forked-clause-some
