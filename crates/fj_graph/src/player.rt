@@ -1,5 +1,5 @@
 ghost use Rattle.std.specs.Prelude.{◌≡◌, IfSome};
-ghost use Rattle.fj_graph.specs.Courses.{AreFates, MayBegin};
+ghost use Rattle.fj_graph.specs.Courses.{AreFates, IsCourse, MayBegin};
 
 use crate::calls::Calls;
 use crate::fate::Fate;
@@ -9,6 +9,7 @@ use crate::named_graph::NamedGraph;
 use crate::node::NodeId;
 use crate::node_call::NodeCall;
 use crate::progress::Progress;
+use crate::running::Ran;
 use crate::under_way::UnderWay;
 use crate::work::Work;
 use fj_run::{Naming, Outcome, Play, Refusal, Running, SubId, Ticket, result_in};
@@ -98,6 +99,20 @@ impl<'a, W, G: NamedGraph> Player<'a, W, G> {
                 self.note(back);
                 None
             }
+        }
+    }
+
+    /// The graph that was run. Precondition: these are its fates.
+    pub(crate) fn into_ran(self, stopped: bool) -> Ran
+        requires { AreFates G.graph stopped self.progress.course.items self.progress.fates.items }
+        ensures course { IsCourse G.graph result.course.items }
+        ensures fates { AreFates G.graph result.stopped result.course.items result.fates.items }
+    {
+        let (course, fates) = self.progress.into_lists();
+        Ran {
+            fates,
+            course,
+            stopped,
         }
     }
 

@@ -93,23 +93,39 @@ fn run_in<'a, G: NamedGraph, W: Work + Sync, R: Threads + Wait + Sync>(
     };
     let mut player = first;
     for _ in rt.forever() {
-        let Ok(played) = with_pool(rt, alloc, settings, player, &Open) else {
-            return Err(Refusal::OutOfMemory);
-        };
-        player = played.player;
-        if let Some(refusal) = player.refusal {
-            return Err(told(refusal));
-        }
+        player = play_on(rt, alloc, settings, player)?;
         if let Some(stopped) = player.conclude() {
-            let (course, fates) = player.progress.into_lists();
-            return Ok(Ran {
-                fates,
-                course,
-                stopped,
-            });
+            return Ok(player.into_ran(stopped));
         }
     }
     unreachable!()
+}
+
+/// Goes on in a new pool, as long as that has lanes. An error where the run cannot go on. It is a function of its own, so that no other holds
+/// the record of the pool.
+fn play_on<'a, G: NamedGraph, W: Work + Sync, R: Threads + Wait + Sync>(
+    rt: &R,
+    alloc: Global,
+    settings: Settings,
+    player: Player<'a, W, G>,
+) -> Result<Player<'a, W, G>, Refusal>
+    ensures { IfErr result RefusesRun }
+{
+    match with_pool(rt, alloc, settings, player, &Open) {
+        Ok(played) => {
+            drop(played.record);
+            let player = played.player;
+            if let Some(refusal) = player.refusal {
+                drop(player);
+                return Err(told(refusal));
+            }
+            Ok(player)
+        }
+        Err((_, player)) => {
+            drop(player);
+            Err(Refusal::OutOfMemory)
+        }
+    }
 }
 
 /// The refusal of a run: `LogFull` stays, any other becomes `OutOfMemory`.
