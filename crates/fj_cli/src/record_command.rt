@@ -171,8 +171,28 @@ fn told_of_run<V: Drop, C: Clock, F: Sink, W: Sink, E: Sink>(
     ensures ends { EndsRun result (W.contents out.old) (W.contents out.new) }
     ensures failed { result ≡ 5 → HasFailed (W.calls out.old) (W.calls out.new) ⊎ (is_some file.old ≡ true) }
 {
-    if let Err(refusal) = run.value {
-        return refused(refusal, err);
+    let status = told_of(alloc, mode, &run, watch, file, out, err);
+    // An explicit drop is proved faster.
+    drop(run);
+    status
+}
+
+/// The same with a run that the caller keeps.
+fn told_of<V: Drop, C: Clock, F: Sink, W: Sink, E: Sink>(
+    alloc: Global,
+    mode: Mode,
+    run: &RecordedValue<V>,
+    watch: &Watch<C>,
+    file: &mut Option<F>,
+    out: &mut W,
+    err: &mut E,
+) -> u8
+    requires { mode ≡ run.now.machine.pool.mode }
+    ensures ends { EndsRun result (W.contents out.old) (W.contents out.new) }
+    ensures failed { result ≡ 5 → HasFailed (W.calls out.old) (W.calls out.new) ⊎ (is_some file.old ≡ true) }
+{
+    if let Err(refusal) = &run.value {
+        return refused(*refusal, err);
     }
     // Nobody seals in a job.
     if run.machine.epoch() != 0 {
