@@ -1,4 +1,4 @@
-ghost use Rattle.std.specs.Prelude.{◌≡◌, ℕ, Some, OnOk, IfErr, true};
+ghost use Rattle.std.specs.Prelude.{◌≡◌, ℕ, Some, OnOk, IfErr, IfOk, true};
 ghost use Rattle.fj_rules.specs.Pasts.{Past};
 ghost use Rattle.fj_history.specs.declared.read.TheConstants.{MAX_ENTRY};
 ghost use Rattle.fj_trace.specs.declared.history_check.HistoryCheck.TheVariants as check;
@@ -84,10 +84,14 @@ impl LineFilter for Looking {
         };
         match seen.go_on(alloc, line) {
             Ok(()) => {
-                self.seen = Some(seen);
+                self.set(seen);
                 Ok(())
             }
-            Err(stop) => Err(stop),
+            Err(stop) => {
+                // An explicit drop is proved faster.
+                drop(seen);
+                Err(stop)
+            }
         }
     }
 
@@ -109,19 +113,17 @@ impl Looking {
         ensures next { OnOk result (after check.Start line.now ≡ Some self.new) }
         ensures err { IfErr result (IsHeadStop line.now) }
     {
-        let (mode, limits) = read_heading(line)?;
-        let Ok(checker) = Checker::new(alloc, mode, limits) else {
-            return Err(LineStop::Memory);
-        };
-        let Ok(story) = Story::new(alloc, mode, limits, &checker) else {
-            return Err(LineStop::Memory);
-        };
-        self.seen = Some(Seen {
-            checker,
-            events: 0,
-            story,
-        });
+        let seen = opened(alloc, line)?;
+        self.set(seen);
         Ok(())
+    }
+
+    /// Keeps what was seen. Precondition: its story is that of its events.
+    fn set(&mut self, seen: Seen)
+        requires { seen.story ≡ seen.checker }
+        ensures { self.new ≡ check.Going seen.checker seen.events }
+    {
+        self.seen = Some(seen);
     }
 
     /// The story, behind the heading.
@@ -132,6 +134,29 @@ impl Looking {
         match self.seen {
             Some(seen) => seen.story,
             None => unreachable!(),
+        }
+    }
+}
+
+/// What is seen by the heading, before anything has happened.
+fn opened(alloc: Global, heading: &[u8]) -> Result<Seen, LineStop<HistoryStop>>
+    ensures next { IfOk result (λ seen. after check.Start heading.now ≡ Some (check.Going seen.checker seen.events)) }
+    ensures same { IfOk result (λ seen. seen.story ≡ seen.checker) }
+    ensures err { IfErr result (IsHeadStop heading.now) }
+{
+    let (mode, limits) = read_heading(heading)?;
+    let Ok(checker) = Checker::new(alloc, mode, limits) else {
+        return Err(LineStop::Memory);
+    };
+    match Story::new(alloc, mode, limits, &checker) {
+        Ok(story) => Ok(Seen {
+            checker,
+            events: 0,
+            story,
+        }),
+        Err(_) => {
+            drop(checker);
+            Err(LineStop::Memory)
         }
     }
 }
