@@ -9,6 +9,28 @@ use anyhow::{Context, Result};
 use fj_graph::{Fate, Graph, NodeId, Policy, Settings, StopFlag, run_graph};
 
 fn main(rt: HostRuntime) -> Result<()> {
+    let (graph, compiler) = read_targets(&rt)?;
+    let ran = run_graph(
+        &rt,
+        rt.alloc(),
+        Settings::available(&rt),
+        Policy::KeepGoing,
+        graph,
+        &compiler,
+        &StopFlag::new(),
+    )?;
+    for (number, fate) in ran.fates.iter().enumerate() {
+        match fate {
+            Fate::Done => println!(rt; "{number} done")?,
+            Fate::Failed(code) => println!(rt; "{number} failed with code {code}")?,
+            Fate::Skipped => println!(rt; "{number} skipped")?,
+        }
+    }
+    Ok(())
+}
+
+/// The targets on standard input, and how long each takes.
+fn read_targets(rt: &HostRuntime) -> Result<(Graph, Compiler)> {
     let alloc = rt.alloc();
     let mut graph = Graph::new(alloc);
     let mut efforts: Vec<u32> = Vec::new(alloc);
@@ -26,24 +48,5 @@ fn main(rt: HostRuntime) -> Result<()> {
     for (target, input) in needed {
         graph.needs(target, input)?;
     }
-    let compiler = Compiler { efforts };
-    let settings = Settings::available(&rt);
-    let stop = StopFlag::new();
-    let ran = run_graph(
-        &rt,
-        alloc,
-        settings,
-        Policy::KeepGoing,
-        graph,
-        &compiler,
-        &stop,
-    )?;
-    for (number, fate) in ran.fates.iter().enumerate() {
-        match fate {
-            Fate::Done => println!(rt; "{number} done")?,
-            Fate::Failed(code) => println!(rt; "{number} failed with code {code}")?,
-            Fate::Skipped => println!(rt; "{number} skipped")?,
-        }
-    }
-    Ok(())
+    Ok((graph, Compiler { efforts }))
 }
