@@ -1,5 +1,5 @@
 //! Who is in the way of a step, and where.
-use crate::reason::Reason;
+use crate::reason::{Reason, TaskReason, WorkerReason};
 use crate::tasks::{QueueOf, Tasks};
 use fj_machine::Machine;
 use fj_rules::{Ending, InnerTypes, Owner, Place, Refusal, Said, Serial, Step, SubId, WorkerId};
@@ -19,8 +19,14 @@ impl<'a> Facts<'a> {
         match said {
             Said::Refused(refusal) => self.of_refusal(step, *refusal),
             Said::Spent(c) => Some(self.of_spent(*c)),
-            Said::Early(c) => Some(Reason::Early(self.tasks.name(*c), self.machine.place(*c)?)),
-            Said::Skip(t) => Some(Reason::NotRun(self.tasks.name(*t), self.machine.status(*t)?)),
+            Said::Early(c) => Some(Reason::Task(
+                self.tasks.name(*c),
+                TaskReason::Early(self.machine.place(*c)?),
+            )),
+            Said::Skip(t) => Some(Reason::Task(
+                self.tasks.name(*t),
+                TaskReason::NotRun(self.machine.status(*t)?),
+            )),
             Said::None => Some(Reason::NothingQueued),
             Said::No => self.of_no(step),
             _ => None,
@@ -36,9 +42,9 @@ impl<'a> Facts<'a> {
             Refusal::Unknown => Some(self.of_unknown(named_by(step)?)),
             Refusal::NotCompleter => self.of_kind(step),
             Refusal::NotDone => self.of_not_done(named_by(step)?),
-            Refusal::OwnStack => Some(Reason::OnOwnStack(
+            Refusal::OwnStack => Some(Reason::Task(
                 self.tasks.name(named_by(step)?),
-                worker_of(step)?,
+                TaskReason::OnOwnStack(worker_of(step)?),
             )),
             Refusal::Closed => Some(self.of_closed()),
             Refusal::CountTooLarge => Some(Reason::CountTooLarge),
@@ -70,17 +76,17 @@ impl<'a> Facts<'a> {
 
     fn of_not_idle(self, w: WorkerId) -> Option<Reason<'a>> {
         match self.hook(w) {
-            Some(c) => Some(Reason::HasHook(w, self.tasks.name(c))),
-            None => Some(Reason::Polls(w, self.tasks.name(self.running(w)?))),
+            Some(c) => Some(Reason::Worker(w, WorkerReason::HasHook(self.tasks.name(c)))),
+            None => Some(Reason::Worker(w, WorkerReason::Polls(self.tasks.name(self.running(w)?)))),
         }
     }
 
     fn of_unknown(self, t: Serial) -> Reason<'a> {
         let task = self.tasks.name(t);
         if t.0 < self.tasks.accepted {
-            Reason::Released(task)
+            Reason::Task(task, TaskReason::Released)
         } else if self.tasks.names.is_empty() {
-            Reason::NeverAccepted(task, self.tasks.accepted)
+            Reason::Task(task, TaskReason::NeverAccepted(self.tasks.accepted))
         } else {
             Reason::Unnamed
         }
@@ -92,11 +98,11 @@ impl<'a> Facts<'a> {
             Step::End { w, ending } => {
                 let task = self.tasks.name(self.running(*w)?);
                 Some(match ending {
-                    Ending::Ok => Reason::IsCompleter(task),
-                    _ => Reason::IsPlain(task),
+                    Ending::Ok => Reason::Task(task, TaskReason::IsCompleter),
+                    _ => Reason::Task(task, TaskReason::IsPlain),
                 })
             }
-            _ => Some(Reason::NoCompleter(self.tasks.name(named_by(step)?))),
+            _ => Some(Reason::Task(self.tasks.name(named_by(step)?), TaskReason::NoCompleter)),
         }
     }
 
@@ -104,8 +110,8 @@ impl<'a> Facts<'a> {
     fn of_not_done(self, t: Serial) -> Option<Reason<'a>> {
         let task = self.tasks.name(t);
         match self.machine.place(t)? {
-            Place::Gone => Some(Reason::HasChild(task, self.tasks.name(self.child_of(t)?))),
-            place => Some(Reason::NotGone(task, place)),
+            Place::Gone => Some(Reason::HasChild(self.tasks.name(self.child_of(t)?), task)),
+            place => Some(Reason::Task(task, TaskReason::NotGone(place))),
         }
     }
 
@@ -120,9 +126,9 @@ impl<'a> Facts<'a> {
     fn of_spent(self, c: Serial) -> Reason<'a> {
         let task = self.tasks.name(c);
         match self.machine.status(c) {
-            None => Reason::SpentAsReleased(task),
-            Some(status) if status.is_undone() => Reason::Fired(task),
-            Some(status) => Reason::IsDone(task, status),
+            None => Reason::Task(task, TaskReason::SpentAsReleased),
+            Some(status) if status.is_undone() => Reason::Task(task, TaskReason::Fired),
+            Some(status) => Reason::Task(task, TaskReason::IsDone(status)),
         }
     }
 
@@ -131,7 +137,10 @@ impl<'a> Facts<'a> {
             Step::IsQuiescent => self.of_busy(),
             _ => {
                 let t = named_by(step)?;
-                Some(Reason::IsDone(self.tasks.name(t), self.machine.status(t)?))
+                Some(Reason::Task(
+                    self.tasks.name(t),
+                    TaskReason::IsDone(self.machine.status(t)?),
+                ))
             }
         }
     }
@@ -183,8 +192,8 @@ impl<'a> Facts<'a> {
 
     fn of_busy_worker(self, w: WorkerId) -> Option<Reason<'a>> {
         match (self.running(w), self.hook(w)) {
-            (Some(t), _) => Some(Reason::Runs(w, self.tasks.name(t))),
-            (None, Some(c)) => Some(Reason::Acts(w, self.tasks.name(c))),
+            (Some(t), _) => Some(Reason::Worker(w, WorkerReason::Runs(self.tasks.name(t)))),
+            (None, Some(c)) => Some(Reason::Worker(w, WorkerReason::Acts(self.tasks.name(c)))),
             (None, None) => None,
         }
     }
@@ -192,14 +201,14 @@ impl<'a> Facts<'a> {
     /// The oldest task in a queue.
     fn of_waiting(self, owner: &Owner) -> Option<Reason<'a>> {
         let t = self.machine.queue(*owner).next()?;
-        Some(Reason::Waits(self.tasks.name(t), QueueOf(*owner)))
+        Some(Reason::Task(self.tasks.name(t), TaskReason::Waits(QueueOf(*owner))))
     }
 }
 
 fn of_not_running<'a>(step: &Step, w: WorkerId) -> Reason<'a> {
     match step {
-        Step::HookDone { .. } => Reason::NoHook(w),
-        _ => Reason::RunsNothing(w),
+        Step::HookDone { .. } => Reason::Worker(w, WorkerReason::NoHook),
+        _ => Reason::Worker(w, WorkerReason::RunsNothing),
     }
 }
 

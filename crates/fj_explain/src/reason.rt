@@ -7,39 +7,53 @@ use std::fmt::{self, Display, Formatter, Write};
 pub enum Reason<'a> {
     NoSubmitter(SubId, u32),
     NoWorker(WorkerId, u32),
-    /// A poll by a worker that runs this task.
-    Polls(WorkerId, TaskName<'a>),
-    /// Any step but `hook` by a worker with this action in its hand.
-    HasHook(WorkerId, TaskName<'a>),
-    /// The pool is not quiescent: this worker runs a task.
-    Runs(WorkerId, TaskName<'a>),
-    /// The same: it has this action in its hand.
-    Acts(WorkerId, TaskName<'a>),
-    /// The same: this task waits.
-    Waits(TaskName<'a>, QueueOf),
-    RunsNothing(WorkerId),
-    NoHook(WorkerId),
-    NeverAccepted(TaskName<'a>, u64),
-    Unnamed,
-    Released(TaskName<'a>),
-    IsCompleter(TaskName<'a>),
-    IsPlain(TaskName<'a>),
-    NoCompleter(TaskName<'a>),
-    NotGone(TaskName<'a>, Place),
+    Worker(WorkerId, WorkerReason<'a>),
+    Task(TaskName<'a>, TaskReason),
+    /// The first task is a kept child of the second one.
     HasChild(TaskName<'a>, TaskName<'a>),
-    OnOwnStack(TaskName<'a>, WorkerId),
+    Unnamed,
+    NameTaken,
     Closed,
     Stopped,
     CountTooLarge,
     NoRoom(usize),
     Full(usize, u32),
-    NameTaken,
-    IsDone(TaskName<'a>, Status),
-    Fired(TaskName<'a>),
-    SpentAsReleased(TaskName<'a>),
-    Early(TaskName<'a>, Place),
-    NotRun(TaskName<'a>, Status),
     NothingQueued,
+}
+
+/// What is in the way at a worker.
+#[derive(Clone, Copy)]
+pub enum WorkerReason<'a> {
+    /// It polls while it runs this task.
+    Polls(TaskName<'a>),
+    /// It has this action in its hand, so no step but `hook` is for it.
+    HasHook(TaskName<'a>),
+    /// The pool is not quiescent: it runs a task.
+    Runs(TaskName<'a>),
+    /// The same: it has this action in its hand.
+    Acts(TaskName<'a>),
+    RunsNothing,
+    NoHook,
+}
+
+/// What is in the way at a task.
+#[derive(Clone, Copy)]
+pub enum TaskReason {
+    /// The pool is not quiescent: it waits.
+    Waits(QueueOf),
+    NeverAccepted(u64),
+    Released,
+    IsCompleter,
+    IsPlain,
+    NoCompleter,
+    NotGone(Place),
+    /// It is on the stack of the worker that joins it.
+    OnOwnStack(WorkerId),
+    IsDone(Status),
+    Fired,
+    SpentAsReleased,
+    Early(Place),
+    NotRun(Status),
 }
 
 /// A place as the end of a sentence about a task.
@@ -70,50 +84,18 @@ impl Display for Reason<'_> {
                 "there is no worker {}: the heading has {count}, counted from 0",
                 w.0
             ),
-            Reason::Polls(w, t) => write!(
-                f,
-                "worker {} runs {t}, and only a worker that holds nothing polls: help is for a running task",
-                w.0
-            ),
-            Reason::HasHook(w, c) => write!(
-                f,
-                "worker {} has the hook of {c} in its hand, and its only step is hook {}",
-                w.0, w.0
-            ),
-            Reason::Runs(w, t) => write!(f, "worker {} runs {t}: the pool is not quiescent", w.0),
-            Reason::Acts(w, c) => write!(
-                f,
-                "worker {} has the hook of {c} in its hand: the pool is not quiescent",
-                w.0
-            ),
-            Reason::Waits(t, queue) => write!(f, "{t} waits in {queue}: the pool is not quiescent"),
-            Reason::RunsNothing(w) => write!(f, "worker {} runs no task", w.0),
-            Reason::NoHook(w) => write!(f, "worker {} has no hook in its hand", w.0),
-            Reason::NeverAccepted(t, accepted) => write!(
-                f,
-                "{t} was never accepted: there were {accepted} so far"
-            ),
-            Reason::Unnamed => write!(f, "the name belongs to no task"),
-            Reason::Released(t) => write!(f, "{t} was released"),
-            Reason::IsCompleter(t) => write!(f, "{t} is a completer, and ok is for plain tasks"),
-            Reason::IsPlain(t) => write!(f, "{t} is plain: it ends by ok or fail"),
-            Reason::NoCompleter(t) => write!(f, "{t} is plain, and no completer"),
-            Reason::NotGone(t, place) => write!(f, "{t} is not gone: it {}", At(*place)),
-            Reason::HasChild(t, child) => write!(
-                f,
-                "{child}, which is kept, has {t} as its parent"
-            ),
-            Reason::OnOwnStack(t, w) => write!(
-                f,
-                "{t} is on worker {}'s own stack: it would wait for itself",
-                w.0
-            ),
-            Reason::Closed => write!(
-                f,
-                "a shutdown came before: nothing more is accepted from submitters"
-            ),
-            Reason::Stopped => write!(f, "a stop came before: nothing more is accepted"),
-            Reason::CountTooLarge => write!(f, "the pending count would be above 65535"),
+            Reason::Worker(w, reason) => reason.write(*w, f),
+            Reason::Task(t, reason) => write!(f, "{t} {reason}"),
+            Reason::HasChild(child, t) => {
+                write!(f, "{child}, which is kept, has {t} as its parent")
+            }
+            Reason::Unnamed => f.write_str("the name belongs to no task"),
+            Reason::NameTaken => f.write_str("the name belongs to a task already"),
+            Reason::Closed => {
+                f.write_str("a shutdown came before: nothing more is accepted from submitters")
+            }
+            Reason::Stopped => f.write_str("a stop came before: nothing more is accepted"),
+            Reason::CountTooLarge => f.write_str("the pending count would be above 65535"),
             Reason::NoRoom(live) => write!(
                 f,
                 "{live} tasks are kept, as many as the heading allows: a release makes room"
@@ -122,20 +104,66 @@ impl Display for Reason<'_> {
                 f,
                 "the history has {events} of at most {most} events, and those of this step do not fit"
             ),
-            Reason::NameTaken => write!(f, "the name belongs to a task already"),
-            Reason::IsDone(t, status) => write!(f, "{t} is {status} already"),
-            Reason::Fired(c) => write!(f, "{c} fired, or was passed, before"),
-            Reason::SpentAsReleased(c) => write!(f, "{c} was released, and so is spent"),
-            Reason::Early(c, place) => write!(
+            Reason::NothingQueued => f.write_str("all queues are empty"),
+        }
+    }
+}
+
+impl WorkerReason<'_> {
+    /// A sentence about this worker.
+    fn write<W: Write>(&self, w: WorkerId, f: &mut Formatter<W>) -> fmt::Result {
+        write!(f, "worker {} ", w.0)?;
+        match self {
+            WorkerReason::Polls(t) => write!(
                 f,
-                "{c} {}: nothing is counted, and its own body fires it",
+                "runs {t}, and only a worker that holds nothing polls: help is for a running task"
+            ),
+            WorkerReason::HasHook(c) => write!(
+                f,
+                "has the hook of {c} in its hand, and its only step is hook {}",
+                w.0
+            ),
+            WorkerReason::Runs(t) => write!(f, "runs {t}: the pool is not quiescent"),
+            WorkerReason::Acts(c) => write!(
+                f,
+                "has the hook of {c} in its hand: the pool is not quiescent"
+            ),
+            WorkerReason::RunsNothing => f.write_str("runs no task"),
+            WorkerReason::NoHook => f.write_str("has no hook in its hand"),
+        }
+    }
+}
+
+/// As the end of a sentence about the task.
+impl Display for TaskReason {
+    fn fmt<W: Write>(&self, f: &mut Formatter<W>) -> fmt::Result {
+        match self {
+            TaskReason::Waits(queue) => write!(f, "waits in {queue}: the pool is not quiescent"),
+            TaskReason::NeverAccepted(accepted) => {
+                write!(f, "was never accepted: there were {accepted} so far")
+            }
+            TaskReason::Released => f.write_str("was released"),
+            TaskReason::IsCompleter => f.write_str("is a completer, and ok is for plain tasks"),
+            TaskReason::IsPlain => f.write_str("is plain: it ends by ok or fail"),
+            TaskReason::NoCompleter => f.write_str("is plain, and no completer"),
+            TaskReason::NotGone(place) => write!(f, "is not gone: it {}", At(*place)),
+            TaskReason::OnOwnStack(w) => write!(
+                f,
+                "is on worker {}'s own stack: it would wait for itself",
+                w.0
+            ),
+            TaskReason::IsDone(status) => write!(f, "is {status} already"),
+            TaskReason::Fired => f.write_str("fired, or was passed, before"),
+            TaskReason::SpentAsReleased => f.write_str("was released, and so is spent"),
+            TaskReason::Early(place) => write!(
+                f,
+                "{}: nothing is counted, and its own body fires it",
                 At(*place)
             ),
-            Reason::NotRun(t, status) => write!(
+            TaskReason::NotRun(status) => write!(
                 f,
-                "{t} is {status}: it became so while it waited, and is not run"
+                "is {status}: it became so while it waited, and is not run"
             ),
-            Reason::NothingQueued => write!(f, "all queues are empty"),
         }
     }
 }
