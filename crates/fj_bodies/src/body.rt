@@ -105,6 +105,8 @@ pub enum Told<B: Body> {
 
 /// The work of a task, in turns.
 pub trait Body: Drop {
+    ghost use Rattle.fj_bodies.specs.declared.body.Heard.{Heard};
+    ghost use Rattle.fj_bodies.specs.declared.body.Ask.{Ask};
     ghost use Rattle.fj_bodies.specs.Turns.{HeardRight, AskRight, Nearer};
 
     /// What a body is for. It is kept beside the result.
@@ -125,6 +127,9 @@ pub trait Body: Drop {
     /// At most so many turns come before it asks for its next ending. Once it asks, whether refused or not, the bound may be any.
     ghost turns: { Self → ℕ };
 
+    /// How a turn moves it: the body before, what it hears, what it asks, the body after. By default in any way.
+    ghost moves: { Self → Heard Self Self.Key Self.Out → Ask Self Self.Key Self.Out → Self → Type 0 } = { λ _ _ _ _. Unit {0} };
+
     /// What it is for.
     fn key(&self) -> &Self::Key
         ensures { result.now ≡ key_of self.now };
@@ -138,11 +143,12 @@ pub trait Body: Drop {
         ensures { result ≡ rooted_as self.now };
 
     /// One turn: hears this, and asks. Precondition: a result that is heard is right for its key. A turn keeps the key and how the body is
-    /// submitted, a result that it gives is right for the key, and it asks for an ending or brings the body nearer to one.
+    /// submitted, moves it as stated, a result that it gives is right for the key, and it asks for an ending or brings the body nearer to one.
     fn turn(&mut self, heard: Heard<Self>) -> Ask<Self>
         requires { HeardRight right heard }
         ensures key { key_of self.new ≡ key_of self.old }
         ensures rooted { rooted_as self.new ≡ rooted_as self.old }
         ensures right { AskRight right (key_of self.old) result }
-        ensures nearer { Nearer (turns self.new) (turns self.old) result };
+        ensures nearer { Nearer (turns self.new) (turns self.old) result }
+        ensures moves { moves self.old heard result self.new };
 }

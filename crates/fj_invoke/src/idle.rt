@@ -12,6 +12,8 @@ pub struct IdleWorkers<'s, 't, T> {
 }
 
 impl<T: Turnstile> Turnstile for IdleWorkers<'_, '_, T> {
+    ghost passed = { λ i w t. T.passed i.turnstile.now w t };
+
     fn before(&self, w: WorkerId, t: Serial) {
         self.signals.withdraw(w);
         self.turnstile.before(w, t);

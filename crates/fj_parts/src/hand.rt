@@ -79,7 +79,7 @@ impl<B: Body, N: Naming> Hand<B, N> {
     #[inline(always)]
     pub fn take_turn(&mut self, heard: Heard<B>) -> Option<Ask<B>>
         requires { HeardRight B.right heard }
-        ensures takes { TakesTurn B.key_of self.old result self.new }
+        ensures takes { TakesTurn B.key_of B.moves self.old heard result self.new }
         ensures asks { IfSome result (λ ask. MayAsk B.right B.key_of self.new ask) }
     {
         take_turn(&mut self.held, heard)

@@ -9,7 +9,7 @@ use fj_slots::Hand;
 #[inline(always)]
 pub fn take_turn<B: Body>(hand: &mut Hand<B>, heard: Heard<B>) -> Option<Ask<B>>
     requires { HeardRight B.right heard }
-    ensures takes { TakesTurn B.key_of hand.old result hand.new }
+    ensures takes { TakesTurn B.key_of B.moves hand.old heard result hand.new }
     ensures asks { IfSome result (λ ask. MayAsk B.right B.key_of hand.new ask) }
 {
     if hand.hooked().is_some() {

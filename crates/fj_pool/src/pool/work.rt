@@ -6,9 +6,9 @@ ghost use Rattle.fj_guarded.specs.Continuing.{IsNow};
 ghost use Rattle.fj_guarded.specs.Turning.{IsSeenLeaving, MayAsk, MayLeave, NextRight};
 
 use crate::pool::Pool;
-use crate::turns::observed_turn;
+use crate::turns::follow;
 use crate::turnstile::Turnstile;
-use fj_bodies::{Ask, Body, Heard};
+use fj_bodies::{Ask, Body};
 use fj_guarded::{Front, Naming, Next};
 use fj_parts::{Hand, Locked};
 use fj_rules::{Refusal, WorkerId};
@@ -80,15 +80,10 @@ impl<B: Body, N: Naming> Pool<B, N> {
         };
         for _ in rt.forever() {
             let next = self.serve(&working, hand, ask, &mut pace, front);
-            ask = match next {
-                Next::Turn(heard) => observed_turn(hand, heard, turnstile),
-                Next::Begin(t) => {
-                    turnstile.before(working.worker, t);
-                    observed_turn(hand, Heard::Start(t), turnstile)
-                }
-                Next::Leave(answer) => return answer,
-                Next::Again | Next::Wait | Next::Rest => None,
-            };
+            if let Next::Leave(answer) = next {
+                return answer;
+            }
+            ask = follow(next, hand, turnstile);
         }
         unreachable!()
     }
