@@ -9,6 +9,7 @@ use Rattle.std.proofs.option.Option.TheSendSync.{the_send as option_send}
 use Rattle.std.specs.declared.cmp.PartialEq as PartialEq
 use Rattle.fj_rules.proofs.epoch.Sealed.TheSendSync.{the_send as sealed_send}
 use Rattle.fj_lane.proofs.drain.Drain.TheSendSync.{the_send as drain_send}
+use Rattle.fj_lane.proofs.misses.Misses.TheSendSync.{the_send as misses_send}
 use Rattle.fj_lane.specs.contracts.drain.Drain as Drain
 use Rattle.fj_bodies.proofs.Crossing.{store_send}
 use Rattle.fj_bodies.specs.contracts.store.Store as Store
@@ -41,7 +42,10 @@ module _ (B K O : RattleType) (g : Body.Ghosts B.Denot K.Denot O.Denot) (e : Par
       search (sendable, crosses, as_row_send, drain_row),
       (
         search (sendable, crosses, as_row_send, bookings_send),
-        (search (sendable, crosses, as_row_send, cutoff_send), (as_row_send Archive.the_field archive_send, tt)),
+        (
+          search (sendable, crosses, as_row_send, cutoff_send),
+          (as_row_send Archive.the_field archive_send, (search (sendable, crosses, as_row_send, misses_send), tt)),
+        ),
       ),
     ),
   )

@@ -26,8 +26,8 @@ use Rattle.fj_core.specs.Closings.{IsClosing, is_due}
 abbrev pub AreParts : List Sealed → Past → Type 0
 AreParts parts past = Fits parts past
 
--- what contracts see of a core: its store, the drain of each submitter, what was taken in, the closing number, and the sealed parts, those
--- that were handed out and those that are kept
+-- what contracts see of a core: its store, the drain of each submitter, what was taken in, the closing number, the sealed parts, those that
+-- were handed out and those that are kept, and how many seals had no memory
 pub record CoreState (B K O : Type 0) : Type 0 where
   pub store : StoreState B K O
   pub lanes : List (DrainState B)
@@ -35,6 +35,7 @@ pub record CoreState (B K O : Type 0) : Type 0 where
   pub closing : Cutoff
   pub handed : List Sealed
   pub parts : List Sealed
+  pub missed_seals : ℕ
 
 -- the first hands: worker w scans from `start + w` on, which wraps in 32 bits
 abbrev pub first_hands : {B : Type 0} → ℕ → ℕ → List (HandState B)
@@ -64,6 +65,7 @@ module _ {B K O : Type 0} where
     pub closing : core.closing ≡ record { number = None; stopping = false }
     pub handed : core.handed ≡ []
     pub parts : core.parts ≡ []
+    pub missed_seals : core.missed_seals ≡ 0
 
   -- nothing but the store has changed
   abbrev pub ChangesStore : CoreState B K O → CoreState B K O → Type 0

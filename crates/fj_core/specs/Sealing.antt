@@ -1,5 +1,5 @@
 -- The history of a core is sealed, and the part kept.
-use Rattle.std.specs.Prelude.{◌≡◌, ◌⊎◌, ◌&&◌, not, ⊤, Bool, true, false, Result, Ok, Err, [], ◌∷◌, ◌++◌}
+use Rattle.std.specs.Prelude.{◌≡◌, ◌⊎◌, ◌&&◌, ◌+◌, if◌then◌else◌, not, ⊤, Bool, true, false, Result, Ok, Err, [], ◌∷◌, ◌++◌}
 use Rattle.fj_rules.specs.declared.epoch.Sealed.{Sealed}
 use Rattle.fj_rules.specs.declared.refusal.Refusal.{Refusal}
 use Rattle.fj_rules.specs.declared.refusal.Refusal.TheVariants.{LogFull, OutOfMemory}
@@ -13,6 +13,11 @@ use Rattle.fj_core.specs.Cores.{CoreState}
 -- whether it is time for a seal: the history is more than half full, and the machine is open and quiescent
 abbrev pub may_be_sealed : Past → Bool
 may_be_sealed past = is_half_full past && not (is_over past.events) && is_quiet past.pool.limits past.events
+
+-- whether a seal was refused for want of memory
+abbrev pub is_without_memory : Result ⊤ Refusal → Bool
+is_without_memory (Err OutOfMemory) = true
+is_without_memory _ = false
 
 module _ {B K O : Type 0} where
   -- whether nothing is taken in before the next seal: the history is more than half full, the machine is open and not quiescent, and no Stop
@@ -31,7 +36,12 @@ module _ {B K O : Type 0} where
   abbrev pub RefusesCoreSeal : CoreState B K O → Refusal → Type 0
   RefusesCoreSeal core r = ((core.store.stuck ≡ true) × (r ≡ LogFull)) ⊎ ((core.store.stuck ≡ false) × ((r ≡ OutOfMemory) ⊎ RefusesSeal core.store.past r))
 
-  -- a seal; or it is refused, and nothing has changed
+  -- a part is sealed and kept; or that is refused, and nothing has changed
+  abbrev pub SealsPart : CoreState B K O → Result ⊤ Refusal → CoreState B K O → Type 0
+  SealsPart old (Ok done) new = KeepsPart old new
+  SealsPart old (Err r) new = RefusesCoreSeal old r × (new ≡ old)
+
+  -- a seal; or it is refused, and nothing has changed but the count of those without memory
   abbrev pub SealsCore : CoreState B K O → Result ⊤ Refusal → CoreState B K O → Type 0
   SealsCore old (Ok done) new = KeepsPart old new
-  SealsCore old (Err r) new = RefusesCoreSeal old r × (new ≡ old)
+  SealsCore old (Err r) new = RefusesCoreSeal old r × (new ≡ record old { missed_seals = old.missed_seals + (if is_without_memory (Err r) then 1 else 0) })

@@ -23,7 +23,7 @@ use crate::cutoff::Cutoff;
 use crate::first_hands::new_hands;
 use fj_bodies::{Body, Heard, Outcome, Store, Told};
 use fj_gate::Ticket;
-use fj_lane::Drain;
+use fj_lane::{Drain, Misses};
 use fj_machine::Machine;
 use fj_rules::{Limits, Mode, OutOfMemory, Refusal, Serial, both};
 use fj_slots::Hand;
@@ -41,6 +41,7 @@ pub struct Core<B: Body> {
     bookings: Bookings,
     closing: Cutoff,
     archive: Archive,
+    missed_seals: Misses,
 }
 
 impl<B: Body> Model for Core<B> {
@@ -48,7 +49,7 @@ impl<B: Body> Model for Core<B> {
 
     ghost Value = { CoreState B B.Key B.Out };
 
-    ghost view = { λ c. record { store = c.store; lanes = c.drains.items; bookings = c.bookings.bookings; closing = c.closing; handed = c.archive.handed; parts = c.archive.kept } };
+    ghost view = { λ c. record { store = c.store; lanes = c.drains.items; bookings = c.bookings.bookings; closing = c.closing; handed = c.archive.handed; parts = c.archive.kept; missed_seals = c.missed_seals.number } };
 
     ghost invariant = { λ c. HoldsCore c.store c.drains.items c.bookings c.closing c.archive };
 }
@@ -84,6 +85,7 @@ impl<B: Body> Core<B> {
             bookings,
             closing: Cutoff::new(),
             archive: Archive::new(alloc),
+            missed_seals: Misses::zero(),
         };
         Ok((core, hands))
     }

@@ -189,7 +189,12 @@ module _ {B K O : Type 0} where
         events = prefix_same old.store.past.events new.store.past.events (ap (λ (s : StoreState B K O). s.past.events) is.hands.others);
         stuck = λ free. sym (ap (λ (s : StoreState B K O). s.stuck) is.hands.others) ∙ free;
       }
-  seals_on old new (Err r) is = core_same old new is.1
+  seals_on old new (Err r) is = record {
+    store = store_same old.store new.store (ap (λ (c : CoreState B K O). c.store) is.1);
+    bookings = prefix_same old.bookings new.bookings (ap (λ (c : CoreState B K O). c.bookings) is.1);
+    parts = prefix_same (old.handed ++ old.parts) (new.handed ++ new.parts) (ap (λ (c : CoreState B K O). c.handed ++ c.parts) is.1);
+    number = λ n was. ap (λ (c : CoreState B K O). c.closing.number) is.1 ∙ was;
+  }
 
   where_on : (due : Bool) (old new : CoreState B K O) → SealsWhere due old new → Continues old new
   where_on true old new (answer, is) = seals_on old new answer is

@@ -42,7 +42,7 @@ module _ {B K O : Type 0} where
   abbrev pub TakesEach : (B → Option ℕ) → CoreState B K O → TakenIn → CoreState B K O → Type 0
   TakesEach rooted_as old taken new = (first : ℕ) × TakesFrom rooted_as old.store.past.pool.limits.submitters first old.store.past.pool.limits.submitters old taken new
 
-  -- a seal is tried if it is due
+  -- a seal is made if it is due; one that is refused for memory is counted, so it was tried
   abbrev pub SealsWhere : Bool → CoreState B K O → CoreState B K O → Type 0
   SealsWhere true old new = (answer : Result ⊤ Refusal) × SealsCore old answer new
   SealsWhere false old new = new ≡ old

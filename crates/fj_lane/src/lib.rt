@@ -26,6 +26,7 @@ mod rule;
 
 pub use drain::Drain;
 pub use feed::Feed;
+pub use misses::Misses;
 pub use new_lane::{MAX_CAPACITY, lane};
 pub use parcel::{LaneSpent, Parcel};
 pub use rest::{Rest, meet};

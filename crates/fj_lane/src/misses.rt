@@ -3,7 +3,7 @@ ghost use Rattle.std.specs.Borrow.{ftrue};
 
 use std::marker::{Model, PhantomData};
 
-/// How many takes gave none.
+/// How often there was nothing: takes of a [`Drain`](crate::Drain) that gave none, or seals of the core above for which there was no memory.
 ///
 /// It exists in proofs alone: it has no bytes, and its calls do nothing at run time. A real counter could overflow.
 #[derive(Drop)]
@@ -20,14 +20,14 @@ impl Model for Misses {
 unsafe impl Send for Misses {}
 
 impl Misses {
-    /// 0: no take yet.
+    /// 0: it has not happened yet.
     pub fn zero() -> Misses
         ensures { result.number ≡ 0 }
     {
         Misses { of: PhantomData }
     }
 
-    /// One more: a take has given none.
+    /// One more.
     pub fn next(&self) -> Misses
         ensures { result.number ≡ self.now.number + 1 }
     {

@@ -1,6 +1,7 @@
 ghost use Rattle.std.specs.Prelude.{◌≡◌, ◌++◌};
 ghost use Rattle.fj_rules.specs.Epochs.{IsPast};
 ghost use Rattle.fj_slots.specs.Shelves.{entries};
+ghost use Rattle.fj_bodies.specs.Stores.{HasResults};
 ghost use Rattle.fj_core.specs.Booked.{AreBooked};
 ghost use Rattle.fj_core.specs.Cores.{AreParts};
 
@@ -32,6 +33,8 @@ impl<B: Body> Core<B> {
     pub fn into_remains(self) -> Remains<B>
         ensures past { result.machine ≡ self.store.past }
         ensures results { entries result.results ≡ entries self.store.results }
+        // No result was lost.
+        ensures complete { HasResults self.store.past (entries self.store.results) self.store.taken }
         ensures drains { result.drains.items ≡ self.lanes }
         ensures bookings { result.bookings.bookings ≡ self.bookings }
         ensures handed { result.archive.handed ≡ self.handed }
@@ -46,6 +49,7 @@ impl<B: Body> Core<B> {
             bookings,
             closing: _,
             archive,
+            missed_seals: _,
         } = self;
         let (machine, results) = store.into_parts();
         Remains {

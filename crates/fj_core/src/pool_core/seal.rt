@@ -2,7 +2,7 @@ ghost use Rattle.std.specs.Prelude.{◌≡◌, [], ◌++◌, true, false};
 ghost use Rattle.fj_rules.specs.Answers.{is_quiet};
 ghost use Rattle.fj_core.specs.Closings.{is_over};
 ghost use Rattle.fj_core.specs.Cores.{AreParts};
-ghost use Rattle.fj_core.specs.Sealing.{SealsCore, holds_back, may_be_sealed};
+ghost use Rattle.fj_core.specs.Sealing.{SealsCore, SealsPart, holds_back, is_without_memory, may_be_sealed};
 
 use crate::pool_core::Core;
 use fj_bodies::Body;
@@ -13,11 +13,23 @@ impl<B: Body> Core<B> {
     /// Seals the history since the last seal, and appends it to the kept parts: the history has room for its full limit of events again.
     /// Bodies, results, bookings and the closing number stay.
     ///
-    /// Errors, after which nothing has changed: `LogFull` if the core is stuck; else `OutOfMemory` if the list of parts cannot grow; else
+    /// Errors, after which nothing has changed, but for proofs the count of seals without memory: `LogFull` if the core is stuck; else `OutOfMemory` if the list of parts cannot grow; else
     /// `NotIdle` if the machine is not quiescent, `Closed` after a shutdown or a stop, `LogFull` if all events, the sealed ones too, and the
     /// seals are more than 2^62, or `OutOfMemory`. Java has no counterpart: it keeps no history.
     pub fn seal(&mut self, alloc: Global) -> Result<(), Refusal>
         ensures seals { SealsCore self.old result self.new }
+        ensures pool { self.new.store.past.pool ≡ self.old.store.past.pool }
+    {
+        let answer = self.seal_part(alloc);
+        if is_without_memory(&answer) {
+            self.missed_seals = self.missed_seals.next();
+        }
+        answer
+    }
+
+    /// Seals a part and keeps it.
+    fn seal_part(&mut self, alloc: Global) -> Result<(), Refusal>
+        ensures seals { SealsPart self.old result self.new }
         ensures pool { self.new.store.past.pool ≡ self.old.store.past.pool }
     {
         if self.store.is_stuck() {
@@ -71,4 +83,11 @@ impl<B: Body> Core<B> {
             && !self.closing.stopping
             && !self.store.is_quiescent()
     }
+}
+
+/// Whether a seal was refused for want of memory.
+fn is_without_memory(answer: &Result<(), Refusal>) -> bool
+    ensures { result ≡ is_without_memory answer.now }
+{
+    matches!(answer, Err(Refusal::OutOfMemory))
 }

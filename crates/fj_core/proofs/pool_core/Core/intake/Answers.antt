@@ -76,9 +76,9 @@ returns-in-None-clause-intakes g c =
     let within : c.s.inside.0 < length lanes = omega (arith, c.requires, ap (λ (x : CoreState g.row.B.Denot g.row.B-Key.Denot g.row.B-Out.Denot). x.store.past.pool.limits.submitters) c.self.view_is, c.self.invariant.core.booked.lane_each, c.s.view_is) in
     let at : slice_get lanes c.s.inside.0 ≡ Some d = slice_get_read lanes (length lanes) c.s.inside.0 d refl within c.index_mut.ensures.value in
     let with_store : StoreState g.row.B.Denot g.row.B-Key.Denot g.row.B-Out.Denot → CoreState g.row.B.Denot g.row.B-Key.Denot g.row.B-Out.Denot =
-    λ st. record { store = st; lanes = slice_set lanes c.s.inside.0 c.take.new.self; bookings = self.bookings.bookings; closing = self.closing; handed = self.archive.handed; parts = self.archive.kept } in
+    λ st. record { store = st; lanes = slice_set lanes c.s.inside.0 c.take.new.self; bookings = self.bookings.bookings; closing = self.closing; handed = self.archive.handed; parts = self.archive.kept; missed_seals = self.missed_seals.number } in
     let with_lanes : List (DrainState g.row.B.Denot) → CoreState g.row.B.Denot g.row.B-Key.Denot g.row.B-Out.Denot =
-    λ ls. record { store = self.store; lanes = ls; bookings = self.bookings.bookings; closing = self.closing; handed = self.archive.handed; parts = self.archive.kept } in
+    λ ls. record { store = self.store; lanes = ls; bookings = self.bookings.bookings; closing = self.closing; handed = self.archive.handed; parts = self.archive.kept; missed_seals = self.missed_seals.number } in
     rw (← c.self.view_is) (inr (record {
       free = c.in_default.ensures.0;
       goes_on = c.in_default.ensures.1;
@@ -104,9 +104,9 @@ returns-in-Some-take-clause-intakes g c =
     let new_lanes : slice_set lanes c.s.inside.0 c.take.new.self ≡ slice_set lanes c.args.s (with_drained d p) =
     ap (λ j. slice_set lanes j c.take.new.self) c.s.view_is ∙ ap (λ (e : DrainState g.row.B.Denot). slice_set lanes c.args.s e) c.in-Some-take.ensures.taken in
     let with_lanes : List (DrainState g.row.B.Denot) → CoreState g.row.B.Denot g.row.B-Key.Denot g.row.B-Out.Denot =
-    λ ls. record { store = c.make_due.new.store; lanes = ls; bookings = c.push.new.self.bookings; closing = self.closing; handed = self.archive.handed; parts = self.archive.kept } in
+    λ ls. record { store = c.make_due.new.store; lanes = ls; bookings = c.push.new.self.bookings; closing = self.closing; handed = self.archive.handed; parts = self.archive.kept; missed_seals = self.missed_seals.number } in
     let with_bookings : List Booking → CoreState g.row.B.Denot g.row.B-Key.Denot g.row.B-Out.Denot =
-    λ bs. record { store = c.make_due.new.store; lanes = slice_set lanes c.args.s (with_drained d p); bookings = bs; closing = self.closing; handed = self.archive.handed; parts = self.archive.kept } in
+    λ bs. record { store = c.make_due.new.store; lanes = slice_set lanes c.args.s (with_drained d p); bookings = bs; closing = self.closing; handed = self.archive.handed; parts = self.archive.kept; missed_seals = self.missed_seals.number } in
     rw (← c.self.view_is) (record {
       free = c.in_default.ensures.0;
       goes_on = c.in_default.ensures.1;

@@ -39,4 +39,5 @@ returns-clause-core g c =
       closing = c.new-3.ensures;
       handed = ap (λ (a : Archived). a.handed) c.new-4.ensures;
       parts = ap (λ (a : Archived). a.kept) c.new-4.ensures;
+      missed_seals = c.zero.ensures;
     }

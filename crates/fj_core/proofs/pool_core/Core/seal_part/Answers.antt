@@ -2,7 +2,7 @@ use Rattle.std.proofs.Common.{◌∷◌, [], ◌++◌, ap, ◌∙◌}
 use Rattle.fj_core.specs.Archives.{Archived}
 use Rattle.fj_core.specs.Cores.{CoreState}
 use Rattle.fj_core.proofs.Parts.{parts_kept, sealed_core}
-use Rattle.fj_core.proofs.pool_core.Core.seal.Goals as goal
+use Rattle.fj_core.proofs.pool_core.Core.seal_part.Goals as goal
 
 pub invariant_of-self-2 : goal.invariant_of-self-2
 invariant_of-self-2 g c =
@@ -20,6 +20,6 @@ returns-clause-seals g c =
     let self = c.self.inside in
     let part = c.in_ok-part.part in
     let with_archive : Archived → CoreState g.row.B.Denot g.row.B-Key.Denot g.row.B-Out.Denot =
-    λ a. record { store = c.seal.new.self; lanes = self.drains.items; bookings = self.bookings.bookings; closing = self.closing; handed = a.handed; parts = a.kept } in
+    λ a. record { store = c.seal.new.self; lanes = self.drains.items; bookings = self.bookings.bookings; closing = self.closing; handed = a.handed; parts = a.kept; missed_seals = self.missed_seals.number } in
     let more = ap with_archive c.push.ensures ∙ ap (λ (a : Archived). with_archive (record a { kept = a.kept ++ part ∷ [] })) c.reserve.ensures.same in
     rw (← c.self.view_is) (record { part = part; hands = c.in_ok-part.ensures; others = more })
