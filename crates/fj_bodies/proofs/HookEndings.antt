@@ -352,6 +352,13 @@ hook_kept past w c bodies results ts is at = rw known (go (is_in c (released pas
 in_hand : {B : Type 0} (past : Past) (hand : HandState B) (w c : ℕ) (body : B) → Fits past hand → w ≡ hand.worker → hand.hook ≡ Some (c, body) → hook_of past.events w ≡ Some c
 in_hand past hand w c body fits same held = ap (hook_of past.events) same ∙ sym fits.hook ∙ ap hook_number held
 
+-- it is the task whose completion action is there
+pub hook_task : {B : Type 0} (past : Past) (hand : HandState B) (w c d : ℕ) (body : B) → Fits past hand → w ≡ hand.worker → hand.hook ≡ Some (c, body) → hook_of past.events w ≡ Some d → c ≡ d
+hook_task past hand w c d body fits same held at = some_same (sym (in_hand past hand w c body fits same held) ∙ at)
+  where
+    some_same : {x y : ℕ} → ◌≡◌ {A = Option ℕ} (Some x) (Some y) → x ≡ y
+    some_same is = cc
+
 -- what its end is about
 pub own_hook_about : {B R : Type 0} (past : Past) (hand : HandState B) (w c : ℕ) (body : B) (bodies : Entries B) (results : Entries R) (ts : List ℕ) → IsStored past bodies results ts → Fits past hand
     → w ≡ hand.worker → hand.hook ≡ Some (c, body) → OnlyAbout past.events c (answer past (HookDone w)).1
@@ -384,10 +391,7 @@ pub hook_last : {B : Type 0} (past new : Past) (hand : HandState B) (w c d : ℕ
     → hook_of past.events w ≡ Some d → (answer past (HookDone w)).1 ≡ event.Hooked d ∷ rest → new ≡ grown past (answer past (HookDone w)).1 → GivesNoMore new.events c
 hook_last past new hand w c d body rest run fits same held at made grew =
     subst (λ (p : Past). GivesNoMore p.events c) (sym (grew ∙ ap (grown past) made))
-    (subst (GivesNoMore (past.events ++ event.Hooked d ∷ rest)) (some_same (sym at ∙ in_hand past hand w c body fits same held)) (hook_ended past w d rest run at made))
-  where
-    some_same : {x y : ℕ} → ◌≡◌ {A = Option ℕ} (Some x) (Some y) → x ≡ y
-    some_same is = cc
+    (subst (GivesNoMore (past.events ++ event.Hooked d ∷ rest)) (sym (hook_task past hand w c d body fits same held at)) (hook_ended past w d rest run at made))
 
 -- ---- the hand
 

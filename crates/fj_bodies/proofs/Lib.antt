@@ -42,6 +42,12 @@ pub mod Completing
 pub mod Refused
 -- The end of the submissions.
 pub mod Shutting
+-- Which tasks a step makes normal.
+pub mod Normals
+-- Which completion actions a step ends.
+pub mod HooksEnded
+-- No result is lost.
+pub mod NoneLost
 -- What has happened is handed out in parts.
 pub mod Sealing
 -- A hook ends.
@@ -56,3 +62,5 @@ pub mod Bare
 pub mod Acts
 -- That it may go to another thread.
 pub mod Crossing
+-- A join or a take finds no result.
+pub mod NoResult

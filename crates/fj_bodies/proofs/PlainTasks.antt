@@ -24,14 +24,15 @@ use Rattle.fj_rules.proofs.Events.Lawful.{by_events}
 use Rattle.fj_rules.proofs.Events.Releasable.{only_parent_goes}
 use Rattle.fj_rules.proofs.Lists.Members.{Once, is_in_append, once_more}
 use Rattle.fj_rules.proofs.Steps.AnswersAllowed.{climbed_completer, history_allowed}
-use Rattle.fj_slots.specs.Shelves.{Entries}
-use Rattle.fj_bodies.specs.Stores.{StoreState, IsStored}
-use Rattle.fj_bodies.specs.Releases.{ReleasesPlain, ReleasesTaken, released_of}
+use Rattle.fj_slots.specs.Shelves.{Entries, without_entry}
+use Rattle.fj_bodies.specs.Stores.{StoreState, IsStored, HasResults}
+use Rattle.fj_bodies.specs.Releases.{Releases, ReleasesPlain, released_of}
 use Rattle.fj_bodies.proofs.InHands.{after_one, climbed_fire}
 use Rattle.fj_bodies.proofs.Results.{marked_stored}
 use Rattle.fj_bodies.proofs.Releases.{release_stored, went}
 use Rattle.fj_bodies.proofs.Chains.{all_went, one_went}
 use Rattle.fj_bodies.proofs.DueTasks.{cannot}
+use Rattle.fj_bodies.proofs.NoneLost.{marked_results, release_results}
 use Rattle.fj_bodies.proofs.Upwards.{may_release}
 
 -- ---- it has no completion action and no parent
@@ -102,8 +103,15 @@ plain_stored past new bodies results ts t is kept free none step =
     (subst (λ (p : Past). IsStored p bodies results (without (ts ++ t ∷ []) (t ∷ []))) (sym step.1.1)
     (release_stored past t bodies results (ts ++ t ∷ []) (marked_stored past bodies results ts t is kept free none) (last_in t ts) (sym (plain_unhooked past t is.run step.0)) (plain_went past new t is.run step).1))
 
+-- no result was lost: that of the task was taken out
+pub plain_results : {R : Type 0} (past new : Past) (results results' : Entries R) (ts : List ℕ) (t : ℕ) → IsPast past → Once ts → is_in t ts ≡ false → HasResults past results ts → results' ≡ without_entry results t
+    → ReleasesPlain past t true new → HasResults new results' ts
+plain_results past new results results' ts t run once free has less step =
+    subst (HasResults new results') (without_last ts t (once_more ts t free once))
+    (release_results past new t results' (ts ++ t ∷ []) run (marked_results past results results' ts t has less) (plain_went past new t run step).1 step.1.1)
+
 pub plain_releases : {B K O : Type 0} (old : StoreState B K O) (new : Past) (t : ℕ) → IsPast old.past → Once old.taken → is_in t old.taken ≡ false → ((u : ℕ) → is_in u old.taken ≡ true → can_go old.past.events u ≡ false)
-    → ReleasesPlain old.past t true new → ReleasesTaken old t (record old { past = new })
+    → ReleasesPlain old.past t true new → Releases (record old { taken = old.taken ++ t ∷ [] }) (record old { past = new })
 plain_releases {B} {K} {O} old new t run once free none step =
     all_went marked (record old { past = new }) (one_went marked (record old { past = new }) t (last_in t old.taken) (plain_went old.past new t run step).0 were, plain_due old.past new old.taken t run free none step)
   where

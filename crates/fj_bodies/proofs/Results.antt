@@ -1,5 +1,5 @@
 -- Results are kept, and taken out.
-use Rattle.std.proofs.Common.{ℕ, ◌≡◌, ◌⊎◌, inl, inr, ◌≤◌, ◌<◌, Bool, true, false, List, [], ◌∷◌, ◌++◌, length, Option, Some, None, refl, ap, sym, ◌∙◌, subst, arith, length-append, ⊎_elim}
+use Rattle.std.proofs.Common.{ℕ, ◌≡◌, ◌⊎◌, inl, inr, ◌≤◌, ◌<◌, Bool, true, false, List, [], ◌∷◌, ◌++◌, length, Some, None, refl, ap, sym, ◌∙◌, subst, arith, length-append, ⊎_elim}
 use Rattle.std.specs.Prelude.{if◌then◌else◌, ◌==◌, is_some}
 use Rattle.std.proofs.lemmas.Bool.{eq-eqb, eqb-true, or_cases, true≢false}
 use Rattle.fj_rules.specs.declared.event.Event.{Event}
@@ -11,8 +11,9 @@ use Rattle.fj_rules.proofs.Lists.Members.{is_in_append, once_more}
 use Rattle.fj_rules.proofs.Places.FewLive.{few_live}
 use Rattle.fj_rules.proofs.Places.KeptPlaces.{few_kept}
 use Rattle.fj_rules.proofs.Steps.AnswersAllowed.{history_allowed}
-use Rattle.fj_slots.specs.Shelves.{Entries, with_entry, without_entry, AreFewer}
-use Rattle.fj_bodies.specs.Stores.{AreKept, GivesNoMore, IsStored}
+use Rattle.fj_slots.specs.Shelves.{Entries, Shelved, entries, with_entry, without_entry, AreFewer}
+use Rattle.fj_bodies.specs.Results.{KeepsIn, Keeps, KeepsUnless}
+use Rattle.fj_bodies.specs.Stores.{StoreState, AreKept, GivesNoMore, IsStored}
 use Rattle.fj_bodies.proofs.Bodies.{fewer_kept}
 
 -- ---- lists of kept tasks
@@ -56,6 +57,19 @@ result_stored {B} {R} past bodies results results' ts t x is kept given free mor
     none : (u : ℕ) (b : Bool) → (t == u) ≡ b → is_in u ts ≡ true → (if b then Some x else results u) ≡ None
     none u true same there = absurd (true≢false (sym there ∙ ap (λ v. is_in v ts) (sym (eqb-true t u same)) ∙ free))
     none u false same there = is.apart u there
+
+-- it is kept, unless it is marked
+pub keeps_stored : {B R : Type 0} (past : Past) (bodies : Entries B) (results results' : Shelved R) (ts : List ℕ) (t : ℕ) (x : R) → IsStored past bodies (entries results) ts → is_kept past.events t ≡ true
+    → GivesNoMore past.events t → KeepsIn (is_in t ts) results t x results' → IsStored past bodies (entries results') ts
+keeps_stored {B} {R} past bodies results results' ts t x is kept given keeps = go (is_in t ts) refl keeps
+  where
+    go : (b : Bool) → is_in t ts ≡ b → KeepsIn b results t x results' → IsStored past bodies (entries results') ts
+    go true at same = subst (λ (r : Shelved R). IsStored past bodies (entries r) ts) (sym same) is
+    go false at more = result_stored past bodies (entries results) (entries results') ts t x is kept given at more.0
+
+pub keeps_room : {R : Type 0} (b : Bool) (results results' : Shelved R) (t : ℕ) (x : R) → KeepsIn b results t x results' → results'.room ≡ results.room
+keeps_room {R} true results results' t x same = ap (λ (r : Shelved R). r.room) same
+keeps_room {R} false results results' t x more = more.1
 
 pub result_room : {B R : Type 0} (past : Past) (bodies : Entries B) (results : Entries R) (ts : List ℕ) (t room : ℕ) → IsStored past bodies results ts → is_kept past.events t ≡ true → results t ≡ None
     → past.pool.limits.tasks ≤ room → AreFewer results room
@@ -103,17 +117,16 @@ marked_stored past bodies results ts t is kept free none = record {
   hooks_kept = is.hooks_kept;
 }
 
--- it was not marked, where it has a result
-pub result_free : {B R : Type 0} (past : Past) (bodies : Entries B) (results : Entries R) (ts : List ℕ) (t : ℕ) (x : R) → IsStored past bodies results ts → results t ≡ Some x → (is_kept past.events t ≡ true) × (is_in t ts ≡ false)
-result_free {B} {R} past bodies results ts t x is has = (is.results_kept t (ap is_some has), go (is_in t ts) refl)
-  where
-    go : (b : Bool) → is_in t ts ≡ b → b ≡ false
-    go false at = refl
-    go true at = absurd (differs (sym has ∙ is.apart t at))
-      where
-        differs : ◌≡◌ {A = Option R} (Some x) None → ⊥
-        differs eq = cc
-
 pub marked_room : {B R : Type 0} (past : Past) (bodies : Entries B) (results : Entries R) (ts : List ℕ) (t : ℕ) → IsStored past bodies results ts → is_kept past.events t ≡ true → is_in t ts ≡ false → length ts < past.pool.limits.tasks
 marked_room past bodies results ts t is kept free =
     omega (arith, few_are_kept past (ts ++ t ∷ []) is.run (one_more_kept past.events ts t is.taken_kept kept free), length-append ts (t ∷ []))
+
+-- ---- what the contracts say of it
+
+module _ {B K O : Type 0} where
+  pub keeps_store : (old : StoreState B K O) (t : ℕ) (kept : K × O) (results : Shelved (K × O)) → KeepsIn (is_in t old.taken) old.results t kept results → Keeps old t kept (record old { results = results })
+  keeps_store old t kept results keeps = go (is_in t old.taken) keeps
+    where
+      go : (b : Bool) → KeepsIn b old.results t kept results → KeepsUnless b old t kept (record old { results = results })
+      go true same = ap (λ (r : Shelved (K × O)). record old { results = r }) same
+      go false more = (more.0, refl)

@@ -14,7 +14,7 @@ use Rattle.fj_slots.specs.Shelves.{entries, without_entry}
 use Rattle.fj_slots.specs.Hands.{HandState, with_next_word, with_body}
 use Rattle.fj_bodies.specs.Stores.{StoreState}
 use Rattle.fj_bodies.specs.Releases.{Releases}
-use Rattle.fj_bodies.specs.Results.{TakesOut}
+use Rattle.fj_bodies.specs.Results.{HasNone, TakesOut}
 
 module _ {B K O : Type 0} where
   -- a step of the machine alone
@@ -101,7 +101,7 @@ module _ {B K O : Type 0} where
   Joins old hand t told.None new hand' = (old.stuck ≡ false) × Moves old (ask.Join hand.worker t hand.word) says.None new × (hand' ≡ with_next_word hand)
   Joins old hand t (told.Hear (hears.Got k o)) new hand' = (old.stuck ≡ false) × Gives old (ask.Join hand.worker t hand.word) t (k, o) new × (hand' ≡ with_next_word hand)
   Joins old hand t (told.Hear hears.Bare) new hand' =
-      (old.stuck ≡ false) × Moves old (ask.Join hand.worker t hand.word) says.Normal new × (entries old.results t ≡ None) × (hand' ≡ with_next_word hand)
+      (old.stuck ≡ false) × Moves old (ask.Join hand.worker t hand.word) says.Normal new × HasNone old t × (hand' ≡ with_next_word hand)
   Joins old hand t (told.Hear (hears.Failed code)) new hand' = (old.stuck ≡ false) × Moves old (ask.Join hand.worker t hand.word) (says.Exceptional code) new × (hand' ≡ with_next_word hand)
   Joins old hand t (told.Hear hears.Cancelled) new hand' = (old.stuck ≡ false) × Moves old (ask.Join hand.worker t hand.word) says.Cancelled new × (hand' ≡ with_next_word hand)
   Joins old hand t (told.Hear (hears.Refused r)) new hand' = (old.stuck ≡ false) × Refuses old (ask.Join hand.worker t hand.word) (says.Refused r) new × (hand' ≡ with_next_word hand)

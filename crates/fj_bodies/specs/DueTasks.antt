@@ -9,7 +9,7 @@ use Rattle.fj_slots.specs.Marked.{SerialList}
 use Rattle.fj_slots.specs.Shelves.{Shelved, entries}
 use Rattle.fj_bodies.specs.declared.due.Due.{Due}
 use Rattle.fj_bodies.specs.declared.due.Due.TheVariants as due
-use Rattle.fj_bodies.specs.Stores.{StoreState, IsStored}
+use Rattle.fj_bodies.specs.Stores.{StoreState, IsStored, HasResults}
 use Rattle.fj_bodies.specs.declared.tries.HistoryFull.{HistoryFull}
 use Rattle.fj_bodies.specs.Releases.{NoneGoesFrom, Releases, ReleasesSome, released_of}
 use Rattle.fj_rules.specs.Releasable.{can_go}
@@ -34,6 +34,8 @@ pub record HasRoom (tasks for_bodies for_results for_marks : ℕ) : Type 0 where
 -- what holds of every store, with what is due in it
 pub record HoldsStore {B R : Type 0} (past : Past) (bodies : Shelved B) (results : Shelved R) (taken : SerialList) (which : Due) (stuck : Bool) : Type 0 where
   pub stored : IsStored past (entries bodies) (entries results) taken.items
+  -- no result was lost
+  pub complete : HasResults past (entries results) taken.items
   pub room : HasRoom past.pool.limits.tasks bodies.room results.room taken.room
   -- after each call only due tasks can be released, unless the history is full
   pub due : stuck ≡ false → AreDue past.events taken.items which

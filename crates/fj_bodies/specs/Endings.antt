@@ -9,6 +9,8 @@ use Rattle.fj_rules.specs.declared.said.Said.{Said}
 use Rattle.fj_rules.specs.declared.said.Said.TheVariants as says
 use Rattle.fj_rules.specs.Places.{place, is_gone}
 use Rattle.fj_rules.specs.Runs.{Steps}
+use Rattle.fj_bodies.specs.declared.bare_ending.BareEnding.{BareEnding}
+use Rattle.fj_bodies.specs.declared.bare_ending.BareEnding.TheVariants as bare
 use Rattle.fj_bodies.specs.declared.body.Heard.TheVariants as hears
 use Rattle.fj_bodies.specs.declared.body.Told.{Told}
 use Rattle.fj_bodies.specs.declared.body.Told.TheVariants as told
@@ -18,6 +20,14 @@ use Rattle.fj_bodies.specs.Stores.{StoreState, still_held}
 use Rattle.fj_bodies.specs.Releases.{Releases}
 use Rattle.fj_bodies.specs.Results.{Keeps}
 use Rattle.fj_bodies.specs.Choosing.{Refuses, WasStuck, GetsStuck}
+
+-- a bare ending as the machine knows it
+abbrev pub ending_in : BareEnding → Ending
+ending_in bare.Quiet = ending.Quiet
+ending_in bare.Try = ending.Try
+ending_in bare.Pass = ending.Pass
+ending_in bare.Complete = ending.Complete
+ending_in (bare.Fail code) = ending.Fail code
 
 -- whether a reply to the end of a body or of a hook is no hook and no refusal
 abbrev pub is_over : Said → Bool

@@ -1,5 +1,5 @@
 -- Tasks whose result or outcome was taken are released as soon as they can be.
-use Rattle.std.specs.Prelude.{ℕ, ◌≡◌, ◌≤◌, ◌⊎◌, Bool, true, false, map, length, drop, List, [], ◌∷◌, ◌++◌, Result, Ok, Err, ⊤}
+use Rattle.std.specs.Prelude.{ℕ, ◌≡◌, ◌≤◌, ◌⊎◌, Bool, true, false, map, length, drop, List, [], ◌∷◌, Result, Ok, Err, ⊤}
 use Rattle.fj_rules.specs.declared.event.Event.TheVariants.{Rel}
 use Rattle.fj_rules.specs.declared.said.Said.TheVariants.{Done}
 use Rattle.fj_rules.specs.declared.step.Step.TheVariants.{Release}
@@ -40,10 +40,6 @@ module _ {B K O : Type 0} where
     pub could : CanAllGo old.past.events tasks
     pub were : new ≡ record (released_of old tasks) { stuck = new.stuck }
     pub rests : Rests old.stuck new
-
-  -- the task is marked as taken; then what can be is released
-  abbrev pub ReleasesTaken : StoreState B K O → ℕ → StoreState B K O → Type 0
-  ReleasesTaken old t new = Releases (record old { taken = old.taken ++ t ∷ [] }) new
 
   -- the try to release a task
   abbrev pub Tries : StoreState B K O → ℕ → Tried → StoreState B K O → Type 0

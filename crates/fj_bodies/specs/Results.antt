@@ -1,11 +1,12 @@
 -- Results are kept, and taken out.
-use Rattle.std.specs.Prelude.{ℕ, ◌≡◌, ◌⊎◌, Bool, true, false, Option, Some, None, Result, Ok, Err, [], ◌∷◌, ◌++◌}
+use Rattle.std.specs.Prelude.{ℕ, ◌≡◌, ◌⊎◌, Bool, true, false, Option, Some, None, Result, Ok, Err, List, [], ◌∷◌, ◌++◌, ⊤}
+use Rattle.fj_rules.specs.declared.event.Event.{Event}
 use Rattle.fj_rules.specs.declared.refusal.Refusal.{Refusal}
 use Rattle.fj_rules.specs.declared.refusal.Refusal.TheVariants.{Unknown, NotDone}
 use Rattle.fj_rules.specs.declared.status.Status.{Status}
 use Rattle.fj_rules.specs.declared.status.Status.TheVariants.{Undone, Normal, Exceptional, Cancelled}
 use Rattle.fj_rules.specs.Lists.{is_in}
-use Rattle.fj_rules.specs.Tasks.{is_kept}
+use Rattle.fj_rules.specs.Tasks.{is_kept, is_completer}
 use Rattle.fj_rules.specs.Places.{place, is_gone}
 use Rattle.fj_rules.specs.Statuses.{status, is_undone}
 use Rattle.fj_bodies.specs.declared.body.Heard.TheVariants as hears
@@ -13,9 +14,18 @@ use Rattle.fj_bodies.specs.declared.body.Told.{Told}
 use Rattle.fj_bodies.specs.declared.body.Told.TheVariants as told
 use Rattle.fj_bodies.specs.declared.outcomes.Outcome.{Outcome}
 use Rattle.fj_bodies.specs.declared.outcomes.Outcome.TheVariants as outcome
-use Rattle.fj_slots.specs.Shelves.{entries, with_entry, without_entry}
-use Rattle.fj_bodies.specs.Stores.{StoreState}
+use Rattle.fj_slots.specs.Shelves.{Shelved, entries, with_entry, without_entry}
+use Rattle.fj_bodies.specs.Stores.{StoreState, hooks_ended}
 use Rattle.fj_bodies.specs.Releases.{Releases}
+
+-- the task became normal without a result: a completer whose completion action has not ended
+abbrev pub GivesNone : List Event → ℕ → Type 0
+GivesNone h t = (is_completer h t ≡ true) × (is_in t (hooks_ended h) ≡ false)
+
+-- among these results one is kept under this number; or it is dropped
+abbrev pub KeepsIn : {R : Type 0} → Bool → Shelved R → ℕ → R → Shelved R → Type 0
+KeepsIn true old t kept new = new ≡ old
+KeepsIn false old t kept new = (entries new ≡ with_entry (entries old) t kept) × (new.room ≡ old.room)
 
 module _ {B K O : Type 0} where
   -- a result is kept under this number; or it is dropped, as the task is marked as taken
@@ -29,6 +39,10 @@ module _ {B K O : Type 0} where
   -- the task is marked as taken, and has no result any more
   abbrev pub Marks : StoreState B K O → ℕ → StoreState B K O → Type 0
   Marks old t new = (entries new.results ≡ without_entry (entries old.results) t) × (new ≡ record old { results = new.results; taken = old.taken ++ t ∷ [] })
+
+  -- the same, and then what can be is released, the task too
+  abbrev pub MarksAndReleases : StoreState B K O → ℕ → StoreState B K O → Type 0
+  MarksAndReleases old t new = (mid : StoreState B K O) × Marks old t mid × Releases mid new
 
   -- a result is taken out, and its task is marked for its release; or there is none, and nothing has changed
   abbrev pub TakesOut : StoreState B K O → ℕ → Option (K × O) → StoreState B K O → Type 0
@@ -50,12 +64,21 @@ module _ {B K O : Type 0} where
     pub marks : Marks old t mid
     pub releases : Releases mid new
 
+  -- a normal task has no result: it was taken, or the task gives none
+  pub record HasNone (old : StoreState B K O) (t : ℕ) : Type 0 where
+    pub none : entries old.results t ≡ None
+    pub why : (is_in t old.taken ≡ true) ⊎ GivesNone old.past.events t
+
+  -- the task has no result; if it is normal, as above
+  abbrev pub FindsNone : StoreState B K O → ℕ → Type 0
+  FindsNone old t = (entries old.results t ≡ None) × (status old.past.events t ≡ Normal → HasNone old t)
+
   -- a body takes a result: Unknown if the task is not kept; NotDone if it is not gone, or has no result
   abbrev pub TakesResult : StoreState B K O → ℕ → Told B K O → StoreState B K O → Type 0
   TakesResult old t (told.Hear (hears.Got k o)) new = Takes old t (k, o) new
   TakesResult old t (told.Hear (hears.Refused Unknown)) new = (old.stuck ≡ false) × (is_kept old.past.events t ≡ false) × (new ≡ old)
   TakesResult old t (told.Hear (hears.Refused NotDone)) new =
-      (old.stuck ≡ false) × (is_kept old.past.events t ≡ true) × ((is_gone (place old.past.events t) ≡ false) ⊎ (entries old.results t ≡ None)) × (new ≡ old)
+      (old.stuck ≡ false) × (is_kept old.past.events t ≡ true) × ((is_gone (place old.past.events t) ≡ false) ⊎ FindsNone old t) × (new ≡ old)
   TakesResult old t (told.Stuck None) new = (old.stuck ≡ true) × (new ≡ old)
   TakesResult old t _ new = ⊥
 
@@ -94,12 +117,18 @@ module _ {B K O : Type 0} where
   kept_in (outcome.Exceptional code) = None
   kept_in outcome.Cancelled = None
 
+  -- the outcome has the result that the task gave
+  abbrev pub IsWhole : List Event → ℕ → Outcome B K O → Type 0
+  IsWhole h t (outcome.Normal None) = GivesNone h t
+  IsWhole h t _ = ⊤
+
   -- the outcome of a done task is returned, and its result is taken out; then what can be is released
   pub record Tells (old : StoreState B K O) (t : ℕ) (told : Outcome B K O) (new : StoreState B K O) : Type 0 where
     pub is : is_kept old.past.events t ≡ true
     pub first : is_in t old.taken ≡ false
     pub done : is_undone (status old.past.events t) ≡ false
     pub told_is : told ≡ outcome_of (status old.past.events t) (entries old.results t)
+    pub whole : IsWhole old.past.events t told
     pub mid : StoreState B K O
     pub marks : Marks old t mid
     pub releases : Releases mid new

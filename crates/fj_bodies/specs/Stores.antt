@@ -1,12 +1,16 @@
 -- The machine with the bodies that no worker holds, and the results.
-use Rattle.std.specs.Prelude.{ℕ, ◌≡◌, ◌≤◌, Bool, true, false, ◌&&◌, ◌++◌, length, drop, None, List}
+use Rattle.std.specs.Prelude.{ℕ, ◌≡◌, ◌≤◌, Bool, true, false, ◌&&◌, ◌++◌, length, drop, Option, Some, None, List}
+use Rattle.std.specs.List.{filter_map}
 use Rattle.fj_rules.specs.declared.event.Event.{Event}
+use Rattle.fj_rules.specs.declared.event.Event.TheVariants.{Hooked}
 use Rattle.fj_rules.specs.declared.place.Place.{Place}
 use Rattle.fj_rules.specs.declared.place.Place.TheVariants.{Queued, Held, Open, Gone}
+use Rattle.fj_rules.specs.declared.status.Status.TheVariants.{Normal}
 use Rattle.fj_rules.specs.Lists.{is_in, times_in}
 use Rattle.fj_rules.specs.Tasks.{tasks, is_kept, is_completer, released}
 use Rattle.fj_rules.specs.Completers.{is_spent}
 use Rattle.fj_rules.specs.Places.{place, gone, is_gone}
+use Rattle.fj_rules.specs.Statuses.{status}
 use Rattle.fj_rules.specs.Inside.{IsInside}
 use Rattle.fj_rules.specs.Releasable.{hooked}
 use Rattle.fj_rules.specs.Pasts.{Past}
@@ -69,6 +73,22 @@ pub record IsStored {B R : Type 0} (past : Past) (bodies : Entries B) (results :
   pub apart : (t : ℕ) → is_in t taken ≡ true → results t ≡ None
   -- no task is released while its completion action is in a hand
   pub hooks_kept : NoneReleased past.events
+
+-- the completer whose completion action ended by this event
+abbrev pub hook_ended_by : Event → Option ℕ
+hook_ended_by (Hooked c) = Some c
+hook_ended_by _ = None
+
+-- the completers whose completion action has ended
+unfoldable pub hooks_ended : List Event → List ℕ
+hooks_ended h = filter_map hook_ended_by h
+
+-- no result was lost: of the kept tasks that were not taken
+pub record HasResults {R : Type 0} (past : Past) (results : Entries R) (taken : List ℕ) : Type 0 where
+  -- each completer whose completion action has ended has its result
+  pub hooked : (c : ℕ) → is_kept past.events c ≡ true → is_in c (hooks_ended past.events) ≡ true → is_in c taken ≡ false → is_there results c ≡ true
+  -- and each plain task that became normal
+  pub plain : (t : ℕ) → is_kept past.events t ≡ true → is_completer past.events t ≡ false → status past.events t ≡ Normal → is_in t taken ≡ false → is_there results t ≡ true
 
 -- the tasks that became gone between the two
 abbrev pub went : Past → Past → List ℕ

@@ -1,4 +1,4 @@
-ghost use Rattle.std.specs.Prelude.{◌≡◌};
+ghost use Rattle.std.specs.Prelude.{◌≡◌, ◌&&◌, not};
 ghost use Rattle.fj_bodies.specs.DueTasks.{after as after_in, after_step as after_step_in, only as only_in, is_all as is_all_in, is_nothing as is_nothing_in};
 
 use fj_rules::{Serial, Step};
@@ -43,6 +43,14 @@ pub fn is_nothing(due: Due) -> bool
         Due::Nothing => true,
         Due::One(_) | Due::All => false,
     }
+}
+
+/// Whether no taken task can be released, and the store is not stuck.
+#[inline(always)]
+pub fn is_resting(stuck: bool, due: Due) -> bool
+    ensures { result ≡ not stuck && is_nothing_in due }
+{
+    !stuck && is_nothing(due)
 }
 
 /// What is due once something has happened to a task.

@@ -2,9 +2,11 @@
 //! the body.
 #![tactic(auto)]
 
+mod bare_ending;
 mod body;
 mod due;
 mod hooked;
+mod keep;
 mod kept_result;
 mod moves;
 mod outcomes;

@@ -1,14 +1,16 @@
+ghost use Rattle.std.specs.Prelude.{◌≡◌, true};
 ghost use Rattle.fj_bodies.specs.Releases.{ReleasesPlain};
 
 use fj_machine::Machine;
 use fj_rules::{Said, Serial, Step};
 
-/// Releases a task if it is plain and can be released. Returns false if it did not; then nothing has changed.
+/// Releases a task if it may, it is plain, and it can be released. Returns false if it did not; then nothing has changed.
 #[inline(always)]
-pub fn release_plain(machine: &mut Machine, t: Serial) -> bool
-    ensures { ReleasesPlain machine.old t result machine.new }
+pub fn release_plain(machine: &mut Machine, may: bool, t: Serial) -> bool
+    ensures releases { ReleasesPlain machine.old t result machine.new }
+    ensures may { result ≡ true → may ≡ true }
 {
-    if !machine.is_plain(t) {
+    if !may || !machine.is_plain(t) {
         return false;
     }
     match machine.step(&Step::Release { t }) {

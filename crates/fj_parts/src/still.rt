@@ -2,6 +2,7 @@ ghost use Rattle.std.specs.Prelude.{◌≡◌, ◌++◌, IfSome, true, length};
 ghost use Rattle.fj_gate.specs.Numbers.{IsNumbersBelow};
 ghost use Rattle.fj_rules.specs.Epochs.{IsPast};
 ghost use Rattle.fj_slots.specs.Shelves.{entries};
+ghost use Rattle.fj_bodies.specs.Stores.{HasResults};
 ghost use Rattle.fj_core.specs.Cores.{AreParts};
 ghost use Rattle.fj_parts.specs.Winding.{AreAll, AreEmpty, AreSettled, has_terminated, submissions, tickets_of};
 
@@ -37,6 +38,8 @@ impl<B: Body, N: Naming> Still<B, N> {
         requires { AreAll (length N.lanes) submitters.items }
         ensures machine { result.machine ≡ self.store.past }
         ensures results { entries result.results ≡ entries self.store.results }
+        // No result was lost: it has that of each kept task that gave one, unless the outcome was taken or given up.
+        ensures complete { HasResults result.machine (entries result.results) self.store.taken }
         ensures bookings { result.bookings.bookings ≡ self.bookings }
         ensures parts { (result.archive.handed ≡ self.handed) × (result.archive.kept ≡ self.parts) }
         ensures run { IsPast result.machine }

@@ -7,7 +7,7 @@ ghost use Rattle.fj_slots.specs.Shelves.{entries};
 ghost use Rattle.fj_bodies.specs.Acting.{Acts};
 ghost use Rattle.fj_bodies.specs.Choosing.{Polls};
 ghost use Rattle.fj_bodies.specs.Fitting.{Fits};
-ghost use Rattle.fj_bodies.specs.Stores.{StaysInside};
+ghost use Rattle.fj_bodies.specs.Stores.{HasResults, StaysInside};
 ghost use Rattle.fj_bodies.specs.Turns.{AskRight, ToldRight};
 ghost use Rattle.fj_core.specs.Booked.{AreBooked};
 ghost use Rattle.fj_core.specs.Closes.{is_finished};
@@ -76,6 +76,8 @@ impl<B: Body> WakingCore<B> {
     pub fn into_remains(self) -> Remains<B>
         ensures past { result.machine ≡ self.store.past }
         ensures results { entries result.results ≡ entries self.store.results }
+        // No result was lost.
+        ensures complete { HasResults self.store.past (entries self.store.results) self.store.taken }
         ensures drains { result.drains.items ≡ self.lanes }
         ensures bookings { result.bookings.bookings ≡ self.bookings }
         ensures handed { result.archive.handed ≡ self.handed }

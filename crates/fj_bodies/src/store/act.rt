@@ -5,9 +5,10 @@ ghost use Rattle.fj_bodies.specs.Acting.{Acts, ActsInBody, ActsInHook, body_with
 ghost use Rattle.fj_bodies.specs.Fitting.{Fits};
 ghost use Rattle.fj_bodies.specs.Turns.{AskRight, ToldRight};
 
+use crate::bare_ending::BareEnding;
 use crate::body::{Ask, Body, Heard, Told};
 use crate::store::Store;
-use fj_rules::{Ending, Refusal};
+use fj_rules::Refusal;
 use fj_slots::Hand;
 
 impl<B: Body> Store<B> {
@@ -76,11 +77,11 @@ impl<B: Body> Store<B> {
             Ask::Fault(t, code) => self.fault(t, code),
             Ask::State(t) => self.state(t),
             Ask::Ok(out) => self.ok(hand, out),
-            Ask::Quiet => self.end(hand, Ending::Quiet),
-            Ask::Try => self.end(hand, Ending::Try),
-            Ask::Pass => self.end(hand, Ending::Pass),
-            Ask::Complete => self.end(hand, Ending::Complete),
-            Ask::Fail(code) => self.end(hand, Ending::Fail(code)),
+            Ask::Quiet => self.end(hand, BareEnding::Quiet),
+            Ask::Try => self.end(hand, BareEnding::Try),
+            Ask::Pass => self.end(hand, BareEnding::Pass),
+            Ask::Complete => self.end(hand, BareEnding::Complete),
+            Ask::Fail(code) => self.end(hand, BareEnding::Fail(code)),
             Ask::HookDone(out) => self.hook_done(hand, out),
         }
     }

@@ -1,9 +1,8 @@
-ghost use Rattle.std.specs.Prelude.{◌≡◌, true, false, None};
-ghost use Rattle.fj_rules.specs.Tasks.{is_kept};
-ghost use Rattle.fj_bodies.specs.Stores.{GivesNoMore};
-ghost use Rattle.fj_bodies.specs.Turns.{ToldRight};
-ghost use Rattle.fj_bodies.specs.Results.{Keeps, LetsGo, TakesAndReleases, TakesResult, Collects};
+ghost use Rattle.std.specs.Prelude.{◌≡◌, false};
 ghost use Rattle.fj_slots.specs.Shelves.{entries};
+ghost use Rattle.fj_bodies.specs.Stores.{HasResults};
+ghost use Rattle.fj_bodies.specs.Turns.{ToldRight};
+ghost use Rattle.fj_bodies.specs.Results.{LetsGo, TakesAndReleases, TakesResult, Collects};
 
 use crate::body::{Body, Heard, Told};
 use crate::kept_result::KeptResult;
@@ -13,34 +12,16 @@ use crate::store::Store;
 use fj_rules::{Refusal, Serial};
 
 impl<B: Body> Store<B> {
-    /// Keeps the only result of a task under its number, or drops it if the task is marked as taken. Preconditions: the task is kept, has no
-    /// result, and gives no other.
-    #[inline(always)]
-    pub(crate) fn keep(&mut self, t: Serial, kept: KeptResult<B>)
-        requires kept { is_kept self.old.past.events t ≡ true }
-        requires first { entries self.old.results t ≡ None }
-        requires last { GivesNoMore self.old.past.events t }
-        ensures kept { Keeps self.old t kept self.new }
-        ensures past { self.new.past ≡ self.old.past }
-    {
-        if self.taken.has(t) {
-            return;
-        }
-        self.results.put(t, kept);
-    }
-
     /// Takes a result out, and releases its task as soon as it can be.
     #[inline(always)]
     pub(crate) fn take_and_release(&mut self, t: Serial) -> Option<KeptResult<B>>
-        ensures { TakesAndReleases self.old t result self.new }
+        ensures takes { TakesAndReleases self.old t result self.new }
+        ensures complete { HasResults self.old.past (entries self.old.results) self.old.taken }
     {
-        match self.results.take(t) {
-            Some(kept) => {
-                self.release_taken(t);
-                Some(kept)
-            }
-            None => None,
+        if !self.results.has(t) {
+            return None;
         }
+        self.take_out(t)
     }
 
     /// A body takes the result of a gone task. `Unknown` if the task is not kept, `NotDone` if it is not gone or has no result.
@@ -79,8 +60,7 @@ impl<B: Body> Store<B> {
         }
         match self.machine.status(t) {
             Some(_) => {
-                let _unneeded = self.results.take(t);
-                self.release_taken(t);
+                let _unneeded = self.take_out(t);
                 Told::Hear(Heard::Went)
             }
             None => Told::Hear(Heard::Refused(Refusal::Unknown)),
@@ -101,8 +81,7 @@ impl<B: Body> Store<B> {
                 if status.is_undone() {
                     return None;
                 }
-                let kept = self.results.take(t);
-                self.release_taken(t);
+                let kept = self.take_out(t);
                 Some(Ok(told_outcome(status, kept)))
             }
             None => Some(Err(Refusal::Unknown)),

@@ -1,11 +1,13 @@
 ghost use Rattle.std.specs.Prelude.{◌≡◌, IfSome, false};
 ghost use Rattle.fj_slots.specs.Hands.{asker};
 ghost use Rattle.fj_bodies.specs.Fitting.{Fits};
-ghost use Rattle.fj_bodies.specs.Endings.{EndsBody, EndsOk};
+ghost use Rattle.fj_bodies.specs.Endings.{EndsBody, EndsOk, ending_in};
 ghost use Rattle.fj_bodies.specs.HookEndings.{EndsHook};
 
+use crate::bare_ending::{BareEnding, as_ending};
 use crate::body::{Body, Told};
 use crate::due::after;
+use crate::keep::keep_unless_taken;
 use crate::kept_result::KeptResult;
 use crate::moves::{make, sweep_since};
 use crate::places::is_gone_now;
@@ -32,7 +34,8 @@ impl<B: Body> Store<B> {
             Said::Done => {
                 let (t, body) = hand.pop();
                 self.due = after(self.due, t);
-                self.keep(t, KeptResult::new(body.into_key(), out));
+                let kept = KeptResult::new(body.into_key(), out);
+                keep_unless_taken(&mut self.results, &self.taken, t, kept);
                 self.release_due();
                 Told::Over(None)
             }
@@ -45,15 +48,15 @@ impl<B: Body> Store<B> {
     ///
     /// If the hook of its own task begins, the body stays in the hand to run it. If not, the body is returned if its task is gone, and stored
     /// if that is open. The body of a plain task hears `NotCompleter`, except for `Fail`.
-    pub(crate) fn end(&mut self, hand: &mut Hand<B>, ending: Ending) -> Told<B>
+    pub(crate) fn end(&mut self, hand: &mut Hand<B>, bare: BareEnding) -> Told<B>
         requires free { self.old.stuck ≡ false }
         requires fits { Fits self.old.past hand.old }
-        ensures ends { EndsBody self.old hand.old ending result self.new hand.new }
+        ensures ends { EndsBody self.old hand.old (ending_in bare) result self.new hand.new }
         ensures fits { Fits self.new.past hand.new }
     {
         let asked = Step::End {
             w: hand.worker(),
-            ending,
+            ending: as_ending(bare),
         };
         match make(&mut self.machine, &mut self.bodies, &asked) {
             Said::Hook(c) => {
@@ -100,7 +103,8 @@ impl<B: Body> Store<B> {
                     sweep_since(&mut self.bodies, &self.machine, before);
                     hand.give_hook(p, above);
                     self.due = after(self.due, c);
-                    self.keep(c, KeptResult::new(body.into_key(), out));
+                    let kept = KeptResult::new(body.into_key(), out);
+                    keep_unless_taken(&mut self.results, &self.taken, c, kept);
                     self.release_due();
                     Told::Hook(p, c)
                 }
@@ -111,7 +115,8 @@ impl<B: Body> Store<B> {
                 let (c, body) = hand.take_hook();
                 sweep_since(&mut self.bodies, &self.machine, before);
                 self.due = after(self.due, c);
-                self.keep(c, KeptResult::new(body.into_key(), out));
+                let kept = KeptResult::new(body.into_key(), out);
+                keep_unless_taken(&mut self.results, &self.taken, c, kept);
                 self.release_due();
                 Told::Over(None)
             }

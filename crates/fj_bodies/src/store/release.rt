@@ -1,44 +1,39 @@
-ghost use Rattle.std.specs.Prelude.{◌≡◌, ◌+◌, true, false, None};
+ghost use Rattle.std.specs.Prelude.{◌≡◌, ◌+◌, true, false};
 ghost use Rattle.fj_rules.specs.Lists.{is_in};
 ghost use Rattle.fj_rules.specs.Tasks.{is_kept};
 ghost use Rattle.fj_slots.specs.Shelves.{entries};
-ghost use Rattle.fj_bodies.specs.Releases.{NoneGoesFrom, Releases, ReleasesFrom, ReleasesTaken, Tries};
+ghost use Rattle.fj_bodies.specs.Releases.{NoneGoesFrom, Releases, ReleasesFrom, Tries};
+ghost use Rattle.fj_bodies.specs.Results.{MarksAndReleases};
 ghost use Rattle.fj_bodies.specs.DueTasks.{ReleasesHere, ReleasesUp};
 
 use crate::body::Body;
-use crate::due::{Due, after, is_all, is_nothing, only};
+use crate::due::{Due, after, is_all, is_resting, only};
 use crate::hooked::is_hooked;
+use crate::kept_result::KeptResult;
 use crate::plain::release_plain;
 use crate::store::Store;
 use crate::tries::{HistoryFull, Tried};
 use fj_rules::{Refusal, Said, Serial, Step};
 
 impl<B: Body> Store<B> {
-    /// Releases a task whose outcome or result was just taken: a plain one mostly at once, without a mark, others as soon as they can be.
-    /// Preconditions: the task is kept, was not taken before, and has no result.
+    /// Takes out a task's result, if it has one, and releases the task: a plain one mostly at once, without a mark, others as soon as they can
+    /// be. Preconditions: the task is kept, and was not taken before.
     #[inline(always)]
-    pub(crate) fn release_taken(&mut self, t: Serial)
+    pub(crate) fn take_out(&mut self, t: Serial) -> Option<KeptResult<B>>
         requires kept { is_kept self.old.past.events t ≡ true }
         requires free { is_in t self.old.taken ≡ false }
-        requires none { entries self.old.results t ≡ None }
-        ensures { ReleasesTaken self.old t self.new }
+        ensures result { result ≡ entries self.old.results t }
+        ensures releases { MarksAndReleases self.old t self.new }
     {
-        if !self.stuck && is_nothing(self.due) && release_plain(&mut self.machine, t) {
-            return;
+        let kept = self.results.take(t);
+        let rests = is_resting(self.stuck, self.due);
+        if release_plain(&mut self.machine, rests, t) {
+            return kept;
         }
-        self.release_marked(t);
-    }
-
-    /// Marks a task as taken, and releases what can be. Preconditions: as above.
-    fn release_marked(&mut self, t: Serial)
-        requires kept { is_kept self.old.past.events t ≡ true }
-        requires free { is_in t self.old.taken ≡ false }
-        requires none { entries self.old.results t ≡ None }
-        ensures { ReleasesTaken self.old t self.new }
-    {
         self.taken.push(t);
         self.due = after(self.due, t);
         self.release_due();
+        kept
     }
 
     /// Releases those taken tasks that can be released: the task of the last step, then its parent, and so on. All of them are tried only if

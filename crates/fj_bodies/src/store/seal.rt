@@ -2,6 +2,7 @@ ghost use Rattle.std.specs.Prelude.{◌≡◌};
 ghost use Rattle.fj_rules.specs.Epochs.{IsPast};
 ghost use Rattle.fj_slots.specs.Shelves.{entries};
 ghost use Rattle.fj_bodies.specs.Sealing.{Seals, is_half_full};
+ghost use Rattle.fj_bodies.specs.Stores.{HasResults};
 
 use crate::body::Body;
 use crate::kept_result::KeptResult;
@@ -37,6 +38,7 @@ impl<B: Body> Store<B> {
     pub fn into_parts(self) -> (Machine, SerialMap<KeptResult<B>>)
         ensures past { result.0 ≡ self.past }
         ensures results { entries result.1 ≡ entries self.results }
+        ensures complete { HasResults self.past (entries self.results) self.taken }
         ensures run { IsPast self.past }
     {
         let Store {

@@ -1,5 +1,6 @@
 use Rattle.std.proofs.Common.{refl}
 use Rattle.fj_bodies.proofs.Calms.{swept_stored, refused_steps, made_by}
+use Rattle.fj_bodies.proofs.NoneLost.{calm_results}
 use Rattle.fj_bodies.proofs.DueTasks.{calm_due}
 use Rattle.fj_bodies.proofs.store.Store.ask.Goals as goal
 
@@ -11,6 +12,7 @@ invariant_of-self g c =
     let past = c.self.inside.machine in
     record {
       stored = swept_stored past c.make.new.machine c.args.asked.now _ _ _ _ c.self.invariant.stored c.requires c.make.ensures.step.1 c.make.ensures.bodies;
+      complete = calm_results past c.make.new.machine c.args.asked.now _ _ c.self.invariant.stored.run c.requires c.make.ensures.step.1 c.self.invariant.complete;
       room = rw (c.make.ensures.room, c.make.ensures.step.1) c.self.invariant.room;
       due = λ free. rw (c.make.ensures.refused _ c.in-Refused.is).0 (c.self.invariant.due free);
     }
@@ -20,6 +22,7 @@ invariant_of-self-in_default g c =
     let past = c.self.inside.machine in
     record {
       stored = swept_stored past c.make.new.machine c.args.asked.now _ _ _ _ c.self.invariant.stored c.requires c.make.ensures.step.1 c.make.ensures.bodies;
+      complete = calm_results past c.make.new.machine c.args.asked.now _ _ c.self.invariant.stored.run c.requires c.make.ensures.step.1 c.self.invariant.complete;
       room = rw (c.make.ensures.room, c.make.ensures.step.1) c.self.invariant.room;
       due = λ free. rw c.after_step-self-inside.ensures (calm_due past c.make.new.machine c.args.asked.now _ _ _ c.self.inside.due c.self.invariant.stored c.requires c.make.ensures.step.1 (c.self.invariant.due free));
     }

@@ -8,6 +8,7 @@ use Rattle.fj_rules.proofs.Steps.Answered.{choice_ran, choice_skipped, choice_id
 use Rattle.fj_bodies.proofs.Stored.{same_stored}
 use Rattle.fj_bodies.proofs.Taking.{taken_there, out_stored, skip_stored, out_room, chosen_run_fits, chosen_same_fits, chosen_skip_fits}
 use Rattle.fj_rules.proofs.Steps.AboutTasks.{skip_about}
+use Rattle.fj_bodies.proofs.NoneLost.{choice_results}
 use Rattle.fj_bodies.proofs.DueTasks.{step_due, still_due}
 use Rattle.fj_bodies.proofs.store.Store.choose.Goals as goal
 
@@ -56,6 +57,7 @@ invariant_of-self g c =
     let made = choice_ran w c.in-Run.t c.step.result _ _ takes c.step.ensures.step.0 c.in-Run.is in
     record {
       stored = out_stored past c.step.new.self c.args.asked.now c.in-Run.t w _ _ _ _ c.self.invariant.stored c.step.ensures.step.1 made c.take.ensures.entries;
+      complete = choice_results past c.step.new.self c.args.asked.now w _ _ c.self.invariant.stored.run takes c.step.ensures.step.1 c.self.invariant.complete;
       room = rw (c.take.ensures.room, c.step.ensures.step.1) c.self.invariant.room;
       due = λ free. still_due past c.step.new.self c.args.asked.now (Out c.in-Run.t w ∷ []) _ _ _ c.self.inside.due c.self.invariant.stored c.step.ensures.step.1 made refl (c.self.invariant.due free);
     }
@@ -69,6 +71,7 @@ invariant_of-self-in-Some-take g c =
     let made = choice_skipped w c.in-Skip.t c.step.result _ _ takes c.step.ensures.step.0 c.in-Skip.is in
     record {
       stored = skip_stored past c.step.new.self c.args.asked.now c.in-Skip.t w _ _ _ _ c.self.invariant.stored c.step.ensures.step.1 made c.take-in-Skip.ensures.entries;
+      complete = choice_results past c.step.new.self c.args.asked.now w _ _ c.self.invariant.stored.run takes c.step.ensures.step.1 c.self.invariant.complete;
       room = rw (c.take-in-Skip.ensures.room, c.step.ensures.step.1) c.self.invariant.room;
       due = λ free. rw c.after-self-inside.ensures (step_due past c.step.new.self c.args.asked.now _ _ _ c.in-Skip.t c.self.inside.due c.self.invariant.stored c.step.ensures.step.1 (rw made (skip_about past.events c.in-Skip.t w)) (c.self.invariant.due free));
     }
@@ -102,6 +105,7 @@ invariant_of-self-in-None g c =
     let none = choice_idle w c.step.result _ _ takes c.step.ensures.step.0 c.in-None.is in
     record {
       stored = same_stored past c.step.new.self c.args.asked.now _ _ _ c.self.invariant.stored c.step.ensures.step.1 none;
+      complete = choice_results past c.step.new.self c.args.asked.now w _ _ c.self.invariant.stored.run takes c.step.ensures.step.1 c.self.invariant.complete;
       room = rw c.step.ensures.step.1 c.self.invariant.room;
       due = λ free. still_due past c.step.new.self c.args.asked.now [] _ _ _ c.self.inside.due c.self.invariant.stored c.step.ensures.step.1 none refl (c.self.invariant.due free);
     }
@@ -125,6 +129,7 @@ invariant_of-self-in-Normal g c =
     let none = choice_normal w c.step.result _ _ takes c.step.ensures.step.0 c.in-Normal.is in
     record {
       stored = same_stored past c.step.new.self c.args.asked.now _ _ _ c.self.invariant.stored c.step.ensures.step.1 none;
+      complete = choice_results past c.step.new.self c.args.asked.now w _ _ c.self.invariant.stored.run takes c.step.ensures.step.1 c.self.invariant.complete;
       room = rw c.step.ensures.step.1 c.self.invariant.room;
       due = λ free. still_due past c.step.new.self c.args.asked.now [] _ _ _ c.self.inside.due c.self.invariant.stored c.step.ensures.step.1 none refl (c.self.invariant.due free);
     }
@@ -148,6 +153,7 @@ invariant_of-self-in-Exceptional g c =
     let none = choice_failed w c.in-Exceptional.code c.step.result _ _ takes c.step.ensures.step.0 c.in-Exceptional.is in
     record {
       stored = same_stored past c.step.new.self c.args.asked.now _ _ _ c.self.invariant.stored c.step.ensures.step.1 none;
+      complete = choice_results past c.step.new.self c.args.asked.now w _ _ c.self.invariant.stored.run takes c.step.ensures.step.1 c.self.invariant.complete;
       room = rw c.step.ensures.step.1 c.self.invariant.room;
       due = λ free. still_due past c.step.new.self c.args.asked.now [] _ _ _ c.self.inside.due c.self.invariant.stored c.step.ensures.step.1 none refl (c.self.invariant.due free);
     }
@@ -171,6 +177,7 @@ invariant_of-self-in-Cancelled g c =
     let none = choice_cancelled w c.step.result _ _ takes c.step.ensures.step.0 c.in-Cancelled.is in
     record {
       stored = same_stored past c.step.new.self c.args.asked.now _ _ _ c.self.invariant.stored c.step.ensures.step.1 none;
+      complete = choice_results past c.step.new.self c.args.asked.now w _ _ c.self.invariant.stored.run takes c.step.ensures.step.1 c.self.invariant.complete;
       room = rw c.step.ensures.step.1 c.self.invariant.room;
       due = λ free. still_due past c.step.new.self c.args.asked.now [] _ _ _ c.self.inside.due c.self.invariant.stored c.step.ensures.step.1 none refl (c.self.invariant.due free);
     }

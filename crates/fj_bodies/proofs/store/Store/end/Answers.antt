@@ -6,6 +6,7 @@ use Rattle.fj_bodies.specs.Fitting.{Fits}
 use Rattle.fj_bodies.proofs.Completing.{end_fired, end_unfired, not_over, popped, popped_runs, popped_ends, filled_hand, fired_fits, unfired_fits, fired_stored, out_stored, in_stored, end_kept, end_free, end_room, ends_in_hook, ends_over_out, ends_over_in}
 use Rattle.fj_rules.proofs.Steps.AboutTasks.{end_about}
 use Rattle.fj_bodies.proofs.Calms.{refused_steps}
+use Rattle.fj_bodies.proofs.NoneLost.{bare_results}
 use Rattle.fj_bodies.proofs.DueTasks.{step_due}
 use Rattle.fj_bodies.proofs.Polling.{tells_refusal}
 use Rattle.fj_bodies.proofs.Refused.{end_refused}
@@ -17,19 +18,20 @@ pub pop-t-requires : goal.pop-t-requires
 pop-t-requires g c =
     let past = c.self.inside.machine in
     let fits : Fits past c.args.hand.now = subst (λ p. Fits p c.args.hand.now) (ap (λ s. s.past) (sym c.self.view_is)) c.requires.fits in
-    let fired = end_fired past c.worker.result c.in-Hook.c c.args.ending c.make.result c.make.ensures.step.0 c.in-Hook.is in
+    let fired = end_fired past c.worker.result c.in-Hook.c c.as_ending.result c.make.result c.make.ensures.step.0 c.in-Hook.is in
     filled_hand past c.args.hand.now c.worker.result c.in-Hook.c fits c.worker.ensures fired.runs
 
 pub invariant_of-self : goal.invariant_of-self
 invariant_of-self g c =
     let past = c.self.inside.machine in
     let fits : Fits past c.args.hand.now = subst (λ p. Fits p c.args.hand.now) (ap (λ s. s.past) (sym c.self.view_is)) c.requires.fits in
-    let fired = end_fired past c.worker.result c.in-Hook.c c.args.ending c.make.result c.make.ensures.step.0 c.in-Hook.is in
+    let fired = end_fired past c.worker.result c.in-Hook.c c.as_ending.result c.make.result c.make.ensures.step.0 c.in-Hook.is in
     record {
-      stored = fired_stored past c.make.new.machine c.worker.result c.in-Hook.c c.args.ending _ _ _ _ c.self.invariant.stored fired c.make.ensures.step.1 c.make.ensures.bodies;
+      stored = fired_stored past c.make.new.machine c.worker.result c.in-Hook.c c.as_ending.result _ _ _ _ c.self.invariant.stored fired c.make.ensures.step.1 c.make.ensures.bodies;
+      complete = bare_results past c.make.new.machine c.worker.result c.args.bare c.as_ending.result _ _ c.self.invariant.stored.run c.as_ending.ensures c.make.ensures.step.1 c.self.invariant.complete;
       room = rw (c.make.ensures.room, c.make.ensures.step.1) c.self.invariant.room;
-      due = λ free. rw c.after-self-inside.ensures (step_due past c.make.new.machine (End c.worker.result c.args.ending) _ _ _ c.pop-t.result.0 c.self.inside.due c.self.invariant.stored c.make.ensures.step.1
-          (end_about past c.worker.result c.pop-t.result.0 c.args.ending c.self.invariant.stored.run (popped_runs past c.args.hand.now c.pop-t.new.self c.worker.result c.pop-t.result.0 c.pop-t.result.1 fits c.worker.ensures c.pop-t.ensures.popped))
+      due = λ free. rw c.after-self-inside.ensures (step_due past c.make.new.machine (End c.worker.result c.as_ending.result) _ _ _ c.pop-t.result.0 c.self.inside.due c.self.invariant.stored c.make.ensures.step.1
+          (end_about past c.worker.result c.pop-t.result.0 c.as_ending.result c.self.invariant.stored.run (popped_runs past c.args.hand.now c.pop-t.new.self c.worker.result c.pop-t.result.0 c.pop-t.result.1 fits c.worker.ensures c.pop-t.ensures.popped))
           (c.self.invariant.due free));
     }
 
@@ -38,13 +40,13 @@ returns-in-Hook-clause-ends g c =
     let past = c.self.inside.machine in
     let hand = c.args.hand.now in
     let fits : Fits past hand = subst (λ p. Fits p hand) (ap (λ s. s.past) (sym c.self.view_is)) c.requires.fits in
-    let fired = end_fired past c.worker.result c.in-Hook.c c.args.ending c.make.result c.make.ensures.step.0 c.in-Hook.is in
+    let fired = end_fired past c.worker.result c.in-Hook.c c.as_ending.result c.make.result c.make.ensures.step.0 c.in-Hook.is in
     let one = popped past hand c.pop-t.new.self c.worker.result c.in-Hook.c c.pop-t.result.0 c.pop-t.result.1 fits c.worker.ensures c.pop-t.ensures.popped fired.runs in
-    rw (← c.self.view_is) (
+    rw (← c.self.view_is, ← c.as_ending.ensures) (
       ap (λ s. s.stuck) c.self.view_is ∙ c.requires.free,
       refl,
       ends_in_hook _ (record { past = c.make.new.machine; bodies = c.make.new.bodies; results = c.self.inside.results; taken = c.self.inside.taken.items; stuck = c.self.inside.stuck }) _ hand c.pop-t.new.self c.give_hook.new.self
-          c.worker.result c.pop-t.result.0 c.in-Hook.c c.args.ending c.pop-t.result.1 c.worker.ensures one (sym c.in-Hook.is ∙ c.make.ensures.step.0, c.make.ensures.step.1) c.pop-t.ensures.popped c.give_hook.ensures refl c.make.ensures.bodies c.release_due.ensures,
+          c.worker.result c.pop-t.result.0 c.in-Hook.c c.as_ending.result c.pop-t.result.1 c.worker.ensures one (sym c.in-Hook.is ∙ c.make.ensures.step.0, c.make.ensures.step.1) c.pop-t.ensures.popped c.give_hook.ensures refl c.make.ensures.bodies c.release_due.ensures,
     )
 
 pub returns-in-Hook-clause-fits : goal.returns-in-Hook-clause-fits
@@ -52,7 +54,7 @@ returns-in-Hook-clause-fits g c =
     let past = c.self.inside.machine in
     let hand = c.args.hand.now in
     let fits : Fits past hand = subst (λ p. Fits p hand) (ap (λ s. s.past) (sym c.self.view_is)) c.requires.fits in
-    let fired = end_fired past c.worker.result c.in-Hook.c c.args.ending c.make.result c.make.ensures.step.0 c.in-Hook.is in
+    let fired = end_fired past c.worker.result c.in-Hook.c c.as_ending.result c.make.result c.make.ensures.step.0 c.in-Hook.is in
     fired_fits past c.make.new.machine _ hand c.pop-t.new.self c.give_hook.new.self c.worker.result c.in-Hook.c c.pop-t.result.0 c.pop-t.result.1 _ c.release_due.ensures.tasks c.self.invariant.stored.run fits c.worker.ensures c.pop-t.ensures.popped
     c.give_hook.ensures c.make.ensures.step.1 fired (ap (λ s. s.past) c.release_due.ensures.were)
 
@@ -65,12 +67,13 @@ returns-in-Refused-clause-ends g c =
     let r = c.in-Refused.refusal in
     let fits : Fits past hand = subst (λ p. Fits p hand) (ap (λ s. s.past) (sym c.self.view_is)) c.requires.fits in
     let same = c.make.ensures.refused _ c.in-Refused.is in
-    let steps = refused_steps past c.make.new.machine (End c.worker.result c.args.ending) c.make.result _ c.make.ensures.step c.in-Refused.is same.0 in
-    tells_refusal (λ answer new. EndsBody c.args.self.now hand c.args.ending answer new hand) c.args.self.now _ (End hand.worker c.args.ending) r _ c.requires.free
+    let steps = refused_steps past c.make.new.machine (End c.worker.result c.as_ending.result) c.make.result _ c.make.ensures.step c.in-Refused.is same.0 in
+    rw (← c.as_ending.ensures) (
+    tells_refusal (λ answer new. EndsBody c.args.self.now hand c.as_ending.result answer new hand) c.args.self.now _ (End hand.worker c.as_ending.result) r _ c.requires.free
     (rw (← c.self.view_is, ← c.worker.ensures) steps, refl)
     (subst (λ s. TellsRefusal s r c.refused.result c.refused.new.self) c.self.view_is (rw (same.0, same.1) at c.refused.ensures))
     (λ stuck. (inr stuck, refl))
-    (λ refuses other. (c.requires.free, refuses, refl, end_refused past hand c.worker.result c.args.ending c.make.result r fits c.worker.ensures c.make.ensures.step.0 c.in-Refused.is other))
+    (λ refuses other. (c.requires.free, refuses, refl, end_refused past hand c.worker.result c.as_ending.result c.make.result r fits c.worker.ensures c.make.ensures.step.0 c.in-Refused.is other)))
 
 -- ---- no hook came
 
@@ -78,7 +81,7 @@ pub pop-t-requires-in_default : goal.pop-t-requires-in_default
 pop-t-requires-in_default g c =
     let past = c.self.inside.machine in
     let fits : Fits past c.args.hand.now = subst (λ p. Fits p c.args.hand.now) (ap (λ s. s.past) (sym c.self.view_is)) c.requires.fits in
-    let over = end_unfired past c.worker.result c.args.ending c.make.result c.make.ensures.step.0 c.in_default.not-Hook c.in_default.not-Refused in
+    let over = end_unfired past c.worker.result c.as_ending.result c.make.result c.make.ensures.step.0 c.in_default.not-Hook c.in_default.not-Refused in
     filled_hand past c.args.hand.now c.worker.result over.0 fits c.worker.ensures over.1.runs
 
 pub is_gone_now-requires : goal.is_gone_now-requires
@@ -86,22 +89,23 @@ is_gone_now-requires g c =
     let past = c.self.inside.machine in
     let hand = c.args.hand.now in
     let fits : Fits past hand = subst (λ p. Fits p hand) (ap (λ s. s.past) (sym c.self.view_is)) c.requires.fits in
-    let over = end_unfired past c.worker.result c.args.ending c.make.result c.make.ensures.step.0 c.in_default.not-Hook c.in_default.not-Refused in
+    let over = end_unfired past c.worker.result c.as_ending.result c.make.result c.make.ensures.step.0 c.in_default.not-Hook c.in_default.not-Refused in
     let ends = popped_ends past hand c.pop-t-in_default.new.self c.worker.result c.pop-t-in_default.result.0 c.pop-t-in_default.result.1 _ fits c.worker.ensures c.pop-t-in_default.ensures.popped over in
-    end_kept past c.make.new.machine c.worker.result c.pop-t-in_default.result.0 c.args.ending _ _ _ c.self.invariant.stored ends c.make.ensures.step.1
+    end_kept past c.make.new.machine c.worker.result c.pop-t-in_default.result.0 c.as_ending.result _ _ _ c.self.invariant.stored ends c.make.ensures.step.1
 
 pub invariant_of-self-then-is_gone_now : goal.invariant_of-self-then-is_gone_now
 invariant_of-self-then-is_gone_now g c =
     let past = c.self.inside.machine in
     let hand = c.args.hand.now in
     let fits : Fits past hand = subst (λ p. Fits p hand) (ap (λ s. s.past) (sym c.self.view_is)) c.requires.fits in
-    let over = end_unfired past c.worker.result c.args.ending c.make.result c.make.ensures.step.0 c.in_default.not-Hook c.in_default.not-Refused in
+    let over = end_unfired past c.worker.result c.as_ending.result c.make.result c.make.ensures.step.0 c.in_default.not-Hook c.in_default.not-Refused in
     let ends = popped_ends past hand c.pop-t-in_default.new.self c.worker.result c.pop-t-in_default.result.0 c.pop-t-in_default.result.1 _ fits c.worker.ensures c.pop-t-in_default.ensures.popped over in
     record {
-      stored = out_stored past c.make.new.machine c.worker.result c.pop-t-in_default.result.0 c.args.ending _ _ _ _ c.self.invariant.stored ends c.make.ensures.step.1 c.make.ensures.bodies (sym c.is_gone_now.ensures ∙ c.if-is_gone_now.true);
+      stored = out_stored past c.make.new.machine c.worker.result c.pop-t-in_default.result.0 c.as_ending.result _ _ _ _ c.self.invariant.stored ends c.make.ensures.step.1 c.make.ensures.bodies (sym c.is_gone_now.ensures ∙ c.if-is_gone_now.true);
+      complete = bare_results past c.make.new.machine c.worker.result c.args.bare c.as_ending.result _ _ c.self.invariant.stored.run c.as_ending.ensures c.make.ensures.step.1 c.self.invariant.complete;
       room = rw (c.make.ensures.room, c.make.ensures.step.1) c.self.invariant.room;
-      due = λ free. rw c.after-self-inside-in_default.ensures (step_due past c.make.new.machine (End c.worker.result c.args.ending) _ _ _ c.pop-t-in_default.result.0 c.self.inside.due c.self.invariant.stored c.make.ensures.step.1
-          (end_about past c.worker.result c.pop-t-in_default.result.0 c.args.ending c.self.invariant.stored.run (popped_runs past c.args.hand.now c.pop-t-in_default.new.self c.worker.result c.pop-t-in_default.result.0 c.pop-t-in_default.result.1 fits c.worker.ensures c.pop-t-in_default.ensures.popped))
+      due = λ free. rw c.after-self-inside-in_default.ensures (step_due past c.make.new.machine (End c.worker.result c.as_ending.result) _ _ _ c.pop-t-in_default.result.0 c.self.inside.due c.self.invariant.stored c.make.ensures.step.1
+          (end_about past c.worker.result c.pop-t-in_default.result.0 c.as_ending.result c.self.invariant.stored.run (popped_runs past c.args.hand.now c.pop-t-in_default.new.self c.worker.result c.pop-t-in_default.result.0 c.pop-t-in_default.result.1 fits c.worker.ensures c.pop-t-in_default.ensures.popped))
           (c.self.invariant.due free));
     }
 
@@ -110,13 +114,13 @@ returns-then-is_gone_now g c =
     let past = c.self.inside.machine in
     let hand = c.args.hand.now in
     let fits : Fits past hand = subst (λ p. Fits p hand) (ap (λ s. s.past) (sym c.self.view_is)) c.requires.fits in
-    let over = end_unfired past c.worker.result c.args.ending c.make.result c.make.ensures.step.0 c.in_default.not-Hook c.in_default.not-Refused in
+    let over = end_unfired past c.worker.result c.as_ending.result c.make.result c.make.ensures.step.0 c.in_default.not-Hook c.in_default.not-Refused in
     let ends = popped_ends past hand c.pop-t-in_default.new.self c.worker.result c.pop-t-in_default.result.0 c.pop-t-in_default.result.1 _ fits c.worker.ensures c.pop-t-in_default.ensures.popped over in
     record {
-      ends = rw (← c.self.view_is) (
+      ends = rw (← c.self.view_is, ← c.as_ending.ensures) (
         ap (λ s. s.stuck) c.self.view_is ∙ c.requires.free,
         ends_over_out _ (record { past = c.make.new.machine; bodies = c.make.new.bodies; results = c.self.inside.results; taken = c.self.inside.taken.items; stuck = c.self.inside.stuck }) _ hand c.pop-t-in_default.new.self
-            c.worker.result c.pop-t-in_default.result.0 c.args.ending c.pop-t-in_default.result.1 c.make.result c.worker.ensures c.make.ensures.step (not_over c.make.result c.in_default.not-Hook c.in_default.not-Refused)
+            c.worker.result c.pop-t-in_default.result.0 c.as_ending.result c.pop-t-in_default.result.1 c.make.result c.worker.ensures c.make.ensures.step (not_over c.make.result c.in_default.not-Hook c.in_default.not-Refused)
             c.pop-t-in_default.ensures.popped (sym c.is_gone_now.ensures ∙ c.if-is_gone_now.true) refl c.make.ensures.bodies c.release_due-then-is_gone_now.ensures,
       );
       fits = unfired_fits past c.make.new.machine _ hand c.pop-t-in_default.new.self c.worker.result c.pop-t-in_default.result.0 c.pop-t-in_default.result.1 _ c.release_due-then-is_gone_now.ensures.tasks c.self.invariant.stored.run fits c.worker.ensures
@@ -128,11 +132,11 @@ put-requires g c =
     let past = c.self.inside.machine in
     let hand = c.args.hand.now in
     let fits : Fits past hand = subst (λ p. Fits p hand) (ap (λ s. s.past) (sym c.self.view_is)) c.requires.fits in
-    let over = end_unfired past c.worker.result c.args.ending c.make.result c.make.ensures.step.0 c.in_default.not-Hook c.in_default.not-Refused in
+    let over = end_unfired past c.worker.result c.as_ending.result c.make.result c.make.ensures.step.0 c.in_default.not-Hook c.in_default.not-Refused in
     let ends = popped_ends past hand c.pop-t-in_default.new.self c.worker.result c.pop-t-in_default.result.0 c.pop-t-in_default.result.1 _ fits c.worker.ensures c.pop-t-in_default.ensures.popped over in
     record {
-      free = end_free past c.make.new.machine c.worker.result c.pop-t-in_default.result.0 c.args.ending _ _ _ _ c.self.invariant.stored ends c.make.ensures.bodies;
-      room = end_room past c.make.new.machine c.worker.result c.pop-t-in_default.result.0 c.make.new.bodies.room c.args.ending _ _ _ _ c.self.invariant.stored ends c.make.ensures.step.1 c.make.ensures.bodies (rw c.make.ensures.room c.self.invariant.room.bodies);
+      free = end_free past c.make.new.machine c.worker.result c.pop-t-in_default.result.0 c.as_ending.result _ _ _ _ c.self.invariant.stored ends c.make.ensures.bodies;
+      room = end_room past c.make.new.machine c.worker.result c.pop-t-in_default.result.0 c.make.new.bodies.room c.as_ending.result _ _ _ _ c.self.invariant.stored ends c.make.ensures.step.1 c.make.ensures.bodies (rw c.make.ensures.room c.self.invariant.room.bodies);
     }
 
 pub invariant_of-self-in_default : goal.invariant_of-self-in_default
@@ -140,14 +144,15 @@ invariant_of-self-in_default g c =
     let past = c.self.inside.machine in
     let hand = c.args.hand.now in
     let fits : Fits past hand = subst (λ p. Fits p hand) (ap (λ s. s.past) (sym c.self.view_is)) c.requires.fits in
-    let over = end_unfired past c.worker.result c.args.ending c.make.result c.make.ensures.step.0 c.in_default.not-Hook c.in_default.not-Refused in
+    let over = end_unfired past c.worker.result c.as_ending.result c.make.result c.make.ensures.step.0 c.in_default.not-Hook c.in_default.not-Refused in
     let ends = popped_ends past hand c.pop-t-in_default.new.self c.worker.result c.pop-t-in_default.result.0 c.pop-t-in_default.result.1 _ fits c.worker.ensures c.pop-t-in_default.ensures.popped over in
     record {
-      stored = in_stored past c.make.new.machine c.worker.result c.pop-t-in_default.result.0 c.args.ending _ _ _ c.pop-t-in_default.result.1 _ _ c.self.invariant.stored ends c.make.ensures.step.1 c.make.ensures.bodies (sym c.is_gone_now.ensures ∙ c.if-is_gone_now.false)
+      stored = in_stored past c.make.new.machine c.worker.result c.pop-t-in_default.result.0 c.as_ending.result _ _ _ c.pop-t-in_default.result.1 _ _ c.self.invariant.stored ends c.make.ensures.step.1 c.make.ensures.bodies (sym c.is_gone_now.ensures ∙ c.if-is_gone_now.false)
           c.put.ensures.entries;
+      complete = bare_results past c.make.new.machine c.worker.result c.args.bare c.as_ending.result _ _ c.self.invariant.stored.run c.as_ending.ensures c.make.ensures.step.1 c.self.invariant.complete;
       room = rw (c.put.ensures.room, c.make.ensures.room, c.make.ensures.step.1) c.self.invariant.room;
-      due = λ free. rw c.after-self-inside-in_default.ensures (step_due past c.make.new.machine (End c.worker.result c.args.ending) _ _ _ c.pop-t-in_default.result.0 c.self.inside.due c.self.invariant.stored c.make.ensures.step.1
-          (end_about past c.worker.result c.pop-t-in_default.result.0 c.args.ending c.self.invariant.stored.run (popped_runs past c.args.hand.now c.pop-t-in_default.new.self c.worker.result c.pop-t-in_default.result.0 c.pop-t-in_default.result.1 fits c.worker.ensures c.pop-t-in_default.ensures.popped))
+      due = λ free. rw c.after-self-inside-in_default.ensures (step_due past c.make.new.machine (End c.worker.result c.as_ending.result) _ _ _ c.pop-t-in_default.result.0 c.self.inside.due c.self.invariant.stored c.make.ensures.step.1
+          (end_about past c.worker.result c.pop-t-in_default.result.0 c.as_ending.result c.self.invariant.stored.run (popped_runs past c.args.hand.now c.pop-t-in_default.new.self c.worker.result c.pop-t-in_default.result.0 c.pop-t-in_default.result.1 fits c.worker.ensures c.pop-t-in_default.ensures.popped))
           (c.self.invariant.due free));
     }
 
@@ -156,13 +161,13 @@ returns-else-is_gone_now g c =
     let past = c.self.inside.machine in
     let hand = c.args.hand.now in
     let fits : Fits past hand = subst (λ p. Fits p hand) (ap (λ s. s.past) (sym c.self.view_is)) c.requires.fits in
-    let over = end_unfired past c.worker.result c.args.ending c.make.result c.make.ensures.step.0 c.in_default.not-Hook c.in_default.not-Refused in
+    let over = end_unfired past c.worker.result c.as_ending.result c.make.result c.make.ensures.step.0 c.in_default.not-Hook c.in_default.not-Refused in
     let ends = popped_ends past hand c.pop-t-in_default.new.self c.worker.result c.pop-t-in_default.result.0 c.pop-t-in_default.result.1 _ fits c.worker.ensures c.pop-t-in_default.ensures.popped over in
     record {
-      ends = rw (← c.self.view_is) (
+      ends = rw (← c.self.view_is, ← c.as_ending.ensures) (
         ap (λ s. s.stuck) c.self.view_is ∙ c.requires.free,
         ends_over_in _ (record { past = c.make.new.machine; bodies = c.put.new.self; results = c.self.inside.results; taken = c.self.inside.taken.items; stuck = c.self.inside.stuck }) _ hand c.pop-t-in_default.new.self
-            c.worker.result c.pop-t-in_default.result.0 c.args.ending c.pop-t-in_default.result.1 c.make.result _ c.worker.ensures c.make.ensures.step (not_over c.make.result c.in_default.not-Hook c.in_default.not-Refused)
+            c.worker.result c.pop-t-in_default.result.0 c.as_ending.result c.pop-t-in_default.result.1 c.make.result _ c.worker.ensures c.make.ensures.step (not_over c.make.result c.in_default.not-Hook c.in_default.not-Refused)
             c.pop-t-in_default.ensures.popped (sym c.is_gone_now.ensures ∙ c.if-is_gone_now.false) refl c.make.ensures.bodies c.put.ensures.entries c.release_due-in_default.ensures,
       );
       fits = unfired_fits past c.make.new.machine _ hand c.pop-t-in_default.new.self c.worker.result c.pop-t-in_default.result.0 c.pop-t-in_default.result.1 _ c.release_due-in_default.ensures.tasks c.self.invariant.stored.run fits c.worker.ensures

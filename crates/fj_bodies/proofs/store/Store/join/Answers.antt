@@ -5,6 +5,7 @@ use Rattle.fj_rules.specs.Answers.{answer}
 use Rattle.fj_rules.specs.Runs.{grown}
 use Rattle.fj_rules.specs.ChoiceTaken.{TakesChoice}
 use Rattle.fj_rules.proofs.Steps.Answered.{join_takes}
+use Rattle.fj_bodies.proofs.NoResult.{joins_bare}
 use Rattle.fj_bodies.proofs.Taking.{released_fits}
 use Rattle.fj_bodies.proofs.store.Store.join.Goals as goal
 
@@ -16,6 +17,11 @@ choose-requires-clause-takes g c =
 
 pub returns-in-Some-clause-fits : goal.returns-in-Some-clause-fits
 returns-in-Some-clause-fits g c =
-    let took = c.in-Some.ensures in
+    let took = c.in-Some.ensures.takes in
     released_fits c.choose.new.self.past c.take_and_release.new.self.past c.choose.new.hand took.2.tasks c.choose.ensures.fits
     (ap (λ s. s.past) took.2.were ∙ ap (λ s. grown s.past (map Rel took.2.tasks)) took.1.1.1)
+
+pub returns-in-None-clause-joins : goal.returns-in-None-clause-joins
+returns-in-None-clause-joins g c =
+    joins_bare c.args.self.now c.choose.new.self c.take_and_release.new.self c.args.hand.now c.take_word-r.new.self c.choose.new.hand c.worker.result c.args.t c.take_word-r.result
+    c.requires.free c.worker.ensures c.take_word-r.ensures.word c.take_word-r.ensures.next (rw c.in-Bare.is at c.in-Hear.ensures.chooses) c.in-None.ensures.complete c.in-None.ensures.takes

@@ -2,6 +2,7 @@ use Rattle.std.proofs.Common.{ap, arith}
 use Rattle.fj_rules.proofs.Making.{made}
 use Rattle.fj_slots.specs.Marked.{SerialList}
 use Rattle.fj_bodies.proofs.Stored.{fresh_stored}
+use Rattle.fj_bodies.proofs.NoneLost.{fresh_results}
 use Rattle.fj_bodies.proofs.store.Store.new.Goals as goal
 
 pub invariant_of-result : goal.invariant_of-result
@@ -11,6 +12,7 @@ invariant_of-result g c =
     let moved = made _ all.1 c.both-moved.ensures in
     rw (made _ moved.1 c.new-4.ensures.ok, made _ moved.0 c.new-3.ensures) (record {
       stored = fresh_stored c.args.mode c.args.limits _ _ (made _ kept.0 c.new.ensures.entries) (made _ kept.1 c.new-2.ensures.entries);
+      complete = fresh_results c.args.mode c.args.limits _;
       room = record {
         bodies = omega (arith, c.tasks-room.ensures.number, made _ kept.0 c.new.ensures.room);
         results = omega (arith, c.tasks-room.ensures.number, made _ kept.1 c.new-2.ensures.room);

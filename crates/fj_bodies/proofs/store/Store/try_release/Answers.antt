@@ -1,6 +1,10 @@
 use Rattle.std.proofs.Common.{◌≡◌, true, refl, sym, ◌∙◌, ap}
 use Rattle.fj_rules.specs.Lists.{is_in}
 use Rattle.fj_rules.proofs.Steps.Answered.{refusal_same, refused_not_done}
+use Rattle.fj_rules.specs.declared.step.Step.TheVariants.{Release}
+use Rattle.fj_rules.specs.Answers.{answer}
+use Rattle.fj_rules.specs.Pasts.{grown}
+use Rattle.fj_bodies.proofs.NoneLost.{release_results}
 use Rattle.fj_bodies.proofs.Releases.{hooked_stays, went, finds_full, stays, release_replies, release_stored}
 use Rattle.fj_bodies.proofs.store.Store.try_release.Goals as goal
 
@@ -19,6 +23,7 @@ invariant_of-self g c =
     rw (c.take_out.ensures, c.step.ensures.step.1)
     (record {
       stored = release_stored past c.args.t _ _ _ c.self.invariant.stored taken free made;
+      complete = release_results past (grown past (answer past (Release c.args.t)).1) c.args.t _ _ c.self.invariant.stored.run c.self.invariant.complete made refl;
       room = c.self.invariant.room;
       due = λ free. tt;
     })

@@ -14,6 +14,8 @@ use Rattle.fj_rules.specs.declared.event.Event.{Event}
 use Rattle.fj_core.specs.declared.booking.Booking.{Booking}
 use Rattle.fj_core.specs.Booked.{IsBooked}
 use Rattle.fj_slots.specs.Shelves.{entries}
+use Rattle.fj_bodies.specs.Stores.{HasResults}
+use Rattle.fj_core.specs.Cores.{CoreState}
 use Rattle.fj_guarded.specs.Lanes.{lanes_of}
 use Rattle.fj_parts.specs.Seats.{SeatState}
 use Rattle.fj_parts.specs.Winding.{has_terminated, submissions}
@@ -32,6 +34,12 @@ meet-tickets-requires-clause-same g c = λ k e low. c.settle-entrants.ensures.ga
 
 pub returns-clause-results : goal.returns-clause-results
 returns-clause-results g c = c.into_remains-machine.ensures.results ∙ ap (λ core. entries core.store.results) (c.into_parts-core.ensures.core ∙ c.self.view_is)
+
+pub returns-clause-complete : goal.returns-clause-complete
+returns-clause-complete g c =
+    let left = c.into_remains-machine.ensures in
+    subst (λ (core : CoreState g.row.B.Denot g.row.B-Key.Denot g.row.B-Out.Denot). HasResults c.into_remains-machine.result.machine (entries c.into_remains-machine.result.results) core.store.taken)
+    (c.into_parts-core.ensures.core ∙ c.self.view_is) (rw (left.past, left.results) left.complete)
 
 pub returns-clause-lanes : goal.returns-clause-lanes
 returns-clause-lanes g c =
