@@ -6,5 +6,3 @@ pub mod Tallies
 pub mod Courses
 -- what the body of a node asks next, by its stage and what it hears
 pub mod Stages
--- the answer of a fold, by what came of the root's body
-pub mod Answers

@@ -1,18 +1,18 @@
-ghost use Rattle.std.specs.Prelude.{◌≡◌, ◌<◌, ◌≤◌, ◌++◌, IfErr, IfOk, length};
+ghost use Rattle.std.specs.Prelude.{◌≡◌, ◌==◌, ◌<◌, ◌≤◌, ◌++◌, IfErr, IfOk, length};
 ghost use Rattle.fj_core.specs.Cores.{AreParts};
 ghost use Rattle.fj_rules.specs.declared.limits.TheConstants.{MAX_EVENTS, MAX_TASKS, MAX_WORKERS};
 ghost use Rattle.fj_rules.specs.Bounds.{bounds};
 ghost use Rattle.fj_rules.specs.Epochs.{IsPast};
 ghost use Rattle.fj_trees.specs.TreeValues.{node_value};
+ghost use Rattle.fj_run.specs.Results.{RefusesAnswer};
 ghost use Rattle.fj_run.specs.Runs.{RefusesRun};
-ghost use Rattle.fj_fold.specs.Answers.{RefusesAnswer, RefusesOutcome};
 
 use crate::family::Family;
 use crate::named_tree::NamedTree;
 use crate::tree_fold::TreeFold;
 use fj_rules::{Limits, MAX_EVENTS, MAX_TASKS, Mode, Refusal};
 use fj_run::{
-    Outcome, Record, Recorded, RecordedValue, Settings, Turnstile, record_alone, result_in,
+    Outcome, Record, Recorded, RecordedValue, Settings, Turnstile, record_alone, result_under,
 };
 use fj_trees::Nodes;
 use std::alloc::{AllocError, Global};
@@ -121,32 +121,10 @@ impl<'a, F: NamedTree> TreeFold<'a, F> {
         number: u32,
     ) -> Result<u64, Refusal>
         ensures ok { IfOk result (λ value. value ≡ node_value F.nodes number) }
-        ensures refused { IfErr result (λ refusal. RefusesAnswer number answer.entry refusal) }
+        ensures refused { IfErr result (λ refusal. RefusesAnswer ◌==◌ number answer.entry refusal) }
         ensures err { IfErr result RefusesRun }
     {
-        match answer {
-            Ok(outcome) => value_of(outcome, number),
-            Err(Refusal::LogFull) => Err(Refusal::LogFull),
-            Err(_) => Err(Refusal::OutOfMemory),
-        }
-    }
-}
-
-/// The value in an outcome, if it is that of this node. A result of another node counts as none.
-fn value_of<F: NamedTree>(outcome: Outcome<TreeFold<F>>, number: u32) -> Result<u64, Refusal>
-    ensures ok { IfOk result (λ value. value ≡ node_value F.nodes number) }
-    ensures refused { IfErr result (λ refusal. RefusesOutcome number outcome.entry refusal) }
-    ensures err { IfErr result RefusesRun }
-{
-    match result_in(outcome) {
-        Ok((key, value)) => {
-            if key == number {
-                Ok(value)
-            } else {
-                Err(Refusal::OutOfMemory)
-            }
-        }
-        Err(none) => Err(none.refusal()),
+        result_under(answer, &number)
     }
 }
 

@@ -4,5 +4,3 @@ pub mod Recursions
 pub mod Asks
 -- What it asks next, by its stage and what it hears.
 pub mod Stages
--- The answer of a job, by the outcome of its body.
-pub mod Answers

@@ -1,14 +1,14 @@
 ghost use Rattle.std.specs.Prelude.{◌≡◌, ◌++◌, IfOk, IfErr};
 ghost use Rattle.fj_core.specs.Cores.{AreParts};
 ghost use Rattle.fj_rules.specs.Epochs.{IsPast};
+ghost use Rattle.fj_run.specs.Results.{RefusesAnswer};
 ghost use Rattle.fj_run.specs.Runs.{RefusesRun};
-ghost use Rattle.fj_invoke.specs.Answers.{RefusesAnswer, RefusesOutcome};
 
 use crate::recursive::Recursive;
 use fj_bodies::Outcome;
 use fj_jobs::Divide;
 use fj_rules::{Limits, Mode, Refusal};
-use fj_run::{Record, Recorded, RecordedValue, Settings, Turnstile, record_alone, result_in};
+use fj_run::{Record, Recorded, RecordedValue, Settings, Turnstile, record_alone, result_under};
 use std::alloc::Global;
 use std::sync::Wait;
 use std::thread::Threads;
@@ -106,28 +106,6 @@ impl<J: Divide> Recursive<J> {
         ensures refused { IfErr result (λ refusal. RefusesAnswer J.Key.eq key answer refusal) }
         ensures err { IfErr result RefusesRun }
     {
-        match answer {
-            Ok(outcome) => answer_of(outcome, key),
-            Err(Refusal::LogFull) => Err(Refusal::LogFull),
-            Err(_) => Err(Refusal::OutOfMemory),
-        }
-    }
-}
-
-/// The value in an outcome, if it is under this key. A result under another key counts as none.
-fn answer_of<J: Divide>(outcome: Outcome<Recursive<J>>, key: J::Key) -> Result<J::Out, Refusal>
-    ensures value { IfOk result (λ out. out ≡ J.value key) }
-    ensures refused { IfErr result (λ refusal. RefusesOutcome J.Key.eq key outcome refusal) }
-    ensures err { IfErr result RefusesRun }
-{
-    match result_in(outcome) {
-        Ok((kept_key, out)) => {
-            if kept_key == key {
-                Ok(out)
-            } else {
-                Err(Refusal::OutOfMemory)
-            }
-        }
-        Err(none) => Err(none.refusal()),
+        result_under(answer, &key)
     }
 }

@@ -1,13 +1,13 @@
 ghost use Rattle.std.specs.Prelude.{◌≡◌, IfOk, IfErr};
+ghost use Rattle.fj_run.specs.Results.{RefusesAnswer};
 ghost use Rattle.fj_run.specs.Runs.{RefusesRun};
-ghost use Rattle.fj_invoke.specs.Answers.{RefusesAnswer, RefusesOutcome};
 
 use crate::idle::IdleWorkers;
 use fj_bodies::Outcome;
 use fj_jobs::Divide;
 use fj_lazy::{Lazy, Signals};
 use fj_rules::Refusal;
-use fj_run::{Open, Settings, Turnstile, result_in, run_alone};
+use fj_run::{Open, Settings, Turnstile, result_under, run_alone};
 use std::alloc::Global;
 use std::sync::Wait;
 use std::thread::Threads;
@@ -79,27 +79,5 @@ fn value_in<J: Divide>(
     ensures refused { IfErr result (λ refusal. RefusesAnswer J.Key.eq key answer.entry refusal) }
     ensures err { IfErr result RefusesRun }
 {
-    match answer {
-        Ok(outcome) => answer_of(outcome, key),
-        Err(Refusal::LogFull) => Err(Refusal::LogFull),
-        Err(_) => Err(Refusal::OutOfMemory),
-    }
-}
-
-/// The value in an outcome, if it is under this key. A result under another key counts as none.
-fn answer_of<J: Divide>(outcome: Outcome<Lazy<'_, J>>, key: J::Key) -> Result<J::Out, Refusal>
-    ensures value { IfOk result (λ out. out ≡ J.value key) }
-    ensures refused { IfErr result (λ refusal. RefusesOutcome J.Key.eq key outcome.entry refusal) }
-    ensures err { IfErr result RefusesRun }
-{
-    match result_in(outcome) {
-        Ok((kept_key, out)) => {
-            if kept_key == key {
-                Ok(out)
-            } else {
-                Err(Refusal::OutOfMemory)
-            }
-        }
-        Err(none) => Err(none.refusal()),
-    }
+    result_under(answer, &key)
 }

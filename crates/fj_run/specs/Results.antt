@@ -1,5 +1,5 @@
--- The result in an outcome.
-use Rattle.std.specs.Prelude.{Some, None, Result, Ok, Err, if◌then◌else◌, ◌==◌}
+-- The result in an outcome, and in the answer of a run.
+use Rattle.std.specs.Prelude.{◌≡◌, Bool, true, false, Some, None, Result, Ok, Err, if◌then◌else◌, ◌==◌}
 use Rattle.fj_rules.specs.declared.refusal.Refusal.{Refusal}
 use Rattle.fj_rules.specs.declared.refusal.Refusal.TheVariants.{LogFull, OutOfMemory}
 use Rattle.fj_rules.specs.Refusals.{refusal_number}
@@ -19,3 +19,25 @@ result_in Cancelled = Err Missing
 abbrev pub refusal_of : NoResult → Refusal
 refusal_of (Failed code) = if code == refusal_number LogFull then LogFull else OutOfMemory
 refusal_of Missing = OutOfMemory
+
+module _ {K O : Type 0} (eq : K → K → Bool) where
+  -- it is right for a key that equals this one
+  pub record IsRightFor (right : K → O → Type 0) (key : K) (out : O) : Type 0 where
+    pub kept : K
+    pub same : eq kept key ≡ true
+    pub right_for : ∥ right kept out ∥₁
+
+  -- a result is refused only where it is under another key
+  abbrev pub RefusesResult : K → Result (K × O) NoResult → Refusal → Type 0
+  RefusesResult key (Ok kept) r = (eq kept.0 key ≡ false) × (r ≡ OutOfMemory)
+  RefusesResult key (Err none) r = r ≡ refusal_of none
+
+  -- the same of the result in an outcome
+  abbrev pub RefusesOutcome : {B : Type 0} → K → Outcome B K O → Refusal → Type 0
+  RefusesOutcome key outcome r = RefusesResult key (result_in outcome) r
+
+  -- the same of the answer of a run: LogFull stays, any other refusal becomes OutOfMemory
+  abbrev pub RefusesAnswer : {B : Type 0} → K → Result (Outcome B K O) Refusal → Refusal → Type 0
+  RefusesAnswer key (Ok outcome) r = RefusesOutcome key outcome r
+  RefusesAnswer key (Err LogFull) r = r ≡ LogFull
+  RefusesAnswer key (Err _) r = r ≡ OutOfMemory

@@ -48,7 +48,8 @@ impl<B: Body> Play<B> for Alone<B> {
 ///
 /// The pool has these settings, for one submission. The turnstile is called before the first turn of each body.
 ///
-/// `LogFull` if the history is full. `OutOfMemory` if an allocation fails or a thread cannot be started; then the body is not run.
+/// `LogFull` if the history is full. `OutOfMemory` if an allocation fails or a thread cannot be started: then the body is not run; or if its
+/// outcome cannot be told, since it released its own task.
 pub fn run_alone<B: Body + Send, T: Turnstile + Sync, R: Threads + Wait + Sync>(
     rt: &R,
     alloc: Global,
@@ -92,8 +93,8 @@ where
     let player = Alone { body: Some(body) };
     match with_pool(rt, alloc, settings.for_one(), player, turnstile) {
         Ok(played) => Ok(Recorded {
-            answer: told(played.out),
             record: played.record,
+            answer: told(played.out),
         }),
         Err(_) => Err(Refusal::OutOfMemory),
     }

@@ -24,6 +24,6 @@ pub use fj_rules::{Kind, Limits, Mode, Refusal, Sealed, Serial, SubId, WorkerId}
 pub use play::Play;
 pub use playing::{Played, with_pool};
 pub use recorded::{Recorded, RecordedValue};
-pub use results::{NoResult, result_in};
+pub use results::{NoResult, result_in, result_under};
 pub use running::Running;
 pub use settings::Settings;

@@ -1,5 +1,5 @@
-ghost use Rattle.std.specs.Prelude.{◌≡◌, IfOk};
-ghost use Rattle.fj_run.specs.Results.{refusal_of, result_in};
+ghost use Rattle.std.specs.Prelude.{◌≡◌, IfErr, IfOk};
+ghost use Rattle.fj_run.specs.Results.{IsRightFor, RefusesAnswer, RefusesOutcome, refusal_of, result_in};
 ghost use Rattle.fj_run.specs.Runs.{RefusesRun};
 
 use fj_pool::{Body, Outcome};
@@ -41,5 +41,43 @@ pub fn result_in<B: Body>(outcome: Outcome<B>) -> Result<(B::Key, B::Out), NoRes
     match outcome.into_kept() {
         Some(kept) => Ok(kept.into_parts()),
         None => Err(NoResult::Missing),
+    }
+}
+
+/// The result under this key, from what came of a body that was run for it: the answer of `run_alone`, or of a pool to which it was submitted.
+/// A result under another key counts as none.
+///
+/// `LogFull` if the answer is that refusal, or the body failed with its number. `OutOfMemory` if there is no result under this key for any other
+/// reason.
+pub fn result_under<B: Body>(
+    answer: Result<Outcome<B>, Refusal>,
+    key: &B::Key,
+) -> Result<B::Out, Refusal>
+    ensures right { IfOk result (λ out. IsRightFor B.Key.eq B.right key.now out) }
+    ensures refused { IfErr result (λ refusal. RefusesAnswer B.Key.eq key.now answer refusal) }
+    ensures err { IfErr result RefusesRun }
+{
+    match answer {
+        Ok(outcome) => result_of(outcome, key),
+        Err(Refusal::LogFull) => Err(Refusal::LogFull),
+        Err(_) => Err(Refusal::OutOfMemory),
+    }
+}
+
+/// The result in an outcome, if it is under this key.
+fn result_of<B: Body>(outcome: Outcome<B>, key: &B::Key) -> Result<B::Out, Refusal>
+    ensures right { IfOk result (λ out. IsRightFor B.Key.eq B.right key.now out) }
+    ensures refused { IfErr result (λ refusal. RefusesOutcome B.Key.eq key.now outcome refusal) }
+    ensures err { IfErr result RefusesRun }
+{
+    match result_in(outcome) {
+        Ok((kept_key, out)) => {
+            if kept_key == *key {
+                Ok(out)
+            } else {
+                Err(Refusal::OutOfMemory)
+            }
+        }
+        Err(none) => Err(none.refusal()),
     }
 }
