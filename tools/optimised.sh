@@ -1,7 +1,7 @@
 # Sourced by tools/quick and bench/unproved.sh: how a program of which nothing is proved is built with optimisation, and without checks.
 
-# optimise CRATE FOLDER: has `rt try` make the module of the program in the folder CRATE, makes it like that of a proved build, and compiles it as such
-# a one, to FOLDER/program. All that it makes stands in FOLDER; `log` there has what `rt try` says.
+# optimise CRATE FOLDER [--test]: has `rt try` make the module of the program in the folder CRATE, or of its tests, makes it like that of a proved
+# build, and compiles it as such a one, to FOLDER/program. All that it makes stands in FOLDER; `log` there has what `rt try` says.
 optimise() {
     local kit copy=$2/kit work=$2 file compile tools
     kit=$(dirname "$(rt doc)")
@@ -18,7 +18,7 @@ optimise() {
         "exec '$kit/toolchain/bin/clang' \"\$@\"" > "$copy/toolchain/bin/clang"
     chmod +x "$copy/toolchain/bin/clang"
     rm -f "$work/module.bc"
-    (cd "$1" && "$copy/bin/rt" try) > "$work/log" 2>&1 < /dev/null || [[ -e $work/module.bc ]] || { cat "$work/log" >&2; return 1; }
+    (cd "$1" && "$copy/bin/rt" try "${@:3}") > "$work/log" 2>&1 < /dev/null || [[ -e $work/module.bc ]] || { cat "$work/log" >&2; return 1; }
     compile=("$kit/toolchain/bin/clang" --target=x86_64-unknown-linux-gnu --no-default-config -x ir)
     "${compile[@]}" -S -emit-llvm -Xclang -disable-llvm-passes -o "$work/module.ll" "$work/module.bc"
     "$tools/as_proved.py" "$1/.." "$work/module.ll" > "$work/as_proved.ll"

@@ -3,8 +3,8 @@
 
     tests/mutants/by_tests.py [CRATE | CRATE/NAME ..]
 
-The line `test:` of each names a test by threads, or a crate and a test of it, or a script that takes `fj` as its argument. It is run in a copy of
-the repository, built unproved.
+The line `test:` of each names a test by threads, or a crate and a test of it, or a script that takes `fj` as its argument, or a crate and a
+script for its tests. It is run in a copy of the repository, built unproved.
 The exit status is 1 if a mutant is let through or cannot be tried.
 """
 import os
@@ -24,6 +24,15 @@ def run(room, *words):
     return done.returncode, done.stdout
 
 
+def keep_tests(room, crate):
+    """Builds the tests of a crate as LLVM does it, where `rt test` would. Returns what was said where that fails."""
+    os.makedirs(f"{room}/crates/{crate}/out")
+    os.mkdir(f"{room}/optimised")
+    build = f". tools/optimised.sh; optimise crates/{crate} {room}/optimised --test"
+    status, said = run(room, "bash", "-ec", f"{build}; mv {room}/optimised/program crates/{crate}/out/{crate}_tests")
+    return said if status else ""
+
+
 def tried(room, test):
     """Runs the test in the copy. Returns whether it could be run, whether it failed, and what was said."""
     if test.endswith(".py"):
@@ -33,6 +42,12 @@ def tried(room, test):
         status, said = run(room, test, "crates/fj/out/quick")
         return "Traceback" not in said, status != 0, said
     crate, _, name = test.rpartition(" ")
+    if name.endswith(".sh"):
+        said = keep_tests(room, crate)
+        if said:
+            return False, False, said
+        status, said = run(room, name)
+        return True, status != 0, said
     said = run(f"{room}/crates/{crate}", "rt", "try", "--test")[1] if crate else run(room, "tests/threads/run.sh", "0", name)[1]
     failed = re.search(rf"^test {name} \.\.\. FAILED", said, re.M)
     passed = re.search(rf"^test {name} \.\.\. ok|: ok$", said, re.M)
