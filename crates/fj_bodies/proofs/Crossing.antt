@@ -9,7 +9,6 @@ use Rattle.fj_machine.specs.contracts.machine.Machine as Machine
 use Rattle.fj_slots.proofs.serial_map.SerialMap.TheSendSync.{the_send as map_send}
 use Rattle.fj_slots.proofs.serial_set.SerialSet.TheSendSync.{the_send as set_send}
 use Rattle.fj_slots.specs.contracts.serial_set.SerialSet as SerialSet
-use Rattle.fj_bodies.proofs.due.Due.TheSendSync.{the_send as due_send}
 use Rattle.fj_bodies.proofs.kept_result.KeptResult.TheSendSync.{the_send as kept_send}
 use Rattle.fj_bodies.specs.contracts.kept_result.KeptResult as KeptResult
 use Rattle.fj_bodies.specs.contracts.store.Store as Store
@@ -27,7 +26,7 @@ module _ (B K O : RattleType) (g : Body.Ghosts B.Denot K.Denot O.Denot) (e : Par
       search (sendable, crosses, as_row_send, map_send, b),
       (
         search (sendable, crosses, as_row_send, map_send, kept_row),
-        (as_row_send SerialSet.the_field set_send, (search (sendable, crosses, as_row_send, due_send), (search (sendable, as_row_send), tt))),
+        (as_row_send SerialSet.the_field set_send, (search (sendable), tt)),
       ),
     ),
   )

@@ -22,6 +22,8 @@ pub mod Chains
 pub mod DueTasks
 -- A task is released, and then those above it.
 pub mod Upwards
+-- What the releases of a call leave of a store.
+pub mod Waits
 -- A plain task whose result was taken is released at once.
 pub mod PlainTasks
 -- A task is taken from its queue.

@@ -1,5 +1,5 @@
 -- A plain task whose result was taken is released at once.
-use Rattle.std.proofs.Common.{ℕ, ◌≡◌, ◌≢◌, Bool, true, false, List, [], ◌∷◌, ◌++◌, Option, Some, None, refl, ap, sym, ◌∙◌, subst, ⊎_elim}
+use Rattle.std.proofs.Common.{ℕ, ◌≡◌, ◌≢◌, inl, Bool, true, false, List, [], ◌∷◌, ◌++◌, Option, Some, None, refl, ap, sym, ◌∙◌, subst, ⊎_elim}
 use Rattle.std.proofs.lemmas.Bool.{eq-eqb, or_right, true≢false}
 use Rattle.fj_rules.specs.declared.event.Event.{Event}
 use Rattle.fj_rules.specs.declared.event.Event.TheVariants.{Fire, Rel}
@@ -26,11 +26,11 @@ use Rattle.fj_rules.proofs.Lists.Members.{Once, is_in_append, once_more}
 use Rattle.fj_rules.proofs.Steps.AnswersAllowed.{climbed_completer, history_allowed}
 use Rattle.fj_slots.specs.Shelves.{Entries, without_entry}
 use Rattle.fj_bodies.specs.Stores.{StoreState, IsStored, HasResults}
-use Rattle.fj_bodies.specs.Releases.{Releases, ReleasesPlain, released_of}
+use Rattle.fj_bodies.specs.Releases.{NoneGoes, Releases, ReleasesPlain}
 use Rattle.fj_bodies.proofs.InHands.{after_one, climbed_fire}
 use Rattle.fj_bodies.proofs.Results.{marked_stored}
 use Rattle.fj_bodies.proofs.Releases.{release_stored, went}
-use Rattle.fj_bodies.proofs.Chains.{all_went, one_went}
+use Rattle.fj_bodies.proofs.Chains.{one_in}
 use Rattle.fj_bodies.proofs.DueTasks.{cannot}
 use Rattle.fj_bodies.proofs.NoneLost.{marked_results, release_results}
 use Rattle.fj_bodies.proofs.Upwards.{may_release}
@@ -81,8 +81,7 @@ plain_grown : (past new : Past) (t : ℕ) → IsPast past → ReleasesPlain past
 plain_grown past new t run step = step.1.1 ∙ ap (grown past) (plain_went past new t run step).1
 
 -- no other task can go after it that could not go before
-pub plain_due : (past new : Past) (ts : List ℕ) (t : ℕ) → IsPast past → is_in t ts ≡ false → ((u : ℕ) → is_in u ts ≡ true → can_go past.events u ≡ false) → ReleasesPlain past t true new
-    → (u : ℕ) → is_in u ts ≡ true → can_go new.events u ≡ false
+pub plain_due : (past new : Past) (ts : List ℕ) (t : ℕ) → IsPast past → is_in t ts ≡ false → NoneGoes past.events ts → ReleasesPlain past t true new → NoneGoes new.events ts
 plain_due past new ts t run free none step u there = rw (plain_grown past new t run step) (cannot (past.events ++ Rel t ∷ []) u goes)
   where
     apart : u ≢ t
@@ -101,7 +100,7 @@ pub plain_stored : {B R : Type 0} (past new : Past) (bodies : Entries B) (result
 plain_stored past new bodies results ts t is kept free none step =
     subst (IsStored new bodies results) (without_last ts t (once_more ts t free is.taken_kept.once))
     (subst (λ (p : Past). IsStored p bodies results (without (ts ++ t ∷ []) (t ∷ []))) (sym step.1.1)
-    (release_stored past t bodies results (ts ++ t ∷ []) (marked_stored past bodies results ts t is kept free none) (last_in t ts) (sym (plain_unhooked past t is.run step.0)) (plain_went past new t is.run step).1))
+    (release_stored past t bodies results (ts ++ t ∷ []) (marked_stored past bodies results ts t is kept free none) none (sym (plain_unhooked past t is.run step.0)) (plain_went past new t is.run step).1))
 
 -- no result was lost: that of the task was taken out
 pub plain_results : {R : Type 0} (past new : Past) (results results' : Entries R) (ts : List ℕ) (t : ℕ) → IsPast past → Once ts → is_in t ts ≡ false → HasResults past results ts → results' ≡ without_entry results t
@@ -110,13 +109,12 @@ plain_results past new results results' ts t run once free has less step =
     subst (HasResults new results') (without_last ts t (once_more ts t free once))
     (release_results past new t results' (ts ++ t ∷ []) run (marked_results past results results' ts t has less) (plain_went past new t run step).1 step.1.1)
 
-pub plain_releases : {B K O : Type 0} (old : StoreState B K O) (new : Past) (t : ℕ) → IsPast old.past → Once old.taken → is_in t old.taken ≡ false → ((u : ℕ) → is_in u old.taken ≡ true → can_go old.past.events u ≡ false)
+pub plain_releases : {B K O : Type 0} (old : StoreState B K O) (new : Past) (t : ℕ) → IsPast old.past → Once old.taken → is_in t old.taken ≡ false → NoneGoes old.past.events old.taken
     → ReleasesPlain old.past t true new → Releases (record old { taken = old.taken ++ t ∷ [] }) (record old { past = new })
-plain_releases {B} {K} {O} old new t run once free none step =
-    all_went marked (record old { past = new }) (one_went marked (record old { past = new }) t (last_in t old.taken) (plain_went old.past new t run step).0 were, plain_due old.past new old.taken t run free none step)
-  where
-    marked : StoreState B K O
-    marked = record old { taken = old.taken ++ t ∷ [] }
-
-    were : record old { past = new } ≡ released_of marked (t ∷ [])
-    were = rw (plain_grown old.past new t run step, without_last old.taken t (once_more old.taken t free once)) refl
+plain_releases old new t run once free none step = record {
+  tasks = t ∷ [];
+  were_taken = one_in t (old.taken ++ t ∷ []) (last_in t old.taken);
+  could = ((plain_went old.past new t run step).0, tt);
+  were = rw (plain_grown old.past new t run step, without_last old.taken t (once_more old.taken t free once)) refl;
+  rests = inl (refl, plain_due old.past new old.taken t run free none step);
+}

@@ -27,6 +27,7 @@ use Rattle.fj_bodies.specs.Stores.{is_waiting, HoldsBodies, GivesNoMore, IsStore
 use Rattle.fj_rules.specs.Releasable.{hooked, is_hooked}
 use Rattle.fj_rules.specs.Releasable.{can_go}
 use Rattle.fj_rules.proofs.Events.KindsKept.{kept_known}
+use Rattle.fj_rules.proofs.Events.Releasable.{can_parts}
 use Rattle.fj_bodies.proofs.Given.{given_on}
 use Rattle.fj_bodies.proofs.InHands.{unreleased_rel}
 use Rattle.fj_bodies.proofs.Bodies.{same_body}
@@ -43,7 +44,7 @@ in_without u t ts there =
 pub in_rest : (u : ℕ) (ts us : List ℕ) → is_in u (without ts us) ≡ true → is_in u ts ≡ true
 in_rest u ts us there = (and_parts (is_in u ts) (not (is_in u us)) (sym (is_in_filter (λ v. not (is_in v us)) u ts) ∙ there)).0
 
-without_once : (t u : ℕ) (ts : List ℕ) → times_in u ts ≤ 1 → times_in u (without ts (t ∷ [])) ≤ 1
+pub without_once : (t u : ℕ) (ts : List ℕ) → times_in u ts ≤ 1 → times_in u (without ts (t ∷ [])) ≤ 1
 without_once t u ts once = rw (times_in_filter (λ v. not (is_in v (t ∷ []))) u ts) (go (not (is_in u (t ∷ []))))
   where
     go : (b : Bool) → (if b then times_in u ts else 0) ≤ 1
@@ -60,15 +61,15 @@ not_hooked : (h : List Event) (t : ℕ) → false ≡ is_hooked h t → is_in t 
 unfolding is_hooked
 not_hooked h t free = sym free
 
-pub release_stored : {B R : Type 0} (past : Past) (t : ℕ) (bodies : Entries B) (results : Entries R) (ts : List ℕ) → IsStored past bodies results ts → is_in t ts ≡ true → false ≡ is_hooked past.events t
+pub release_stored : {B R : Type 0} (past : Past) (t : ℕ) (bodies : Entries B) (results : Entries R) (ts : List ℕ) → IsStored past bodies results ts → results t ≡ None → false ≡ is_hooked past.events t
     → (answer past (Release t)).1 ≡ Rel t ∷ [] → IsStored (grown past (answer past (Release t)).1) bodies results (without ts (t ∷ []))
-release_stored {B} {R} past t bodies results ts is taken free made =
+release_stored {B} {R} past t bodies results ts is without_result free made =
     let h = past.events in
     let may = (rw made at (answer_allowed past (Release t) is.run)).0 in
     record {
       run = history_more past (Release t) is.run;
       bodies_held = rw made (release_bodies past.pool h t bodies (history_allowed past is.run) may is.bodies_held);
-      results_kept = λ u there. ap (λ (es : List Event). is_kept (h ++ es) u) made ∙ release_keeps h t u (λ same. differs (results u) (ap results same ∙ is.apart t taken) there) ∙ is.results_kept u there;
+      results_kept = λ u there. ap (λ (es : List Event). is_kept (h ++ es) u) made ∙ release_keeps h t u (λ same. differs (results u) (ap results same ∙ without_result) there) ∙ is.results_kept u there;
       results_given = λ u there.
           subst (λ (es : List Event). GivesNoMore (h ++ es) u) (sym made) (given_on past.pool h (Rel t ∷ []) u (history_allowed past is.run) (may, tt) (kept_known h u (is.results_kept u there)) (is.results_given u there));
       taken_kept = rw made (record {
@@ -123,6 +124,19 @@ went past t reply free is said = go (release_gives past t)
 full_is : (past : Past) (t : ℕ) → does_not_fit past (Release t) ≡ true → limit past ≤ length past.events
 unfolding events_of
 full_is past t full = omega (arith, ltb-true (limit past) (length past.events + 1) full)
+
+-- one that can go goes, where there is room
+pub goes : (past : Past) (t : ℕ) → can_go past.events t ≡ true → length past.events + 1 ≤ limit past → (answer past (Release t)).1 ≡ Rel t ∷ []
+goes past t can room = go (release_gives past t)
+  where
+    free : false ≡ is_hooked past.events t
+    free = sym (can_parts past.events t can).free
+
+    go : ReleaseGives (is_kept past.events t && is_gone (place past.events t) && not (has_kept_child past.events t)) (does_not_fit past (Release t)) t (answer past (Release t)).0 (answer past (Release t)).1
+        → (answer past (Release t)).1 ≡ Rel t ∷ []
+    go (Went good done made) = made
+    go (Finds good full done made) = absurd (omega (arith, room, full_is past t full))
+    go (Stays r bad other done made) = absurd (true≢false (sym can ∙ unhooked_is past.events t free ∙ bad))
 
 pub finds_full : (past : Past) (t : ℕ) (reply : Said) → false ≡ is_hooked past.events t → reply ≡ (answer past (Release t)).0 → reply ≡ says.Refused LogFull
     → (can_go past.events t ≡ true) × (limit past ≤ length past.events)

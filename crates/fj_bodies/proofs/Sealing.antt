@@ -7,8 +7,7 @@ use Rattle.fj_rules.specs.Epochs.{IsPast, seal_refusal}
 use Rattle.fj_rules.proofs.Headline.Sealing.{seal_past}
 use Rattle.fj_slots.specs.Shelves.{Entries}
 use Rattle.fj_bodies.specs.Stores.{IsStored}
-use Rattle.fj_bodies.specs.declared.due.Due.{Due}
-use Rattle.fj_bodies.specs.DueTasks.{AreDue}
+use Rattle.fj_bodies.specs.Releases.{NoneGoes}
 
 -- what holds of a store speaks of its events and its pool, and both stay
 pub seal_stored : {B R T : Type 0} (r : Result T Refusal) (past new : Past) (bodies : Entries B) (results : Entries R) (ts : List ℕ) → IsStored past bodies results ts
@@ -28,7 +27,6 @@ pub seal_pool : {T : Type 0} (r : Result T Refusal) (past new : Past) → OnOk r
 seal_pool (Ok part) past new sealed stays = ap (λ p. p.pool) sealed
 seal_pool (Err r) past new sealed stays = ap (λ p. p.pool) stays
 
-pub seal_due : {T : Type 0} (r : Result T Refusal) (past new : Past) (ts : List ℕ) (before : Due) → OnOk r (new ≡ sealed_now past) → OnErr r (new ≡ past) → AreDue past.events ts before
-    → AreDue new.events ts before
-seal_due (Ok part) past new ts before sealed stays are = rw sealed are
-seal_due (Err r) past new ts before sealed stays are = rw stays are
+pub seal_rests : {T : Type 0} (r : Result T Refusal) (past new : Past) (ts : List ℕ) → OnOk r (new ≡ sealed_now past) → OnErr r (new ≡ past) → NoneGoes past.events ts → NoneGoes new.events ts
+seal_rests (Ok part) past new ts sealed stays rests = rw sealed rests
+seal_rests (Err r) past new ts sealed stays rests = rw stays rests

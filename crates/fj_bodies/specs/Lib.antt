@@ -8,6 +8,8 @@ pub mod Fitting
 pub mod Releases
 -- Which tasks may be releasable.
 pub mod DueTasks
+-- One taken task after another is released.
+pub mod Waits
 -- Tasks are accepted.
 pub mod Accepting
 -- The worker takes its choice.

@@ -1,5 +1,6 @@
 -- Tasks whose result or outcome was taken are released as soon as they can be.
-use Rattle.std.specs.Prelude.{ℕ, ◌≡◌, ◌≤◌, ◌⊎◌, Bool, true, false, map, length, drop, List, [], ◌∷◌, Result, Ok, Err, ⊤}
+use Rattle.std.specs.Prelude.{ℕ, ◌≡◌, ◌≤◌, ◌⊎◌, Bool, true, false, map, length, List}
+use Rattle.fj_rules.specs.declared.event.Event.{Event}
 use Rattle.fj_rules.specs.declared.event.Event.TheVariants.{Rel}
 use Rattle.fj_rules.specs.declared.said.Said.TheVariants.{Done}
 use Rattle.fj_rules.specs.declared.step.Step.TheVariants.{Release}
@@ -7,9 +8,6 @@ use Rattle.fj_rules.specs.Lists.{is_in, without}
 use Rattle.fj_rules.specs.Tasks.{is_completer}
 use Rattle.fj_rules.specs.Pasts.{Past, grown, limit}
 use Rattle.fj_rules.specs.Runs.{Steps}
-use Rattle.fj_bodies.specs.declared.tries.HistoryFull.{HistoryFull}
-use Rattle.fj_bodies.specs.declared.tries.Tried.{Tried}
-use Rattle.fj_bodies.specs.declared.tries.Tried.TheVariants as tried
 use Rattle.fj_rules.specs.Releasable.{can_go, CanAllGo}
 use Rattle.fj_bodies.specs.Stores.{StoreState}
 
@@ -22,12 +20,21 @@ abbrev pub ReleasesPlain : Past → ℕ → Bool → Past → Type 0
 ReleasesPlain old t true new = (is_completer old.events t ≡ false) × Steps old (Release t) Done new
 ReleasesPlain old t false new = new ≡ old
 
+-- none of these can be released
+abbrev pub NoneGoes : List Event → List ℕ → Type 0
+NoneGoes h ts = (t : ℕ) → is_in t ts ≡ true → can_go h t ≡ false
+
+-- one of these can be released
+abbrev pub OneGoes : List Event → List ℕ → Type 0
+OneGoes h ts = (t : ℕ) × (is_in t ts ≡ true) × (can_go h t ≡ true)
+
+-- no taken task can be released now; or one could be, and the store is stuck, since the history is full
+abbrev pub RestsAt : Past → List ℕ → Bool → Bool → Type 0
+RestsAt past taken was stuck = ((stuck ≡ was) × NoneGoes past.events taken) ⊎ ((stuck ≡ true) × OneGoes past.events taken × (limit past ≤ length past.events))
+
 module _ {B K O : Type 0} where
-  -- no taken task can be released now; or one could be, and the store is stuck, since the history is full
   abbrev pub Rests : Bool → StoreState B K O → Type 0
-  Rests stuck s =
-      ((s.stuck ≡ stuck) × ((t : ℕ) → is_in t s.taken ≡ true → can_go s.past.events t ≡ false))
-      ⊎ ((s.stuck ≡ true) × ((t : ℕ) × (is_in t s.taken ≡ true) × (can_go s.past.events t ≡ true)) × (limit s.past ≤ length s.past.events))
+  Rests stuck s = RestsAt s.past s.taken stuck s.stuck
 
   -- with these tasks released
   abbrev pub released_of : StoreState B K O → List ℕ → StoreState B K O
@@ -40,22 +47,3 @@ module _ {B K O : Type 0} where
     pub could : CanAllGo old.past.events tasks
     pub were : new ≡ record (released_of old tasks) { stuck = new.stuck }
     pub rests : Rests old.stuck new
-
-  -- the try to release a task
-  abbrev pub Tries : StoreState B K O → ℕ → Tried → StoreState B K O → Type 0
-  Tries old t tried.Released new = (can_go old.past.events t ≡ true) × (new ≡ released_of old (t ∷ []))
-  Tries old t tried.Full new = (can_go old.past.events t ≡ true) × (limit old.past ≤ length old.past.events) × (new ≡ record old { stuck = true })
-  Tries old t tried.Needed new = (can_go old.past.events t ≡ false) × (new ≡ old)
-
-  -- some of the taken tasks were released, each when it could be
-  abbrev pub ReleasesSome : StoreState B K O → StoreState B K O → Type 0
-  ReleasesSome old new = (ts : List ℕ) × AreAmong ts old.taken × CanAllGo old.past.events ts × (new ≡ released_of old ts)
-
-  -- no taken task from this index on can be released
-  abbrev pub NoneGoesFrom : ℕ → StoreState B K O → Type 0
-  NoneGoesFrom from s = (t : ℕ) → is_in t (drop from s.taken) ≡ true → can_go s.past.events t ≡ false
-
-  -- some were released, and of those from this index on none can be now; or the history was full
-  abbrev pub ReleasesFrom : ℕ → StoreState B K O → Result ⊤ HistoryFull → StoreState B K O → Type 0
-  ReleasesFrom from old (Ok done) new = ReleasesSome old new × NoneGoesFrom from new
-  ReleasesFrom from old (Err full) new = Releases old new

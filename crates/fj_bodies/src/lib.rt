@@ -12,6 +12,7 @@ mod moves;
 mod outcomes;
 mod places;
 mod plain;
+mod release;
 mod store;
 mod tries;
 

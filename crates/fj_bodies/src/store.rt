@@ -4,6 +4,7 @@ ghost use Rattle.fj_rules.specs.Epochs.{IsPast};
 ghost use Rattle.fj_rules.specs.Pasts.{fresh};
 ghost use Rattle.fj_slots.specs.Shelves.{entries, no_entries};
 ghost use Rattle.fj_bodies.specs.Choosing.{TellsRefusal};
+ghost use Rattle.fj_bodies.specs.Releases.{NoneGoes};
 
 mod accept;
 mod act;
@@ -12,12 +13,10 @@ mod choose;
 mod collect;
 mod end;
 mod fits;
-mod release;
 mod seal;
 mod shut;
 
 use crate::body::{Body, Heard, Told};
-use crate::due::Due;
 use crate::kept_result::KeptResult;
 use fj_machine::Machine;
 use fj_rules::{Limits, Mode, OutOfMemory, Refusal, both};
@@ -35,10 +34,8 @@ pub struct Store<B: Body> {
     machine: Machine,
     bodies: SerialMap<B>,
     results: SerialMap<KeptResult<B>>,
-    /// Kept tasks whose outcome or result was taken: each is released as soon as it can be.
+    /// Kept tasks whose outcome or result was taken: each is released as soon as it can be, by the call that makes it so.
     taken: SerialSet,
-    /// Which of them may be releasable: none, except just after a step.
-    due: Due,
     stuck: bool,
 }
 
@@ -56,7 +53,7 @@ impl<B: Body> Model for Store<B> {
       stuck = s.stuck;
     } };
 
-    ghost invariant = { λ s. HoldsStore s.machine s.bodies s.results s.taken s.due s.stuck };
+    ghost invariant = { λ s. HoldsStore s.machine s.bodies s.results s.taken s.stuck };
 }
 
 impl<B: Body> Store<B> {
@@ -82,7 +79,6 @@ impl<B: Body> Store<B> {
             bodies,
             results,
             taken,
-            due: Due::Nothing,
             stuck: false,
         })
     }
@@ -96,9 +92,10 @@ impl<B: Body> Store<B> {
         self.machine.limits()
     }
 
-    /// The machine, with its history.
+    /// The machine, with its history. No taken task can be released, unless the store is stuck.
     pub fn machine(&self) -> &Machine
-        ensures { result.now ≡ self.now.past }
+        ensures is { result.now ≡ self.now.past }
+        ensures rests { self.now.stuck ≡ false → NoneGoes self.now.past.events self.now.taken }
     {
         &self.machine
     }

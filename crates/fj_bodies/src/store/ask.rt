@@ -5,8 +5,9 @@ ghost use Rattle.fj_rules.specs.Tasks.{is_kept};
 ghost use Rattle.fj_bodies.specs.Asking.{is_calm, Makes, Adds, QuietsRoot, Settles, Shows};
 
 use crate::body::{Body, Heard, Told};
-use crate::due::after_step;
+use crate::due::due_after;
 use crate::moves::make;
+use crate::release::release_due;
 use crate::store::Store;
 use fj_rules::{Said, Serial, Step, WorkerId};
 
@@ -19,8 +20,8 @@ impl<B: Body> Store<B> {
         match make(&mut self.machine, &mut self.bodies, asked) {
             Said::Refused(refusal) => Said::Refused(refusal),
             said => {
-                self.due = after_step(self.due, asked);
-                self.release_due();
+                let due = due_after(asked);
+                release_due(&mut self.machine, &mut self.taken, &mut self.stuck, due);
                 said
             }
         }

@@ -6,7 +6,8 @@ ghost use Rattle.fj_rules.specs.ChoiceTaken.{TakesChoice};
 ghost use Rattle.fj_bodies.specs.Choosing.{Chooses, Polls, Helps, Joins};
 
 use crate::body::{Body, Heard, Told};
-use crate::due::after;
+use crate::due::Due;
+use crate::release::release_due;
 use crate::store::Store;
 use fj_rules::{Refusal, Said, Serial, Step};
 use fj_slots::Hand;
@@ -30,8 +31,8 @@ impl<B: Body> Store<B> {
             },
             Said::Skip(t) => match self.bodies.take(t) {
                 Some(body) => {
-                    self.due = after(self.due, t);
-                    self.release_due();
+                    let due = Due::One(t);
+                    release_due(&mut self.machine, &mut self.taken, &mut self.stuck, due);
                     Told::Skip(t, body)
                 }
                 None => unreachable!(),

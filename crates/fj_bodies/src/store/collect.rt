@@ -1,17 +1,41 @@
-ghost use Rattle.std.specs.Prelude.{◌≡◌, false};
+ghost use Rattle.std.specs.Prelude.{◌≡◌, true, false};
+ghost use Rattle.fj_rules.specs.Lists.{is_in};
+ghost use Rattle.fj_rules.specs.Tasks.{is_kept};
 ghost use Rattle.fj_slots.specs.Shelves.{entries};
 ghost use Rattle.fj_bodies.specs.Stores.{HasResults};
 ghost use Rattle.fj_bodies.specs.Turns.{ToldRight};
-ghost use Rattle.fj_bodies.specs.Results.{LetsGo, TakesAndReleases, TakesResult, Collects};
+ghost use Rattle.fj_bodies.specs.Results.{LetsGo, MarksAndReleases, TakesAndReleases, TakesResult, Collects};
 
 use crate::body::{Body, Heard, Told};
+use crate::due::Due;
 use crate::kept_result::KeptResult;
 use crate::outcomes::{Outcome, told_outcome};
 use crate::places::is_gone;
+use crate::plain::release_plain;
+use crate::release::release_due;
 use crate::store::Store;
 use fj_rules::{Refusal, Serial};
 
 impl<B: Body> Store<B> {
+    /// Takes out a task's result, if it has one, and releases the task: a plain one mostly at once, without a mark, others as soon as they can
+    /// be. Preconditions: the task is kept, and was not taken before.
+    #[inline(always)]
+    pub(crate) fn take_out(&mut self, t: Serial) -> Option<KeptResult<B>>
+        requires kept { is_kept self.old.past.events t ≡ true }
+        requires free { is_in t self.old.taken ≡ false }
+        ensures result { result ≡ entries self.old.results t }
+        ensures releases { MarksAndReleases self.old t self.new }
+    {
+        let kept = self.results.take(t);
+        if release_plain(&mut self.machine, !self.stuck, t) {
+            return kept;
+        }
+        self.taken.push(t);
+        let due = Due::One(t);
+        release_due(&mut self.machine, &mut self.taken, &mut self.stuck, due);
+        kept
+    }
+
     /// Takes a result out, and releases its task as soon as it can be.
     #[inline(always)]
     pub(crate) fn take_and_release(&mut self, t: Serial) -> Option<KeptResult<B>>

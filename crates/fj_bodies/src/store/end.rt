@@ -6,11 +6,12 @@ ghost use Rattle.fj_bodies.specs.HookEndings.{EndsHook};
 
 use crate::bare_ending::{BareEnding, as_ending};
 use crate::body::{Body, Told};
-use crate::due::after;
+use crate::due::Due;
 use crate::keep::keep_unless_taken;
 use crate::kept_result::KeptResult;
 use crate::moves::{make, sweep_since};
 use crate::places::is_gone_now;
+use crate::release::release_due;
 use crate::store::Store;
 use fj_rules::{Ending, Said, Step};
 use fj_slots::Hand;
@@ -33,10 +34,10 @@ impl<B: Body> Store<B> {
         }) {
             Said::Done => {
                 let (t, body) = hand.pop();
-                self.due = after(self.due, t);
                 let kept = KeptResult::new(body.into_key(), out);
                 keep_unless_taken(&mut self.results, &self.taken, t, kept);
-                self.release_due();
+                let due = Due::One(t);
+                release_due(&mut self.machine, &mut self.taken, &mut self.stuck, due);
                 Told::Over(None)
             }
             Said::Refused(refusal) => self.refused(refusal),
@@ -62,20 +63,20 @@ impl<B: Body> Store<B> {
             Said::Hook(c) => {
                 let (t, body) = hand.pop();
                 hand.give_hook(t, body);
-                self.due = after(self.due, t);
-                self.release_due();
+                let due = Due::One(t);
+                release_due(&mut self.machine, &mut self.taken, &mut self.stuck, due);
                 Told::Hook(c, c)
             }
             Said::Refused(refusal) => self.refused(refusal),
             _ => {
                 let (t, body) = hand.pop();
-                self.due = after(self.due, t);
+                let due = Due::One(t);
                 if is_gone_now(&self.machine, t) {
-                    self.release_due();
+                    release_due(&mut self.machine, &mut self.taken, &mut self.stuck, due);
                     return Told::Over(Some(body));
                 }
                 self.bodies.put(t, body);
-                self.release_due();
+                release_due(&mut self.machine, &mut self.taken, &mut self.stuck, due);
                 Told::Over(None)
             }
         }
@@ -102,10 +103,10 @@ impl<B: Body> Store<B> {
                     let (c, body) = hand.take_hook();
                     sweep_since(&mut self.bodies, &self.machine, before);
                     hand.give_hook(p, above);
-                    self.due = after(self.due, c);
                     let kept = KeptResult::new(body.into_key(), out);
                     keep_unless_taken(&mut self.results, &self.taken, c, kept);
-                    self.release_due();
+                    let due = Due::One(c);
+                    release_due(&mut self.machine, &mut self.taken, &mut self.stuck, due);
                     Told::Hook(p, c)
                 }
                 None => unreachable!(),
@@ -114,10 +115,10 @@ impl<B: Body> Store<B> {
             _ => {
                 let (c, body) = hand.take_hook();
                 sweep_since(&mut self.bodies, &self.machine, before);
-                self.due = after(self.due, c);
                 let kept = KeptResult::new(body.into_key(), out);
                 keep_unless_taken(&mut self.results, &self.taken, c, kept);
-                self.release_due();
+                let due = Due::One(c);
+                release_due(&mut self.machine, &mut self.taken, &mut self.stuck, due);
                 Told::Over(None)
             }
         }

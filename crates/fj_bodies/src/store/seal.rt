@@ -1,7 +1,8 @@
-ghost use Rattle.std.specs.Prelude.{◌≡◌};
+ghost use Rattle.std.specs.Prelude.{◌≡◌, false};
 ghost use Rattle.fj_rules.specs.Epochs.{IsPast};
 ghost use Rattle.fj_slots.specs.Shelves.{entries};
 ghost use Rattle.fj_bodies.specs.Sealing.{Seals, is_half_full};
+ghost use Rattle.fj_bodies.specs.Releases.{NoneGoes};
 ghost use Rattle.fj_bodies.specs.Stores.{HasResults};
 
 use crate::body::Body;
@@ -39,6 +40,7 @@ impl<B: Body> Store<B> {
         ensures past { result.0 ≡ self.past }
         ensures results { entries result.1 ≡ entries self.results }
         ensures complete { HasResults self.past (entries self.results) self.taken }
+        ensures rests { self.stuck ≡ false → NoneGoes self.past.events self.taken }
         ensures run { IsPast self.past }
     {
         let Store {
@@ -46,7 +48,6 @@ impl<B: Body> Store<B> {
             bodies: _,
             results,
             taken: _,
-            due: _,
             stuck: _,
         } = self;
         (machine, results)

@@ -1,4 +1,4 @@
-use Rattle.std.proofs.Common.{[], ◌∷◌, refl, sym, ap, subst}
+use Rattle.std.proofs.Common.{[], ◌∷◌, refl, sym, ap, subst, ◌∙◌}
 use Rattle.fj_rules.specs.declared.event.Event.TheVariants.{Out, Skip}
 use Rattle.fj_rules.specs.Answers.{answer}
 use Rattle.fj_rules.specs.Runs.{Past}
@@ -9,7 +9,8 @@ use Rattle.fj_bodies.proofs.Stored.{same_stored}
 use Rattle.fj_bodies.proofs.Taking.{taken_there, out_stored, skip_stored, out_room, chosen_run_fits, chosen_same_fits, chosen_skip_fits}
 use Rattle.fj_rules.proofs.Steps.AboutTasks.{skip_about}
 use Rattle.fj_bodies.proofs.NoneLost.{choice_results}
-use Rattle.fj_bodies.proofs.DueTasks.{step_due, still_due}
+use Rattle.fj_bodies.proofs.DueTasks.{step_due, still_rests}
+use Rattle.fj_bodies.proofs.Waits.{holds_now, releases_now, waits_on}
 use Rattle.fj_bodies.proofs.store.Store.choose.Goals as goal
 
 pub unreachable-requires : goal.unreachable-requires
@@ -59,7 +60,19 @@ invariant_of-self g c =
       stored = out_stored past c.step.new.self c.args.asked.now c.in-Run.t w _ _ _ _ c.self.invariant.stored c.step.ensures.step.1 made c.take.ensures.entries;
       complete = choice_results past c.step.new.self c.args.asked.now w _ _ c.self.invariant.stored.run takes c.step.ensures.step.1 c.self.invariant.complete;
       room = rw (c.take.ensures.room, c.step.ensures.step.1) c.self.invariant.room;
-      due = λ free. still_due past c.step.new.self c.args.asked.now (Out c.in-Run.t w ∷ []) _ _ _ c.self.inside.due c.self.invariant.stored c.step.ensures.step.1 made refl (c.self.invariant.due free);
+      rests = λ free. still_rests past c.step.new.self c.args.asked.now (Out c.in-Run.t w ∷ []) _ _ _ c.self.invariant.stored c.step.ensures.step.1 made refl (c.self.invariant.rests free);
+    }
+
+pub release_due-requires : goal.release_due-requires
+release_due-requires g c =
+    let past = c.self.inside.machine in
+    let w = c.args.hand.now.worker in
+    let takes : TakesChoice w (answer past c.args.asked.now).0 (answer past c.args.asked.now).1 =
+    subst (λ (p : Past). TakesChoice w (answer p c.args.asked.now).0 (answer p c.args.asked.now).1) (ap (λ s. s.past) (sym c.self.view_is)) c.requires.takes in
+    let made = choice_skipped w c.in-Skip.t c.step.result _ _ takes c.step.ensures.step.0 c.in-Skip.is in
+    record {
+      waiting = waits_on _ c.self.invariant.stored c.step.ensures.step.1;
+      due = λ free. step_due past c.step.new.self c.args.asked.now _ _ _ c.in-Skip.t c.self.invariant.stored c.step.ensures.step.1 (rw made (skip_about past.events c.in-Skip.t w)) (c.self.invariant.rests free);
     }
 
 pub invariant_of-self-in-Some-take : goal.invariant_of-self-in-Some-take
@@ -69,12 +82,24 @@ invariant_of-self-in-Some-take g c =
     let takes : TakesChoice w (answer past c.args.asked.now).0 (answer past c.args.asked.now).1 =
     subst (λ (p : Past). TakesChoice w (answer p c.args.asked.now).0 (answer p c.args.asked.now).1) (ap (λ s. s.past) (sym c.self.view_is)) c.requires.takes in
     let made = choice_skipped w c.in-Skip.t c.step.result _ _ takes c.step.ensures.step.0 c.in-Skip.is in
-    record {
-      stored = skip_stored past c.step.new.self c.args.asked.now c.in-Skip.t w _ _ _ _ c.self.invariant.stored c.step.ensures.step.1 made c.take-in-Skip.ensures.entries;
-      complete = choice_results past c.step.new.self c.args.asked.now w _ _ c.self.invariant.stored.run takes c.step.ensures.step.1 c.self.invariant.complete;
-      room = rw (c.take-in-Skip.ensures.room, c.step.ensures.step.1) c.self.invariant.room;
-      due = λ free. rw c.after-self-inside.ensures (step_due past c.step.new.self c.args.asked.now _ _ _ c.in-Skip.t c.self.inside.due c.self.invariant.stored c.step.ensures.step.1 (rw made (skip_about past.events c.in-Skip.t w)) (c.self.invariant.due free));
-    }
+    holds_now c.take-in-Skip.new.self c.self.inside.results
+    (skip_stored past c.step.new.self c.args.asked.now c.in-Skip.t w _ _ _ _ c.self.invariant.stored c.step.ensures.step.1 made c.take-in-Skip.ensures.entries)
+    (choice_results past c.step.new.self c.args.asked.now w _ _ c.self.invariant.stored.run takes c.step.ensures.step.1 c.self.invariant.complete)
+    (rw (c.take-in-Skip.ensures.room, c.step.ensures.step.1) c.self.invariant.room) c.release_due.ensures.waiting c.release_due.ensures.releases
+
+pub returns-in-Some-take-clause-chooses : goal.returns-in-Some-take-clause-chooses
+returns-in-Some-take-clause-chooses g c =
+    rw (← c.self.view_is) (
+      record {
+        mid = record { past = c.step.new.self; bodies = c.take-in-Skip.new.self; results = c.self.inside.results; taken = c.self.inside.taken.items; stuck = c.self.inside.stuck };
+        step = rw c.in-Skip.is at c.step.ensures.step;
+        there = sym c.take-in-Skip.ensures.taken ∙ c.in-Some-take.is;
+        moved = c.take-in-Skip.ensures.entries;
+        others = refl;
+        releases = releases_now c.take-in-Skip.new.self c.self.inside.results c.release_due.ensures.releases;
+      },
+      refl,
+    )
 
 pub returns-in-Some-clause-fits : goal.returns-in-Some-clause-fits
 returns-in-Some-clause-fits g c =
@@ -94,7 +119,7 @@ returns-in-Some-take-clause-fits g c =
     subst (λ (p : Past). TakesChoice w (answer p c.args.asked.now).0 (answer p c.args.asked.now).1) (ap (λ s. s.past) (sym c.self.view_is)) c.requires.takes in
     let fits : Fits past c.args.hand.now = subst (λ p. Fits p c.args.hand.now) (ap (λ s. s.past) (sym c.self.view_is)) c.requires.fits in
     let made = choice_skipped w c.in-Skip.t c.step.result _ _ takes c.step.ensures.step.0 c.in-Skip.is in
-    chosen_skip_fits past c.step.new.self _ c.args.hand.now c.in-Skip.t _ c.release_due.ensures.tasks fits c.step.ensures.step.1 made (ap (λ s. s.past) c.release_due.ensures.were)
+    chosen_skip_fits past c.step.new.self _ c.args.hand.now c.in-Skip.t _ c.release_due.ensures.releases.some.0 fits c.step.ensures.step.1 made (ap (λ w. w.past) c.release_due.ensures.releases.some.3)
 
 pub invariant_of-self-in-None : goal.invariant_of-self-in-None
 invariant_of-self-in-None g c =
@@ -107,7 +132,7 @@ invariant_of-self-in-None g c =
       stored = same_stored past c.step.new.self c.args.asked.now _ _ _ c.self.invariant.stored c.step.ensures.step.1 none;
       complete = choice_results past c.step.new.self c.args.asked.now w _ _ c.self.invariant.stored.run takes c.step.ensures.step.1 c.self.invariant.complete;
       room = rw c.step.ensures.step.1 c.self.invariant.room;
-      due = λ free. still_due past c.step.new.self c.args.asked.now [] _ _ _ c.self.inside.due c.self.invariant.stored c.step.ensures.step.1 none refl (c.self.invariant.due free);
+      rests = λ free. still_rests past c.step.new.self c.args.asked.now [] _ _ _ c.self.invariant.stored c.step.ensures.step.1 none refl (c.self.invariant.rests free);
     }
 
 pub returns-in-None-clause-fits : goal.returns-in-None-clause-fits
@@ -131,7 +156,7 @@ invariant_of-self-in-Normal g c =
       stored = same_stored past c.step.new.self c.args.asked.now _ _ _ c.self.invariant.stored c.step.ensures.step.1 none;
       complete = choice_results past c.step.new.self c.args.asked.now w _ _ c.self.invariant.stored.run takes c.step.ensures.step.1 c.self.invariant.complete;
       room = rw c.step.ensures.step.1 c.self.invariant.room;
-      due = λ free. still_due past c.step.new.self c.args.asked.now [] _ _ _ c.self.inside.due c.self.invariant.stored c.step.ensures.step.1 none refl (c.self.invariant.due free);
+      rests = λ free. still_rests past c.step.new.self c.args.asked.now [] _ _ _ c.self.invariant.stored c.step.ensures.step.1 none refl (c.self.invariant.rests free);
     }
 
 pub returns-in-Normal-clause-fits : goal.returns-in-Normal-clause-fits
@@ -155,7 +180,7 @@ invariant_of-self-in-Exceptional g c =
       stored = same_stored past c.step.new.self c.args.asked.now _ _ _ c.self.invariant.stored c.step.ensures.step.1 none;
       complete = choice_results past c.step.new.self c.args.asked.now w _ _ c.self.invariant.stored.run takes c.step.ensures.step.1 c.self.invariant.complete;
       room = rw c.step.ensures.step.1 c.self.invariant.room;
-      due = λ free. still_due past c.step.new.self c.args.asked.now [] _ _ _ c.self.inside.due c.self.invariant.stored c.step.ensures.step.1 none refl (c.self.invariant.due free);
+      rests = λ free. still_rests past c.step.new.self c.args.asked.now [] _ _ _ c.self.invariant.stored c.step.ensures.step.1 none refl (c.self.invariant.rests free);
     }
 
 pub returns-in-Exceptional-clause-fits : goal.returns-in-Exceptional-clause-fits
@@ -179,7 +204,7 @@ invariant_of-self-in-Cancelled g c =
       stored = same_stored past c.step.new.self c.args.asked.now _ _ _ c.self.invariant.stored c.step.ensures.step.1 none;
       complete = choice_results past c.step.new.self c.args.asked.now w _ _ c.self.invariant.stored.run takes c.step.ensures.step.1 c.self.invariant.complete;
       room = rw c.step.ensures.step.1 c.self.invariant.room;
-      due = λ free. still_due past c.step.new.self c.args.asked.now [] _ _ _ c.self.inside.due c.self.invariant.stored c.step.ensures.step.1 none refl (c.self.invariant.due free);
+      rests = λ free. still_rests past c.step.new.self c.args.asked.now [] _ _ _ c.self.invariant.stored c.step.ensures.step.1 none refl (c.self.invariant.rests free);
     }
 
 pub returns-in-Cancelled-clause-fits : goal.returns-in-Cancelled-clause-fits

@@ -5,7 +5,7 @@ use Rattle.fj_rules.specs.declared.step.Step.TheVariants.{Fork}
 use Rattle.fj_rules.proofs.Steps.Answered.{fork_replies, fork_made}
 use Rattle.fj_bodies.proofs.Stored.{accept_stored, accept_free, accept_room, none_released_acc}
 use Rattle.fj_bodies.proofs.NoneLost.{step_results}
-use Rattle.fj_bodies.proofs.DueTasks.{still_due}
+use Rattle.fj_bodies.proofs.DueTasks.{still_rests}
 use Rattle.fj_bodies.proofs.store.Store.fork.Goals as goal
 
 pub put-requires-clause-free : goal.put-requires-clause-free
@@ -28,8 +28,8 @@ invariant_of-self g c =
       stored = accept_stored past c.step.new.self asked c.in-Task.t (Work c.args.w) c.args.kind.now _ _ c.args.body _ _ c.self.invariant.stored c.step.ensures.step.1 (fork_made past c.args.w c.args.kind.now c.in-Task.t (sym c.step.ensures.step.0 ∙ c.in-Task.is)) c.put.ensures.entries;
       complete = step_results past c.step.new.self asked _ _ c.self.invariant.stored.run refl refl c.step.ensures.step.1 c.self.invariant.complete;
       room = rw (c.put.ensures.room, c.step.ensures.step.1) c.self.invariant.room;
-      due = λ free. still_due past c.step.new.self asked (Acc c.in-Task.t (Work c.args.w) c.args.kind.now ∷ []) _ _ _ c.self.inside.due c.self.invariant.stored c.step.ensures.step.1
-          (fork_made past c.args.w c.args.kind.now c.in-Task.t (sym c.step.ensures.step.0 ∙ c.in-Task.is)) refl (c.self.invariant.due free);
+      rests = λ free. still_rests past c.step.new.self asked (Acc c.in-Task.t (Work c.args.w) c.args.kind.now ∷ []) _ _ _ c.self.invariant.stored c.step.ensures.step.1
+          (fork_made past c.args.w c.args.kind.now c.in-Task.t (sym c.step.ensures.step.0 ∙ c.in-Task.is)) refl (c.self.invariant.rests free);
     }
 
 pub unreachable-requires : goal.unreachable-requires

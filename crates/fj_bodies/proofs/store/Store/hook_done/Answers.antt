@@ -18,6 +18,7 @@ use Rattle.fj_bodies.proofs.DueTasks.{step_due}
 use Rattle.fj_bodies.proofs.Polling.{tells_refusal}
 use Rattle.fj_bodies.proofs.Refused.{hook_refused}
 use Rattle.fj_bodies.proofs.Results.{keeps_room, keeps_store, keeps_stored, result_room}
+use Rattle.fj_bodies.proofs.Waits.{holds_now, releases_now, waits_on}
 use Rattle.fj_bodies.proofs.store.Store.hook_done.Goals as goal
 
 -- ---- the hook of the parent came
@@ -36,6 +37,20 @@ sweep_since-requires g c =
     let past = c.self.inside.machine in
     rw c.gone-before.ensures (gone_longer past c.step.new.self _ c.step.ensures.step.1 c.self.invariant.stored.run)
 
+pub release_due-requires : goal.release_due-requires
+release_due-requires g c =
+    let past = c.self.inside.machine in
+    let hand = c.args.hand.now in
+    let w = c.worker-w.result in
+    let t = c.take_hook-c.result.0 in
+    let fits : Fits past hand = subst (λ p. Fits p hand) (ap (λ s. s.past) (sym c.self.view_is)) c.requires.fits in
+    record {
+      waiting = waits_on _ c.self.invariant.stored c.step.ensures.step.1;
+      due = λ free. step_due past c.step.new.self (HookDone w) _ _ _ t c.self.invariant.stored c.step.ensures.step.1
+          (own_hook_about past hand w t c.take_hook-c.result.1 _ _ _ c.self.invariant.stored fits c.worker-w.ensures c.take_hook-c.ensures.hook)
+          (c.self.invariant.rests free);
+    }
+
 pub invariant_of-self : goal.invariant_of-self
 invariant_of-self g c =
     let past = c.self.inside.machine in
@@ -50,16 +65,12 @@ invariant_of-self g c =
     let stored = hook_fired_stored past c.step.new.self w c.in-Hook.p _ _ _ (entries c.self.inside.results) ts c.self.invariant.stored fired c.step.ensures.step.1 c.take.ensures.entries swept in
     let kept = hook_kept_fired past c.step.new.self hand w c.in-Hook.p t c.take_hook-c.result.1 _ _ _ c.self.invariant.stored fits c.worker-w.ensures c.take_hook-c.ensures.hook fired c.step.ensures.step.1 in
     let last = hook_last past c.step.new.self hand w t fired.task c.take_hook-c.result.1 _ c.self.invariant.stored.run fits c.worker-w.ensures c.take_hook-c.ensures.hook fired.hooked fired.made c.step.ensures.step.1 in
-    record {
-      stored = keeps_stored c.step.new.self _ c.self.inside.results c.keep_unless_taken.new.results ts t _ stored kept last c.keep_unless_taken.ensures;
-      complete = hook_results past c.step.new.self w t fired.task _ c.self.inside.results c.keep_unless_taken.new.results ts c.self.invariant.stored.run c.step.ensures.step.1
-          (fired_only past.events w c.in-Hook.p _ fired) (hook_task past hand w t fired.task c.take_hook-c.result.1 fits c.worker-w.ensures c.take_hook-c.ensures.hook fired.hooked) c.keep_unless_taken.ensures
-          c.self.invariant.complete;
-      room = rw (c.sweep_since.ensures.room, c.take.ensures.room, c.step.ensures.step.1, keeps_room (is_in t ts) c.self.inside.results c.keep_unless_taken.new.results t _ c.keep_unless_taken.ensures) c.self.invariant.room;
-      due = λ free. rw c.after-self-inside.ensures (step_due past c.step.new.self (HookDone w) _ _ _ t c.self.inside.due c.self.invariant.stored c.step.ensures.step.1
-          (own_hook_about past hand w t c.take_hook-c.result.1 _ _ _ c.self.invariant.stored fits c.worker-w.ensures c.take_hook-c.ensures.hook)
-          (c.self.invariant.due free));
-    }
+    holds_now c.sweep_since.new.bodies c.keep_unless_taken.new.results
+    (keeps_stored c.step.new.self _ c.self.inside.results c.keep_unless_taken.new.results ts t _ stored kept last c.keep_unless_taken.ensures)
+    (hook_results past c.step.new.self w t fired.task _ c.self.inside.results c.keep_unless_taken.new.results ts c.self.invariant.stored.run c.step.ensures.step.1
+    (fired_only past.events w c.in-Hook.p _ fired) (hook_task past hand w t fired.task c.take_hook-c.result.1 fits c.worker-w.ensures c.take_hook-c.ensures.hook fired.hooked) c.keep_unless_taken.ensures
+    c.self.invariant.complete)
+    (rw (c.sweep_since.ensures.room, c.take.ensures.room, c.step.ensures.step.1, keeps_room (is_in t ts) c.self.inside.results c.keep_unless_taken.new.results t _ c.keep_unless_taken.ensures) c.self.invariant.room) c.release_due.ensures.waiting c.release_due.ensures.releases
 
 pub keep_unless_taken-requires-clause-first : goal.keep_unless_taken-requires-clause-first
 keep_unless_taken-requires-clause-first g c =
@@ -98,7 +109,7 @@ returns-in-Some-clause-ends g c =
           c.give_hook.new.self w c.in-Hook.p c.take_hook-c.result.0 c.take_hook-c.result.1 c.in-Some.above (entries c.take.new.self) _ c.worker-w.ensures
           (sym c.in-Hook.is ∙ c.step.ensures.step.0, c.step.ensures.step.1) c.take_hook-c.ensures.hook
           (sym c.take.ensures.taken ∙ c.in-Some.is) c.take.ensures.entries (c.give_hook.ensures ∙ ap (λ h. with_hook h c.in-Hook.p c.in-Some.above) c.take_hook-c.ensures.rest) refl swept
-          (keeps_store mid c.take_hook-c.result.0 _ c.keep_unless_taken.new.results (rw (c.new-kept.ensures, c.into_key.ensures) at c.keep_unless_taken.ensures)) c.release_due.ensures,
+          (keeps_store mid c.take_hook-c.result.0 _ c.keep_unless_taken.new.results (rw (c.new-kept.ensures, c.into_key.ensures) at c.keep_unless_taken.ensures)) (releases_now c.sweep_since.new.bodies c.keep_unless_taken.new.results c.release_due.ensures.releases),
     )
 
 pub returns-in-Some-clause-fits : goal.returns-in-Some-clause-fits
@@ -108,9 +119,9 @@ returns-in-Some-clause-fits g c =
     let w = c.worker-w.result in
     let fits : Fits past hand = subst (λ p. Fits p hand) (ap (λ s. s.past) (sym c.self.view_is)) c.requires.fits in
     let fired = hook_fired past w c.in-Hook.p c.step.result c.step.ensures.step.0 c.in-Hook.is in
-    hook_fired_fits past c.step.new.self _ hand c.give_hook.new.self w c.in-Hook.p c.in-Some.above _ c.release_due.ensures.tasks fits c.worker-w.ensures c.hook-hook.ensures.apart
+    hook_fired_fits past c.step.new.self _ hand c.give_hook.new.self w c.in-Hook.p c.in-Some.above _ c.release_due.ensures.releases.some.0 fits c.worker-w.ensures c.hook-hook.ensures.apart
     (c.give_hook.ensures ∙ ap (λ h. with_hook h c.in-Hook.p c.in-Some.above) c.take_hook-c.ensures.rest) c.step.ensures.step.1 fired
-    (ap (λ s. s.past) c.release_due.ensures.were)
+    (ap (λ w. w.past) c.release_due.ensures.releases.some.3)
 
 pub unreachable-requires : goal.unreachable-requires
 unreachable-requires g c =
@@ -152,6 +163,20 @@ sweep_since-requires-in_default g c =
     let past = c.self.inside.machine in
     rw c.gone-before.ensures (gone_longer past c.step.new.self _ c.step.ensures.step.1 c.self.invariant.stored.run)
 
+pub release_due-requires-in_default : goal.release_due-requires-in_default
+release_due-requires-in_default g c =
+    let past = c.self.inside.machine in
+    let hand = c.args.hand.now in
+    let w = c.worker-w.result in
+    let t = c.take_hook-c-in_default.result.0 in
+    let fits : Fits past hand = subst (λ p. Fits p hand) (ap (λ s. s.past) (sym c.self.view_is)) c.requires.fits in
+    record {
+      waiting = waits_on _ c.self.invariant.stored c.step.ensures.step.1;
+      due = λ free. step_due past c.step.new.self (HookDone w) _ _ _ t c.self.invariant.stored c.step.ensures.step.1
+          (own_hook_about past hand w t c.take_hook-c-in_default.result.1 _ _ _ c.self.invariant.stored fits c.worker-w.ensures c.take_hook-c-in_default.ensures.hook)
+          (c.self.invariant.rests free);
+    }
+
 pub invariant_of-self-in_default : goal.invariant_of-self-in_default
 invariant_of-self-in_default g c =
     let past = c.self.inside.machine in
@@ -166,16 +191,12 @@ invariant_of-self-in_default g c =
     let stored = hook_over_stored past c.step.new.self w _ _ (entries c.self.inside.results) ts c.self.invariant.stored over c.step.ensures.step.1 swept in
     let kept = hook_kept_over past c.step.new.self hand w t c.take_hook-c-in_default.result.1 _ _ _ c.self.invariant.stored fits c.worker-w.ensures c.take_hook-c-in_default.ensures.hook over c.step.ensures.step.1 in
     let last = hook_last past c.step.new.self hand w t over.task c.take_hook-c-in_default.result.1 over.rest c.self.invariant.stored.run fits c.worker-w.ensures c.take_hook-c-in_default.ensures.hook over.hooked over.made c.step.ensures.step.1 in
-    record {
-      stored = keeps_stored c.step.new.self _ c.self.inside.results c.keep_unless_taken-in_default.new.results ts t _ stored kept last c.keep_unless_taken-in_default.ensures;
-      complete = hook_results past c.step.new.self w t over.task _ c.self.inside.results c.keep_unless_taken-in_default.new.results ts c.self.invariant.stored.run c.step.ensures.step.1
-          (over_only past.events w _ over) (hook_task past hand w t over.task c.take_hook-c-in_default.result.1 fits c.worker-w.ensures c.take_hook-c-in_default.ensures.hook over.hooked)
-          c.keep_unless_taken-in_default.ensures c.self.invariant.complete;
-      room = rw (c.sweep_since-in_default.ensures.room, c.step.ensures.step.1, keeps_room (is_in t ts) c.self.inside.results c.keep_unless_taken-in_default.new.results t _ c.keep_unless_taken-in_default.ensures) c.self.invariant.room;
-      due = λ free. rw c.after-self-inside-in_default.ensures (step_due past c.step.new.self (HookDone w) _ _ _ t c.self.inside.due c.self.invariant.stored c.step.ensures.step.1
-          (own_hook_about past hand w t c.take_hook-c-in_default.result.1 _ _ _ c.self.invariant.stored fits c.worker-w.ensures c.take_hook-c-in_default.ensures.hook)
-          (c.self.invariant.due free));
-    }
+    holds_now c.sweep_since-in_default.new.bodies c.keep_unless_taken-in_default.new.results
+    (keeps_stored c.step.new.self _ c.self.inside.results c.keep_unless_taken-in_default.new.results ts t _ stored kept last c.keep_unless_taken-in_default.ensures)
+    (hook_results past c.step.new.self w t over.task _ c.self.inside.results c.keep_unless_taken-in_default.new.results ts c.self.invariant.stored.run c.step.ensures.step.1
+    (over_only past.events w _ over) (hook_task past hand w t over.task c.take_hook-c-in_default.result.1 fits c.worker-w.ensures c.take_hook-c-in_default.ensures.hook over.hooked)
+    c.keep_unless_taken-in_default.ensures c.self.invariant.complete)
+    (rw (c.sweep_since-in_default.ensures.room, c.step.ensures.step.1, keeps_room (is_in t ts) c.self.inside.results c.keep_unless_taken-in_default.new.results t _ c.keep_unless_taken-in_default.ensures) c.self.invariant.room) c.release_due-in_default.ensures.waiting c.release_due-in_default.ensures.releases
 
 pub keep_unless_taken-requires-in_default-clause-first : goal.keep_unless_taken-requires-in_default-clause-first
 keep_unless_taken-requires-in_default-clause-first g c =
@@ -219,10 +240,10 @@ returns-in_default g c =
             (not_over c.step.result c.in_default.not-Hook c.in_default.not-Refused)
             c.take_hook-c-in_default.ensures.hook c.take_hook-c-in_default.ensures.rest refl swept
             (keeps_store mid c.take_hook-c-in_default.result.0 _ c.keep_unless_taken-in_default.new.results (rw (c.new-kept-in_default.ensures, c.into_key-in_default.ensures) at c.keep_unless_taken-in_default.ensures))
-            c.release_due-in_default.ensures,
+            (releases_now c.sweep_since-in_default.new.bodies c.keep_unless_taken-in_default.new.results c.release_due-in_default.ensures.releases),
       );
       fits =
-          hook_over_fits past c.step.new.self _ hand c.take_hook-c-in_default.new.self w _ c.release_due-in_default.ensures.tasks fits c.worker-w.ensures c.hook-hook.ensures.apart
+          hook_over_fits past c.step.new.self _ hand c.take_hook-c-in_default.new.self w _ c.release_due-in_default.ensures.releases.some.0 fits c.worker-w.ensures c.hook-hook.ensures.apart
           c.take_hook-c-in_default.ensures.rest c.step.ensures.step.1 over
-          (ap (λ s. s.past) c.release_due-in_default.ensures.were);
+          (ap (λ w. w.past) c.release_due-in_default.ensures.releases.some.3);
     }

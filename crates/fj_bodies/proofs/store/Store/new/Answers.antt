@@ -19,7 +19,7 @@ invariant_of-result g c =
         taken = omega (arith, c.tasks-room.ensures.number);
         few = c.workers-workers.ensures.within.few_tasks;
       };
-      due = λ free u there. absurd cc;
+      rests = λ free u there. absurd cc;
     })
 
 pub returns-clause-past : goal.returns-clause-past

@@ -17,6 +17,7 @@ use Rattle.fj_bodies.proofs.Refused.{end_refused}
 use Rattle.fj_rules.proofs.Steps.AboutTasks.{end_about}
 use Rattle.fj_bodies.proofs.NoneLost.{ok_results}
 use Rattle.fj_bodies.proofs.DueTasks.{step_due}
+use Rattle.fj_bodies.proofs.Waits.{holds_now, releases_now, waits_on}
 use Rattle.fj_bodies.proofs.store.Store.ok.Goals as goal
 
 pub pop-t-requires : goal.pop-t-requires
@@ -24,6 +25,19 @@ pop-t-requires g c =
     let past = c.self.inside.machine in
     let fits : Fits past c.args.hand.now = subst (λ p. Fits p c.args.hand.now) (ap (λ s. s.past) (sym c.self.view_is)) c.requires.fits in
     filled past c.args.hand.now c.worker.result _ fits c.worker.ensures (ok_done past c.worker.result c.step.result c.step.ensures.step.0 c.in-Done.is)
+
+pub release_due-requires : goal.release_due-requires
+release_due-requires g c =
+    let past = c.self.inside.machine in
+    let hand = c.args.hand.now in
+    let w = c.worker.result in
+    let t = c.pop-t.result.0 in
+    let fits : Fits past hand = subst (λ p. Fits p hand) (ap (λ s. s.past) (sym c.self.view_is)) c.requires.fits in
+    record {
+      waiting = waits_on _ c.self.invariant.stored c.step.ensures.step.1;
+      due = λ free. step_due past c.step.new.self (End w EndOk) _ _ _ t c.self.invariant.stored c.step.ensures.step.1
+          (end_about past w t EndOk c.self.invariant.stored.run (popped_runs past hand c.pop-t.new.self w t c.pop-t.result.1 fits c.worker.ensures c.pop-t.ensures.popped)) (c.self.invariant.rests free);
+    }
 
 pub invariant_of-self : goal.invariant_of-self
 invariant_of-self g c =
@@ -36,15 +50,12 @@ invariant_of-self g c =
     let done = ok_done past w c.step.result c.step.ensures.step.0 c.in-Done.is in
     let kept = newest_kept past hand c.pop-t.new.self w t c.pop-t.result.1 c.self.invariant.stored.run fits c.worker.ensures c.pop-t.ensures.popped done in
     let last = ok_last past c.step.new.self hand c.pop-t.new.self w t c.pop-t.result.1 c.self.invariant.stored.run fits c.worker.ensures c.pop-t.ensures.popped done c.step.ensures.step.1 in
-    record {
-      stored = keeps_stored c.step.new.self _ c.self.inside.results c.keep_unless_taken.new.results ts t _
-          (ok_stored past c.step.new.self w _ (entries c.self.inside.results) ts c.self.invariant.stored c.step.ensures.step.1 done) (rw c.step.ensures.step.1 kept) last c.keep_unless_taken.ensures;
-      complete = ok_results past c.step.new.self w t _ c.self.inside.results c.keep_unless_taken.new.results ts c.self.invariant.stored.run c.step.ensures.step.1 done
-          (popped past hand c.pop-t.new.self w done.task t c.pop-t.result.1 fits c.worker.ensures c.pop-t.ensures.popped done.runs) c.keep_unless_taken.ensures c.self.invariant.complete;
-      room = rw (c.step.ensures.step.1, keeps_room (is_in t ts) c.self.inside.results c.keep_unless_taken.new.results t _ c.keep_unless_taken.ensures) c.self.invariant.room;
-      due = λ free. rw c.after-self-inside.ensures (step_due past c.step.new.self (End w EndOk) _ _ _ t c.self.inside.due c.self.invariant.stored c.step.ensures.step.1
-          (end_about past w t EndOk c.self.invariant.stored.run (popped_runs past hand c.pop-t.new.self w t c.pop-t.result.1 fits c.worker.ensures c.pop-t.ensures.popped)) (c.self.invariant.due free));
-    }
+    holds_now c.self.inside.bodies c.keep_unless_taken.new.results
+    (keeps_stored c.step.new.self _ c.self.inside.results c.keep_unless_taken.new.results ts t _
+    (ok_stored past c.step.new.self w _ (entries c.self.inside.results) ts c.self.invariant.stored c.step.ensures.step.1 done) (rw c.step.ensures.step.1 kept) last c.keep_unless_taken.ensures)
+    (ok_results past c.step.new.self w t _ c.self.inside.results c.keep_unless_taken.new.results ts c.self.invariant.stored.run c.step.ensures.step.1 done
+    (popped past hand c.pop-t.new.self w done.task t c.pop-t.result.1 fits c.worker.ensures c.pop-t.ensures.popped done.runs) c.keep_unless_taken.ensures c.self.invariant.complete)
+    (rw (c.step.ensures.step.1, keeps_room (is_in t ts) c.self.inside.results c.keep_unless_taken.new.results t _ c.keep_unless_taken.ensures) c.self.invariant.room) c.release_due.ensures.waiting c.release_due.ensures.releases
 
 pub new-kept-requires : goal.new-kept-requires
 new-kept-requires g c =
@@ -90,7 +101,7 @@ returns-in-Done-clause-ends g c =
         others = refl;
         held = c.pop-t.ensures.popped;
         kept = keeps_store mid c.pop-t.result.0 _ c.keep_unless_taken.new.results (rw (c.new-kept.ensures, c.into_key.ensures) at c.keep_unless_taken.ensures);
-        releases = c.release_due.ensures;
+        releases = releases_now c.self.inside.bodies c.keep_unless_taken.new.results c.release_due.ensures.releases;
       },
     )
 
@@ -98,10 +109,10 @@ pub returns-in-Done-clause-fits : goal.returns-in-Done-clause-fits
 returns-in-Done-clause-fits g c =
     let past = c.self.inside.machine in
     let fits : Fits past c.args.hand.now = subst (λ p. Fits p c.args.hand.now) (ap (λ s. s.past) (sym c.self.view_is)) c.requires.fits in
-    ok_fits past c.step.new.self _ c.args.hand.now c.pop-t.new.self c.worker.result c.pop-t.result.0 c.pop-t.result.1 _ c.release_due.ensures.tasks c.self.invariant.stored.run fits
+    ok_fits past c.step.new.self _ c.args.hand.now c.pop-t.new.self c.worker.result c.pop-t.result.0 c.pop-t.result.1 _ c.release_due.ensures.releases.some.0 c.self.invariant.stored.run fits
     c.worker.ensures c.pop-t.ensures.popped c.step.ensures.step.1
     (ok_done past c.worker.result c.step.result c.step.ensures.step.0 c.in-Done.is)
-    (ap (λ s. s.past) c.release_due.ensures.were)
+    (ap (λ w. w.past) c.release_due.ensures.releases.some.3)
 
 pub unreachable-requires : goal.unreachable-requires
 unreachable-requires g c =

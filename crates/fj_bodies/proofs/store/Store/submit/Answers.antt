@@ -7,7 +7,7 @@ use Rattle.fj_rules.specs.Answers.{refusal_of}
 use Rattle.fj_rules.proofs.Steps.Answered.{submit_made, submit_task}
 use Rattle.fj_bodies.proofs.Stored.{accept_stored, accept_free, accept_room, none_released_acc}
 use Rattle.fj_bodies.proofs.NoneLost.{step_results}
-use Rattle.fj_bodies.proofs.DueTasks.{still_due}
+use Rattle.fj_bodies.proofs.DueTasks.{still_rests}
 use Rattle.fj_bodies.proofs.store.Store.submit.Goals as goal
 
 pub put-requires-clause-free : goal.put-requires-clause-free
@@ -35,8 +35,8 @@ invariant_of-self g c =
           (submit_task past c.args.s c.in-Task.t c.args.kind.now c.step.result none c.step.ensures.step.0 c.in-Task.is) c.put.ensures.entries;
       complete = step_results past c.step.new.self asked _ _ c.self.invariant.stored.run refl refl c.step.ensures.step.1 c.self.invariant.complete;
       room = rw (c.put.ensures.room, c.step.ensures.step.1) c.self.invariant.room;
-      due = λ free. still_due past c.step.new.self asked (Acc c.in-Task.t (Sub c.args.s) (submitted_kind c.args.kind.now) ∷ []) _ _ _ c.self.inside.due c.self.invariant.stored c.step.ensures.step.1
-          (submit_task past c.args.s c.in-Task.t c.args.kind.now c.step.result none c.step.ensures.step.0 c.in-Task.is) refl (c.self.invariant.due free);
+      rests = λ free. still_rests past c.step.new.self asked (Acc c.in-Task.t (Sub c.args.s) (submitted_kind c.args.kind.now) ∷ []) _ _ _ c.self.invariant.stored c.step.ensures.step.1
+          (submit_task past c.args.s c.in-Task.t c.args.kind.now c.step.result none c.step.ensures.step.0 c.in-Task.is) refl (c.self.invariant.rests free);
     }
 
 pub unreachable-requires : goal.unreachable-requires

@@ -5,7 +5,7 @@ use Rattle.fj_rules.specs.declared.step.Step.TheVariants.{Trigger}
 use Rattle.fj_rules.proofs.Steps.Answered.{trigger_replies, trigger_made}
 use Rattle.fj_bodies.proofs.Stored.{make_stored, accept_free, accept_room, none_released_make}
 use Rattle.fj_bodies.proofs.NoneLost.{step_results}
-use Rattle.fj_bodies.proofs.DueTasks.{still_due}
+use Rattle.fj_bodies.proofs.DueTasks.{still_rests}
 use Rattle.fj_bodies.proofs.store.Store.trigger.Goals as goal
 
 pub put-requires-clause-free : goal.put-requires-clause-free
@@ -28,8 +28,8 @@ invariant_of-self g c =
       stored = make_stored past c.step.new.self asked c.in-Task.t (Completer true c.args.count None) _ _ c.args.body _ _ c.self.invariant.stored c.step.ensures.step.1 (trigger_made past c.args.w c.args.count c.in-Task.t (sym c.step.ensures.step.0 ∙ c.in-Task.is)) c.put.ensures.entries;
       complete = step_results past c.step.new.self asked _ _ c.self.invariant.stored.run refl refl c.step.ensures.step.1 c.self.invariant.complete;
       room = rw (c.put.ensures.room, c.step.ensures.step.1) c.self.invariant.room;
-      due = λ free. still_due past c.step.new.self asked (Make c.in-Task.t (Completer true c.args.count None) ∷ []) _ _ _ c.self.inside.due c.self.invariant.stored c.step.ensures.step.1
-          (trigger_made past c.args.w c.args.count c.in-Task.t (sym c.step.ensures.step.0 ∙ c.in-Task.is)) refl (c.self.invariant.due free);
+      rests = λ free. still_rests past c.step.new.self asked (Make c.in-Task.t (Completer true c.args.count None) ∷ []) _ _ _ c.self.invariant.stored c.step.ensures.step.1
+          (trigger_made past c.args.w c.args.count c.in-Task.t (sym c.step.ensures.step.0 ∙ c.in-Task.is)) refl (c.self.invariant.rests free);
     }
 
 pub unreachable-requires : goal.unreachable-requires
