@@ -54,16 +54,16 @@ pub rests_so : (w : WaitState) → NoneGoes w.past.events w.taken.items → Rele
 rests_so w none = (none_went w, none)
 
 -- the only one that could be was not taken
-pub untaken_rests : (s : WaitState) (t : ℕ) → is_in t s.taken.items ≡ false → ReleasesUp t s (Ok tt) s
-untaken_rests s t absent = (
-  none_went s,
-  λ from only u there. cannot s.past.events u (λ can. true≢false (sym (stands u from s.taken.items there) ∙ ap (λ v. is_in v s.taken.items) (only u there can) ∙ absent)),
+pub untaken_rests : (w : WaitState) (t : ℕ) → is_in t w.taken.items ≡ false → ReleasesUp t w (Ok tt) w
+untaken_rests w t absent = (
+  none_went w,
+  λ from only u there. cannot w.past.events u (λ can. true≢false (sym (stands u from w.taken.items there) ∙ ap (λ v. is_in v w.taken.items) (only u there can) ∙ absent)),
 )
 
 -- it is needed yet
 pub needed_rests : (old new : WaitState) (t : ℕ) → Tries old t tried.Needed new → ReleasesUp t old (Ok tt) new
 needed_rests old new t stays =
-    subst (λ (s : WaitState). ReleasesUp t old (Ok tt) s) (sym stays.1) (
+    subst (λ (w : WaitState). ReleasesUp t old (Ok tt) w) (sym stays.1) (
       none_went old,
       λ from only u there. cannot old.past.events u (λ can. true≢false (sym can ∙ ap (can_go old.past.events) (only u there can) ∙ stays.0)),
     )
@@ -102,8 +102,8 @@ abbrev pub ClimbsTo : ℕ → WaitState → Option ℕ → WaitState → Type 0
 ClimbsTo t old (Some u) new = ReleasesSome old new × ((from : ℕ) → OnlyGoesFrom from old t → OnlyGoesFrom from new u)
 ClimbsTo t old None new = ReleasesUp t old (Ok tt) new
 
-pub climbs_from : (t : ℕ) (s : WaitState) → ClimbsTo t s (Some t) s
-climbs_from t s = (none_went s, λ from only. only)
+pub climbs_from : (t : ℕ) (w : WaitState) → ClimbsTo t w (Some t) w
+climbs_from t w = (none_went w, λ from only. only)
 
 pub climbs_on : (t u : ℕ) (old mid new : WaitState) (next : Option ℕ) → ClimbsTo t old (Some u) mid → ReleasesHere u mid (Ok next) new → ClimbsTo t old next new
 climbs_on t u old mid new (Some p) was here = (more_went old mid new was.0 (one_went mid new u here.0 here.1 here.2), λ from only. here.3 from (was.1 from only))
@@ -124,9 +124,9 @@ up_from i t old new (Ok done) only up = (up.0, up.1 i only)
 up_from i t old new (Err full) only up = up
 
 -- the first of those that stand from the place on, where none behind it can go
-pub first_only : (i t : ℕ) (s : WaitState) → i < length s.taken.items → get_or s.taken.items i t ≡ t → NoneGoesFrom (i + 1) s → OnlyGoesFrom i s t
-first_only i t s within is none u there can =
-    ⊎_elim (λ here. sym (eqb-true t u here)) (λ later. absurd (true≢false (sym can ∙ none u later))) (or_cases (t == u) (is_in u (drop (i + 1) s.taken.items)) (rw stand at there))
+pub first_only : (i t : ℕ) (w : WaitState) → i < length w.taken.items → get_or w.taken.items i t ≡ t → NoneGoesFrom (i + 1) w → OnlyGoesFrom i w t
+first_only i t w within is none u there can =
+    ⊎_elim (λ here. sym (eqb-true t u here)) (λ later. absurd (true≢false (sym can ∙ none u later))) (or_cases (t == u) (is_in u (drop (i + 1) w.taken.items)) (rw stand at there))
   where
-    stand : drop i s.taken.items ≡ t ∷ drop (i + 1) s.taken.items
-    stand = rw add-one (drop-cons s.taken.items i t within ∙ ap (λ v. v ∷ drop (suc i) s.taken.items) is)
+    stand : drop i w.taken.items ≡ t ∷ drop (i + 1) w.taken.items
+    stand = rw add-one (drop-cons w.taken.items i t within ∙ ap (λ v. v ∷ drop (suc i) w.taken.items) is)

@@ -28,11 +28,12 @@ NoneGoes h ts = (t : ℕ) → is_in t ts ≡ true → can_go h t ≡ false
 abbrev pub OneGoes : List Event → List ℕ → Type 0
 OneGoes h ts = (t : ℕ) × (is_in t ts ≡ true) × (can_go h t ≡ true)
 
--- no taken task can be released now; or one could be, and the store is stuck, since the history is full
+-- no taken task can be released now, and the store is stuck if it was; or one could be, and it is stuck, since the history is full
 abbrev pub RestsAt : Past → List ℕ → Bool → Bool → Type 0
 RestsAt past taken was stuck = ((stuck ≡ was) × NoneGoes past.events taken) ⊎ ((stuck ≡ true) × OneGoes past.events taken × (limit past ≤ length past.events))
 
 module _ {B K O : Type 0} where
+  -- the same of a store, which was stuck or not
   abbrev pub Rests : Bool → StoreState B K O → Type 0
   Rests stuck s = RestsAt s.past s.taken stuck s.stuck
 

@@ -33,7 +33,7 @@ freed w ts = record { past = grown w.past (map Rel ts); taken = record { items =
 abbrev pub ReleasesSome : WaitState → WaitState → Type 0
 ReleasesSome old new = (ts : List ℕ) × AreAmong ts old.taken.items × CanAllGo old.past.events ts × (new ≡ freed old ts)
 
--- the same, and no taken task can be released now; or the history was full, and the store is stuck, as it may have been before
+-- some were released, and no taken task can be now; or the history was full, and the store is stuck
 pub record ReleasesDue (old : WaitState) (was : Bool) (new : WaitState) (stuck : Bool) : Type 0 where
   pub some : ReleasesSome old new
   pub rests : RestsAt new.past new.taken.items was stuck
