@@ -14,7 +14,7 @@ use Rattle.fj_core.specs.Cores.{CoreState}
 abbrev pub may_be_sealed : Past → Bool
 may_be_sealed past = is_half_full past && not (is_over past.events) && is_quiet past.pool.limits past.events
 
--- whether a seal was refused for want of memory
+-- whether a seal was refused as out of memory
 abbrev pub is_without_memory : Result ⊤ Refusal → Bool
 is_without_memory (Err OutOfMemory) = true
 is_without_memory _ = false

@@ -85,7 +85,7 @@ impl<B: Body> Core<B> {
     }
 }
 
-/// Whether a seal was refused for want of memory.
+/// Whether a seal was refused as out of memory.
 fn is_without_memory(answer: &Result<(), Refusal>) -> bool
     ensures { result ≡ is_without_memory answer.now }
 {
