@@ -49,7 +49,7 @@ use Rattle.fj_core.specs.Sealing.{SealsCore, holds_back, may_be_sealed}
 use Rattle.fj_guarded.specs.declared.guarded.outside.TakenIn.{TakenIn}
 use Rattle.fj_guarded.specs.declared.next.Next.{Next}
 use Rattle.fj_guarded.specs.Asked.{CancelsBehind, CollectsAny}
-use Rattle.fj_guarded.specs.Continuing.{Continues, ContinuesAll, ContinuesStore, EndsIn, EndsWith, IsNow, IsTold}
+use Rattle.fj_guarded.specs.Continuing.{Continues, ContinuesAll, ContinuesStore, EndsIn, EndsWith, IsNow, IsTold, IsToldNow}
 use Rattle.fj_guarded.specs.Looking.{IsQuietBehind, LooksAtLanes, SealsWhere, TakesEach, TakesFrom, TakesUnless, so_far_behind}
 use Rattle.fj_guarded.specs.Working.{GoesOn, JoinsOnce, LooksForWork, MayLook, NextOf, NextOfJoin, PollsOn, PollsOnce, Resumes, Serves, Skips, SkipsOnce, Waits, WithoutTask, joined_of, noted}
 
@@ -423,7 +423,7 @@ module _ {B K O : Type 0} where
 
   -- an outcome that was seen to be told stands in the last moment that was seen
   pub seen_told : (log : List (CoreState B K O)) (ticket : ℕ) (answer : Result (Outcome B K O) Refusal) → EndsWith log (λ old new. CollectsTicket old ticket (Some answer) new)
-      → IfOk answer (λ outcome. (core : CoreState B K O) × IsNow log core × IsTold core ticket outcome)
+      → IfOk answer (λ outcome. IsToldNow log ticket outcome)
   seen_told log ticket (Ok outcome) (before, old, new, is, told) = (new, (before ++ old ∷ [], is ∙ sym (append_assoc before (old ∷ []) (new ∷ []))), told_stands old new ticket outcome told)
   seen_told log ticket (Err refusal) seen = tt
 
@@ -450,5 +450,5 @@ module _ {B K O : Type 0} where
 
   -- what a caller was told stands in the core with which the history ends
   pub told_at_last : (seen log : List (CoreState B K O)) (core : CoreState B K O) (ticket : ℕ) (outcome : Outcome B K O) → IsPrefix seen log → EndsIn log core
-      → (moment : CoreState B K O) × IsNow seen moment × IsTold moment ticket outcome → IsTold core ticket outcome
+      → IsToldNow seen ticket outcome → IsTold core ticket outcome
   told_at_last seen log core ticket outcome begins ends (moment, now, told) = told_on moment core ticket outcome (at_last seen log moment core begins now ends) told

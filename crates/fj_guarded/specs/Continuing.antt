@@ -50,3 +50,7 @@ module _ {B K O : Type 0} where
   -- the same by a core
   abbrev pub IsTold : CoreState B K O → ℕ → Outcome B K O → Type 0
   IsTold core ticket outcome = IsToldIn core.bookings core.store.past.events ticket outcome
+
+  -- the same by the last core of a log
+  abbrev pub IsToldNow : List (CoreState B K O) → ℕ → Outcome B K O → Type 0
+  IsToldNow log ticket outcome = (core : CoreState B K O) × IsNow log core × IsTold core ticket outcome

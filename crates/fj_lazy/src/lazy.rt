@@ -1,11 +1,10 @@
 ghost use Rattle.std.specs.Prelude.{◌≡◌, ℕ, ◌+◌, ◌*◌, ◌<◌, ◌≤◌, ◌++◌, ◌∷◌, [], Option, None, IfOk, IfErr, IfSome, true, vec_len, vec_capacity};
 ghost use Rattle.std.specs.VecDeque.{deque_len, deque_capacity};
 ghost use Rattle.fj_rules.specs.Refusals.{refusal_number};
-ghost use Rattle.fj_bodies.specs.Turns.{AskRight, Nearer};
 ghost use Rattle.fj_lazy.specs.PartsAside.{around, beside, branches, forked_in, outside, weigh, weight, whole};
-ghost use Rattle.fj_lazy.specs.Splits.{Gives, HasRoom, turns_left, turns_of, turns_to_leave};
-ghost use Rattle.fj_lazy.specs.Asks.{AsksAsJob, HoldsNothing, JoinsOwn};
+ghost use Rattle.fj_lazy.specs.Splits.{Gives, HasRoom, turns_to_leave};
 ghost use Rattle.fj_lazy.specs.Failures.{Leaves};
+ghost use Rattle.fj_lazy.specs.Steps.{AsksNext, AsksOn, HasNext};
 
 use crate::descent::Descent;
 use crate::part::{Climb, DescentEnd, LazyStage};
@@ -85,12 +84,8 @@ impl<'s, J: Divide> Lazy<'s, J> {
     /// Releases what it forked, the last one first, and then fails with this code.
     fn leave(&mut self, code: u32) -> Ask<Lazy<'s, J>>
         ensures key { self.new.key ≡ self.old.key }
-        ensures right { AskRight (λ k o. o ≡ J.value k) self.new.key result }
-        ensures nearer { Nearer (turns_of self.new.forks self.new.parts.outer.items self.new.stage) (turns_to_leave self.old.forks self.old.parts.outer.items) result }
+        ensures asks { AsksOn J.value self.new.key (turns_to_leave self.old.forks self.old.parts.outer.items) (forked_in self.old.parts.outer.items) self.new.forks self.new.parts.outer.items self.new.parts.inner.items self.new.stage result }
         ensures leaves { Leaves code self.new.stage result }
-        ensures asks { AsksAsJob result }
-        ensures joins { JoinsOwn (forked_in self.old.parts.outer.items) (forked_in self.new.parts.outer.items) result }
-        ensures free { HoldsNothing self.new.parts.inner.items result }
     {
         self.stage = LazyStage::Leaving(code);
         match self.parts.last_forked() {
@@ -102,12 +97,8 @@ impl<'s, J: Divide> Lazy<'s, J> {
     /// Leaves with the code of `OutOfMemory`.
     fn give_up(&mut self) -> Ask<Lazy<'s, J>>
         ensures key { self.new.key ≡ self.old.key }
-        ensures right { AskRight (λ k o. o ≡ J.value k) self.new.key result }
-        ensures nearer { Nearer (turns_of self.new.forks self.new.parts.outer.items self.new.stage) (turns_left self.old.forks self.old.parts.outer.items) result }
+        ensures asks { AsksNext J.value self.new.key self.old.forks self.old.parts.outer.items self.new.forks self.new.parts.outer.items self.new.parts.inner.items self.new.stage result }
         ensures leaves { Leaves (refusal_number Refusal.OutOfMemory) self.new.stage result }
-        ensures asks { AsksAsJob result }
-        ensures joins { JoinsOwn (forked_in self.old.parts.outer.items) (forked_in self.new.parts.outer.items) result }
-        ensures free { HoldsNothing self.new.parts.inner.items result }
     {
         self.leave(Refusal::OutOfMemory.number())
     }
@@ -119,15 +110,9 @@ impl<'s, J: Divide> Lazy<'s, J> {
     fn step_up(&mut self, value: J::Out) -> Result<J, Ask<Lazy<'s, J>>>
         requires { whole J.key_of J.value J.combined self.old.parts.outer.items self.old.parts.inner.items value ≡ J.value self.old.key }
         ensures key { self.new.key ≡ self.old.key }
-        ensures right { IfErr result (λ ask. AskRight (λ k o. o ≡ J.value k) self.new.key ask) }
-        ensures nearer { IfErr result (λ ask. Nearer (turns_of self.new.forks self.new.parts.outer.items self.new.stage) (turns_left self.old.forks self.old.parts.outer.items) ask) }
-        ensures asks { IfErr result (λ ask. AsksAsJob ask) }
-        ensures joins { IfErr result (λ ask. JoinsOwn (forked_in self.old.parts.outer.items) (forked_in self.new.parts.outer.items) ask) }
-        ensures free { IfErr result (λ ask. HoldsNothing self.new.parts.inner.items ask) }
-        ensures next { IfOk result (λ j. whole J.key_of J.value J.combined self.new.parts.outer.items self.new.parts.inner.items (J.value (J.key_of j)) ≡ J.value self.new.key) }
+        ensures asks { IfErr result (λ ask. AsksNext J.value self.new.key self.old.forks self.old.parts.outer.items self.new.forks self.new.parts.outer.items self.new.parts.inner.items self.new.stage ask) }
+        ensures next { IfOk result (λ j. HasNext J.key_of J.value J.combined (J.value self.new.key) self.old.forks self.old.parts.outer.items self.new.forks self.new.parts.outer.items self.new.parts.inner.items j) }
         ensures lighter { IfOk result (λ j. weigh (weight J.size) self.new.parts.inner.items + branches (J.size j) ≤ weigh (weight J.size) self.old.parts.inner.items) }
-        ensures forked { IfOk result (λ j. forked_in self.old.parts.outer.items ≡ forked_in self.new.parts.outer.items) }
-        ensures forks { IfOk result (λ j. self.new.forks ≡ self.old.forks) }
     {
         self.stage = LazyStage::Over;
         match self.parts.climb(value) {
@@ -157,15 +142,9 @@ impl<'s, J: Divide> Lazy<'s, J> {
         requires leaf { J.value (J.key_of leaf) ≡ J.leaf_of leaf }
         requires room { deque_len self.old.parts.inner < deque_capacity self.old.parts.inner }
         ensures key { self.new.key ≡ self.old.key }
-        ensures right { IfErr result (λ ask. AskRight (λ k o. o ≡ J.value k) self.new.key ask) }
-        ensures nearer { IfErr result (λ ask. Nearer (turns_of self.new.forks self.new.parts.outer.items self.new.stage) (turns_left self.old.forks self.old.parts.outer.items) ask) }
-        ensures asks { IfErr result (λ ask. AsksAsJob ask) }
-        ensures joins { IfErr result (λ ask. JoinsOwn (forked_in self.old.parts.outer.items) (forked_in self.new.parts.outer.items) ask) }
-        ensures free { IfErr result (λ ask. HoldsNothing self.new.parts.inner.items ask) }
-        ensures next { IfOk result (λ j. whole J.key_of J.value J.combined self.new.parts.outer.items self.new.parts.inner.items (J.value (J.key_of j)) ≡ J.value self.new.key) }
+        ensures asks { IfErr result (λ ask. AsksNext J.value self.new.key self.old.forks self.old.parts.outer.items self.new.forks self.new.parts.outer.items self.new.parts.inner.items self.new.stage ask) }
+        ensures next { IfOk result (λ j. HasNext J.key_of J.value J.combined (J.value self.new.key) self.old.forks self.old.parts.outer.items self.new.forks self.new.parts.outer.items self.new.parts.inner.items j) }
         ensures lighter { IfOk result (λ j. weigh (weight J.size) self.new.parts.inner.items + branches (J.size j) ≤ weigh (weight J.size) self.old.parts.inner.items + branches (J.size half)) }
-        ensures forked { IfOk result (λ j. forked_in self.old.parts.outer.items ≡ forked_in self.new.parts.outer.items) }
-        ensures forks { IfOk result (λ j. self.new.forks ≡ self.old.forks) }
     {
         self.stage = LazyStage::Over;
         self.descent.signals().give_fork_back();
@@ -180,15 +159,9 @@ impl<'s, J: Divide> Lazy<'s, J> {
         requires room { (vec_len self.old.parts.outer < vec_capacity self.old.parts.outer) × (deque_len self.old.parts.inner < deque_capacity self.old.parts.inner) }
         requires forks { 0 < self.old.forks }
         ensures key { self.new.key ≡ self.old.key }
-        ensures right { IfErr result (λ ask. AskRight (λ k o. o ≡ J.value k) self.new.key ask) }
-        ensures nearer { IfErr result (λ ask. Nearer (turns_of self.new.forks self.new.parts.outer.items self.new.stage) (turns_left self.old.forks self.old.parts.outer.items) ask) }
-        ensures asks { IfErr result (λ ask. AsksAsJob ask) }
-        ensures joins { IfErr result (λ ask. JoinsOwn (forked_in self.old.parts.outer.items) (forked_in self.new.parts.outer.items) ask) }
-        ensures free { IfErr result (λ ask. HoldsNothing self.new.parts.inner.items ask) }
-        ensures next { IfOk result (λ j. whole J.key_of J.value J.combined self.new.parts.outer.items self.new.parts.inner.items (J.value (J.key_of j)) ≡ J.value self.new.key) }
+        ensures asks { IfErr result (λ ask. AsksNext J.value self.new.key self.old.forks self.old.parts.outer.items self.new.forks self.new.parts.outer.items self.new.parts.inner.items self.new.stage ask) }
+        ensures next { IfOk result (λ j. HasNext J.key_of J.value J.combined (J.value self.new.key) self.old.forks self.old.parts.outer.items self.new.forks self.new.parts.outer.items self.new.parts.inner.items j) }
         ensures lighter { IfOk result (λ j. weigh (weight J.size) self.new.parts.inner.items + branches (J.size j) ≤ weigh (weight J.size) self.old.parts.inner.items + branches (J.size half)) }
-        ensures forked { IfOk result (λ j. forked_in self.old.parts.outer.items ≡ forked_in self.new.parts.outer.items) }
-        ensures forks { IfOk result (λ j. self.new.forks ≡ self.old.forks) }
     {
         self.stage = LazyStage::Over;
         let key = half.key();
@@ -220,15 +193,9 @@ impl<'s, J: Divide> Lazy<'s, J> {
         requires total { whole J.key_of J.value J.combined self.old.parts.outer.items self.old.parts.inner.items (J.value (J.key_of leaf)) ≡ J.value self.old.key }
         requires leaf { J.value (J.key_of leaf) ≡ J.leaf_of leaf }
         ensures key { self.new.key ≡ self.old.key }
-        ensures right { IfErr result (λ ask. AskRight (λ k o. o ≡ J.value k) self.new.key ask) }
-        ensures nearer { IfErr result (λ ask. Nearer (turns_of self.new.forks self.new.parts.outer.items self.new.stage) (turns_left self.old.forks self.old.parts.outer.items) ask) }
-        ensures asks { IfErr result (λ ask. AsksAsJob ask) }
-        ensures joins { IfErr result (λ ask. JoinsOwn (forked_in self.old.parts.outer.items) (forked_in self.new.parts.outer.items) ask) }
-        ensures free { IfErr result (λ ask. HoldsNothing self.new.parts.inner.items ask) }
-        ensures next { IfOk result (λ j. whole J.key_of J.value J.combined self.new.parts.outer.items self.new.parts.inner.items (J.value (J.key_of j)) ≡ J.value self.new.key) }
+        ensures asks { IfErr result (λ ask. AsksNext J.value self.new.key self.old.forks self.old.parts.outer.items self.new.forks self.new.parts.outer.items self.new.parts.inner.items self.new.stage ask) }
+        ensures next { IfOk result (λ j. HasNext J.key_of J.value J.combined (J.value self.new.key) self.old.forks self.old.parts.outer.items self.new.forks self.new.parts.outer.items self.new.parts.inner.items j) }
         ensures lighter { IfOk result (λ j. weigh (weight J.size) self.new.parts.inner.items + branches (J.size j) ≤ weigh (weight J.size) self.old.parts.inner.items) }
-        ensures forked { IfOk result (λ j. forked_in self.old.parts.outer.items ≡ forked_in self.new.parts.outer.items) }
-        ensures forks { IfOk result (λ j. self.new.forks ≡ self.old.forks) }
     {
         self.stage = LazyStage::Over;
         if self.descent.signals().is_over(self.span.first) {
@@ -253,15 +220,9 @@ impl<'s, J: Divide> Lazy<'s, J> {
     fn compute_on(&mut self, job: J) -> Result<J, Ask<Lazy<'s, J>>>
         requires { whole J.key_of J.value J.combined self.old.parts.outer.items self.old.parts.inner.items (J.value (J.key_of job)) ≡ J.value self.old.key }
         ensures key { self.new.key ≡ self.old.key }
-        ensures right { IfErr result (λ ask. AskRight (λ k o. o ≡ J.value k) self.new.key ask) }
-        ensures nearer { IfErr result (λ ask. Nearer (turns_of self.new.forks self.new.parts.outer.items self.new.stage) (turns_left self.old.forks self.old.parts.outer.items) ask) }
-        ensures asks { IfErr result (λ ask. AsksAsJob ask) }
-        ensures joins { IfErr result (λ ask. JoinsOwn (forked_in self.old.parts.outer.items) (forked_in self.new.parts.outer.items) ask) }
-        ensures free { IfErr result (λ ask. HoldsNothing self.new.parts.inner.items ask) }
-        ensures next { IfOk result (λ j. whole J.key_of J.value J.combined self.new.parts.outer.items self.new.parts.inner.items (J.value (J.key_of j)) ≡ J.value self.new.key) }
+        ensures asks { IfErr result (λ ask. AsksNext J.value self.new.key self.old.forks self.old.parts.outer.items self.new.forks self.new.parts.outer.items self.new.parts.inner.items self.new.stage ask) }
+        ensures next { IfOk result (λ j. HasNext J.key_of J.value J.combined (J.value self.new.key) self.old.forks self.old.parts.outer.items self.new.forks self.new.parts.outer.items self.new.parts.inner.items j) }
         ensures lighter { IfOk result (λ j. weigh (weight J.size) self.new.parts.inner.items + branches (J.size j) < weigh (weight J.size) self.old.parts.inner.items + branches (J.size job)) }
-        ensures forked { IfOk result (λ j. forked_in self.old.parts.outer.items ≡ forked_in self.new.parts.outer.items) }
-        ensures forks { IfOk result (λ j. self.new.forks ≡ self.old.forks) }
     {
         self.stage = LazyStage::Over;
         match self.descent.run(job) {

@@ -5,21 +5,20 @@ use Rattle.fj_rules.specs.declared.refusal.Refusal.{Refusal}
 use Rattle.fj_bodies.specs.declared.outcomes.Outcome.{Outcome}
 use Rattle.fj_core.specs.Cores.{CollectsTicket, CoreState}
 use Rattle.fj_guarded.specs.Asked.{CollectsAt}
-use Rattle.fj_guarded.specs.Continuing.{EndsWith, IsNow, IsTold}
+use Rattle.fj_guarded.specs.Continuing.{EndsWith, IsToldNow}
 use Rattle.fj_guarded.proofs.GoesOn.{seen_told}
 use Rattle.fj_pool.specs.Telling.{IsToldAt}
 
 module _ {B K O : Type 0} where
   -- if there was one to tell
   pub told_if : (log : List (CoreState B K O)) (ticket : ℕ) (answer : Option (Result (Outcome B K O) Refusal)) → EndsWith log (λ old new. CollectsTicket old ticket answer new)
-      → IfSome answer (λ a. IfOk a (λ outcome. (core : CoreState B K O) × IsNow log core × IsTold core ticket outcome))
+      → IfSome answer (λ a. IfOk a (λ outcome. IsToldNow log ticket outcome))
   told_if log ticket (Some answer) seen = seen_told log ticket answer seen
   told_if log ticket None seen = tt
 
   -- the first of several
   pub told_at : (log : List (CoreState B K O)) (tickets : List ℕ) (place : ℕ) (answer : Result (Outcome B K O) Refusal) → EndsWith log (λ old new. CollectsAt tickets old place answer new)
-      → IfOk answer (λ outcome. (core : CoreState B K O) × IsNow log core × IsToldAt core tickets place outcome)
+      → IfOk answer (λ outcome. IsToldAt log tickets place outcome)
   told_at log tickets place (Ok outcome) (before, old, new, is, told) =
-      let one = seen_told log told.ticket (Ok outcome) (before, old, new, is, told.collects) in
-      (one.0, one.1, (told.ticket, told.at, one.2))
+      (told.ticket, told.at, seen_told log told.ticket (Ok outcome) (before, old, new, is, told.collects))
   told_at log tickets place (Err refusal) seen = tt

@@ -2,8 +2,8 @@
 use Rattle.std.specs.Prelude.{ℕ, ◌≡◌, List, Some, slice_get}
 use Rattle.fj_bodies.specs.declared.outcomes.Outcome.{Outcome}
 use Rattle.fj_core.specs.Cores.{CoreState}
-use Rattle.fj_guarded.specs.Continuing.{IsTold}
+use Rattle.fj_guarded.specs.Continuing.{IsToldNow}
 
--- the ticket at this index is booked for a task, which has the status of the outcome
-abbrev pub IsToldAt : {B K O : Type 0} → CoreState B K O → List ℕ → ℕ → Outcome B K O → Type 0
-IsToldAt core tickets place outcome = (ticket : ℕ) × (slice_get tickets place ≡ Some ticket) × IsTold core ticket outcome
+-- in the last core of the log the ticket at this index is booked for a task, which has the status of the outcome
+abbrev pub IsToldAt : {B K O : Type 0} → List (CoreState B K O) → List ℕ → ℕ → Outcome B K O → Type 0
+IsToldAt log tickets place outcome = (ticket : ℕ) × (slice_get tickets place ≡ Some ticket) × IsToldNow log ticket outcome

@@ -9,7 +9,7 @@ use Rattle.fj_bodies.specs.declared.outcomes.Outcome.{Outcome}
 use Rattle.fj_gate.specs.Numbers.{IsNumbersBelow}
 use Rattle.fj_core.specs.declared.booking.Booking.{Booking}
 use Rattle.fj_core.specs.Cores.{CoreState}
-use Rattle.fj_guarded.specs.Continuing.{IsNow, IsTold, IsToldIn}
+use Rattle.fj_guarded.specs.Continuing.{IsToldIn, IsToldNow}
 use Rattle.fj_guarded.proofs.GoesOn.{told_at_last}
 use Rattle.fj_parts.specs.declared.record.Record.{Record}
 use Rattle.fj_parts.specs.Seats.{SeatState}
@@ -21,7 +21,7 @@ use Rattle.fj_run.proofs.Tickets.{first_is_zero, one_drawn}
 module _ {B K O : Type 0} where
   -- the outcome of the first submission was seen to be told
   pub saw_one : (old mid new : RunningState B K O) (ticket : ℕ) (body : B) (answer : Result (Outcome B K O) Refusal) → tickets_of old.seats ≡ [] → SubmitsBy 0 old.seats ticket body mid.seats
-      → new.seats ≡ mid.seats → IfOk answer (λ outcome. (core : CoreState B K O) × IsNow new.seen core × IsTold core ticket outcome) → IfOk answer (λ outcome. SawOne new outcome)
+      → new.seats ≡ mid.seats → IfOk answer (λ outcome. IsToldNow new.seen ticket outcome) → IfOk answer (λ outcome. SawOne new outcome)
   saw_one old mid new ticket body (Ok outcome) none submits same told = record {
     ticket = ticket;
     one = ap (λ (seats : List (SeatState B)). tickets_of seats) same ∙ one_drawn old.seats mid.seats 0 ticket body none submits;

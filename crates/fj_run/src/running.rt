@@ -1,7 +1,7 @@
 ghost use Rattle.std.specs.Prelude.{◌≡◌, ◌<◌, IfErr, IfOk, IfSome, Some, length};
 ghost use mathlib.Core.List.{IsPrefix};
-ghost use Rattle.fj_core.specs.Cores.{CollectsTicket, CoreState};
-ghost use Rattle.fj_guarded.specs.Continuing.{EndsWith, IsNow, IsTold};
+ghost use Rattle.fj_core.specs.Cores.{CollectsTicket};
+ghost use Rattle.fj_guarded.specs.Continuing.{EndsWith, IsToldNow};
 ghost use Rattle.fj_run.specs.Playing.{SubmitsBy};
 
 use crate::submitters::Submitters;
@@ -104,7 +104,7 @@ impl<'p, 'r, B: Body, N: Naming, R: Wait> Running<'p, 'r, B, N, R> {
     pub fn await_done(&mut self, ticket: Ticket) -> Result<Outcome<B>, Refusal>
         ensures goes_on { IsPrefix self.old.seen self.new.seen }
         ensures seen { EndsWith self.new.seen (λ old new. CollectsTicket old ticket (Some result) new) }
-        ensures told { IfOk result (λ outcome. (core : CoreState B B.Key B.Out) × IsNow self.new.seen core × IsTold core ticket outcome) }
+        ensures told { IfOk result (λ outcome. IsToldNow self.new.seen ticket outcome) }
         ensures seats { self.new.seats ≡ self.old.seats }
     {
         let answer = self.pool.await_seen(self.rt, &mut self.front, ticket);

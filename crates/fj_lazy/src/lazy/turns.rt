@@ -6,6 +6,7 @@ ghost use Rattle.fj_lazy.specs.PartsAside.{around, beside, forked_in, outside, w
 ghost use Rattle.fj_lazy.specs.Splits.{turns_left, turns_of};
 ghost use Rattle.fj_lazy.specs.Asks.{AsksAsJob, HoldsNothing, JoinsOwn, forked_by};
 ghost use Rattle.fj_lazy.specs.Failures.{AsksFailing, code_heard, is_want_of_room};
+ghost use Rattle.fj_lazy.specs.Steps.{AsksNext, AsksOn};
 
 use super::Lazy;
 use crate::part::{LazyStage, Outer};
@@ -62,11 +63,7 @@ impl<'s, J: Divide> Lazy<'s, J> {
     fn go_on(&mut self, job: J) -> Ask<Lazy<'s, J>>
         requires { whole J.key_of J.value J.combined self.old.parts.outer.items self.old.parts.inner.items (J.value (J.key_of job)) ≡ J.value self.old.key }
         ensures key { self.new.key ≡ self.old.key }
-        ensures right { AskRight (λ k o. o ≡ J.value k) self.new.key result }
-        ensures nearer { Nearer (turns_of self.new.forks self.new.parts.outer.items self.new.stage) (turns_left self.old.forks self.old.parts.outer.items) result }
-        ensures asks { AsksAsJob result }
-        ensures joins { JoinsOwn (forked_in self.old.parts.outer.items) (forked_in self.new.parts.outer.items) result }
-        ensures free { HoldsNothing self.new.parts.inner.items result }
+        ensures asks { AsksNext J.value self.new.key self.old.forks self.old.parts.outer.items self.new.forks self.new.parts.outer.items self.new.parts.inner.items self.new.stage result }
     {
         let mut job = job;
         loop {
@@ -82,11 +79,7 @@ impl<'s, J: Divide> Lazy<'s, J> {
     fn go_up(&mut self, value: J::Out) -> Ask<Lazy<'s, J>>
         requires { whole J.key_of J.value J.combined self.old.parts.outer.items self.old.parts.inner.items value ≡ J.value self.old.key }
         ensures key { self.new.key ≡ self.old.key }
-        ensures right { AskRight (λ k o. o ≡ J.value k) self.new.key result }
-        ensures nearer { Nearer (turns_of self.new.forks self.new.parts.outer.items self.new.stage) (turns_left self.old.forks self.old.parts.outer.items) result }
-        ensures asks { AsksAsJob result }
-        ensures joins { JoinsOwn (forked_in self.old.parts.outer.items) (forked_in self.new.parts.outer.items) result }
-        ensures free { HoldsNothing self.new.parts.inner.items result }
+        ensures asks { AsksNext J.value self.new.key self.old.forks self.old.parts.outer.items self.new.forks self.new.parts.outer.items self.new.parts.inner.items self.new.stage result }
     {
         match self.step_up(value) {
             Ok(job) => self.go_on(job),
@@ -99,11 +92,7 @@ impl<'s, J: Divide> Lazy<'s, J> {
         requires total { whole J.key_of J.value J.combined (self.old.parts.outer.items ++ forked ∷ []) self.old.parts.inner.items (J.value (J.key_of leaf)) ≡ J.value self.old.key }
         requires room { vec_len self.old.parts.outer < vec_capacity self.old.parts.outer }
         ensures key { self.new.key ≡ self.old.key }
-        ensures right { AskRight (λ k o. o ≡ J.value k) self.new.key result }
-        ensures nearer { Nearer (turns_of self.new.forks self.new.parts.outer.items self.new.stage) (turns_left self.old.forks self.old.parts.outer.items + 1) result }
-        ensures asks { AsksAsJob result }
-        ensures joins { JoinsOwn (forked_in (self.old.parts.outer.items ++ forked ∷ [])) (forked_in self.new.parts.outer.items) result }
-        ensures free { HoldsNothing self.new.parts.inner.items result }
+        ensures asks { AsksOn J.value self.new.key (turns_left self.old.forks self.old.parts.outer.items + 1) (forked_in (self.old.parts.outer.items ++ forked ∷ [])) self.new.forks self.new.parts.outer.items self.new.parts.inner.items self.new.stage result }
     {
         self.stage = LazyStage::Over;
         self.parts.outer.push_reserved(forked);
@@ -116,11 +105,7 @@ impl<'s, J: Divide> Lazy<'s, J> {
         requires leaf { J.value (J.key_of leaf) ≡ J.leaf_of leaf }
         requires room { deque_len self.old.parts.inner < deque_capacity self.old.parts.inner }
         ensures key { self.new.key ≡ self.old.key }
-        ensures right { AskRight (λ k o. o ≡ J.value k) self.new.key result }
-        ensures nearer { Nearer (turns_of self.new.forks self.new.parts.outer.items self.new.stage) (turns_left self.old.forks self.old.parts.outer.items) result }
-        ensures asks { AsksAsJob result }
-        ensures joins { JoinsOwn (forked_in self.old.parts.outer.items) (forked_in self.new.parts.outer.items) result }
-        ensures free { HoldsNothing self.new.parts.inner.items result }
+        ensures asks { AsksNext J.value self.new.key self.old.forks self.old.parts.outer.items self.new.forks self.new.parts.outer.items self.new.parts.inner.items self.new.stage result }
     {
         match self.keep(half, leaf) {
             Ok(job) => self.go_on(job),
@@ -134,12 +119,8 @@ impl<'s, J: Divide> Lazy<'s, J> {
     fn begin(&mut self, job: J, heard: Heard<Lazy<'s, J>>) -> Ask<Lazy<'s, J>>
         requires { whole J.key_of J.value J.combined self.old.parts.outer.items self.old.parts.inner.items (J.value (J.key_of job)) ≡ J.value self.old.key }
         ensures key { self.new.key ≡ self.old.key }
-        ensures right { AskRight (λ k o. o ≡ J.value k) self.new.key result }
-        ensures nearer { Nearer (turns_of self.new.forks self.new.parts.outer.items self.new.stage) (turns_left self.old.forks self.old.parts.outer.items) result }
+        ensures asks { AsksNext J.value self.new.key self.old.forks self.old.parts.outer.items self.new.forks self.new.parts.outer.items self.new.parts.inner.items self.new.stage result }
         ensures failing { AsksFailing J.Key.eq (LazyStage.Going job) heard.entry self.new.stage result }
-        ensures asks { AsksAsJob result }
-        ensures joins { JoinsOwn (forked_in self.old.parts.outer.items) (forked_in self.new.parts.outer.items) result }
-        ensures free { HoldsNothing self.new.parts.inner.items result }
     {
         match heard {
             Heard::Start(_) => {
@@ -160,12 +141,8 @@ impl<'s, J: Divide> Lazy<'s, J> {
         requires outer_room { vec_len self.old.parts.outer < vec_capacity self.old.parts.outer }
         requires inner_room { deque_len self.old.parts.inner < deque_capacity self.old.parts.inner }
         ensures key { self.new.key ≡ self.old.key }
-        ensures right { AskRight (λ k o. o ≡ J.value k) self.new.key result }
-        ensures nearer { Nearer (turns_of self.new.forks self.new.parts.outer.items self.new.stage) (turns_left self.old.forks self.old.parts.outer.items + 1) result }
+        ensures asks { AsksOn J.value self.new.key (turns_left self.old.forks self.old.parts.outer.items + 1) (forked_by self.old.parts.outer.items (LazyStage.Forking key leaf) heard.entry) self.new.forks self.new.parts.outer.items self.new.parts.inner.items self.new.stage result }
         ensures failing { AsksFailing J.Key.eq (LazyStage.Forking key leaf) heard.entry self.new.stage result }
-        ensures asks { AsksAsJob result }
-        ensures joins { JoinsOwn (forked_by self.old.parts.outer.items (LazyStage.Forking key leaf) heard.entry) (forked_in self.new.parts.outer.items) result }
-        ensures free { HoldsNothing self.new.parts.inner.items result }
     {
         match heard {
             Heard::Task(task) => self.go_within(Outer::Forked(task, key), leaf),
@@ -188,12 +165,8 @@ impl<'s, J: Divide> Lazy<'s, J> {
         requires heard { HeardRight (λ k o. o ≡ J.value k) heard }
         requires total { whole J.key_of J.value J.combined self.old.parts.outer.items self.old.parts.inner.items (J.combined left (J.value key)) ≡ J.value self.old.key }
         ensures key { self.new.key ≡ self.old.key }
-        ensures right { AskRight (λ k o. o ≡ J.value k) self.new.key result }
-        ensures nearer { Nearer (turns_of self.new.forks self.new.parts.outer.items self.new.stage) (turns_left self.old.forks self.old.parts.outer.items) result }
+        ensures asks { AsksOn J.value self.new.key (turns_left self.old.forks self.old.parts.outer.items) (forked_by self.old.parts.outer.items (LazyStage.Waiting task key left) heard.entry) self.new.forks self.new.parts.outer.items self.new.parts.inner.items self.new.stage result }
         ensures failing { AsksFailing J.Key.eq (LazyStage.Waiting task key left) heard.entry self.new.stage result }
-        ensures asks { AsksAsJob result }
-        ensures joins { JoinsOwn (forked_by self.old.parts.outer.items (LazyStage.Waiting task key left) heard.entry) (forked_in self.new.parts.outer.items) result }
-        ensures free { HoldsNothing self.new.parts.inner.items result }
     {
         match heard {
             Heard::Got(heard_key, right) => {

@@ -4,7 +4,7 @@ ghost use mathlib.Core.List.{IsPrefix};
 ghost use Rattle.fj_core.specs.Closes.{is_finished};
 ghost use Rattle.fj_core.specs.Cores.{CollectsTicket, CoreState};
 ghost use Rattle.fj_guarded.specs.Asked.{CancelsBehind, CollectsAt};
-ghost use Rattle.fj_guarded.specs.Continuing.{EndsWith, IsNow, IsTold};
+ghost use Rattle.fj_guarded.specs.Continuing.{EndsWith, IsNow, IsToldNow};
 ghost use Rattle.fj_pool.specs.Telling.{IsToldAt};
 ghost use Rattle.fj_guarded.specs.Looking.{IsQuietBehind};
 
@@ -52,7 +52,7 @@ impl<B: Body, N: Naming> Pool<B, N> {
         ensures goes_on { IsPrefix front.old front.new }
         ensures seen { EndsWith front.new (λ old new. CollectsTicket old ticket (Some result) new) }
         // The ticket is booked for a task, which has the status of the outcome.
-        ensures told { IfOk result (λ outcome. (core : CoreState B B.Key B.Out) × IsNow front.new core × IsTold core ticket outcome) }
+        ensures told { IfOk result (λ outcome. IsToldNow front.new ticket outcome) }
     {
         self.await_with(rt, self.lock(rt), front, ticket)
     }
@@ -67,7 +67,7 @@ impl<B: Body, N: Naming> Pool<B, N> {
     ) -> Result<Outcome<B>, Refusal>
         ensures goes_on { IsPrefix front.old front.new }
         ensures seen { EndsWith front.new (λ old new. CollectsTicket old ticket (Some result) new) }
-        ensures told { IfOk result (λ outcome. (core : CoreState B B.Key B.Out) × IsNow front.new core × IsTold core ticket outcome) }
+        ensures told { IfOk result (λ outcome. IsToldNow front.new ticket outcome) }
     {
         for _ in rt.forever() {
             let core = &mut *guard;
@@ -105,7 +105,7 @@ impl<B: Body, N: Naming> Pool<B, N> {
     ) -> Option<Result<Outcome<B>, Refusal>>
         ensures goes_on { IsPrefix front.old front.new }
         ensures seen { EndsWith front.new (λ old new. CollectsTicket old ticket result new) }
-        ensures told { IfSome result (λ answer. IfOk answer (λ outcome. (core : CoreState B B.Key B.Out) × IsNow front.new core × IsTold core ticket outcome)) }
+        ensures told { IfSome result (λ answer. IfOk answer (λ outcome. IsToldNow front.new ticket outcome)) }
     {
         self.try_with(self.lock(rt), front, ticket)
     }
@@ -119,7 +119,7 @@ impl<B: Body, N: Naming> Pool<B, N> {
     ) -> Option<Result<Outcome<B>, Refusal>>
         ensures goes_on { IsPrefix front.old front.new }
         ensures seen { EndsWith front.new (λ old new. CollectsTicket old ticket result new) }
-        ensures told { IfSome result (λ answer. IfOk answer (λ outcome. (core : CoreState B B.Key B.Out) × IsNow front.new core × IsTold core ticket outcome)) }
+        ensures told { IfSome result (λ answer. IfOk answer (λ outcome. IsToldNow front.new ticket outcome)) }
     {
         let core = &mut *guard;
         let answer = core.tell(&self.log, front, ticket);
@@ -156,7 +156,7 @@ impl<B: Body, N: Naming> Pool<B, N> {
         ensures seen { IfSome result (λ told. EndsWith front.new (λ old new. CollectsAt tickets.now old told.0 told.1 new)) }
         ensures place { IfSome result (λ told. told.0 < length tickets.now) }
         // The first ticket that has an outcome is booked for a task, which has the status of the outcome.
-        ensures told { IfSome result (λ told. IfOk told.1 (λ outcome. (core : CoreState B B.Key B.Out) × IsNow front.new core × IsToldAt core tickets.now told.0 outcome)) }
+        ensures told { IfSome result (λ told. IfOk told.1 (λ outcome. IsToldAt front.new tickets.now told.0 outcome)) }
     {
         self.await_any_with(rt, self.lock(rt), front, tickets)
     }
@@ -172,7 +172,7 @@ impl<B: Body, N: Naming> Pool<B, N> {
         ensures goes_on { IsPrefix front.old front.new }
         ensures seen { IfSome result (λ told. EndsWith front.new (λ old new. CollectsAt tickets.now old told.0 told.1 new)) }
         ensures place { IfSome result (λ told. told.0 < length tickets.now) }
-        ensures told { IfSome result (λ told. IfOk told.1 (λ outcome. (core : CoreState B B.Key B.Out) × IsNow front.new core × IsToldAt core tickets.now told.0 outcome)) }
+        ensures told { IfSome result (λ told. IfOk told.1 (λ outcome. IsToldAt front.new tickets.now told.0 outcome)) }
     {
         if tickets.is_empty() {
             return None;

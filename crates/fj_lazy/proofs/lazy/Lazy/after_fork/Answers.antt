@@ -13,5 +13,11 @@ go_without-requires-clause-total g c =
     ap (λ y. around (outside g.J.Divide.value g.J.Divide.combined) c.args.self.now.parts.outer.items (g.J.Divide.combined (around (beside g.J.Divide.key_of g.J.Divide.value g.J.Divide.combined) c.args.self.now.parts.inner.items (g.J.Divide.value (g.J.Divide.key_of c.args.leaf))) y)) c.in-Some.ensures.value
     ∙ c.requires.total
 
-pub returns-in-Task-clause-joins : goal.returns-in-Task-clause-joins
-returns-in-Task-clause-joins g c = rw c.in-Task.is (joins_forked c.args.self.now.parts.outer.items c.in-Task.task c.args.key _ c.go_within.result c.go_within.ensures.joins)
+pub returns-in-Task-clause-asks : goal.returns-in-Task-clause-asks
+returns-in-Task-clause-asks g c = record {
+  rightly = c.go_within.ensures.asks.rightly;
+  nearer = c.go_within.ensures.asks.nearer;
+  as_job = c.go_within.ensures.asks.as_job;
+  joins = rw c.in-Task.is (joins_forked c.args.self.now.parts.outer.items c.in-Task.task c.args.key _ c.go_within.result c.go_within.ensures.asks.joins);
+  free = c.go_within.ensures.asks.free;
+}

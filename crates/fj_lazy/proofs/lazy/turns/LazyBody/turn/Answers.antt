@@ -42,19 +42,19 @@ go_up-requires g c =
     (Coded-set g.row.J-Out.coded _ _) c.args.self.now.total (sym c.in-Skipping.ensures.value)
 
 pub returns-in-Skipping-clause-right : goal.returns-in-Skipping-clause-right
-returns-in-Skipping-clause-right g c = rw c.go_up.ensures.key at c.go_up.ensures.right
+returns-in-Skipping-clause-right g c = rw c.go_up.ensures.key at c.go_up.ensures.asks.rightly
 
 pub returns-in-Skipping-clause-nearer : goal.returns-in-Skipping-clause-nearer
-returns-in-Skipping-clause-nearer g c = rw (sym c.in-Skipping.ensures.value) c.go_up.ensures.nearer
+returns-in-Skipping-clause-nearer g c = rw (sym c.in-Skipping.ensures.value) c.go_up.ensures.asks.nearer
 
 pub returns-in-Leaving-clause-right : goal.returns-in-Leaving-clause-right
-returns-in-Leaving-clause-right g c = rw c.leave.ensures.key at c.leave.ensures.right
+returns-in-Leaving-clause-right g c = rw c.leave.ensures.key at c.leave.ensures.asks.rightly
 
 pub returns-in-Leaving-clause-nearer : goal.returns-in-Leaving-clause-nearer
-returns-in-Leaving-clause-nearer g c = rw (sym c.in-Leaving.ensures.value) c.leave.ensures.nearer
+returns-in-Leaving-clause-nearer g c = rw (sym c.in-Leaving.ensures.value) c.leave.ensures.asks.nearer
 
 pub returns-clause-right : goal.returns-clause-right
-returns-clause-right g c = rw c.leave-in-Over.ensures.key at c.leave-in-Over.ensures.right
+returns-clause-right g c = rw c.leave-in-Over.ensures.key at c.leave-in-Over.ensures.asks.rightly
 
 pub returns-clause-nearer : goal.returns-clause-nearer
-returns-clause-nearer g c = rw (sym c.in-Over.ensures.value) c.leave-in-Over.ensures.nearer
+returns-clause-nearer g c = rw (sym c.in-Over.ensures.value) c.leave-in-Over.ensures.asks.nearer
