@@ -4,11 +4,7 @@ use Rattle.std.proofs.Common.{ℕ, ◌≤◌, List, arith}
 use Rattle.fj_bodies.specs.declared.body.Ask.{Ask}
 use Rattle.fj_bodies.specs.declared.body.Ask.TheVariants as asks
 use Rattle.fj_bodies.specs.Turns.{Nearer}
-use Rattle.fj_lazy.specs.declared.part.Inner.{Inner}
-use Rattle.fj_lazy.specs.declared.part.Outer.{Outer}
-use Rattle.fj_lazy.specs.declared.part.LazyStage.{LazyStage}
-use Rattle.fj_lazy.specs.Splits.{turns_of}
-use Rattle.fj_lazy.specs.Steps.{AsksOn}
+use Rattle.fj_lazy.specs.Asks.{AsksOn}
 
 -- from further away an ask brings a body nearer to its ending, too
 pub nearer_more : {B K O : Type 0} (new b c : ℕ) (ask : Ask B K O) → Nearer new b ask → b ≤ c → Nearer new c ask
@@ -32,9 +28,8 @@ nearer_more new b c (asks.Fail code) h le = tt
 nearer_more new b c (asks.HookDone out) h le = tt
 
 -- the same of all that it asks
-pub asks_more : {B J K O : Type 0} (value : K → O) (key : K) (b c : ℕ) (forked : List ℕ) (forks : ℕ) (outers : List (Outer J K O)) (inners : List (Inner J K O)) (stage : LazyStage J K O) (ask : Ask B K O) → AsksOn value key b forked forks outers inners stage ask → b ≤ c
-    → AsksOn value key c forked forks outers inners stage ask
-asks_more value key b c forked forks outers inners stage ask h le = record { rightly = h.rightly; nearer = nearer_more (turns_of forks outers stage) b c ask h.nearer le; as_job = h.as_job; joins = h.joins; free = h.free }
+pub asks_more : {B K O : Type 0} (value : K → O) (key : K) (b c left : ℕ) (forked kept : List ℕ) (ask : Ask B K O) → AsksOn value key b left forked kept ask → b ≤ c → AsksOn value key c left forked kept ask
+asks_more value key b c left forked kept ask h le = record { rightly = h.rightly; nearer = nearer_more left b c ask h.nearer le; as_job = h.as_job; joins = h.joins }
 
 -- a fact of a value gives another one
 pub ok_map : {A E : Type 0} (P Q : A → Type 0) (r : Result A E) → IfOk r P → ((a : A) → P a → Q a) → IfOk r Q

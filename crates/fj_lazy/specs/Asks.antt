@@ -5,6 +5,7 @@ use Rattle.fj_bodies.specs.declared.body.Heard.{Heard}
 use Rattle.fj_bodies.specs.declared.body.Heard.TheVariants as hears
 use Rattle.fj_bodies.specs.declared.body.Ask.{Ask}
 use Rattle.fj_bodies.specs.declared.body.Ask.TheVariants.{Fork, Join, Release, Ok as AskOk, Fail}
+use Rattle.fj_bodies.specs.Turns.{AskRight, Nearer}
 use Rattle.fj_lazy.specs.declared.part.Inner.{Inner}
 use Rattle.fj_lazy.specs.declared.part.Outer.{Outer}
 use Rattle.fj_lazy.specs.declared.part.LazyStage.{LazyStage}
@@ -39,3 +40,10 @@ JoinsOwn olds news _ = olds ≡ news
 abbrev pub HoldsNothing : {B J K O : Type 0} → List (Inner J K O) → Ask B K O → Type 0
 HoldsNothing inners (Join t) = inners ≡ []
 HoldsNothing inners _ = ⊤
+
+-- it asks so, rightly for its key; it comes nearer to its ending, from so many turns to so many; of the tasks that it forked, these are kept
+pub record AsksOn {B K O : Type 0} (value : K → O) (key : K) (turns turns_left : ℕ) (forked kept : List ℕ) (ask : Ask B K O) : Type 0 where
+  pub rightly : AskRight (λ k o. o ≡ value k) key ask
+  pub nearer : Nearer turns_left turns ask
+  pub as_job : AsksAsJob ask
+  pub joins : JoinsOwn forked kept ask

@@ -2,9 +2,10 @@ ghost use Rattle.std.specs.Prelude.{◌≡◌, ℕ, ◌+◌, ◌*◌, ◌<◌, �
 ghost use Rattle.std.specs.VecDeque.{deque_len, deque_capacity};
 ghost use Rattle.fj_rules.specs.Refusals.{refusal_number};
 ghost use Rattle.fj_lazy.specs.PartsAside.{around, beside, branches, forked_in, outside, weigh, weight, whole};
-ghost use Rattle.fj_lazy.specs.Splits.{Gives, HasRoom, turns_to_leave};
+ghost use Rattle.fj_lazy.specs.Splits.{Gives, HasRoom, turns_left, turns_of, turns_to_leave};
+ghost use Rattle.fj_lazy.specs.Asks.{AsksOn, HoldsNothing};
 ghost use Rattle.fj_lazy.specs.Failures.{Leaves};
-ghost use Rattle.fj_lazy.specs.Steps.{AsksNext, AsksOn, HasNext};
+ghost use Rattle.fj_lazy.specs.Steps.{HasNext};
 
 use crate::descent::Descent;
 use crate::part::{Climb, DescentEnd, LazyStage};
@@ -84,7 +85,8 @@ impl<'s, J: Divide> Lazy<'s, J> {
     /// Releases what it forked, the last one first, and then fails with this code.
     fn leave(&mut self, code: u32) -> Ask<Lazy<'s, J>>
         ensures key { self.new.key ≡ self.old.key }
-        ensures asks { AsksOn J.value self.new.key (turns_to_leave self.old.forks self.old.parts.outer.items) (forked_in self.old.parts.outer.items) self.new.forks self.new.parts.outer.items self.new.parts.inner.items self.new.stage result }
+        ensures asks { AsksOn J.value self.new.key (turns_to_leave self.old.forks self.old.parts.outer.items) (turns_of self.new.forks self.new.parts.outer.items self.new.stage) (forked_in self.old.parts.outer.items) (forked_in self.new.parts.outer.items) result }
+        ensures free { HoldsNothing self.new.parts.inner.items result }
         ensures leaves { Leaves code self.new.stage result }
     {
         self.stage = LazyStage::Leaving(code);
@@ -97,7 +99,8 @@ impl<'s, J: Divide> Lazy<'s, J> {
     /// Leaves with the code of `OutOfMemory`.
     fn give_up(&mut self) -> Ask<Lazy<'s, J>>
         ensures key { self.new.key ≡ self.old.key }
-        ensures asks { AsksNext J.value self.new.key self.old.forks self.old.parts.outer.items self.new.forks self.new.parts.outer.items self.new.parts.inner.items self.new.stage result }
+        ensures asks { AsksOn J.value self.new.key (turns_left self.old.forks self.old.parts.outer.items) (turns_of self.new.forks self.new.parts.outer.items self.new.stage) (forked_in self.old.parts.outer.items) (forked_in self.new.parts.outer.items) result }
+        ensures free { HoldsNothing self.new.parts.inner.items result }
         ensures leaves { Leaves (refusal_number Refusal.OutOfMemory) self.new.stage result }
     {
         self.leave(Refusal::OutOfMemory.number())
@@ -110,7 +113,8 @@ impl<'s, J: Divide> Lazy<'s, J> {
     fn step_up(&mut self, value: J::Out) -> Result<J, Ask<Lazy<'s, J>>>
         requires { whole J.key_of J.value J.combined self.old.parts.outer.items self.old.parts.inner.items value ≡ J.value self.old.key }
         ensures key { self.new.key ≡ self.old.key }
-        ensures asks { IfErr result (λ ask. AsksNext J.value self.new.key self.old.forks self.old.parts.outer.items self.new.forks self.new.parts.outer.items self.new.parts.inner.items self.new.stage ask) }
+        ensures asks { IfErr result (λ ask. AsksOn J.value self.new.key (turns_left self.old.forks self.old.parts.outer.items) (turns_of self.new.forks self.new.parts.outer.items self.new.stage) (forked_in self.old.parts.outer.items) (forked_in self.new.parts.outer.items) ask) }
+        ensures free { IfErr result (λ ask. HoldsNothing self.new.parts.inner.items ask) }
         ensures next { IfOk result (λ j. HasNext J.key_of J.value J.combined (J.value self.new.key) self.old.forks self.old.parts.outer.items self.new.forks self.new.parts.outer.items self.new.parts.inner.items j) }
         ensures lighter { IfOk result (λ j. weigh (weight J.size) self.new.parts.inner.items + branches (J.size j) ≤ weigh (weight J.size) self.old.parts.inner.items) }
     {
@@ -142,7 +146,8 @@ impl<'s, J: Divide> Lazy<'s, J> {
         requires leaf { J.value (J.key_of leaf) ≡ J.leaf_of leaf }
         requires room { deque_len self.old.parts.inner < deque_capacity self.old.parts.inner }
         ensures key { self.new.key ≡ self.old.key }
-        ensures asks { IfErr result (λ ask. AsksNext J.value self.new.key self.old.forks self.old.parts.outer.items self.new.forks self.new.parts.outer.items self.new.parts.inner.items self.new.stage ask) }
+        ensures asks { IfErr result (λ ask. AsksOn J.value self.new.key (turns_left self.old.forks self.old.parts.outer.items) (turns_of self.new.forks self.new.parts.outer.items self.new.stage) (forked_in self.old.parts.outer.items) (forked_in self.new.parts.outer.items) ask) }
+        ensures free { IfErr result (λ ask. HoldsNothing self.new.parts.inner.items ask) }
         ensures next { IfOk result (λ j. HasNext J.key_of J.value J.combined (J.value self.new.key) self.old.forks self.old.parts.outer.items self.new.forks self.new.parts.outer.items self.new.parts.inner.items j) }
         ensures lighter { IfOk result (λ j. weigh (weight J.size) self.new.parts.inner.items + branches (J.size j) ≤ weigh (weight J.size) self.old.parts.inner.items + branches (J.size half)) }
     {
@@ -159,7 +164,8 @@ impl<'s, J: Divide> Lazy<'s, J> {
         requires room { (vec_len self.old.parts.outer < vec_capacity self.old.parts.outer) × (deque_len self.old.parts.inner < deque_capacity self.old.parts.inner) }
         requires forks { 0 < self.old.forks }
         ensures key { self.new.key ≡ self.old.key }
-        ensures asks { IfErr result (λ ask. AsksNext J.value self.new.key self.old.forks self.old.parts.outer.items self.new.forks self.new.parts.outer.items self.new.parts.inner.items self.new.stage ask) }
+        ensures asks { IfErr result (λ ask. AsksOn J.value self.new.key (turns_left self.old.forks self.old.parts.outer.items) (turns_of self.new.forks self.new.parts.outer.items self.new.stage) (forked_in self.old.parts.outer.items) (forked_in self.new.parts.outer.items) ask) }
+        ensures free { IfErr result (λ ask. HoldsNothing self.new.parts.inner.items ask) }
         ensures next { IfOk result (λ j. HasNext J.key_of J.value J.combined (J.value self.new.key) self.old.forks self.old.parts.outer.items self.new.forks self.new.parts.outer.items self.new.parts.inner.items j) }
         ensures lighter { IfOk result (λ j. weigh (weight J.size) self.new.parts.inner.items + branches (J.size j) ≤ weigh (weight J.size) self.old.parts.inner.items + branches (J.size half)) }
     {
@@ -193,7 +199,8 @@ impl<'s, J: Divide> Lazy<'s, J> {
         requires total { whole J.key_of J.value J.combined self.old.parts.outer.items self.old.parts.inner.items (J.value (J.key_of leaf)) ≡ J.value self.old.key }
         requires leaf { J.value (J.key_of leaf) ≡ J.leaf_of leaf }
         ensures key { self.new.key ≡ self.old.key }
-        ensures asks { IfErr result (λ ask. AsksNext J.value self.new.key self.old.forks self.old.parts.outer.items self.new.forks self.new.parts.outer.items self.new.parts.inner.items self.new.stage ask) }
+        ensures asks { IfErr result (λ ask. AsksOn J.value self.new.key (turns_left self.old.forks self.old.parts.outer.items) (turns_of self.new.forks self.new.parts.outer.items self.new.stage) (forked_in self.old.parts.outer.items) (forked_in self.new.parts.outer.items) ask) }
+        ensures free { IfErr result (λ ask. HoldsNothing self.new.parts.inner.items ask) }
         ensures next { IfOk result (λ j. HasNext J.key_of J.value J.combined (J.value self.new.key) self.old.forks self.old.parts.outer.items self.new.forks self.new.parts.outer.items self.new.parts.inner.items j) }
         ensures lighter { IfOk result (λ j. weigh (weight J.size) self.new.parts.inner.items + branches (J.size j) ≤ weigh (weight J.size) self.old.parts.inner.items) }
     {
@@ -220,7 +227,8 @@ impl<'s, J: Divide> Lazy<'s, J> {
     fn compute_on(&mut self, job: J) -> Result<J, Ask<Lazy<'s, J>>>
         requires { whole J.key_of J.value J.combined self.old.parts.outer.items self.old.parts.inner.items (J.value (J.key_of job)) ≡ J.value self.old.key }
         ensures key { self.new.key ≡ self.old.key }
-        ensures asks { IfErr result (λ ask. AsksNext J.value self.new.key self.old.forks self.old.parts.outer.items self.new.forks self.new.parts.outer.items self.new.parts.inner.items self.new.stage ask) }
+        ensures asks { IfErr result (λ ask. AsksOn J.value self.new.key (turns_left self.old.forks self.old.parts.outer.items) (turns_of self.new.forks self.new.parts.outer.items self.new.stage) (forked_in self.old.parts.outer.items) (forked_in self.new.parts.outer.items) ask) }
+        ensures free { IfErr result (λ ask. HoldsNothing self.new.parts.inner.items ask) }
         ensures next { IfOk result (λ j. HasNext J.key_of J.value J.combined (J.value self.new.key) self.old.forks self.old.parts.outer.items self.new.forks self.new.parts.outer.items self.new.parts.inner.items j) }
         ensures lighter { IfOk result (λ j. weigh (weight J.size) self.new.parts.inner.items + branches (J.size j) < weigh (weight J.size) self.old.parts.inner.items + branches (J.size job)) }
     {

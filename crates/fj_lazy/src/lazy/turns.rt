@@ -4,9 +4,8 @@ ghost use Rattle.std.specs.VecDeque.{deque_len, deque_capacity};
 ghost use Rattle.fj_bodies.specs.Turns.{HeardRight, AskRight, Nearer};
 ghost use Rattle.fj_lazy.specs.PartsAside.{around, beside, forked_in, outside, whole};
 ghost use Rattle.fj_lazy.specs.Splits.{turns_left, turns_of};
-ghost use Rattle.fj_lazy.specs.Asks.{AsksAsJob, HoldsNothing, JoinsOwn, forked_by};
+ghost use Rattle.fj_lazy.specs.Asks.{AsksAsJob, AsksOn, HoldsNothing, JoinsOwn, forked_by};
 ghost use Rattle.fj_lazy.specs.Failures.{AsksFailing, code_heard, is_want_of_room};
-ghost use Rattle.fj_lazy.specs.Steps.{AsksNext, AsksOn};
 
 use super::Lazy;
 use crate::part::{LazyStage, Outer};
@@ -63,7 +62,8 @@ impl<'s, J: Divide> Lazy<'s, J> {
     fn go_on(&mut self, job: J) -> Ask<Lazy<'s, J>>
         requires { whole J.key_of J.value J.combined self.old.parts.outer.items self.old.parts.inner.items (J.value (J.key_of job)) ≡ J.value self.old.key }
         ensures key { self.new.key ≡ self.old.key }
-        ensures asks { AsksNext J.value self.new.key self.old.forks self.old.parts.outer.items self.new.forks self.new.parts.outer.items self.new.parts.inner.items self.new.stage result }
+        ensures asks { AsksOn J.value self.new.key (turns_left self.old.forks self.old.parts.outer.items) (turns_of self.new.forks self.new.parts.outer.items self.new.stage) (forked_in self.old.parts.outer.items) (forked_in self.new.parts.outer.items) result }
+        ensures free { HoldsNothing self.new.parts.inner.items result }
     {
         let mut job = job;
         loop {
@@ -79,7 +79,8 @@ impl<'s, J: Divide> Lazy<'s, J> {
     fn go_up(&mut self, value: J::Out) -> Ask<Lazy<'s, J>>
         requires { whole J.key_of J.value J.combined self.old.parts.outer.items self.old.parts.inner.items value ≡ J.value self.old.key }
         ensures key { self.new.key ≡ self.old.key }
-        ensures asks { AsksNext J.value self.new.key self.old.forks self.old.parts.outer.items self.new.forks self.new.parts.outer.items self.new.parts.inner.items self.new.stage result }
+        ensures asks { AsksOn J.value self.new.key (turns_left self.old.forks self.old.parts.outer.items) (turns_of self.new.forks self.new.parts.outer.items self.new.stage) (forked_in self.old.parts.outer.items) (forked_in self.new.parts.outer.items) result }
+        ensures free { HoldsNothing self.new.parts.inner.items result }
     {
         match self.step_up(value) {
             Ok(job) => self.go_on(job),
@@ -92,7 +93,8 @@ impl<'s, J: Divide> Lazy<'s, J> {
         requires total { whole J.key_of J.value J.combined (self.old.parts.outer.items ++ forked ∷ []) self.old.parts.inner.items (J.value (J.key_of leaf)) ≡ J.value self.old.key }
         requires room { vec_len self.old.parts.outer < vec_capacity self.old.parts.outer }
         ensures key { self.new.key ≡ self.old.key }
-        ensures asks { AsksOn J.value self.new.key (turns_left self.old.forks self.old.parts.outer.items + 1) (forked_in (self.old.parts.outer.items ++ forked ∷ [])) self.new.forks self.new.parts.outer.items self.new.parts.inner.items self.new.stage result }
+        ensures asks { AsksOn J.value self.new.key (turns_left self.old.forks self.old.parts.outer.items + 1) (turns_of self.new.forks self.new.parts.outer.items self.new.stage) (forked_in (self.old.parts.outer.items ++ forked ∷ [])) (forked_in self.new.parts.outer.items) result }
+        ensures free { HoldsNothing self.new.parts.inner.items result }
     {
         self.stage = LazyStage::Over;
         self.parts.outer.push_reserved(forked);
@@ -105,7 +107,8 @@ impl<'s, J: Divide> Lazy<'s, J> {
         requires leaf { J.value (J.key_of leaf) ≡ J.leaf_of leaf }
         requires room { deque_len self.old.parts.inner < deque_capacity self.old.parts.inner }
         ensures key { self.new.key ≡ self.old.key }
-        ensures asks { AsksNext J.value self.new.key self.old.forks self.old.parts.outer.items self.new.forks self.new.parts.outer.items self.new.parts.inner.items self.new.stage result }
+        ensures asks { AsksOn J.value self.new.key (turns_left self.old.forks self.old.parts.outer.items) (turns_of self.new.forks self.new.parts.outer.items self.new.stage) (forked_in self.old.parts.outer.items) (forked_in self.new.parts.outer.items) result }
+        ensures free { HoldsNothing self.new.parts.inner.items result }
     {
         match self.keep(half, leaf) {
             Ok(job) => self.go_on(job),
@@ -119,7 +122,8 @@ impl<'s, J: Divide> Lazy<'s, J> {
     fn begin(&mut self, job: J, heard: Heard<Lazy<'s, J>>) -> Ask<Lazy<'s, J>>
         requires { whole J.key_of J.value J.combined self.old.parts.outer.items self.old.parts.inner.items (J.value (J.key_of job)) ≡ J.value self.old.key }
         ensures key { self.new.key ≡ self.old.key }
-        ensures asks { AsksNext J.value self.new.key self.old.forks self.old.parts.outer.items self.new.forks self.new.parts.outer.items self.new.parts.inner.items self.new.stage result }
+        ensures asks { AsksOn J.value self.new.key (turns_left self.old.forks self.old.parts.outer.items) (turns_of self.new.forks self.new.parts.outer.items self.new.stage) (forked_in self.old.parts.outer.items) (forked_in self.new.parts.outer.items) result }
+        ensures free { HoldsNothing self.new.parts.inner.items result }
         ensures failing { AsksFailing J.Key.eq (LazyStage.Going job) heard.entry self.new.stage result }
     {
         match heard {
@@ -141,7 +145,8 @@ impl<'s, J: Divide> Lazy<'s, J> {
         requires outer_room { vec_len self.old.parts.outer < vec_capacity self.old.parts.outer }
         requires inner_room { deque_len self.old.parts.inner < deque_capacity self.old.parts.inner }
         ensures key { self.new.key ≡ self.old.key }
-        ensures asks { AsksOn J.value self.new.key (turns_left self.old.forks self.old.parts.outer.items + 1) (forked_by self.old.parts.outer.items (LazyStage.Forking key leaf) heard.entry) self.new.forks self.new.parts.outer.items self.new.parts.inner.items self.new.stage result }
+        ensures asks { AsksOn J.value self.new.key (turns_left self.old.forks self.old.parts.outer.items + 1) (turns_of self.new.forks self.new.parts.outer.items self.new.stage) (forked_by self.old.parts.outer.items (LazyStage.Forking key leaf) heard.entry) (forked_in self.new.parts.outer.items) result }
+        ensures free { HoldsNothing self.new.parts.inner.items result }
         ensures failing { AsksFailing J.Key.eq (LazyStage.Forking key leaf) heard.entry self.new.stage result }
     {
         match heard {
@@ -165,7 +170,8 @@ impl<'s, J: Divide> Lazy<'s, J> {
         requires heard { HeardRight (λ k o. o ≡ J.value k) heard }
         requires total { whole J.key_of J.value J.combined self.old.parts.outer.items self.old.parts.inner.items (J.combined left (J.value key)) ≡ J.value self.old.key }
         ensures key { self.new.key ≡ self.old.key }
-        ensures asks { AsksOn J.value self.new.key (turns_left self.old.forks self.old.parts.outer.items) (forked_by self.old.parts.outer.items (LazyStage.Waiting task key left) heard.entry) self.new.forks self.new.parts.outer.items self.new.parts.inner.items self.new.stage result }
+        ensures asks { AsksOn J.value self.new.key (turns_left self.old.forks self.old.parts.outer.items) (turns_of self.new.forks self.new.parts.outer.items self.new.stage) (forked_by self.old.parts.outer.items (LazyStage.Waiting task key left) heard.entry) (forked_in self.new.parts.outer.items) result }
+        ensures free { HoldsNothing self.new.parts.inner.items result }
         ensures failing { AsksFailing J.Key.eq (LazyStage.Waiting task key left) heard.entry self.new.stage result }
     {
         match heard {

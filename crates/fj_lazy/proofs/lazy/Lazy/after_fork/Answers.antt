@@ -19,5 +19,4 @@ returns-in-Task-clause-asks g c = record {
   nearer = c.go_within.ensures.asks.nearer;
   as_job = c.go_within.ensures.asks.as_job;
   joins = rw c.in-Task.is (joins_forked c.args.self.now.parts.outer.items c.in-Task.task c.args.key _ c.go_within.result c.go_within.ensures.asks.joins);
-  free = c.go_within.ensures.asks.free;
 }

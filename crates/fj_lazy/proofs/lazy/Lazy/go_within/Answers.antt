@@ -9,5 +9,4 @@ returns-clause-asks g c = record {
   nearer = nearer_more _ _ _ _ c.go_on.ensures.asks.nearer (omega (arith, forked_count _ _ c.args.forked c.push_reserved.ensures.items));
   as_job = c.go_on.ensures.asks.as_job;
   joins = rw c.push_reserved.ensures.items at c.go_on.ensures.asks.joins;
-  free = c.go_on.ensures.asks.free;
 }
