@@ -2,7 +2,7 @@ ghost use Rattle.std.specs.Prelude.{◌≡◌, ℕ, ◌+◌, ◌*◌, ◌<◌, �
 ghost use Rattle.fj_rules.specs.Refusals.{refusal_number};
 ghost use Rattle.fj_bodies.specs.Turns.{HeardRight, AskRight, Nearer};
 ghost use Rattle.fj_invoke.specs.Recursions.{Gives, HasRoom, turns_of, left_value, tail_value};
-ghost use Rattle.fj_lazy.specs.Asks.{AsksAsJob, JoinsOwn};
+ghost use Rattle.fj_lazy.specs.Asks.{AsksAsJob, AsksOn, JoinsOwn};
 ghost use Rattle.fj_lazy.specs.Failures.{code_heard, is_want_of_room};
 ghost use Rattle.fj_invoke.specs.Asks.{forked_by, forked_in};
 ghost use Rattle.fj_invoke.specs.Stages.{AsksNext, Finishes, Forks, GoesOn, Leaves, is_in_place, is_under};
@@ -106,11 +106,8 @@ impl<J: Divide> RecursiveState<J> {
     /// Releases what it forked, the last one first, and then fails with this code.
     fn leave(&mut self, code: u32) -> Ask<Recursive<J>>
         ensures key { self.new.key ≡ self.old.key }
-        ensures right { AskRight (λ k o. o ≡ J.value k) self.new.key result }
-        ensures nearer { Nearer (turns_of J.size (vec_len self.new.lefts) self.new.stage) (vec_len self.old.lefts) result }
+        ensures asks { AsksOn J.value self.new.key (vec_len self.old.lefts) (turns_of J.size (vec_len self.new.lefts) self.new.stage) (forked_in self.old.lefts.items) (forked_in self.new.lefts.items) result }
         ensures leaves { Leaves code self.new.stage result }
-        ensures asks { AsksAsJob result }
-        ensures joins { JoinsOwn (forked_in self.old.lefts.items) (forked_in self.new.lefts.items) result }
     {
         self.stage = RecursiveStage::Leaving(code);
         match last_forked(&mut self.lefts) {
@@ -122,11 +119,8 @@ impl<J: Divide> RecursiveState<J> {
     /// Leaves with the code of `OutOfMemory`.
     fn give_up(&mut self) -> Ask<Recursive<J>>
         ensures key { self.new.key ≡ self.old.key }
-        ensures right { AskRight (λ k o. o ≡ J.value k) self.new.key result }
-        ensures nearer { Nearer (turns_of J.size (vec_len self.new.lefts) self.new.stage) (2 * vec_len self.old.lefts + 1) result }
+        ensures asks { AsksOn J.value self.new.key (2 * vec_len self.old.lefts + 1) (turns_of J.size (vec_len self.new.lefts) self.new.stage) (forked_in self.old.lefts.items) (forked_in self.new.lefts.items) result }
         ensures leaves { Leaves (refusal_number Refusal.OutOfMemory) self.new.stage result }
-        ensures asks { AsksAsJob result }
-        ensures joins { JoinsOwn (forked_in self.old.lefts.items) (forked_in self.new.lefts.items) result }
     {
         self.leave(Refusal::OutOfMemory.number())
     }
@@ -138,11 +132,8 @@ impl<J: Divide> RecursiveState<J> {
     fn finish(&mut self, tail: J::Out) -> Ask<Recursive<J>>
         requires { tail_value J.combined (map (left_value J.value) self.old.lefts.items) tail ≡ J.value self.old.key }
         ensures key { self.new.key ≡ self.old.key }
-        ensures right { AskRight (λ k o. o ≡ J.value k) self.new.key result }
-        ensures nearer { Nearer (turns_of J.size (vec_len self.new.lefts) self.new.stage) (2 * vec_len self.old.lefts) result }
+        ensures asks { AsksOn J.value self.new.key (2 * vec_len self.old.lefts) (turns_of J.size (vec_len self.new.lefts) self.new.stage) (forked_in self.old.lefts.items) (forked_in self.new.lefts.items) result }
         ensures finishes { Finishes self.new.stage result }
-        ensures asks { AsksAsJob result }
-        ensures joins { JoinsOwn (forked_in self.old.lefts.items) (forked_in self.new.lefts.items) result }
     {
         self.stage = RecursiveStage::Over;
         match fold_done(&mut self.lefts, tail) {
@@ -160,11 +151,8 @@ impl<J: Divide> RecursiveState<J> {
     fn fork(&mut self, left: J, right: J) -> Ask<Recursive<J>>
         requires { tail_value J.combined (map (left_value J.value) self.old.lefts.items) (J.combined (J.value (J.key_of left)) (J.value (J.key_of right))) ≡ J.value self.old.key }
         ensures key { self.new.key ≡ self.old.key }
-        ensures right { AskRight (λ k o. o ≡ J.value k) self.new.key result }
-        ensures nearer { Nearer (turns_of J.size (vec_len self.new.lefts) self.new.stage) (4 * J.size right + 2 * vec_len self.old.lefts + 6) result }
+        ensures asks { AsksOn J.value self.new.key (4 * J.size right + 2 * vec_len self.old.lefts + 6) (turns_of J.size (vec_len self.new.lefts) self.new.stage) (forked_in self.old.lefts.items) (forked_in self.new.lefts.items) result }
         ensures forks { Forks J.key_of (λ b. b.inside.value.stage) (λ b. b.inside.value.lefts.items) left right self.new.stage result }
-        ensures asks { AsksAsJob result }
-        ensures joins { JoinsOwn (forked_in self.old.lefts.items) (forked_in self.new.lefts.items) result }
     {
         self.stage = RecursiveStage::Over;
         if self.lefts.reserve(1).is_err() {
@@ -185,11 +173,8 @@ impl<J: Divide> RecursiveState<J> {
     fn go_on(&mut self, job: J) -> Ask<Recursive<J>>
         requires { tail_value J.combined (map (left_value J.value) self.old.lefts.items) (J.value (J.key_of job)) ≡ J.value self.old.key }
         ensures key { self.new.key ≡ self.old.key }
-        ensures right { AskRight (λ k o. o ≡ J.value k) self.new.key result }
-        ensures nearer { Nearer (turns_of J.size (vec_len self.new.lefts) self.new.stage) (4 * J.size job + 2 * vec_len self.old.lefts + 2) result }
+        ensures asks { AsksOn J.value self.new.key (4 * J.size job + 2 * vec_len self.old.lefts + 2) (turns_of J.size (vec_len self.new.lefts) self.new.stage) (forked_in self.old.lefts.items) (forked_in self.new.lefts.items) result }
         ensures next { GoesOn J.key_of J.value J.leaf_of J.combined J.size (λ b. b.inside.value.stage) (λ b. b.inside.value.lefts.items) job self.new.stage result }
-        ensures asks { AsksAsJob result }
-        ensures joins { JoinsOwn (forked_in self.old.lefts.items) (forked_in self.new.lefts.items) result }
     {
         match job.split() {
             Ok((left, right)) => self.fork(left, right),
@@ -207,11 +192,8 @@ impl<J: Divide> RecursiveState<J> {
         requires total { tail_value J.combined (map (left_value J.value) self.old.lefts.items) (J.combined (left_value J.value left) (J.value (J.key_of job))) ≡ J.value self.old.key }
         requires room { vec_len self.old.lefts < vec_capacity self.old.lefts }
         ensures key { self.new.key ≡ self.old.key }
-        ensures right { AskRight (λ k o. o ≡ J.value k) self.new.key result }
-        ensures nearer { Nearer (turns_of J.size (vec_len self.new.lefts) self.new.stage) (4 * J.size job + 2 * vec_len self.old.lefts + 5) result }
+        ensures asks { AsksOn J.value self.new.key (4 * J.size job + 2 * vec_len self.old.lefts + 5) (turns_of J.size (vec_len self.new.lefts) self.new.stage) (forked_in (self.old.lefts.items ++ left ∷ [])) (forked_in self.new.lefts.items) result }
         ensures next { GoesOn J.key_of J.value J.leaf_of J.combined J.size (λ b. b.inside.value.stage) (λ b. b.inside.value.lefts.items) job self.new.stage result }
-        ensures asks { AsksAsJob result }
-        ensures joins { JoinsOwn (forked_in (self.old.lefts.items ++ left ∷ [])) (forked_in self.new.lefts.items) result }
     {
         self.stage = RecursiveStage::Over;
         self.lefts.push_reserved(left);
@@ -225,11 +207,8 @@ impl<J: Divide> RecursiveState<J> {
     fn begin(&mut self, job: J, heard: Heard<Recursive<J>>) -> Ask<Recursive<J>>
         requires { tail_value J.combined (map (left_value J.value) self.old.lefts.items) (J.value (J.key_of job)) ≡ J.value self.old.key }
         ensures key { self.new.key ≡ self.old.key }
-        ensures right { AskRight (λ k o. o ≡ J.value k) self.new.key result }
-        ensures nearer { Nearer (turns_of J.size (vec_len self.new.lefts) self.new.stage) (4 * J.size job + 2 * vec_len self.old.lefts + 2) result }
+        ensures asks { AsksOn J.value self.new.key (4 * J.size job + 2 * vec_len self.old.lefts + 2) (turns_of J.size (vec_len self.new.lefts) self.new.stage) (forked_in self.old.lefts.items) (forked_in self.new.lefts.items) result }
         ensures next { AsksNext J.key_of J.value J.leaf_of J.combined J.size (λ b. b.inside.value.stage) (λ b. b.inside.value.lefts.items) J.Key.eq (RecursiveStage.Going job) heard self.new.stage result }
-        ensures asks { AsksAsJob result }
-        ensures joins { JoinsOwn (forked_in self.old.lefts.items) (forked_in self.new.lefts.items) result }
     {
         match heard {
             Heard::Start(_) => self.go_on(job),
@@ -244,11 +223,8 @@ impl<J: Divide> RecursiveState<J> {
         requires room { vec_len self.old.lefts < vec_capacity self.old.lefts }
         requires total { tail_value J.combined (map (left_value J.value) self.old.lefts.items) (J.combined (J.value key) (J.value (J.key_of job))) ≡ J.value self.old.key }
         ensures key { self.new.key ≡ self.old.key }
-        ensures right { AskRight (λ k o. o ≡ J.value k) self.new.key result }
-        ensures nearer { Nearer (turns_of J.size (vec_len self.new.lefts) self.new.stage) (4 * J.size job + 2 * vec_len self.old.lefts + 5) result }
+        ensures asks { AsksOn J.value self.new.key (4 * J.size job + 2 * vec_len self.old.lefts + 5) (turns_of J.size (vec_len self.new.lefts) self.new.stage) (forked_by self.old.lefts.items (RecursiveStage.Forking job key) heard) (forked_in self.new.lefts.items) result }
         ensures next { AsksNext J.key_of J.value J.leaf_of J.combined J.size (λ b. b.inside.value.stage) (λ b. b.inside.value.lefts.items) J.Key.eq (RecursiveStage.Forking job key) heard self.new.stage result }
-        ensures asks { AsksAsJob result }
-        ensures joins { JoinsOwn (forked_by self.old.lefts.items (RecursiveStage.Forking job key) heard) (forked_in self.new.lefts.items) result }
     {
         match heard {
             Heard::Task(task) => self.forked(job, Left::Forked(task, key)),
@@ -273,11 +249,8 @@ impl<J: Divide> RecursiveState<J> {
         requires heard { HeardRight (λ k o. o ≡ J.value k) heard }
         requires total { tail_value J.combined (map (left_value J.value) self.old.lefts.items) (J.combined (J.value key) tail) ≡ J.value self.old.key }
         ensures key { self.new.key ≡ self.old.key }
-        ensures right { AskRight (λ k o. o ≡ J.value k) self.new.key result }
-        ensures nearer { Nearer (turns_of J.size (vec_len self.new.lefts) self.new.stage) (2 * vec_len self.old.lefts + 1) result }
+        ensures asks { AsksOn J.value self.new.key (2 * vec_len self.old.lefts + 1) (turns_of J.size (vec_len self.new.lefts) self.new.stage) (forked_by self.old.lefts.items (RecursiveStage.Waiting task key tail) heard) (forked_in self.new.lefts.items) result }
         ensures next { AsksNext J.key_of J.value J.leaf_of J.combined J.size (λ b. b.inside.value.stage) (λ b. b.inside.value.lefts.items) J.Key.eq (RecursiveStage.Waiting task key tail) heard self.new.stage result }
-        ensures asks { AsksAsJob result }
-        ensures joins { JoinsOwn (forked_by self.old.lefts.items (RecursiveStage.Waiting task key tail) heard) (forked_in self.new.lefts.items) result }
     {
         match heard {
             Heard::Got(heard_key, out) => {
@@ -298,11 +271,8 @@ impl<J: Divide> RecursiveState<J> {
     fn turn(&mut self, heard: Heard<Recursive<J>>) -> Ask<Recursive<J>>
         requires { HeardRight (λ k o. o ≡ J.value k) heard }
         ensures key { self.new.key ≡ self.old.key }
-        ensures right { AskRight (λ k o. o ≡ J.value k) self.old.key result }
-        ensures nearer { Nearer (turns_of J.size (vec_len self.new.lefts) self.new.stage) (turns_of J.size (vec_len self.old.lefts) self.old.stage) result }
+        ensures asks { AsksOn J.value self.old.key (turns_of J.size (vec_len self.old.lefts) self.old.stage) (turns_of J.size (vec_len self.new.lefts) self.new.stage) (forked_by self.old.lefts.items self.old.stage heard) (forked_in self.new.lefts.items) result }
         ensures next { AsksNext J.key_of J.value J.leaf_of J.combined J.size (λ b. b.inside.value.stage) (λ b. b.inside.value.lefts.items) J.Key.eq self.old.stage heard self.new.stage result }
-        ensures asks { AsksAsJob result }
-        ensures joins { JoinsOwn (forked_by self.old.lefts.items self.old.stage heard) (forked_in self.new.lefts.items) result }
     {
         match mem::replace(&mut self.stage, RecursiveStage::Over) {
             RecursiveStage::Going(job) => self.begin(job, heard),

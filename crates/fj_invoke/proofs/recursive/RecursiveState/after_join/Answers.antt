@@ -1,4 +1,4 @@
-use Rattle.std.proofs.Common.{◌≡◌, ◌∙◌, sym}
+use Rattle.std.proofs.Common.{◌≡◌, ◌∙◌, sym, arith}
 use Rattle.std.proofs.Math.Logic.{∥∥₁_elim}
 use base.Stored.{Coded-set}
 use Rattle.fj_invoke.proofs.Joins.{lets_go_last}
@@ -12,5 +12,10 @@ finish-requires g c =
     let right : c.in-Got.out ≡ g.J.Divide.value c.in-Got.heard_key = ∥∥₁_elim heard (Coded-set g.row.J-Out.coded _ _) (λ e. e) in
     rw (c.combine.ensures, right, same) c.requires.total
 
-pub returns-clause-joins : goal.returns-clause-joins
-returns-clause-joins g c = lets_go_last c.args.self.now.lefts.items c.args.task c.args.key c.args.tail c.args.heard c.in_default.not-Got
+pub returns-clause-asks : goal.returns-clause-asks
+returns-clause-asks g c = record {
+  rightly = tt;
+  nearer = omega arith;
+  as_job = tt;
+  joins = lets_go_last c.args.self.now.lefts.items c.args.task c.args.key c.args.tail c.args.heard c.in_default.not-Got;
+}
