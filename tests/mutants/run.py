@@ -116,7 +116,9 @@ def refusals(said):
     """Returns what the check refused, by its name, and the goals that it did not prove."""
     found = {}
     for name, why in re.findall(r"^\w+ (\S+): (no.*)$", said, re.M):
-        folder = re.escape("/".join(name.split("::")[1:]))
+        # the folder of a function that calls itself begins with a plus
+        *outer, last = map(re.escape, name.split("::")[1:])
+        folder = "/".join([*outer, rf"\+?{last}"])
         errors = re.findall(rf"^\./proofs/{folder}/\w+\.antt:\d+:\d+: error: (.*)$", said, re.M)
         goals = re.findall(r"`([^`]+)`", why.partition("did not prove ")[2].partition(";")[0])
         goals += [it[1] for it in (re.match(r"`([^`]+)`: ", it) for it in errors if not FORM.search(it)) if it]
