@@ -1,4 +1,4 @@
-ghost use Rattle.std.specs.Prelude.{◌≡◌, ◌<◌, IfErr, IfOk, IfSome, Some, length};
+ghost use Rattle.std.specs.Prelude.{◌≡◌, ◌<◌, [], IfErr, IfNone, IfOk, IfSome, Some, length};
 ghost use mathlib.Core.List.{IsPrefix};
 ghost use Rattle.fj_core.specs.Cores.{CollectsTicket};
 ghost use Rattle.fj_guarded.specs.Continuing.{EndsWith, IsToldNow};
@@ -124,6 +124,7 @@ impl<'p, 'r, B: Body, N: Naming, R: Wait> Running<'p, 'r, B, N, R> {
     /// Waits until one of several outcomes is ready, and returns the first in their order, with its index: `Pool::await_any`.
     pub fn await_any(&mut self, tickets: &[Ticket]) -> Option<(usize, Result<Outcome<B>, Refusal>)>
         ensures place { IfSome result (λ told. told.0 < length tickets.now) }
+        ensures none { IfNone result (tickets.now ≡ []) }
         ensures same { self.new ≡ self.old }
     {
         let told = self.pool.await_any(self.rt, tickets)?;

@@ -1,5 +1,5 @@
 //! Calls by threads that are no workers of the pool.
-ghost use Rattle.std.specs.Prelude.{◌≡◌, ◌<◌, IfOk, IfSome, Some, length};
+ghost use Rattle.std.specs.Prelude.{◌≡◌, ◌<◌, [], IfNone, IfOk, IfSome, Some, length};
 ghost use mathlib.Core.List.{IsPrefix};
 ghost use Rattle.fj_core.specs.Closes.{is_finished};
 ghost use Rattle.fj_core.specs.Cores.{CollectsTicket, CoreState};
@@ -138,6 +138,7 @@ impl<B: Body, N: Naming> Pool<B, N> {
         tickets: &[Ticket],
     ) -> Option<(usize, Result<Outcome<B>, Refusal>)>
         ensures place { IfSome result (λ told. told.0 < length tickets.now) }
+        ensures none { IfNone result (tickets.now ≡ []) }
     {
         let mut guard = self.lock(rt);
         let core = &mut *guard;
@@ -155,6 +156,7 @@ impl<B: Body, N: Naming> Pool<B, N> {
         ensures goes_on { IsPrefix front.old front.new }
         ensures seen { IfSome result (λ told. EndsWith front.new (λ old new. CollectsAt tickets.now old told.0 told.1 new)) }
         ensures place { IfSome result (λ told. told.0 < length tickets.now) }
+        ensures none { IfNone result (tickets.now ≡ []) }
         // The first ticket that has an outcome is booked for a task, which has the status of the outcome.
         ensures told { IfSome result (λ told. IfOk told.1 (λ outcome. IsToldAt front.new tickets.now told.0 outcome)) }
     {
@@ -172,6 +174,7 @@ impl<B: Body, N: Naming> Pool<B, N> {
         ensures goes_on { IsPrefix front.old front.new }
         ensures seen { IfSome result (λ told. EndsWith front.new (λ old new. CollectsAt tickets.now old told.0 told.1 new)) }
         ensures place { IfSome result (λ told. told.0 < length tickets.now) }
+        ensures none { IfNone result (tickets.now ≡ []) }
         ensures told { IfSome result (λ told. IfOk told.1 (λ outcome. IsToldAt front.new tickets.now told.0 outcome)) }
     {
         if tickets.is_empty() {
