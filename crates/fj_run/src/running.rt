@@ -1,7 +1,9 @@
 ghost use Rattle.std.specs.Prelude.{◌≡◌, ◌<◌, [], IfErr, IfNone, IfOk, IfSome, Some, length};
 ghost use mathlib.Core.List.{IsPrefix};
 ghost use Rattle.fj_core.specs.Cores.{CollectsTicket};
+ghost use Rattle.fj_guarded.specs.Asked.{CollectsAt};
 ghost use Rattle.fj_guarded.specs.Continuing.{EndsWith, IsToldNow};
+ghost use Rattle.fj_pool.specs.Telling.{IsToldAt};
 ghost use Rattle.fj_run.specs.Playing.{SubmitsBy};
 
 use crate::submitters::Submitters;
@@ -112,24 +114,34 @@ impl<'p, 'r, B: Body, N: Naming, R: Wait> Running<'p, 'r, B, N, R> {
         answer
     }
 
-    /// The outcome, if it is ready: `Pool::try_done`.
+    /// The outcome, if it is ready: `Pool::try_seen`.
     pub fn try_done(&mut self, ticket: Ticket) -> Option<Result<Outcome<B>, Refusal>>
-        ensures same { self.new ≡ self.old }
+        ensures goes_on { IsPrefix self.old.seen self.new.seen }
+        ensures seen { EndsWith self.new.seen (λ old new. CollectsTicket old ticket result new) }
+        ensures told { IfSome result (λ answer. IfOk answer (λ outcome. IsToldNow self.new.seen ticket outcome)) }
+        ensures seats { self.new.seats ≡ self.old.seats }
     {
-        let answer = self.pool.try_done(self.rt, ticket)?;
-        self.outstanding = self.outstanding.saturating_sub(1);
-        Some(answer)
+        let answer = self.pool.try_seen(self.rt, &mut self.front, ticket);
+        if answer.is_some() {
+            self.outstanding = self.outstanding.saturating_sub(1);
+        }
+        answer
     }
 
-    /// Waits until one of several outcomes is ready, and returns the first in their order, with its index: `Pool::await_any`.
+    /// Waits until one of several outcomes is ready, and returns the first in their order, with its index: `Pool::await_any_seen`.
     pub fn await_any(&mut self, tickets: &[Ticket]) -> Option<(usize, Result<Outcome<B>, Refusal>)>
+        ensures goes_on { IsPrefix self.old.seen self.new.seen }
+        ensures seen { IfSome result (λ told. EndsWith self.new.seen (λ old new. CollectsAt tickets.now old told.0 told.1 new)) }
         ensures place { IfSome result (λ told. told.0 < length tickets.now) }
         ensures none { IfNone result (tickets.now ≡ []) }
-        ensures same { self.new ≡ self.old }
+        ensures told { IfSome result (λ told. IfOk told.1 (λ outcome. IsToldAt self.new.seen tickets.now told.0 outcome)) }
+        ensures seats { self.new.seats ≡ self.old.seats }
     {
-        let told = self.pool.await_any(self.rt, tickets)?;
-        self.outstanding = self.outstanding.saturating_sub(1);
-        Some(told)
+        let told = self.pool.await_any_seen(self.rt, &mut self.front, tickets);
+        if told.is_some() {
+            self.outstanding = self.outstanding.saturating_sub(1);
+        }
+        told
     }
 
     /// Cancels a submission: `Pool::cancel`.
