@@ -10,3 +10,5 @@ pub mod Residues
 pub mod Finals
 -- How many numbers in a row pass a test.
 pub mod Counts
+-- Queries over ranges.
+pub mod Queries

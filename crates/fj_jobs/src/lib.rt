@@ -15,6 +15,7 @@ mod first_hit;
 mod interval;
 mod linear_mod;
 mod range_min;
+mod range_query;
 mod range_sum;
 
 pub use blocked_range::BlockedRange;
@@ -23,4 +24,5 @@ pub use first_hit::FirstHit;
 pub use interval::Interval;
 pub use linear_mod::LinearMod;
 pub use range_min::RangeMin;
+pub use range_query::{Query, QueryValue, RangeQuery};
 pub use range_sum::RangeSum;
