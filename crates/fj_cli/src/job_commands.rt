@@ -5,15 +5,15 @@ ghost use Rattle.fj_rules.specs.Bounds.{bounds};
 ghost use Rattle.fj_streams.specs.Calls.{HasFailed};
 ghost use Rattle.fj_cli.specs.declared.job_commands.TheConstants.{MAX_BLOCKS};
 ghost use Rattle.fj_commands.specs.Answers.{number_line};
+ghost use Rattle.fj_jobs.specs.Queries.{query_value};
+ghost use Rattle.fj_jobs.specs.Ranges.{range_sum, residues_hit, residues_least};
 ghost use Rattle.fj_cli.specs.Answers.{EndsRange, blocks_of, count_of, hit_line, hit_of, least_line, least_of, sum_of};
 
 use crate::refused::refused;
 use fj_arguments::{FunctionOptions, RangeOptions, Workers};
 use fj_commands::{answered, told};
-use fj_invoke::{
-    BlockedRange, Divide, FirstHit, LinearMod, Open, RangeMin, RangeSum, Settings, invoke,
-    invoke_lazily,
-};
+use fj_invoke::{Open, Settings, invoke, invoke_lazily};
+use fj_jobs::{BlockedRange, LinearMod, Query, QueryValue, RangeQuery};
 use fj_rules::{Limits, MAX_EVENTS, MAX_TASKS, Mode, Refusal};
 use fj_streams::Sink;
 use std::alloc::Global;
@@ -40,7 +40,7 @@ pub fn run_sum<H: Threads + Wait + Sync, W: Sink, E: Sink>(
     let Some(range) = blocks(options) else {
         return told(err, TOO_MANY, 2);
     };
-    match value(rt, alloc, options, RangeSum { range }) {
+    match sum(rt, alloc, options, range) {
         Ok(sum) => answered(format!(in alloc; "{sum}\n"), out, err),
         Err(refusal) => refused(refusal, err),
     }
@@ -63,7 +63,7 @@ pub fn run_min<H: Threads + Wait + Sync, W: Sink, E: Sink>(
         return told(err, TOO_MANY, 2);
     };
     let function = linear(function);
-    match value(rt, alloc, options, RangeMin { range, function }) {
+    match least(rt, alloc, options, range, function) {
         Ok(Some((least, number))) => answered(format!(in alloc; "{least} {number}\n"), out, err),
         Ok(None) => answered(format!(in alloc; "none\n"), out, err),
         Err(refusal) => refused(refusal, err),
@@ -86,12 +86,8 @@ pub fn run_find<H: Threads + Wait + Sync, W: Sink, E: Sink>(
     let Some(range) = blocks(options) else {
         return told(err, TOO_MANY, 2);
     };
-    let job = FirstHit {
-        range,
-        function: linear(function),
-        want: u64::from(want),
-    };
-    match value(rt, alloc, options, job) {
+    let function = linear(function);
+    match first(rt, alloc, options, range, function, u64::from(want)) {
         Ok(Some(number)) => answered(format!(in alloc; "{number}\n"), out, err),
         Ok(None) => answered(format!(in alloc; "none\n"), out, err),
         Err(refusal) => refused(refusal, err),
@@ -119,17 +115,68 @@ pub fn linear(function: FunctionOptions) -> LinearMod
     LinearMod::new(function.mul, function.add, function.modulus)
 }
 
-/// The value of a job, by the number of workers asked for.
-fn value<J: Divide + Send, H: Threads + Wait + Sync>(
+/// The sum of a range.
+fn sum<H: Threads + Wait + Sync>(
     rt: &H,
     alloc: Global,
     options: RangeOptions,
-    job: J,
-) -> Result<J::Out, Refusal>
-where
-    J::Key: Send,
-    J::Out: Send,
-    ensures { IfOk result (λ out. out ≡ J.value (J.key_of job)) }
+    range: BlockedRange,
+) -> Result<u64, Refusal>
+    ensures { IfOk result (λ sum. sum ≡ range_sum range.numbers.from range.numbers.count) }
+{
+    let query = Query::Sum;
+    match value(rt, alloc, options, RangeQuery { range, query }) {
+        Ok(QueryValue::Total(sum)) => Ok(sum),
+        Ok(_) => unreachable!(),
+        Err(refusal) => Err(refusal),
+    }
+}
+
+/// The least value of a function over a range, and the first number that has it. None where the range is empty.
+fn least<H: Threads + Wait + Sync>(
+    rt: &H,
+    alloc: Global,
+    options: RangeOptions,
+    range: BlockedRange,
+    function: LinearMod,
+) -> Result<Option<(u64, u64)>, Refusal>
+    ensures { IfOk result (λ least. least ≡ residues_least function.mul function.add function.modulus range.numbers.from range.numbers.count) }
+{
+    let query = Query::Min(function);
+    match value(rt, alloc, options, RangeQuery { range, query }) {
+        Ok(QueryValue::Least(least)) => Ok(least),
+        Ok(_) => unreachable!(),
+        Err(refusal) => Err(refusal),
+    }
+}
+
+/// The first number of a range at which a function has a value. None where there is none.
+fn first<H: Threads + Wait + Sync>(
+    rt: &H,
+    alloc: Global,
+    options: RangeOptions,
+    range: BlockedRange,
+    function: LinearMod,
+    want: u64,
+) -> Result<Option<u64>, Refusal>
+    ensures { IfOk result (λ hit. hit ≡ residues_hit function.mul function.add function.modulus want range.numbers.from range.numbers.count) }
+{
+    let query = Query::Find(function, want);
+    match value(rt, alloc, options, RangeQuery { range, query }) {
+        Ok(QueryValue::Hit(hit)) => Ok(hit),
+        Ok(_) => unreachable!(),
+        Err(refusal) => Err(refusal),
+    }
+}
+
+/// The answer to a query, by the number of workers asked for.
+fn value<H: Threads + Wait + Sync>(
+    rt: &H,
+    alloc: Global,
+    options: RangeOptions,
+    job: RangeQuery,
+) -> Result<QueryValue, Refusal>
+    ensures { IfOk result (λ out. out ≡ query_value job.query job.range.numbers.from job.range.numbers.count) }
 {
     let limits = limits_of(options.workers);
     if options.eager {

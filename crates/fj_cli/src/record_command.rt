@@ -1,16 +1,19 @@
 //! The command that runs a job and writes the history of the run.
-ghost use Rattle.std.specs.Prelude.{◌≡◌, ◌⊎◌, IfErr, OnOk, is_some, true};
+ghost use Rattle.std.specs.Prelude.{◌≡◌, ◌<◌, ◌⊎◌, IfErr, OnOk, is_some, true};
 ghost use Rattle.fj_streams.specs.Calls.{HasFailed};
+ghost use Rattle.fj_cli.specs.declared.job_commands.TheConstants.{MAX_BLOCKS};
+ghost use Rattle.fj_cli.specs.Answers.{blocks_of};
 ghost use Rattle.fj_cli.specs.Statuses.{EndsRecord, EndsRun, WritesHistory};
 
 use crate::job_commands::{TOO_MANY, blocks, limits_of, linear};
 use crate::notes_file::{Watch, create_file};
 use crate::refused::refused;
 use crate::tree_command::told_of_fault;
-use fj_arguments::{Job, Workers};
+use fj_arguments::{Job, RangeOptions, Workers};
 use fj_commands::{told, told_of_error};
 use fj_fold::{Nodes, read_tree, record_fold};
-use fj_invoke::{BlockedRange, Divide, FirstHit, RangeMin, RangeSum, Settings, record_job};
+use fj_invoke::{Settings, record_job};
+use fj_jobs::{BlockedRange, Query, RangeQuery};
 use fj_record::{WriteFault, write_history};
 use fj_rules::Mode;
 use fj_run::{Machine, RecordedValue};
@@ -20,21 +23,9 @@ use std::rt::{Clock, Files};
 use std::sync::Wait;
 use std::thread::Threads;
 
-/// How many workers a run has, and at most how many tasks.
-#[derive(Clone, Copy)]
-struct Size {
-    workers: Workers,
-    tasks: u64,
-}
-
-impl Size {
-    /// That of a job over a range: a task for each block.
-    fn of_range(workers: Workers, range: &BlockedRange) -> Size {
-        Size {
-            workers,
-            tasks: range.blocks().max(1),
-        }
-    }
+/// At most how many tasks a job over a range has: one for each block.
+fn tasks_of(range: &BlockedRange) -> u64 {
+    range.blocks().max(1)
 }
 
 /// Runs a job, writes the history of the run, and the times of its tasks to the file of this name, and answers the exit status.
@@ -71,34 +62,15 @@ fn record_job_to<H: Threads + Wait + Sync + Files + Clock, R: Source, W: Sink, E
     ensures failed { result ≡ 5 → HasFailed (R.calls input.old) (R.calls input.new) ⊎ (HasFailed (W.calls out.old) (W.calls out.new) ⊎ (is_some file.old ≡ true)) }
 {
     match job {
-        Job::Sum(options) => match blocks(options) {
-            Some(range) => {
-                let size = Size::of_range(options.workers, &range);
-                record(rt, alloc, size, RangeSum { range }, file, out, err)
-            }
-            None => told(err, TOO_MANY, 2),
-        },
-        Job::Min(options, function) => match blocks(options) {
-            Some(range) => {
-                let size = Size::of_range(options.workers, &range);
-                let function = linear(function);
-                let job = RangeMin { range, function };
-                record(rt, alloc, size, job, file, out, err)
-            }
-            None => told(err, TOO_MANY, 2),
-        },
-        Job::Find(options, function, want) => match blocks(options) {
-            Some(range) => {
-                let size = Size::of_range(options.workers, &range);
-                let job = FirstHit {
-                    range,
-                    function: linear(function),
-                    want: u64::from(want),
-                };
-                record(rt, alloc, size, job, file, out, err)
-            }
-            None => told(err, TOO_MANY, 2),
-        },
+        Job::Sum(options) => record_query(rt, alloc, options, Query::Sum, file, out, err),
+        Job::Min(options, function) => {
+            let query = Query::Min(linear(function));
+            record_query(rt, alloc, options, query, file, out, err)
+        }
+        Job::Find(options, function, want) => {
+            let query = Query::Find(linear(function), u64::from(want));
+            record_query(rt, alloc, options, query, file, out, err)
+        }
         Job::Tree(workers) => match read_tree(alloc, input) {
             Ok(nodes) => record_tree(rt, alloc, workers, &nodes, file, out, err),
             Err(fault) => told_of_fault(fault, err),
@@ -106,28 +78,28 @@ fn record_job_to<H: Threads + Wait + Sync + Files + Clock, R: Source, W: Sink, E
     }
 }
 
-/// Runs a job over a range, writes the history of the run, and answers the exit status.
-fn record<J: Divide + Send, H: Threads + Wait + Sync + Files + Clock, W: Sink, E: Sink>(
+/// Answers a query over a range, writes the history of the run, and answers the exit status.
+fn record_query<H: Threads + Wait + Sync + Files + Clock, W: Sink, E: Sink>(
     rt: &H,
     alloc: Global,
-    size: Size,
-    job: J,
+    options: RangeOptions,
+    query: Query,
     file: &mut Option<H::File>,
     out: &mut W,
     err: &mut E,
 ) -> u8
-where
-    J::Key: Send,
-    J::Out: Send + Drop,
-    ensures ends { EndsRun result (W.contents out.old) (W.contents out.new) }
+    ensures ends { EndsRun result (W.contents out.old) (W.contents out.new) ⊎ ((result ≡ 2) × (MAX_BLOCKS < blocks_of options)) }
     ensures failed { result ≡ 5 → HasFailed (W.calls out.old) (W.calls out.new) ⊎ (is_some file.old ≡ true) }
 {
-    let watch = match Watch::new(alloc, rt, file.is_some(), size.tasks) {
+    let Some(range) = blocks(options) else {
+        return told(err, TOO_MANY, 2);
+    };
+    let watch = match Watch::new(alloc, rt, file.is_some(), tasks_of(&range)) {
         Ok(watch) => watch,
         Err(error) => return told_of_error(&error, err),
     };
-    let settings = Settings::with_limits(limits_of(size.workers)).in_mode(Mode::Joining);
-    match record_job(rt, alloc, settings, job, &watch) {
+    let settings = Settings::with_limits(limits_of(options.workers)).in_mode(Mode::Joining);
+    match record_job(rt, alloc, settings, RangeQuery { range, query }, &watch) {
         Ok(run) => told_of_run(alloc, Mode::Joining, run, &watch, file, out, err),
         Err(refusal) => refused(refusal, err),
     }
