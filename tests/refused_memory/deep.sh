@@ -9,7 +9,7 @@ test=a_job_may_be_a_million_levels_deep
 refused=0
 # How many there are depends on the schedule, so ten that pass in a row are taken for the end.
 for ((number = 1, passed = 0; number <= 1000 && passed < 10; number++)); do
-    if refuse "$number" "$crates/test_jobs/out/test_jobs_tests" "deep_tests::$test"; then
+    if refuse "$number" "$crates/test_pool/out/test_pool_tests" "deep_tests::$test"; then
         passed=$((passed + 1))
     else
         grep -q '^error: OutOfMemory$' "$folder/out" || fail "allocation $number: another end"

@@ -13,7 +13,7 @@ done <<'END'
 test_model queues_tests::many_owners_share_two_cells queues 8
 test_model tree_tests::a_task_is_found_behind_thousands_that_were_released tree 20
 test_model run_tests::the_largest_limits_hold machine 100
-test_core gate_tests::an_open_gate_meets_without_a_number gate 20
-test_core lane_tests::a_hundred_parcels_in_order lane 20
-test_jobs making_tests::a_pool_is_made_and_wound_up pool 80
+test_pool gate_tests::an_open_gate_meets_without_a_number gate 20
+test_pool lane_tests::a_hundred_parcels_in_order lane 20
+test_pool making_tests::a_pool_is_made_and_wound_up pool 80
 END

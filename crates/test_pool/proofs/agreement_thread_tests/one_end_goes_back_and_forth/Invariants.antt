@@ -1,4 +1,4 @@
-use Rattle.test_core.proofs.agreement_thread_tests.one_end_goes_back_and_forth.Given as goal
+use Rattle.test_pool.proofs.agreement_thread_tests.one_end_goes_back_and_forth.Given as goal
 
 -- the pair of the call
 abbrev pub ghosts-race : goal.ghosts-race

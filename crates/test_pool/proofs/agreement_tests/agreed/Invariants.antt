@@ -1,4 +1,4 @@
-use Rattle.test_core.proofs.agreement_tests.agreed.Given as goal
+use Rattle.test_pool.proofs.agreement_tests.agreed.Given as goal
 
 -- the number of the call
 abbrev pub ghosts-agree_as_picked : goal.ghosts-agree_as_picked

@@ -1,8 +1,8 @@
 use Rattle.std.proofs.Common.{◌≡◌, ◌+◌, ◌-◌, ◌≤◌, ◌^◌, ◌∙◌, ap, arith, rules}
 use Rattle.fj_jobs.specs.Ranges.{range_sum}
 use Rattle.fj_jobs.proofs.Sums.{sum_halves}
-use Rattle.test_jobs.proofs.one_by_one.OneByOneDivide.split.Goals as goal
-use Rattle.test_jobs.proofs.one_by_one.OneByOneDivide.split.Goals.{then-right, else-right}
+use Rattle.test_pool.proofs.one_by_one.OneByOneDivide.split.Goals as goal
+use Rattle.test_pool.proofs.one_by_one.OneByOneDivide.split.Goals.{then-right, else-right}
 
 pub returns-clause-halves : goal.returns-clause-halves
 returns-clause-halves c =
