@@ -31,10 +31,8 @@ pub fn push_numbers(
     ensures room { string_capacity text.old ≤ string_capacity text.new }
 {
     text.push_str(word)?;
-    text.push(' ')?;
-    text.push_str(Buffer::new().format(first))?;
-    text.push(' ')?;
-    text.push_str(Buffer::new().format(second))?;
+    push_number(text, first)?;
+    push_number(text, second)?;
     text.push('\n')
 }
 

@@ -67,7 +67,10 @@ impl Responder {
                 limits,
                 line,
             }),
-            Err(_) => Err(LineStop::Memory),
+            Err(_) => {
+                drop(player);
+                Err(LineStop::Memory)
+            }
         }
     }
 

@@ -62,7 +62,10 @@ impl Rewriter {
                 count: 0,
                 line,
             }),
-            Err(_) => Err(LineStop::Memory),
+            Err(_) => {
+                drop(machine);
+                Err(LineStop::Memory)
+            }
         }
     }
 

@@ -19,6 +19,7 @@ use fj_filter::{LineFilter, LineStop};
 use fj_lines::{MAX_LINE2, read_step};
 use fj_streams::Sink;
 use std::alloc::Global;
+use std::mem;
 
 /// The state of reading a script: a replay begins at `Start`, an upgrade to version 2 at `Old`.
 #[derive(Drop)]
@@ -134,10 +135,10 @@ impl ScriptStage {
         write_head(alloc, line, w)
     }
 
-    /// Goes on to another stage. A function of its own, since each assignment proves the drop of the stage before.
+    /// Goes on to another stage. By a call of `drop`, since an assignment proves the drop of the stage before in place.
     fn set(&mut self, next: ScriptStage)
         ensures { self.new ≡ next }
     {
-        *self = next;
+        drop(mem::replace(self, next));
     }
 }
