@@ -1,7 +1,7 @@
 //! The lines of steps in version 2.
 ghost use Rattle.std.specs.Prelude.{◌≡◌, ◌+◌, ◌≤◌, ◌++◌, ◌∷◌, [], IsOk, OnOk, length, string_bytes, string_capacity, string_len, codes, decimal};
 ghost use Rattle.fj_lines.specs.Words.{joined};
-ghost use Rattle.fj_lines.specs.Lines.{ending_words, relay_word, submitted_words, named_kind_words};
+ghost use Rattle.fj_lines.specs.Lines.{ending_words, relay_word, submitted_words, named_kind_words, word_or_dash};
 ghost use Rattle.fj_lines.specs.declared.read.TheConstants.{LINE_FEED};
 ghost use Rattle.fj_replay.specs.TaskNames.{named_kind, named_line, task_name};
 
@@ -41,6 +41,18 @@ pub fn push_named(asked: &Step, next: u64, text: &mut String) -> Result<(), Allo
     }
 }
 
+/// A word, the name of the task that may be accepted, and the submitter or worker.
+fn push_accepted(text: &mut String, word: &str, next: u64, number: u32) -> Result<(), AllocError>
+    ensures words { OnOk result (string_bytes text.new ≡ string_bytes text.old ++ (word.now ++ 32 ∷ (task_name next ++ 32 ∷ decimal number))) }
+    ensures few { OnOk result (string_len text.new ≤ string_len text.old + length word.now + 43) }
+    ensures fits { string_len text.old + length word.now + 43 ≤ string_capacity text.old → IsOk result }
+    ensures room { string_capacity text.old ≤ string_capacity text.new }
+{
+    text.push_str(word)?;
+    push_task(text, next)?;
+    push_number(text, number.into())
+}
+
 /// `submit`, the task's name, the submitter, and of a completer its count and relay word.
 fn push_submit(
     s: SubId,
@@ -52,9 +64,7 @@ fn push_submit(
     ensures fits { string_len text.old + STEP_ROOM ≤ string_capacity text.old → IsOk result }
     ensures room { string_capacity text.old ≤ string_capacity text.new }
 {
-    text.push_str("submit")?;
-    push_task(text, next)?;
-    push_number(text, s.0.into())?;
+    push_accepted(text, "submit", next, s.0)?;
     match kind {
         SubmittedKind::Plain => text.push('\n'),
         SubmittedKind::Completer { relay, count } => push_count(text, *count, *relay),
@@ -67,25 +77,30 @@ fn push_fork(w: WorkerId, kind: &Kind, next: u64, text: &mut String) -> Result<(
     ensures fits { string_len text.old + STEP_ROOM ≤ string_capacity text.old → IsOk result }
     ensures room { string_capacity text.old ≤ string_capacity text.new }
 {
-    text.push_str("fork")?;
-    push_task(text, next)?;
-    push_number(text, w.0.into())?;
+    push_accepted(text, "fork", next, w.0)?;
     match kind {
         Kind::Plain => text.push('\n'),
         Kind::Completer {
             relay,
             count,
             parent,
-        } => match parent {
-            None => {
-                text.push_str(" -")?;
-                push_count(text, *count, *relay)
-            }
-            Some(p) => {
-                push_task(text, p.0)?;
-                push_count(text, *count, *relay)
-            }
-        },
+        } => {
+            push_parent(text, *parent)?;
+            push_count(text, *count, *relay)
+        }
+    }
+}
+
+/// A space, and the name of a parent, or `-` for none.
+fn push_parent(text: &mut String, parent: Option<Serial>) -> Result<(), AllocError>
+    ensures word { OnOk result (string_bytes text.new ≡ string_bytes text.old ++ (32 ∷ word_or_dash task_name parent)) }
+    ensures few { OnOk result (string_len text.new ≤ string_len text.old + 22) }
+    ensures fits { string_len text.old + 22 ≤ string_capacity text.old → IsOk result }
+    ensures room { string_capacity text.old ≤ string_capacity text.new }
+{
+    match parent {
+        None => text.push_str(" -"),
+        Some(p) => push_task(text, p.0),
     }
 }
 
@@ -95,9 +110,7 @@ fn push_trigger(w: WorkerId, count: u32, next: u64, text: &mut String) -> Result
     ensures fits { string_len text.old + STEP_ROOM ≤ string_capacity text.old → IsOk result }
     ensures room { string_capacity text.old ≤ string_capacity text.new }
 {
-    text.push_str("trigger")?;
-    push_task(text, next)?;
-    push_number(text, w.0.into())?;
+    push_accepted(text, "trigger", next, w.0)?;
     push_number(text, count.into())?;
     text.push('\n')
 }
@@ -149,6 +162,18 @@ fn push_hook(w: WorkerId, text: &mut String) -> Result<(), AllocError>
     text.push('\n')
 }
 
+/// A word, the worker and a task.
+fn push_at(text: &mut String, word: &str, w: WorkerId, t: Serial) -> Result<(), AllocError>
+    ensures words { OnOk result (string_bytes text.new ≡ string_bytes text.old ++ (word.now ++ 32 ∷ (decimal w ++ 32 ∷ task_name t))) }
+    ensures few { OnOk result (string_len text.new ≤ string_len text.old + length word.now + 43) }
+    ensures fits { string_len text.old + length word.now + 43 ≤ string_capacity text.old → IsOk result }
+    ensures room { string_capacity text.old ≤ string_capacity text.new }
+{
+    text.push_str(word)?;
+    push_number(text, w.0.into())?;
+    push_task(text, t.0)
+}
+
 /// `join` or `add`, the worker, a task and a number.
 fn push_worker(
     text: &mut String,
@@ -161,9 +186,7 @@ fn push_worker(
     ensures fits { string_len text.old + length word.now + 65 ≤ string_capacity text.old → IsOk result }
     ensures room { string_capacity text.old ≤ string_capacity text.new }
 {
-    text.push_str(word)?;
-    push_number(text, w.0.into())?;
-    push_task(text, t.0)?;
+    push_at(text, word, w, t)?;
     push_number(text, number.into())?;
     text.push('\n')
 }
@@ -174,9 +197,7 @@ fn push_root(w: WorkerId, t: Serial, text: &mut String) -> Result<(), AllocError
     ensures fits { string_len text.old + STEP_ROOM ≤ string_capacity text.old → IsOk result }
     ensures room { string_capacity text.old ≤ string_capacity text.new }
 {
-    text.push_str("root")?;
-    push_number(text, w.0.into())?;
-    push_task(text, t.0)?;
+    push_at(text, "root", w, t)?;
     text.push('\n')
 }
 

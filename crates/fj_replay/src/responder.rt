@@ -68,6 +68,7 @@ impl Responder {
                 line,
             }),
             Err(_) => {
+                // Explicit drops are proved faster.
                 drop(player);
                 Err(LineStop::Memory)
             }

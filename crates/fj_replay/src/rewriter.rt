@@ -63,6 +63,7 @@ impl Rewriter {
                 line,
             }),
             Err(_) => {
+                // Explicit drops are proved faster.
                 drop(machine);
                 Err(LineStop::Memory)
             }
