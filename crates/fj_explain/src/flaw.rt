@@ -1,56 +1,73 @@
-use thiserror::Error;
+use std::error::Error;
+use std::fmt::{self, Display, Formatter, Write};
 
 /// Why a line may not stand where it does.
-#[derive(Clone, Copy, Debug, PartialEq, Error)]
+#[derive(Clone, Copy, Debug, PartialEq)]
 pub enum Flaw {
     /// The input ends before the heading.
-    #[error("the heading is missing")]
     Missing,
-    #[error("no line feed at the end")]
     NoLineFeed,
-    #[error("more than 66 bytes")]
     TooLong,
-    #[error("an empty line")]
     Empty,
-    #[error("a byte order mark")]
     ByteOrderMark,
-    #[error("a carriage return at the end")]
     CarriageReturn,
-    #[error("a comment")]
     Comment,
-    #[error("a reply behind the step")]
     Reply,
-    #[error("a space at the beginning")]
     SpaceBefore,
-    #[error("a space at the end")]
     SpaceBehind,
-    #[error("a tab")]
     Tab,
-    #[error("two spaces")]
     TwoSpaces,
-    #[error("a capital letter")]
     Capital,
-    #[error("no heading, which is async or joining and four numbers")]
     NoHeading,
-    #[error("a second heading")]
     SecondHeading,
-    #[error("fj 2 stands in the first line alone")]
     SecondTitle,
-    #[error("a line of version 2, and fj 2 is not the first line")]
     OfVersion2,
-    #[error("no step has this name")]
     NoStep,
-    #[error("a leading zero")]
     LeadingZero,
-    #[error("a number above 4294967295")]
     LargeNumber,
-    #[error("a name where version 1 has a number")]
     NameForNumber,
-    #[error("a number where version 2 has a name")]
     NumberForName,
     /// Too many words, too few, or one that is none of this step.
-    #[error("no words of this step")]
     Words,
+}
+
+impl Error for Flaw {}
+
+impl Display for Flaw {
+    fn fmt<W: Write>(&self, f: &mut Formatter<W>) -> fmt::Result {
+        f.write_str(self.text())
+    }
+}
+
+impl Flaw {
+    /// What is wrong, in words.
+    fn text(self) -> &'static str {
+        match self {
+            Flaw::Missing => "the heading is missing",
+            Flaw::NoLineFeed => "no line feed at the end",
+            Flaw::TooLong => "more than 66 bytes",
+            Flaw::Empty => "an empty line",
+            Flaw::ByteOrderMark => "a byte order mark",
+            Flaw::CarriageReturn => "a carriage return at the end",
+            Flaw::Comment => "a comment",
+            Flaw::Reply => "a reply behind the step",
+            Flaw::SpaceBefore => "a space at the beginning",
+            Flaw::SpaceBehind => "a space at the end",
+            Flaw::Tab => "a tab",
+            Flaw::TwoSpaces => "two spaces",
+            Flaw::Capital => "a capital letter",
+            Flaw::NoHeading => "no heading, which is async or joining and four numbers",
+            Flaw::SecondHeading => "a second heading",
+            Flaw::SecondTitle => "fj 2 stands in the first line alone",
+            Flaw::OfVersion2 => "a line of version 2, and fj 2 is not the first line",
+            Flaw::NoStep => "no step has this name",
+            Flaw::LeadingZero => "a leading zero",
+            Flaw::LargeNumber => "a number above 4294967295",
+            Flaw::NameForNumber => "a name where version 1 has a number",
+            Flaw::NumberForName => "a number where version 2 has a name",
+            Flaw::Words => "no words of this step",
+        }
+    }
 }
 
 /// The names of all steps.
