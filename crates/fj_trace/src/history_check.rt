@@ -14,6 +14,7 @@ use fj_lines::read_head;
 use fj_rules::{Event, Limits, Mode};
 use fj_streams::Sink;
 use std::alloc::Global;
+use std::mem;
 
 /// The state of reading a history.
 #[derive(Drop)]
@@ -61,7 +62,8 @@ impl HistoryCheck {
         ensures err { IfErr result (IsHeadStop line.now) }
     {
         let checker = opened(alloc, line)?;
-        *self = HistoryCheck::Going(checker, 0);
+        // An explicit drop is proved faster than an assignment.
+        drop(mem::replace(self, HistoryCheck::Going(checker, 0)));
         Ok(())
     }
 }

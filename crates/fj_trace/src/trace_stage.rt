@@ -15,6 +15,7 @@ use fj_lines::{LINE_FEED, MAX_LINE2};
 use fj_replay::{Names, ScriptStop, TaskNaming, is_title};
 use fj_streams::Sink;
 use std::alloc::{AllocError, Global};
+use std::mem;
 
 /// The state of reading a script whose history is written.
 #[derive(Drop)]
@@ -104,11 +105,11 @@ impl TraceStage {
         write_heading(alloc, line, w)
     }
 
-    /// Goes on to another stage. A function of its own, since each assignment proves the drop of the stage before.
+    /// Goes on to another stage. By a call of `drop`, since an assignment proves the drop of the stage before in place.
     fn set(&mut self, next: TraceStage)
         ensures { self.new ≡ next }
     {
-        *self = next;
+        drop(mem::replace(self, next));
     }
 }
 
