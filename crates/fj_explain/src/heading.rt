@@ -32,8 +32,9 @@ const LIMITS: [(&str, u32); 4] = [
 
 /// The first limit of a heading that is out of its range.
 pub fn limit_flaw(heading: &str) -> Option<LimitFlaw> {
-    for (word, (what, most)) in heading.split(' ').skip(1).zip(LIMITS) {
-        let count = word.parse::<u32>().unwrap_or(0);
+    let mut words = heading.split(' ').skip(1);
+    for (what, most) in LIMITS {
+        let count = words.next()?.parse::<u32>().unwrap_or(0);
         if count == 0 || count > most {
             return Some(LimitFlaw { what, count, most });
         }
