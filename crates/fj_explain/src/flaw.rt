@@ -1,8 +1,8 @@
-use std::error::Error;
 use std::fmt::{self, Display, Formatter, Write};
+use thiserror::Error;
 
 /// Why a line may not stand where it does.
-#[derive(Clone, Copy, Debug, PartialEq)]
+#[derive(Clone, Copy, Debug, PartialEq, Error)]
 pub enum Flaw {
     /// The input ends before the heading.
     Missing,
@@ -30,8 +30,6 @@ pub enum Flaw {
     /// Too many words, too few, or one that is none of this step.
     Words,
 }
-
-impl Error for Flaw {}
 
 impl Display for Flaw {
     fn fmt<W: Write>(&self, f: &mut Formatter<W>) -> fmt::Result {
