@@ -1,13 +1,13 @@
 -- Where nobody is of some kind.
-use Rattle.std.proofs.Common.{ℕ, ◌≡◌, ◌+◌, ◌<◌, Bool, true, false, List, length, map, get_or, refl, sym, ap, ◌∙◌}
+use Rattle.std.proofs.Common.{ℕ, ◌≡◌, ◌+◌, ◌<◌, Bool, true, false, Option, None, List, length, map, get_or, set, refl, sym, ap, ◌∙◌, arith, length-set}
 use Rattle.std.specs.Prelude.{◌||◌, if◌then◌else◌}
 use Rattle.std.specs.List.{AllWithin}
 use Rattle.std.proofs.lemmas.Bool.{or_parts}
-use Rattle.std.proofs.lemmas.List.Elements.{All-map, All-weaker, AllWithin-more, at_read}
+use Rattle.std.proofs.lemmas.List.Elements.{All-map, All-set, All-weaker, AllWithin-more, at_read}
 use Rattle.fj_sleep.specs.declared.sleeper.Sleeper.{Sleeper}
 use Rattle.fj_sleep.specs.declared.sleeper.Sleeper.TheVariants.{Awake, Resting, Waiting, Due, Woken}
 use Rattle.fj_sleep.specs.Places.{is_asleep, is_due, is_resting, is_waiting, roused_if, taken}
-use Rattle.fj_sleep.specs.Sleeping.{NobodyIs}
+use Rattle.fj_sleep.specs.Sleeping.{AreNoted, NobodyIs}
 use Rattle.fj_sleep.proofs.Mapping.{map_nothing}
 
 module _ {T : Type 0} where
@@ -90,6 +90,23 @@ module _ {T : Type 0} where
 
   pub nobody_due_taken : (places : List (Sleeper T)) → NobodyIs is_due (map taken places)
   nobody_due_taken places = All-map (λ s. is_due s ≡ false) taken places (λ k d within. take_due (get_or places k d))
+
+  -- ---- one place changes
+
+  set_nobody : (test : Sleeper T → Bool) (places : List (Sleeper T)) (i : ℕ) (s : Sleeper T) → NobodyIs test places → test s ≡ false → NobodyIs test (set places i s)
+  set_nobody test places i s none not = All-set (λ x. test x ≡ false) places i s not none
+
+  -- its new state is noted, if it is not noted that nobody is of this kind
+  pub noted_set : (places : List (Sleeper T)) (i : ℕ) (s : Sleeper T) (old new : Option ℕ) (waiting resting due waiting' resting' due' : Bool) → AreNoted places old waiting resting due
+      → (new ≡ None → (old ≡ None) × (is_resting s ≡ false)) → (waiting' ≡ false → (waiting ≡ false) × (is_waiting s ≡ false))
+      → (resting' ≡ false → (resting ≡ false) × (is_resting s ≡ false)) → (due' ≡ false → (due ≡ false) × (is_due s ≡ false)) → AreNoted (set places i s) new waiting' resting' due'
+  noted_set places i s old new waiting resting due waiting' resting' due' noted watched waits rests is_to = record {
+    few = omega (arith, length-set places i s, noted.few);
+    watched = λ none. set_nobody is_resting places i s (noted.watched (watched none).0) (watched none).1;
+    no_waiting = λ none. set_nobody is_waiting places i s (noted.no_waiting (waits none).0) (waits none).1;
+    no_resting = λ none. set_nobody is_resting places i s (noted.no_resting (rests none).0) (rests none).1;
+    no_due = λ none. set_nobody is_due places i s (noted.no_due (is_to none).0) (is_to none).1;
+  }
 
   -- ---- as far as a loop has come
 

@@ -43,12 +43,8 @@ impl<T: Copy> Sleepers<T> {
         requires { places ≤ MAX_PLACES }
         ensures { IfOk result (λ s. s ≡ record { places = replicate places Sleeper.Awake; lookout = None }) }
     {
-        let mut awake = Vec::with_capacity(alloc, places)?;
-        for _place in 0..places {
-            awake.push(Sleeper::Awake)?;
-        }
         Ok(Sleepers {
-            places: awake,
+            places: vec![in alloc; Sleeper::Awake; places]?,
             lookout: None,
             waiting: false,
             resting: false,

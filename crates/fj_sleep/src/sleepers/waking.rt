@@ -78,11 +78,12 @@ impl<T: Copy> Sleepers<T> {
         ensures woken { OnSome result (self.new ≡ record self.old { places = map taken self.old.places }) }
     {
         self.due = false;
-        if any_due(&self.places).is_some() {
-            let chosen = take_each_due(&mut self.places);
-            Some(Places { chosen })
-        } else {
-            None
+        match any_due(&self.places) {
+            Some(_) => {
+                let chosen = take_each_due(&mut self.places);
+                Some(Places { chosen })
+            }
+            None => None,
         }
     }
 

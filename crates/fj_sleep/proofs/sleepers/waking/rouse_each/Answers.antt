@@ -51,3 +51,12 @@ loop-place-preserved g c =
           noted_on is_due after i y c.loop-place.kinds.due c.is_due.result there_still
           (λ none. below (λ s. is_due s ≡ false) (c.loop-place.invariant.due none)) read_after c.is_due.ensures;
     }
+
+pub returns-clause-waiting : goal.returns-clause-waiting
+returns-clause-waiting g c = λ none k d within. c.loop-place.invariant.waiting none k d (omega arith) (omega (arith, within, c.loop-place.auto.places))
+
+pub returns-clause-resting : goal.returns-clause-resting
+returns-clause-resting g c = λ none k d within. c.loop-place.invariant.resting none k d (omega arith) (omega (arith, within, c.loop-place.auto.places))
+
+pub returns-clause-due : goal.returns-clause-due
+returns-clause-due g c = λ none k d within. c.loop-place.invariant.due none k d (omega arith) (omega (arith, within, c.loop-place.auto.places))

@@ -1,0 +1,19 @@
+use Rattle.std.proofs.Common.{refl}
+use Rattle.fj_sleep.specs.Places.{is_resting}
+use Rattle.fj_sleep.specs.Sleeping.{NobodyIs}
+use Rattle.fj_sleep.proofs.Nobody.{noted_set}
+use Rattle.fj_sleep.proofs.sleepers.Sleepers.pass_on.Goals as goal
+
+pub invariant_of-self : goal.invariant_of-self
+invariant_of-self g c = noted_set _ _ _ _ _ _ _ _ _ _ _ c.self.invariant (λ none. absurd cc) (λ none. (none, refl)) (λ none. (none, refl)) (λ none. absurd cc)
+
+pub invariant_of-self-in-None : goal.invariant_of-self-in-None
+invariant_of-self-in-None g c =
+    let nobody : NobodyIs is_resting c.self.inside.places.items = rw (← c.deref.ensures.value) c.in-None.ensures in
+    record {
+      few = c.self.invariant.few;
+      watched = λ none. nobody;
+      no_waiting = c.self.invariant.no_waiting;
+      no_resting = λ none. nobody;
+      no_due = c.self.invariant.no_due;
+    }
