@@ -36,16 +36,8 @@ pub fn know(known: &mut Vec<Known>, event: &Event) -> Result<(), OutOfMemory>
 {
     match event {
         Event::Acc(_, _, kind) | Event::Make(_, kind) => known.push(Known::new(*kind))?,
-        Event::Settle(t, status) => {
-            let mut of_task = known[t.0 as usize];
-            of_task.settled = Some(*status);
-            known[t.0 as usize] = of_task;
-        }
-        Event::Fire(c, How::Complete) => {
-            let mut of_task = known[c.0 as usize];
-            of_task.completed = true;
-            known[c.0 as usize] = of_task;
-        }
+        Event::Settle(t, status) => known[t.0 as usize].settled = Some(*status),
+        Event::Fire(c, How::Complete) => known[c.0 as usize].completed = true,
         _ => {}
     }
     Ok(())
