@@ -1,12 +1,17 @@
 -- The number that was read for an option is that of its text.
 use Rattle.std.proofs.Common.{ℕ, ◌≡◌, ◌<◌, ◌^◌, ◌∙◌, sym, subst, ap, refl, List, [], Option, Some, None}
-use Rattle.std.specs.Prelude.{Result, Ok, Err}
+use Rattle.std.specs.Prelude.{Result, Ok, Err, IfNone}
 use Rattle.std.specs.Option.{unwrap_or}
 use Rattle.std.specs.Str.Parse.{ParsesUnsigned, digits_value, without_leading_plus}
 use Rattle.clap.specs.Words.{Row, Text, one_text, rows_of, ReadsOne}
 use Rattle.clap.proofs.WalkLemmas.{one_text-rows}
 use Rattle.clap.specs.declared.parser.matches.Found.{Found}
 use Rattle.fj_arguments.specs.Given.{Gives}
+
+-- what holds if there is nothing, where there is nothing
+pub if_none : {A : Type 0} (P : Type 0) (r : Option A) → r ≡ None → IfNone r P → P
+if_none P None is holds = holds
+if_none P (Some x) is holds = absurd cc
 
 module _ {E : Type 0} (Reads : List ℕ → Result ℕ E → Type 0) (parses : (t : List ℕ) (r : Result ℕ E) → Reads t r → ParsesUnsigned 32 10 t r) where
   -- where there is a text, and it reads as this number

@@ -18,11 +18,10 @@ fn number(matches: &ArgMatches, name: &str, least: u32, most: u32) -> Option<u32
     ensures given { IfSome result (λ n. Gives (rows_of (found_of matches.now)) name.now n) }
     ensures none { IfNone result ((n : ℕ) → IsInRange n least most → Gives (rows_of (found_of matches.now)) name.now n → ⊥) }
 {
-    let number = matches.get_one::<u32>(name)?;
-    if number < least || most < number {
-        return None;
+    match matches.get_one::<u32>(name) {
+        Some(number) if least <= number && number <= most => Some(number),
+        _ => None,
     }
-    Some(number)
 }
 
 /// Whether a flag was given.
@@ -46,18 +45,21 @@ pub fn read_range(matches: &ArgMatches) -> Option<RangeOptions>
     ensures given { IfSome result (λ o. GivesRange (rows_of (found_of matches.now)) o) }
     ensures none { IfNone result ((o : RangeOptions) → IsRange o → GivesRange (rows_of (found_of matches.now)) o → ⊥) }
 {
-    let from = number(matches, "from", 0, u32::MAX)?;
-    let to = number(matches, "to", 0, u32::MAX)?;
-    let grain = number(matches, "grain", 1, u32::MAX)?;
-    let workers = read_workers(matches)?;
-    let eager = flag(matches, "eager");
-    Some(RangeOptions {
-        from,
-        to,
-        grain,
-        workers,
-        eager,
-    })
+    match (
+        number(matches, "from", 0, u32::MAX),
+        number(matches, "to", 0, u32::MAX),
+        number(matches, "grain", 1, u32::MAX),
+        read_workers(matches),
+    ) {
+        (Some(from), Some(to), Some(grain), Some(workers)) => Some(RangeOptions {
+            from,
+            to,
+            grain,
+            workers,
+            eager: flag(matches, "eager"),
+        }),
+        _ => None,
+    }
 }
 
 /// The options of a function.
@@ -65,10 +67,14 @@ pub fn read_function(matches: &ArgMatches) -> Option<FunctionOptions>
     ensures given { IfSome result (λ f. GivesFunction (rows_of (found_of matches.now)) f) }
     ensures none { IfNone result ((f : FunctionOptions) → IsFunction f → GivesFunction (rows_of (found_of matches.now)) f → ⊥) }
 {
-    let mul = number(matches, "mul", 0, u32::MAX)?;
-    let add = number(matches, "add", 0, u32::MAX)?;
-    let modulus = number(matches, "mod", 1, u32::MAX)?;
-    Some(FunctionOptions { mul, add, modulus })
+    match (
+        number(matches, "mul", 0, u32::MAX),
+        number(matches, "add", 0, u32::MAX),
+        number(matches, "mod", 1, u32::MAX),
+    ) {
+        (Some(mul), Some(add), Some(modulus)) => Some(FunctionOptions { mul, add, modulus }),
+        _ => None,
+    }
 }
 
 /// The wanted value.
@@ -110,14 +116,17 @@ pub fn read_view<'a>(matches: &ArgMatches<'a>) -> Option<ViewOptions<'a>>
     ensures given { IfSome result (λ o. GivesView (rows_of (found_of matches.now)) o) }
     ensures none { IfNone result ((o : ViewOptions) → IsWindow o → GivesView (rows_of (found_of matches.now)) o → ⊥) }
 {
-    let name = read_view_name(matches)?;
-    let from = number(matches, "from", 1, u32::MAX)?;
-    let to = number(matches, "to", 1, u32::MAX)?;
-    let notes = matches.get_str("notes");
-    Some(ViewOptions {
-        name,
-        from,
-        to,
-        notes,
-    })
+    match (
+        read_view_name(matches),
+        number(matches, "from", 1, u32::MAX),
+        number(matches, "to", 1, u32::MAX),
+    ) {
+        (Some(name), Some(from), Some(to)) => Some(ViewOptions {
+            name,
+            from,
+            to,
+            notes: matches.get_str("notes"),
+        }),
+        _ => None,
+    }
 }
