@@ -1,13 +1,13 @@
 -- Where nobody is of some kind.
-use Rattle.std.proofs.Common.{ℕ, ◌≡◌, ◌+◌, ◌<◌, Bool, true, false, Option, None, List, length, map, get_or, set, refl, sym, ap, ◌∙◌, arith, length-set}
-use Rattle.std.specs.Prelude.{◌||◌, if◌then◌else◌}
-use Rattle.std.specs.List.{AllWithin}
+use Rattle.std.proofs.Common.{ℕ, ◌≡◌, ◌+◌, ◌<◌, Bool, true, false, Option, Some, None, List, length, map, get_or, set, refl, sym, ap, ◌∙◌, arith, length-set}
+use Rattle.std.specs.Prelude.{◌||◌, if◌then◌else◌, MatchOption}
+use Rattle.std.specs.List.{AllWithin, HoldsAt}
 use Rattle.std.proofs.lemmas.Bool.{or_parts}
-use Rattle.std.proofs.lemmas.List.Elements.{All-map, All-set, All-weaker, AllWithin-more, at_read}
+use Rattle.std.proofs.lemmas.List.Elements.{All-from_all_within, All-map, All-set, All-weaker, AllWithin-more, at_read}
 use Rattle.fj_sleep.specs.declared.sleeper.Sleeper.{Sleeper}
 use Rattle.fj_sleep.specs.declared.sleeper.Sleeper.TheVariants.{Awake, Resting, Waiting, Due, Woken}
 use Rattle.fj_sleep.specs.Places.{is_asleep, is_due, is_resting, is_waiting, roused_if, taken}
-use Rattle.fj_sleep.specs.Sleeping.{AreNoted, NobodyIs}
+use Rattle.fj_sleep.specs.Sleeping.{AreNoted, IsAt, NobodyIs}
 use Rattle.fj_sleep.proofs.Mapping.{map_nothing}
 
 module _ {T : Type 0} where
@@ -90,6 +90,14 @@ module _ {T : Type 0} where
 
   pub nobody_due_taken : (places : List (Sleeper T)) → NobodyIs is_due (map taken places)
   nobody_due_taken places = All-map (λ s. is_due s ≡ false) taken places (λ k d within. take_due (get_or places k d))
+
+  -- the first place that passes the test is one that does
+  pub at_first : (test : Sleeper T → Bool) (places : List (Sleeper T)) (found : Option ℕ)
+      → MatchOption found (AllWithin (λ s. test s ≡ false) places 0 (length places))
+      (λ i. (i < length places) × HoldsAt (λ s. test s ≡ true) places i × AllWithin (λ s. test s ≡ false) places 0 i)
+      → MatchOption found (NobodyIs test places) (λ p. IsAt test places p)
+  at_first test places None none = All-from_all_within (λ s. test s ≡ false) places none
+  at_first test places (Some p) (within, here, before) = (within, here Awake)
 
   -- ---- one place changes
 

@@ -1,4 +1,4 @@
-use Rattle.std.proofs.Common.{refl}
+use Rattle.std.proofs.Common.{inl, inr, refl}
 use Rattle.fj_sleep.specs.Places.{is_resting}
 use Rattle.fj_sleep.specs.Sleeping.{NobodyIs}
 use Rattle.fj_sleep.proofs.Nobody.{noted_set}
@@ -17,3 +17,9 @@ invariant_of-self-in-None g c =
       no_resting = λ none. nobody;
       no_due = c.self.invariant.no_due;
     }
+
+pub returns-in-Some : goal.returns-in-Some
+returns-in-Some g c = rw (← c.self.view_is) (inl (c.in-Some.next, rw (← c.deref.ensures.value) c.in-Some.ensures, refl))
+
+pub returns-in-None : goal.returns-in-None
+returns-in-None g c = rw (← c.self.view_is) (inr (rw (← c.deref.ensures.value) c.in-None.ensures, refl))

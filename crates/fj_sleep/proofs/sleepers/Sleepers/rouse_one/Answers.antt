@@ -1,4 +1,4 @@
-use Rattle.std.proofs.Common.{refl}
+use Rattle.std.proofs.Common.{inl, inr, refl}
 use Rattle.std.proofs.lemmas.Bool.{or_parts}
 use Rattle.fj_sleep.specs.Places.{is_asleep}
 use Rattle.fj_sleep.specs.Sleeping.{NobodyIs}
@@ -18,3 +18,9 @@ invariant_of-self-in-None g c =
       no_resting = λ none k d within. (or_parts _ _ (nobody k d within)).0;
       no_due = c.self.invariant.no_due;
     }
+
+pub returns-in-Some : goal.returns-in-Some
+returns-in-Some g c = rw (← c.self.view_is) (inl (c.in-Some.place, rw (← c.deref.ensures.value) c.in-Some.ensures, refl))
+
+pub returns-in-None : goal.returns-in-None
+returns-in-None g c = rw (← c.self.view_is) (inr (rw (← c.deref.ensures.value) c.in-None.ensures, refl))
