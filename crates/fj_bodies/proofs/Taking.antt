@@ -4,6 +4,7 @@ use Rattle.std.proofs.lemmas.Bool.{eq-eqb, true≢false}
 use Rattle.std.proofs.lemmas.List.{append-nil}
 use Rattle.fj_rules.specs.declared.event.Event.{Event}
 use Rattle.fj_rules.specs.declared.event.Event.TheVariants.{Out, Skip, Rel}
+use Rattle.fj_rules.specs.declared.limits.TheConstants.{MAX_TASKS}
 use Rattle.fj_rules.specs.declared.step.Step.{Step}
 use Rattle.fj_rules.specs.Bounds.{Pool}
 use Rattle.fj_rules.specs.Queues.{taken_by}
@@ -70,8 +71,8 @@ stack_out : (h : List Event) (t w : ℕ) → stack (h ++ Out t w ∷ []) w ≡ s
 stack_out h t w = stack_more h w (Out t w) ∙ rw (eq-eqb w w refl) (ap (λ ts. ts ++ t ∷ []) (without_none (stack h w)))
 
 -- one body more has room in the hand
-pub out_room : {B : Type 0} (past : Past) (asked : Step) (hand : HandState B) (t : ℕ) → IsPast past → past.pool.limits.tasks ≤ 4096 → Fits past hand
-    → (answer past asked).1 ≡ Out t hand.worker ∷ [] → length hand.stack < 4096
+pub out_room : {B : Type 0} (past : Past) (asked : Step) (hand : HandState B) (t : ℕ) → IsPast past → past.pool.limits.tasks ≤ MAX_TASKS → Fits past hand
+    → (answer past asked).1 ≡ Out t hand.worker ∷ [] → length hand.stack < MAX_TASKS
 out_room past asked hand t run few fits made =
     let h = past.events in
     let w = hand.worker in

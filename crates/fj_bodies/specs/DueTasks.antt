@@ -3,6 +3,7 @@ use Rattle.std.specs.Prelude.{ℕ, ◌≡◌, ◌≤◌, Bool, true, false, List
 use Rattle.fj_rules.specs.declared.event.Event.{Event}
 use Rattle.fj_rules.specs.declared.step.Step.{Step}
 use Rattle.fj_rules.specs.declared.step.Step.TheVariants as ask
+use Rattle.fj_rules.specs.declared.limits.TheConstants.{MAX_TASKS}
 use Rattle.fj_rules.specs.Lists.{is_in}
 use Rattle.fj_rules.specs.Pasts.{Past}
 use Rattle.fj_rules.specs.Releasable.{can_go}
@@ -31,12 +32,12 @@ due_after (ask.Cancel t) = due.One t
 due_after ask.Stop = due.All
 due_after _ = due.Nothing
 
--- there is room for as many bodies, results and marks of taken tasks as there may be kept tasks, at most 4096
+-- there is room for as many bodies, results and marks of taken tasks as there may be kept tasks, at most `MAX_TASKS`
 pub record HasRoom (tasks for_bodies for_results for_marks : ℕ) : Type 0 where
   pub bodies : tasks ≤ for_bodies
   pub results : tasks ≤ for_results
   pub taken : tasks ≤ for_marks
-  pub few : tasks ≤ 4096
+  pub few : tasks ≤ MAX_TASKS
 
 -- what holds of every store between two calls
 pub record HoldsStore {B R : Type 0} (past : Past) (bodies : Shelved B) (results : Shelved R) (taken : SerialList) (stuck : Bool) : Type 0 where

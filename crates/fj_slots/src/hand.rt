@@ -1,13 +1,14 @@
 ghost use Rattle.std.specs.Prelude.{◌≡◌, ◌<◌, ◌++◌, ◌∷◌, length, IfOk, [], None, Some, IsSome, is_some, ◌↔◌, IsTrue, option_map};
+ghost use Rattle.fj_rules.specs.declared.limits.TheConstants.{MAX_TASKS};
 ghost use Rattle.fj_slots.specs.Aside.{numbers};
 ghost use Rattle.fj_slots.specs.Hands.{HasOnTop, new_hand, hook_number, newest_body, newest_note, with_body, with_hook, with_next_word, with_note, without_hook};
 
-use fj_rules::{Serial, WorkerId};
+use fj_rules::{MAX_TASKS, Serial, WorkerId};
 use std::alloc::{AllocError, Global};
 use std::marker::Model;
 
 /// The most tasks that a pool may keep, and so the most bodies that a worker may hold.
-const MOST_TASKS: usize = 4096;
+const MOST_TASKS: usize = MAX_TASKS as usize;
 
 /// What a worker holds: the bodies that it has begun, each under its task's number, and the hook that it runs, with its body.
 ///
@@ -27,6 +28,7 @@ pub struct Hand<B> {
 
 impl<B> Model for Hand<B> {
     ghost use Rattle.std.specs.Prelude.{◌≡◌, ◌≤◌, length, vec_capacity, zip};
+    ghost use Rattle.fj_rules.specs.declared.limits.TheConstants.{MAX_TASKS};
     ghost use Rattle.fj_slots.specs.Hands.{HandState};
 
     ghost Value = { HandState B };
@@ -40,10 +42,10 @@ impl<B> Model for Hand<B> {
     } };
 
     ghost invariant = { λ h. record {
-      serials_fit : 4096 ≤ vec_capacity h.serials;
-      bodies_fit : 4096 ≤ vec_capacity h.bodies;
-      joined_fit : 4096 ≤ vec_capacity h.joined;
-      few : length h.serials.items ≤ 4096;
+      serials_fit : MAX_TASKS ≤ vec_capacity h.serials;
+      bodies_fit : MAX_TASKS ≤ vec_capacity h.bodies;
+      joined_fit : MAX_TASKS ≤ vec_capacity h.joined;
+      few : length h.serials.items ≤ MAX_TASKS;
       one_body_each : length h.bodies.items ≡ length h.serials.items;
       one_note_each : length h.joined.items ≡ length h.serials.items;
     } };
@@ -83,11 +85,10 @@ impl<B: Drop> Hand<B> {
         word
     }
 
-    /// Pushes a body, which runs from now on and has joined nothing. Precondition: the hand has fewer than 4,096 bodies, the most tasks that
-    /// a pool keeps.
+    /// Pushes a body, which runs from now on and has joined nothing. Precondition: the hand has fewer than `MAX_TASKS` bodies.
     #[inline(always)]
     pub fn push(&mut self, t: Serial, body: B)
-        requires { length self.old.stack < 4096 }
+        requires { length self.old.stack < MAX_TASKS }
         ensures { self.new ≡ with_body self.old t body }
     {
         self.serials.push_reserved(t);
@@ -100,7 +101,7 @@ impl<B: Drop> Hand<B> {
     pub fn pop(&mut self) -> (Serial, B)
         requires { 0 < length self.old.stack }
         ensures popped { HasOnTop self.old self.new result.0 result.1 }
-        ensures room { length self.new.stack < 4096 }
+        ensures room { length self.new.stack < MAX_TASKS }
     {
         let serial = self.serials.pop().unwrap();
         let body = self.bodies.pop().unwrap();

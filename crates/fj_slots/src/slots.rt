@@ -1,12 +1,12 @@
 ghost use Rattle.std.specs.Prelude.{◌≡◌, ◌+◌, ◌-◌, ◌<◌, ◌≤◌, ◌%◌, ◌++◌, ◌↔◌, IsTrue, length, IfOk, replicate, None, Some, slice_set as set, is_some, slice_get, option_map, slice_index_or as get_or, vec_capacity};
 ghost use Rattle.fj_slots.specs.Slots.{in_slot};
 
-use fj_rules::Serial;
+use fj_rules::{MAX_TASKS, Serial};
 use std::alloc::{AllocError, Global};
 use std::marker::Model;
 
 /// The usual number of slots: the most tasks that a pool may have. For this constant the modulo is a mask; any other needs a division.
-const MOST_SLOTS: usize = 4096;
+const MOST_SLOTS: usize = MAX_TASKS as usize;
 
 /// A row of slots, each of which is empty or has an entry. `new` allocates all its memory, which is touched as needed: slots behind the
 /// last one that was ever filled have never been written.

@@ -1,4 +1,5 @@
 use Rattle.std.proofs.Common.{◌+◌, ◌<◌, ◌∷◌, [], None, length, length-append, arith, refl, ap}
+use Rattle.fj_rules.specs.declared.limits.TheConstants.{MAX_TASKS}
 use Rattle.fj_slots.proofs.Beside.{length_zip, zip_append}
 use Rattle.fj_slots.proofs.hand.Hand.push.Goals as goal
 
@@ -20,7 +21,7 @@ push_reserved-requires-3 g c =
 pub invariant_of-self : goal.invariant_of-self
 invariant_of-self g c =
     let q = c.self.inside in
-    let long : length q.serials.items < 4096 = omega (arith, length_zip q.serials.items q.bodies.items c.self.invariant.one_body_each, ap (λ h. length h.stack) c.self.view_is, c.requires) in
+    let long : length q.serials.items < MAX_TASKS = omega (arith, length_zip q.serials.items q.bodies.items c.self.invariant.one_body_each, ap (λ h. length h.stack) c.self.view_is, c.requires) in
     rw (
       c.push_reserved.ensures.capacity,
       c.push_reserved-2.ensures.capacity,

@@ -1,4 +1,4 @@
-use Rattle.std.proofs.Common.{◌<◌, None, length, sym, ap, arith, length-set}
+use Rattle.std.proofs.Common.{◌<◌, None, length, sym, ap, arith}
 use Rattle.fj_slots.proofs.Padded.{length_padded, write_low, write_same}
 use Rattle.fj_slots.proofs.slots.Slots.clear.Goals as goal
 
@@ -12,10 +12,3 @@ pub returns-clause-rest : goal.returns-clause-rest
 returns-clause-rest g c =
     let q = c.self.inside in
     rw (← c.self.view_is, c.take.ensures.after) (write_low q.written.items q.count None None c.args.at (omega (arith, c.if-at-len.false, c.len.ensures, q.written.ok.0)))
-
-pub invariant_of-self : goal.invariant_of-self
-invariant_of-self g c = record {
-  some = c.self.invariant.some;
-  within = omega (arith, length-set c.self.inside.written.items c.args.at c.take.new.self, c.self.invariant.within);
-  fits = c.self.invariant.fits;
-}

@@ -1,4 +1,4 @@
-use Rattle.std.proofs.Common.{◌<◌, None, Some, length, ap, arith, length-set}
+use Rattle.std.proofs.Common.{◌<◌, None, Some, length, ap, arith}
 use Rattle.fj_slots.proofs.Padded.{length_padded, write_low, write_high}
 use Rattle.fj_slots.proofs.slots.Slots.fill.Goals as goal
 
@@ -14,12 +14,3 @@ returns-else-at-len g c =
     let within : c.args.at < q.count = omega (arith, length_padded q.written.items q.count None c.self.invariant.within, ap length c.self.view_is, c.requires) in
     rw (← c.self.view_is, c.push_reserved.ensures.items, c.write_up_to.ensures.items)
     (write_high q.written.items q.count None (Some (c.args.number, c.args.item)) c.args.at (omega (arith, c.if-at-len.false, c.len.ensures, q.written.ok.0)) within)
-
-pub invariant_of-self : goal.invariant_of-self
-invariant_of-self g c =
-    let q = c.self.inside in
-    record {
-      some = c.self.invariant.some;
-      within = omega (arith, ap length c.overwrite.ensures.items, length-set q.written.items c.args.at (Some (c.args.number, c.args.item)), c.self.invariant.within);
-      fits = omega (arith, c.overwrite.ensures.capacity, c.self.invariant.fits);
-    }
