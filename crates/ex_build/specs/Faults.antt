@@ -1,9 +1,9 @@
 -- Why nothing was built.
 use Rattle.std.specs.Prelude.{ℕ, ◌≡◌, ◌≤◌, ◌⊎◌, ⊤}
 use Rattle.fj_rules.specs.declared.refusal.Refusal.TheVariants.{BadLimits}
-use Rattle.fj_run.specs.Runs.{RefusesRun}
-use Rattle.fj_run.specs.declared.results.NoResult.{NoResult}
-use Rattle.fj_run.specs.declared.results.NoResult.TheVariants as none
+use Rattle.fj_results.specs.Results.{RefusesRun}
+use Rattle.fj_results.specs.declared.results.NoResult.{NoResult}
+use Rattle.fj_results.specs.declared.results.NoResult.TheVariants as none
 use Rattle.ex_build.specs.declared.fault.Fault.{Fault}
 use Rattle.ex_build.specs.declared.fault.Fault.TheVariants.{Failed, Refused, NoTarget, Lost}
 

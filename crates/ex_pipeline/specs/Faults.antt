@@ -1,9 +1,9 @@
 -- Why an event has no level.
 use Rattle.std.specs.Prelude.{ℕ, ◌≡◌, ◌≤◌, ◌⊎◌, ⊤}
 use Rattle.fj_rules.specs.declared.refusal.Refusal.TheVariants.{BadLimits}
-use Rattle.fj_run.specs.Runs.{RefusesRun}
-use Rattle.fj_run.specs.declared.results.NoResult.{NoResult}
-use Rattle.fj_run.specs.declared.results.NoResult.TheVariants as none
+use Rattle.fj_results.specs.Results.{RefusesRun}
+use Rattle.fj_results.specs.declared.results.NoResult.{NoResult}
+use Rattle.fj_results.specs.declared.results.NoResult.TheVariants as none
 use Rattle.ex_pipeline.specs.declared.fault.Fault.{Fault}
 use Rattle.ex_pipeline.specs.declared.fault.Fault.TheVariants.{Failed, Refused, Lost}
 

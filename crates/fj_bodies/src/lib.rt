@@ -15,8 +15,10 @@ mod plain;
 mod release;
 mod store;
 mod tries;
+mod turnstile;
 
 pub use body::{Ask, Body, Heard, Told};
 pub use kept_result::KeptResult;
 pub use outcomes::{Outcome, told_outcome};
 pub use store::Store;
+pub use turnstile::{Open, Turnstile};

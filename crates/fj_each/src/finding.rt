@@ -1,6 +1,6 @@
 ghost use Rattle.std.specs.Prelude.{◌≡◌, ◌≤◌, IfOk, IfErr, IsOk, length};
 ghost use Rattle.std.specs.List.{position};
-ghost use Rattle.fj_run.specs.Runs.{RefusesRun};
+ghost use Rattle.fj_results.specs.Results.{RefusesRun};
 ghost use Rattle.fj_each.specs.Firsts.{first_in};
 
 use crate::block::Block;

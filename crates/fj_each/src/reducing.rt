@@ -1,5 +1,5 @@
 ghost use Rattle.std.specs.Prelude.{◌≡◌, ◌≤◌, ◌++◌, List, IfOk, length, slice_range};
-ghost use Rattle.fj_run.specs.Runs.{RefusesRun};
+ghost use Rattle.fj_results.specs.Results.{RefusesRun};
 ghost use Rattle.fj_try.specs.Faults.{IfRefused, NotRefused};
 
 use crate::block::Block;

@@ -4,8 +4,7 @@ ghost use Rattle.fj_rules.specs.declared.limits.TheConstants.{MAX_EVENTS, MAX_TA
 ghost use Rattle.fj_rules.specs.Bounds.{bounds};
 ghost use Rattle.fj_rules.specs.Epochs.{IsPast};
 ghost use Rattle.fj_trees.specs.TreeValues.{node_value};
-ghost use Rattle.fj_run.specs.Results.{RefusesAnswer};
-ghost use Rattle.fj_run.specs.Runs.{RefusesRun};
+ghost use Rattle.fj_results.specs.Results.{RefusesAnswer, RefusesRun};
 
 use crate::family::Family;
 use crate::named_tree::NamedTree;

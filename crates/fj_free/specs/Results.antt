@@ -1,8 +1,8 @@
 -- The result of a job, or why it has none.
 use Rattle.std.specs.Prelude.{⊤, Result, Ok, Err}
-use Rattle.fj_run.specs.Runs.{RefusesRun}
-use Rattle.fj_run.specs.declared.results.NoResult.{NoResult}
-use Rattle.fj_run.specs.declared.results.NoResult.TheVariants as none
+use Rattle.fj_results.specs.Results.{RefusesRun}
+use Rattle.fj_results.specs.declared.results.NoResult.{NoResult}
+use Rattle.fj_results.specs.declared.results.NoResult.TheVariants as none
 use Rattle.fj_free.specs.declared.unfinished.Unfinished.{Unfinished}
 use Rattle.fj_free.specs.declared.unfinished.Unfinished.TheVariants.{Refused, Failed, Missing}
 

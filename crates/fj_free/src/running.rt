@@ -1,5 +1,5 @@
 ghost use Rattle.std.specs.Prelude.{◌≡◌, IfErr};
-ghost use Rattle.fj_run.specs.Results.{result_in};
+ghost use Rattle.fj_results.specs.Results.{result_in};
 ghost use Rattle.fj_free.specs.Results.{out_in, IsTold};
 
 use crate::free::Free;

@@ -1,5 +1,5 @@
 ghost use Rattle.std.specs.Prelude.{◌≡◌, IfErr, IfOk, OnOk};
-ghost use Rattle.fj_run.specs.Runs.{RefusesRun};
+ghost use Rattle.fj_results.specs.Results.{RefusesRun};
 ghost use Rattle.fj_graph.specs.Courses.{AreFates, IsCourse};
 ghost use Rattle.fj_graph.specs.Graphs.{IsAcyclic};
 ghost use Rattle.fj_graph.specs.Refusals.{RefusesGraph};

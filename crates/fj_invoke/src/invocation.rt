@@ -1,14 +1,12 @@
 ghost use Rattle.std.specs.Prelude.{◌≡◌, ◌++◌, IfOk, IfErr};
 ghost use Rattle.fj_core.specs.Cores.{AreParts};
 ghost use Rattle.fj_rules.specs.Epochs.{IsPast};
-ghost use Rattle.fj_run.specs.Results.{RefusesAnswer};
-ghost use Rattle.fj_run.specs.Runs.{RefusesRun};
+ghost use Rattle.fj_results.specs.Results.{RefusesRun};
 
-use crate::recursive::Recursive;
-use fj_bodies::Outcome;
 use fj_jobs::Divide;
+use fj_recursive::Recursive;
 use fj_rules::{Limits, Mode, Refusal};
-use fj_run::{Record, Recorded, RecordedValue, Settings, Turnstile, record_alone, result_under};
+use fj_run::{Record, Recorded, RecordedValue, Settings, Turnstile, record_alone};
 use std::alloc::Global;
 use std::sync::Wait;
 use std::thread::Threads;
@@ -90,22 +88,4 @@ where
         machine,
         archive,
     })
-}
-
-impl<J: Divide> Recursive<J> {
-    /// The value of the jobs with this key, from what came of a body of one: the answer of `run_alone`, or of a pool to which it was
-    /// submitted.
-    ///
-    /// `LogFull` if the answer is that refusal, or the body failed with its number. `OutOfMemory` if there is no result under this key for any
-    /// other reason.
-    pub fn value_in(
-        answer: Result<Outcome<Recursive<J>>, Refusal>,
-        key: J::Key,
-    ) -> Result<J::Out, Refusal>
-        ensures value { IfOk result (λ out. out ≡ J.value key) }
-        ensures refused { IfErr result (λ refusal. RefusesAnswer J.Key.eq key answer refusal) }
-        ensures err { IfErr result RefusesRun }
-    {
-        result_under(answer, &key)
-    }
 }

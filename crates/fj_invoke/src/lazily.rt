@@ -1,6 +1,5 @@
 ghost use Rattle.std.specs.Prelude.{◌≡◌, IfOk, IfErr};
-ghost use Rattle.fj_run.specs.Results.{RefusesAnswer};
-ghost use Rattle.fj_run.specs.Runs.{RefusesRun};
+ghost use Rattle.fj_results.specs.Results.{RefusesAnswer, RefusesRun};
 
 use crate::idle::IdleWorkers;
 use fj_bodies::Outcome;

@@ -10,15 +10,12 @@
 mod idle;
 mod invocation;
 mod lazily;
-mod lefts;
-mod recursive;
-mod recursive_stage;
 
 pub use fj_jobs::{
     BlockedRange, Divide, FirstHit, Interval, LinearMod, RangeMin, RangeSum, compute,
 };
+pub use fj_recursive::Recursive;
 pub use fj_rules::{Limits, Mode, Refusal, Serial, WorkerId};
 pub use fj_run::{Open, RecordedValue, Settings, Turnstile};
 pub use invocation::{invoke, record_job};
 pub use lazily::{invoke_lazily, invoke_lazily_observed};
-pub use recursive::Recursive;

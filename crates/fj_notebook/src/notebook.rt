@@ -2,8 +2,9 @@ ghost use Rattle.std.specs.Prelude.{◌<◌, ◌^◌, IfSome};
 
 use crate::labelled::Labelled;
 use crate::page::Page;
+use fj_bodies::Turnstile;
 use fj_notes::{Label, Milestone};
-use fj_run::{Serial, Turnstile, WorkerId};
+use fj_rules::{Serial, WorkerId};
 use std::alloc::{AllocError, Global};
 use std::io;
 use std::rt::Clock;

@@ -3,8 +3,9 @@ ghost use Rattle.std.specs.Prelude.{◌≡◌, None};
 use crate::labelled::Labelled;
 use crate::notebook::Notebook;
 use crate::wrapping::{ask_of, heard_inside, milestone_of};
+use fj_bodies::{Ask, Body, Heard};
 use fj_notes::Milestone;
-use fj_run::{Ask, Body, Heard, Serial};
+use fj_rules::Serial;
 use std::rt::Clock;
 
 /// A body of which notes are taken, and of each body that it forks. It hears and asks what the body inside hears and asks, is kept under the

@@ -6,8 +6,8 @@ ghost use Rattle.fj_notebook.specs.Wraps.{ask_by, heard_by, milestone_of};
 use crate::labelled::Labelled;
 use crate::notebook::Notebook;
 use crate::noted::Noted;
+use fj_bodies::{Ask, Body, Heard};
 use fj_notes::Milestone;
-use fj_run::{Ask, Body, Heard};
 use std::rt::Clock;
 
 /// What the body inside hears: the same, and a body that was handed back without what is around it.

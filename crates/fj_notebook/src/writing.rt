@@ -5,7 +5,7 @@ ghost use Rattle.fj_notebook.specs.Writes.{PushesNotes, WritesNotes};
 use crate::notebook::Notebook;
 use fj_notes::{Milestone, Note};
 use fj_record::{WriteFault, write_text};
-use fj_run::Serial;
+use fj_rules::Serial;
 use fj_streams::Sink;
 use std::alloc::{AllocError, Global};
 use std::rt::Clock;

@@ -14,9 +14,8 @@
 mod condvars;
 mod pool;
 mod turns;
-mod turnstile;
 
-pub use fj_bodies::{Ask, Body, Heard, KeptResult, Outcome, Told};
+pub use fj_bodies::{Ask, Body, Heard, KeptResult, Open, Outcome, Told, Turnstile};
 pub use fj_core::{Archive, Booking, Bookings, Core, Intake};
 pub use fj_gate::{Closing, Ticket};
 pub use fj_guarded::{Front, Naming};
@@ -26,4 +25,3 @@ pub use fj_parts::{Closer, Glance, Hand, History, Parts, Record, Still, Submitte
 pub use fj_rules::{Kind, Limits, Mode, Refusal, Sealed, Serial, SubId, WorkerId};
 pub use fj_slots::SerialMap;
 pub use pool::{Opened, Pool};
-pub use turnstile::{Open, Turnstile};

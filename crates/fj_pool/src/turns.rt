@@ -3,8 +3,7 @@ ghost use Rattle.fj_bodies.specs.Turns.{HeardRight};
 ghost use Rattle.fj_bodies.specs.declared.body.Heard.TheVariants.{Start};
 ghost use Rattle.fj_guarded.specs.Turning.{AtBegin, FollowsNext, MayAsk, NextRight, TakesTurn};
 
-use crate::turnstile::Turnstile;
-use fj_bodies::{Ask, Body, Heard};
+use fj_bodies::{Ask, Body, Heard, Turnstile};
 use fj_guarded::{Naming, Next};
 use fj_parts::Hand;
 use fj_rules::Serial;

@@ -2,7 +2,8 @@ ghost use Rattle.std.specs.Prelude.{◌≡◌, ◌++◌, IfErr, IfOk};
 ghost use Rattle.fj_core.specs.Cores.{AreParts};
 ghost use Rattle.fj_rules.specs.Epochs.{IsPast};
 ghost use Rattle.fj_run.specs.Playing.{IsOutcomeOf};
-ghost use Rattle.fj_run.specs.Runs.{RefusesRun, told_of};
+ghost use Rattle.fj_results.specs.Results.{RefusesRun};
+ghost use Rattle.fj_run.specs.Runs.{told_of};
 
 use crate::play::Play;
 use crate::playing::with_pool;

@@ -10,7 +10,6 @@ mod crew;
 mod play;
 mod playing;
 mod recorded;
-mod results;
 mod running;
 mod settings;
 mod submitters;
@@ -20,10 +19,10 @@ pub use fj_pool::{
     Archive, Ask, Body, Glance, Heard, KeptResult, Machine, Naming, Open, Outcome, Record, Ticket,
     Turnstile,
 };
+pub use fj_results::{NoResult, result_in, result_under};
 pub use fj_rules::{Kind, Limits, Mode, Refusal, Sealed, Serial, SubId, WorkerId};
 pub use play::Play;
 pub use playing::{Played, with_pool};
 pub use recorded::{Recorded, RecordedValue};
-pub use results::{NoResult, result_in, result_under};
 pub use running::Running;
 pub use settings::Settings;

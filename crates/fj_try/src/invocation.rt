@@ -1,6 +1,6 @@
 ghost use Rattle.std.specs.Prelude.{◌≡◌, IfOk};
 ghost use Rattle.fj_try.specs.Faults.{IfRefused};
-ghost use Rattle.fj_run.specs.Runs.{RefusesRun};
+ghost use Rattle.fj_results.specs.Results.{RefusesRun};
 
 use crate::fault::Fault;
 use crate::tried::Tried;

@@ -7,8 +7,7 @@ ghost use Rattle.fj_guarded.specs.Turning.{IsSeenLeaving, MayAsk, MayLeave, Next
 
 use crate::pool::Pool;
 use crate::turns::follow;
-use crate::turnstile::Turnstile;
-use fj_bodies::{Ask, Body};
+use fj_bodies::{Ask, Body, Turnstile};
 use fj_guarded::{Front, Naming, Next};
 use fj_parts::{Hand, Locked};
 use fj_rules::{Refusal, WorkerId};
