@@ -1,18 +1,14 @@
-ghost use Rattle.std.specs.Prelude.{◌≡◌, ◌==◌, ◌<◌, ◌≤◌, ◌++◌, IfErr, IfOk, length};
+ghost use Rattle.std.specs.Prelude.{◌≡◌, ◌<◌, ◌≤◌, ◌++◌, IfErr, IfOk, length};
 ghost use Rattle.fj_core.specs.Cores.{AreParts};
 ghost use Rattle.fj_rules.specs.declared.limits.TheConstants.{MAX_EVENTS, MAX_TASKS, MAX_WORKERS};
 ghost use Rattle.fj_rules.specs.Bounds.{bounds};
 ghost use Rattle.fj_rules.specs.Epochs.{IsPast};
 ghost use Rattle.fj_trees.specs.TreeValues.{node_value};
-ghost use Rattle.fj_results.specs.Results.{RefusesAnswer, RefusesRun};
+ghost use Rattle.fj_results.specs.Results.{RefusesRun};
 
-use crate::family::Family;
-use crate::named_tree::NamedTree;
-use crate::tree_fold::TreeFold;
 use fj_rules::{Limits, MAX_EVENTS, MAX_TASKS, Mode, Refusal};
-use fj_run::{
-    Outcome, Record, Recorded, RecordedValue, Settings, Turnstile, record_alone, result_under,
-};
+use fj_run::{Record, Recorded, RecordedValue, Settings, Turnstile, record_alone};
+use fj_tree_fold::{Family, NamedTree, TreeFold};
 use fj_trees::Nodes;
 use std::alloc::{AllocError, Global};
 use std::marker::Brand;
@@ -108,23 +104,6 @@ fn record_in<F: NamedTree + Send, R: Threads + Wait + Sync, T: Turnstile + Sync>
         machine,
         archive,
     })
-}
-
-impl<'a, F: NamedTree> TreeFold<'a, F> {
-    /// The value of a node, from what came of its body: the answer of `run_alone`, or of a pool to which it was submitted.
-    ///
-    /// `LogFull` if the answer is that refusal, or the body failed with its number. `OutOfMemory` if there is no result of this node for any
-    /// other reason.
-    pub fn value_in(
-        answer: Result<Outcome<TreeFold<'a, F>>, Refusal>,
-        number: u32,
-    ) -> Result<u64, Refusal>
-        ensures ok { IfOk result (λ value. value ≡ node_value F.nodes number) }
-        ensures refused { IfErr result (λ refusal. RefusesAnswer ◌==◌ number answer.entry refusal) }
-        ensures err { IfErr result RefusesRun }
-    {
-        result_under(answer, &number)
-    }
 }
 
 /// The settings of a pool with so many workers, and otherwise as large as possible. Precondition: 1 to 32 workers.

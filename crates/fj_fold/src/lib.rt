@@ -7,21 +7,11 @@
 //! ```
 #![tactic(auto)]
 
-mod child_sum;
-mod family;
-mod fold_progress;
 mod folding;
-mod in_place;
-mod joining;
-mod member;
-mod named_tree;
-mod tree_fold;
 
-pub use family::Family;
 pub use fj_bodies::{Ask, Body, Heard};
 pub use fj_rules::Refusal;
 pub use fj_run::{Open, RecordedValue, Turnstile};
+pub use fj_tree_fold::{Family, NamedTree, TreeFold};
 pub use fj_trees::{Node, Nodes, TreeFault, read_tree};
 pub use folding::{fold_tree, record_fold};
-pub use named_tree::NamedTree;
-pub use tree_fold::TreeFold;

@@ -1,9 +1,6 @@
--- the inputs of nodes, and cycles
-pub mod Graphs
--- whether the work of a node was called
-pub mod Fates
--- the steps of a run, and what became of each node
-pub mod Courses
+pub use Rattle.fj_nodes.specs.Graphs
+pub use Rattle.fj_nodes.specs.Fates
+pub use Rattle.fj_nodes.specs.Courses
 -- the one turn of a body
 pub mod Turns
 -- why a graph was not run to its end

@@ -1,7 +1,7 @@
 -- Why a graph was not run to its end.
 use Rattle.std.specs.Prelude.{ℕ, ◌<◌, List, length}
 use Rattle.fj_results.specs.Results.{RefusesRun}
-use Rattle.fj_graph.specs.Graphs.{NeedsCycle}
+use Rattle.fj_nodes.specs.Graphs.{NeedsCycle}
 use Rattle.fj_graph.specs.declared.refused.GraphRefused.{GraphRefused}
 use Rattle.fj_graph.specs.declared.refused.GraphRefused.TheVariants.{Cycle, Refused}
 

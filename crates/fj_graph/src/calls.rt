@@ -1,7 +1,7 @@
-use crate::node::NodeId;
 use crate::node_call::NodeCall;
 use crate::policy::Policy;
 use crate::stop_flag::StopFlag;
+use fj_nodes::NodeId;
 
 /// What all bodies of a run share.
 #[derive(Drop)]

@@ -11,31 +11,17 @@
 #![tactic(auto)]
 
 mod calls;
-mod fate;
-mod fault;
-mod frontier;
-mod graph;
-mod graph_step;
-mod named_graph;
-mod node;
 mod node_call;
-mod node_state;
-mod order;
 mod player;
 mod policy;
-mod progress;
 mod refused;
 mod running;
 mod stop_flag;
 mod under_way;
 mod work;
 
-pub use fate::Fate;
-pub use fault::GraphFault;
+pub use fj_nodes::{Fate, Graph, GraphFault, GraphStep, NodeId};
 pub use fj_run::{Limits, Refusal, Settings};
-pub use graph::Graph;
-pub use graph_step::GraphStep;
-pub use node::NodeId;
 pub use policy::Policy;
 pub use refused::GraphRefused;
 pub use running::{Ran, run_graph};

@@ -3,10 +3,9 @@ ghost use Rattle.fj_graph.specs.Turns.{FailsLater};
 ghost use Rattle.fj_bodies.specs.Turns.{AskRight, HeardRight, Nearer};
 
 use crate::calls::Calls;
-use crate::fate::Fate;
-use crate::node::NodeId;
 use crate::policy::Policy;
 use crate::work::Work;
+use fj_nodes::{Fate, NodeId};
 use fj_run::{Ask, Body, Heard};
 
 /// The body of a node: it checks the flags, and calls the work.

@@ -1,17 +1,12 @@
 ghost use Rattle.std.specs.Prelude.{◌≡◌, IfSome};
-ghost use Rattle.fj_graph.specs.Courses.{AreFates, IsCourse, MayBegin};
+ghost use Rattle.fj_nodes.specs.Courses.{AreFates, IsCourse, MayBegin};
 
 use crate::calls::Calls;
-use crate::fate::Fate;
-use crate::frontier::Frontier;
-use crate::graph::Graph;
-use crate::named_graph::NamedGraph;
-use crate::node::NodeId;
 use crate::node_call::NodeCall;
-use crate::progress::Progress;
 use crate::running::Ran;
 use crate::under_way::UnderWay;
 use crate::work::Work;
+use fj_nodes::{Fate, Frontier, Graph, NamedGraph, NodeId, Progress};
 use fj_run::{Naming, Outcome, Play, Refusal, Running, SubId, Ticket, result_in};
 use std::alloc::{AllocError, Global};
 use std::sync::Wait;

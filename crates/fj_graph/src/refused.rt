@@ -1,4 +1,4 @@
-use crate::node::NodeId;
+use fj_nodes::NodeId;
 use fj_run::Refusal;
 use thiserror::Error;
 

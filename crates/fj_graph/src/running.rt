@@ -1,19 +1,16 @@
 ghost use Rattle.std.specs.Prelude.{◌≡◌, IfErr, IfOk, OnOk};
 ghost use Rattle.fj_results.specs.Results.{RefusesRun};
-ghost use Rattle.fj_graph.specs.Courses.{AreFates, IsCourse};
-ghost use Rattle.fj_graph.specs.Graphs.{IsAcyclic};
+ghost use Rattle.fj_nodes.specs.Courses.{AreFates, IsCourse};
+ghost use Rattle.fj_nodes.specs.Graphs.{IsAcyclic};
 ghost use Rattle.fj_graph.specs.Refusals.{RefusesGraph};
 
 use crate::calls::Calls;
-use crate::fate::Fate;
-use crate::graph::Graph;
-use crate::graph_step::GraphStep;
-use crate::named_graph::NamedGraph;
 use crate::player::Player;
 use crate::policy::Policy;
 use crate::refused::GraphRefused;
 use crate::stop_flag::StopFlag;
 use crate::work::Work;
+use fj_nodes::{Fate, Graph, GraphStep, NamedGraph};
 use fj_run::{Open, Refusal, Settings, with_pool};
 use std::alloc::Global;
 use std::marker::Brand;

@@ -1,6 +1,6 @@
 ghost use Rattle.std.specs.Prelude.{◌≡◌, ◌+◌, ◌<◌, IfSome, IfNone, OnOk, vec_capacity, vec_len};
 
-use crate::node::NodeId;
+use fj_nodes::NodeId;
 use fj_run::{Body, Naming, Outcome, Refusal, Running, Ticket};
 use std::alloc::{AllocError, Global};
 use std::sync::Wait;

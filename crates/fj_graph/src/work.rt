@@ -1,4 +1,4 @@
-use crate::node::NodeId;
+use fj_nodes::NodeId;
 
 /// What is done for the nodes of a graph, by several threads at once.
 pub trait Work {
