@@ -28,7 +28,7 @@ pub enum QueryValue {
     Hit(Option<u64>),
 }
 
-/// A query over a range. A program that chooses the query as it runs needs the code of one pool only.
+/// A query over a range. A program that chooses the query as it runs needs the code of one job, not of three.
 #[derive(Drop)]
 pub struct RangeQuery {
     /// The numbers, and their blocks.
