@@ -1,6 +1,6 @@
 -- What each call leaves: the core after it continues the one before it. And what stays true of a core that is continued.
-use Rattle.std.proofs.Common.{ℕ, ◌≡◌, ◌+◌, ◌<◌, zero, suc, Bool, true, false, ◌||◌, inl, inr, List, [], ◌∷◌, ◌++◌, All, get_or, length, Option, Some, None, option_map, refl, ap, sym, ◌∙◌, subst, append_assoc}
-use Rattle.std.specs.Prelude.{◌⊎◌, ⊤, Contains, Result, Ok, Err, IfNone, IfOk, IfSome}
+use Rattle.std.proofs.Common.{ℕ, ◌≡◌, ◌+◌, zero, suc, Bool, true, false, ◌||◌, inl, inr, List, [], ◌∷◌, ◌++◌, get_or, length, Option, Some, None, option_map, refl, ap, sym, ◌∙◌, subst, append_assoc}
+use Rattle.std.specs.Prelude.{⊤, Contains, Result, Ok, Err, IfNone, IfOk, IfSome}
 use Rattle.std.specs.List.{find}
 use Rattle.std.specs.Option.{option_or}
 use Rattle.std.proofs.lemmas.List.{append-nil}
@@ -33,7 +33,7 @@ use Rattle.fj_bodies.specs.declared.outcomes.Outcome.TheVariants as outcomes
 use Rattle.fj_bodies.specs.Asking.{Drops}
 use Rattle.fj_bodies.specs.Results.{outcome_of, status_in}
 use Rattle.fj_bodies.specs.Stores.{StoreState, StaysInside}
-use Rattle.fj_bodies.proofs.Frames.{collects_stay, polls_stay, releases_stay, same_past_stays, same_stays}
+use Rattle.fj_bodies.proofs.Frames.{collects_stay, polls_stay, releases_stay, same_past_stays}
 use Rattle.fj_bodies.proofs.Acts.{acts_stay}
 use Rattle.fj_core.specs.declared.booking.Booking.{Booking}
 use Rattle.fj_core.specs.declared.cutoff.Cutoff.{Cutoff}
@@ -41,7 +41,7 @@ use Rattle.fj_core.specs.declared.taken_in.Intake.{Intake}
 use Rattle.fj_core.specs.declared.taken_in.Intake.TheVariants as intake
 use Rattle.fj_core.specs.Booked.{booked_under, is_under}
 use Rattle.fj_core.specs.Cancels.{CancelsTask, CancelsTicket, CancelsUnless}
-use Rattle.fj_core.specs.Closes.{Dues, ShutsAt, closed_at, shut_step, stopped_at}
+use Rattle.fj_core.specs.Closes.{Dues, ShutsAt, shut_step}
 use Rattle.fj_core.specs.Closings.{first_set, is_due, is_over}
 use Rattle.fj_core.specs.Cores.{ChangesStore, CollectsTicket, CollectsUnless, CoreState, unless_due}
 use Rattle.fj_core.specs.Intakes.{Intakes, Readies, kind_rooted}
@@ -51,7 +51,7 @@ use Rattle.fj_guarded.specs.declared.next.Next.{Next}
 use Rattle.fj_guarded.specs.Asked.{CancelsBehind, CollectsAny}
 use Rattle.fj_guarded.specs.Continuing.{Continues, ContinuesAll, ContinuesStore, EndsIn, EndsWith, IsNow, IsTold, IsToldNow}
 use Rattle.fj_guarded.specs.Looking.{IsQuietBehind, LooksAtLanes, SealsWhere, TakesEach, TakesFrom, TakesUnless, so_far_behind}
-use Rattle.fj_guarded.specs.Working.{GoesOn, JoinsOnce, LooksForWork, MayLook, NextOf, NextOfJoin, PollsOn, PollsOnce, Resumes, Serves, Skips, SkipsOnce, Waits, WithoutTask, joined_of, noted}
+use Rattle.fj_guarded.specs.Working.{GoesOn, JoinsOnce, LooksForWork, MayLook, NextOf, NextOfJoin, PollsOnce, Resumes, Serves, Skips, SkipsOnce, Waits, WithoutTask, joined_of, noted}
 
 -- ---- beginnings
 

@@ -12,3 +12,5 @@ pub mod Workers
 pub mod Keeping
 -- that it may go to another thread
 pub mod Crossing
+-- an action answers so only where the store is stuck
+pub mod Stuck

@@ -1,8 +1,6 @@
--- What a record says: the tickets that were drawn, what is left of the lanes, and whether the pool had terminated.
-use Rattle.std.proofs.Common.{ℕ, zero, suc, ◌≡◌, ◌&&◌, Bool, true, false, List, [], ◌∷◌, ◌++◌, Option, Some, None, length, reverse, refl, sym, ap, ◌∙◌, subst, arith, length-append}
+-- What a record says: the tickets that were drawn, and what is left of the lanes.
+use Rattle.std.proofs.Common.{ℕ, zero, suc, ◌≡◌, List, [], ◌∷◌, ◌++◌, Some, length, reverse, refl, sym, ap, ◌∙◌, subst, arith, length-append}
 use Rattle.std.specs.Prelude.{slice_get}
-use Rattle.std.specs.Option.{option_eq}
-use Rattle.std.proofs.Math.Dec.{eqb}
 use Rattle.std.proofs.lemmas.List.{append-nil, reverse-append}
 use Rattle.std.proofs.lemmas.Grind.{flat_map-append}
 use Rattle.fj_rules.specs.declared.event.Event.{Event}
@@ -14,7 +12,6 @@ use Rattle.fj_lane.specs.declared.parcel.Parcel.{Parcel}
 use Rattle.fj_lane.specs.Ends.{DrainState}
 use Rattle.fj_core.specs.declared.booking.Booking.{Booking}
 use Rattle.fj_core.specs.Booked.{IsBooked}
-use Rattle.fj_core.specs.Closes.{is_number}
 use Rattle.fj_parts.specs.Seats.{SeatState}
 use Rattle.fj_parts.specs.Winding.{AreSettled, HaveMet, IsSettled}
 
@@ -60,23 +57,3 @@ module _ {B : Type 0} where
   pub all_settled : (h : List Event) (bookings : List Booking) (drains : List (DrainState B)) (seats : List (SeatState B)) (rests : List (List (Parcel B))) → HaveMet drains seats rests
       → ((k : ℕ) (d : DrainState B) → slice_get drains k ≡ Some d → IsBooked h bookings k d) → ((k : ℕ) (s : SeatState B) → slice_get seats k ≡ Some s → s.number ≡ k) → AreSettled h bookings seats rests
   all_settled h bookings drains seats rests = settled_at h bookings (λ k. k) drains seats rests
-
--- ---- whether it had terminated
-
-pub same_number : (closed : Option ℕ) (n : ℕ) → option_eq eqb closed (Some n) ≡ is_number closed n
-same_number (Some m) n = refl
-same_number None n = refl
-
--- the first of two tests decides whether the second is made
-pub second_made : (a b both : Bool) → a ≡ true → both ≡ b → both ≡ (a && b)
-second_made a b both is_true is = is ∙ ap (λ (x : Bool). x && b) (sym is_true)
-
-pub second_spared : (a b both : Bool) → a ≡ false → both ≡ a → both ≡ (a && b)
-second_spared a b both is_false is = is ∙ is_false ∙ ap (λ (x : Bool). x && b) (sym is_false)
-
-three : (a b c : Bool) → ((a && b) && c) ≡ (a && b && c)
-three true b c = refl
-three false b c = refl
-
-pub third_after : (a b c both all : Bool) → both ≡ (a && b) → all ≡ (both && c) → all ≡ (a && b && c)
-third_after a b c both all two is = is ∙ ap (λ (x : Bool). x && c) two ∙ three a b c

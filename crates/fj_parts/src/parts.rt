@@ -14,7 +14,7 @@ use fj_fronts::Opened;
 use fj_gate::{Entrant, gate};
 use fj_guarded::Moment;
 use fj_lane::{Drain, MAX_CAPACITY, lane};
-use fj_rules::{Limits, Mode, OutOfMemory, Refusal, SubId};
+use fj_rules::{Limits, Mode, OutOfMemory, Refusal, SubId, both};
 use std::alloc::Global;
 use std::marker::Model;
 
@@ -87,17 +87,13 @@ fn make<B: Body>(
         drop(seats);
         return Err(OutOfMemory);
     };
-    let Ok((hands, ends)) = tie_all(alloc, untied) else {
+    let Ok((tied, log)) = both(tie_all(alloc, untied), Opened::new(alloc)) else {
         // Explicit drops are proved faster.
         drop(core);
         drop(seats);
         return Err(OutOfMemory);
     };
-    let Ok(log) = Opened::new(alloc) else {
-        drop(core);
-        drop(seats);
-        return Err(OutOfMemory);
-    };
+    let (hands, ends) = tied;
     Ok(Parts {
         core,
         hands,

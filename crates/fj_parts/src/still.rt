@@ -1,8 +1,9 @@
-ghost use Rattle.std.specs.Prelude.{◌≡◌, ◌++◌, IfSome, true, length};
+ghost use Rattle.std.specs.Prelude.{◌≡◌, ◌++◌, ◌&&◌, IfSome, true, length};
 ghost use Rattle.fj_gate.specs.Numbers.{IsNumbersBelow};
 ghost use Rattle.fj_rules.specs.Epochs.{IsPast};
 ghost use Rattle.fj_slots.specs.Shelves.{entries};
 ghost use Rattle.fj_bodies.specs.Stores.{HasResults};
+ghost use Rattle.fj_core.specs.Closes.{is_number};
 ghost use Rattle.fj_core.specs.Cores.{AreParts};
 ghost use Rattle.fj_parts.specs.Winding.{AreAll, AreEmpty, AreSettled, has_terminated, submissions, tickets_of};
 
@@ -66,8 +67,7 @@ impl<B: Body, N: Naming> Still<B, N> {
         } = core.into_remains();
         let (entrants, lanes) = settle(submitters, drains, entrants, rests);
         let tickets = meet_gate(entrants, closer.end);
-        let reached = tickets.closed == Some(bookings.len() as u64) && shut;
-        let terminated = reached && quiet;
+        let terminated = has_ended(tickets.closed, bookings.len() as u64, shut, quiet);
         Record {
             machine,
             results,
@@ -79,4 +79,11 @@ impl<B: Body, N: Naming> Still<B, N> {
             terminated,
         }
     }
+}
+
+/// Whether it had terminated: exactly the closing number of submissions was taken in, it was shut, and all is quiet.
+fn has_ended(closed: Option<u64>, taken_in: u64, shut: bool, quiet: bool) -> bool
+    ensures { result ≡ (is_number closed taken_in && shut && quiet) }
+{
+    closed == Some(taken_in) && shut && quiet
 }

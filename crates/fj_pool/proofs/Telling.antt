@@ -1,6 +1,7 @@
 -- What a caller has seen told stands in the last moment that it has seen.
-use Rattle.std.proofs.Common.{ℕ, List, Option, Some, None}
+use Rattle.std.proofs.Common.{ℕ, ◌<◌, List, length, Option, Some, None}
 use Rattle.std.specs.Prelude.{IfOk, IfSome, Result, Ok, Err}
+use Rattle.std.proofs.lemmas.Option.{slice_get_within}
 use Rattle.fj_rules.specs.declared.refusal.Refusal.{Refusal}
 use Rattle.fj_bodies.specs.declared.outcomes.Outcome.{Outcome}
 use Rattle.fj_core.specs.Cores.{CollectsTicket, CoreState}
@@ -22,3 +23,8 @@ module _ {B K O : Type 0} where
   told_at log tickets place (Ok outcome) (before, old, new, is, told) =
       (told.ticket, told.at, seen_told log told.ticket (Ok outcome) (before, old, new, is, told.collects))
   told_at log tickets place (Err refusal) seen = tt
+
+  -- there is a ticket at its place
+  pub told_within : (log : List (CoreState B K O)) (tickets : List ℕ) (place : ℕ) (answer : Result (Outcome B K O) Refusal) → EndsWith log (λ old new. CollectsAt tickets old place answer new)
+      → place < length tickets
+  told_within log tickets place answer (before, old, new, is, told) = slice_get_within tickets place told.ticket told.at

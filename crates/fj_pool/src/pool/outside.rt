@@ -76,15 +76,25 @@ impl<B: Body, N: Naming> Pool<B, N> {
                 return answer;
             }
             let seat = core.sit(ticket);
-            let condvar = self.condvars.seat(seat);
-            let seen = condvar.notifications();
-            drop(guard);
-            condvar.sleep(rt, seen, Duration::from_secs(LONGEST_WAIT));
-            guard = self.lock(rt);
+            guard = self.sleep_at(rt, guard, seat);
             let core = &mut *guard;
             core.stand_up(seat);
         }
         unreachable!()
+    }
+
+    /// Releases the lock, sleeps until the caller at this seat, or in the crowd, is notified, and takes the lock again.
+    fn sleep_at<'p, R: Wait>(
+        &'p self,
+        rt: &R,
+        guard: MutexGuard<'p, Locked<B, N>>,
+        seat: Option<usize>,
+    ) -> MutexGuard<'p, Locked<B, N>> {
+        let condvar = self.condvars.seat(seat);
+        let seen = condvar.notifications();
+        drop(guard);
+        condvar.sleep(rt, seen, Duration::from_secs(LONGEST_WAIT));
+        self.lock(rt)
     }
 
     /// The outcome of the submission under a ticket, if it is ready: `ForkJoinTask.isDone`, and then `join`. It waits for the lock alone. None
@@ -187,11 +197,7 @@ impl<B: Body, N: Naming> Pool<B, N> {
                 return Some(told);
             }
             core.sit_for_any();
-            let condvar = self.condvars.seat(None);
-            let seen = condvar.notifications();
-            drop(guard);
-            condvar.sleep(rt, seen, Duration::from_secs(LONGEST_WAIT));
-            guard = self.lock(rt);
+            guard = self.sleep_at(rt, guard, None);
         }
         unreachable!()
     }

@@ -1,4 +1,5 @@
 use Rattle.std.proofs.Common.{◌≡◌, [], All, refl, sym, ◌∙◌, subst, arith}
+use Rattle.fj_rules.proofs.Making.{made}
 use Rattle.fj_gate.specs.Ends.{new_closer}
 use Rattle.fj_core.specs.Cores.{IsNew}
 use Rattle.fj_parts.specs.Holdings.{holding_of, nothing}
@@ -17,21 +18,21 @@ tie_all-requires g c = subst (λ hs. All (λ h. holding_of h ≡ nothing) hs) (s
 
 pub invariant_of-result : goal.invariant_of-result
 invariant_of-result g c =
-    let made = c.in_ok-entrants.ensures in record {
-      paired = paired c.args.lane_capacity c.submitters.result c.in_ok-entrants.closer c.in_ok-entrants.entrants.items c.in_ok-seats.seats.items c.in_ok-seats.drains.items c.in-Ok.core.lanes c.in_ok-seats.ensures made.closer
-          (omega (arith, made.entrants.0, c.in_ok-entrants.entrants.ok.0)) made.entrants.1 c.in-Ok.ensures.core.lanes_same;
-      held = tied_have_ends c.args.mode c.args.limits c.args.start c.in-Ok.core.store.past c.in-Ok.untied.items c.in-Ok-tie_all.hands.items c.in-Ok-tie_all.ends.items c.in-Ok.ensures.core.past c.in-Ok.ensures.hands
-          c.in-Ok-tie_all.ensures;
+    let opened = c.in_ok-entrants.ensures in record {
+      paired = paired c.args.lane_capacity c.submitters.result c.in_ok-entrants.closer c.in_ok-entrants.entrants.items c.in_ok-seats.seats.items c.in_ok-seats.drains.items c.in-Ok.core.lanes c.in_ok-seats.ensures opened.closer
+          (omega (arith, opened.entrants.0, c.in_ok-entrants.entrants.ok.0)) opened.entrants.1 c.in-Ok.ensures.core.lanes_same;
+      held = tied_have_ends c.args.mode c.args.limits c.args.start c.in-Ok.core.store.past c.in-Ok.untied.items c.in-Ok-both.tied.0.items c.in-Ok-both.tied.1.items c.in-Ok.ensures.core.past c.in-Ok.ensures.hands
+          (made _ c.in-Ok-both.ensures.0 c.tie_all.ensures);
     }
 
 pub returns : goal.returns
 returns g c =
-    let made = c.in_ok-entrants.ensures in
+    let opened = c.in_ok-entrants.ensures in
     let seated = c.in_ok-seats.ensures in record {
       lanes = seated.lanes;
-      lane_each = omega (arith, seated.lane_each, made.entrants.0, c.in_ok-entrants.entrants.ok.0, c.submitters.ensures.number);
+      lane_each = omega (arith, seated.lane_each, opened.entrants.0, c.in_ok-entrants.entrants.ok.0, c.submitters.ensures.number);
       core = subst (λ ds. IsNew c.args.mode c.args.limits ds c.in-Ok.core) seated.drains_are c.in-Ok.ensures.core;
-      hands = c.in-Ok-tie_all.ensures.hands_are ∙ c.in-Ok.ensures.hands;
-      seats = all_new c.in_ok-entrants.closer.gate c.args.lane_capacity c.in_ok-entrants.entrants.items c.in_ok-seats.seats.items c.in_ok-seats.drains.items seated made.entrants.1;
-      closer = subst (λ n. c.in_ok-entrants.closer ≡ new_closer c.in_ok-entrants.closer.gate n) c.submitters.ensures.number made.closer;
+      hands = (made _ c.in-Ok-both.ensures.0 c.tie_all.ensures).hands_are ∙ c.in-Ok.ensures.hands;
+      seats = all_new c.in_ok-entrants.closer.gate c.args.lane_capacity c.in_ok-entrants.entrants.items c.in_ok-seats.seats.items c.in_ok-seats.drains.items seated opened.entrants.1;
+      closer = subst (λ n. c.in_ok-entrants.closer ≡ new_closer c.in_ok-entrants.closer.gate n) c.submitters.ensures.number opened.closer;
     }

@@ -2,6 +2,8 @@ use Rattle.std.proofs.Common.{ℕ, zero, suc, refl, sym, subst}
 use Rattle.fj_core.specs.Cores.{CoreState}
 use Rattle.fj_slots.specs.Hands.{HandState}
 use Rattle.fj_guarded.specs.Working.{Skips, SkipsOnce}
+use Rattle.fj_guarded.specs.Turning.{LeavesWell}
+use Rattle.fj_guarded.proofs.Stuck.{polls_stuck}
 use Rattle.fj_guarded.proofs.guarded.Guarded.poll_on.Goals as goal
 
 module _ {B K O : Type 0} where
@@ -22,3 +24,9 @@ returns-in-Skip-clause-polls g c =
           (record { task = c.in-Skip.field-0; body = c.in-Skip.body; polls = polled.polls; others = polled.others }) on.skips;
       polls = on.polls;
     }
+
+pub leave_stuck-requires : goal.leave_stuck-requires
+leave_stuck-requires g c = polls_stuck _ _ _ _ _ c.in-Stuck.ensures.polls
+
+pub returns-in-Stuck-clause-leaves : goal.returns-in-Stuck-clause-leaves
+returns-in-Stuck-clause-leaves g c = subst (LeavesWell c.poll.new.self) (sym c.leave_stuck.ensures) (polls_stuck _ _ _ _ _ c.in-Stuck.ensures.polls)

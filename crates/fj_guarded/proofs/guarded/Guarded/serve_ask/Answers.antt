@@ -1,4 +1,7 @@
+use Rattle.std.proofs.Common.{sym, subst}
+use Rattle.fj_guarded.specs.Turning.{LeavesWell}
 use Rattle.fj_guarded.proofs.Keeping.{keeps_fit, keeps_others, none_keeps, others_of, others_then}
+use Rattle.fj_guarded.proofs.Stuck.{acts_stuck}
 use Rattle.fj_guarded.proofs.guarded.Guarded.serve_ask.Goals as goal
 
 pub returns-in-None-clause-fits : goal.returns-in-None-clause-fits
@@ -19,3 +22,10 @@ returns-in-Over-clause-others g c =
     others_then c.args.hand.now.worker c.args.self.now.store.past c.note_and_act-told.new.self.store.past c.resume.new.self.store.past
     c.note_and_act-told.ensures.keeps
     (others_of c.args.hand.now.worker c.note_and_act-told.new.hand.worker c.note_and_act-told.new.self.store.past c.resume.new.self.store.past c.note_and_act-told.ensures.worker c.resume.ensures.others)
+
+pub leave_stuck-requires : goal.leave_stuck-requires
+leave_stuck-requires g c = acts_stuck g.B.Body.key_of _ _ _ _ _ _ c.in-Stuck.ensures.acts
+
+pub returns-in-Stuck-clause-leaves : goal.returns-in-Stuck-clause-leaves
+returns-in-Stuck-clause-leaves g c =
+    subst (LeavesWell c.note_and_act-told.new.self) (sym c.leave_stuck.ensures) (acts_stuck g.B.Body.key_of _ _ _ _ _ _ c.in-Stuck.ensures.acts)

@@ -2,7 +2,8 @@ use Rattle.std.proofs.Common.{◌≡◌, List, All, length, sym, ap, ◌∙◌, 
 use Rattle.std.proofs.lemmas.List.{length-map}
 use Rattle.atomic_table.specs.Seated.{TableId}
 use Rattle.fj_lane.specs.Ends.{LaneId}
-use Rattle.fj_parts.specs.Holdings.{IsTied}
+use Rattle.fj_rules.specs.Pasts.{Past}
+use Rattle.fj_parts.specs.Holdings.{AreKept, IsTied}
 use Rattle.fj_guarded.specs.Lanes.{lanes_of}
 use Rattle.fj_parts.specs.Parts.{PartsState}
 use Rattle.fj_parts.specs.Winding.{AreAll}
@@ -28,6 +29,15 @@ new-requires-clause-named g c =
     let inside = c.self.inside in
     all_named inside.closer g.N.Naming.gate (lanes_of inside.core.lanes) g.N.Naming.lanes inside.seats.items c.self.invariant.paired
     (c.requires.gate ∙ sym (ap (λ (p : PartsState g.row.B.Denot g.row.B-Key.Denot g.row.B-Out.Denot). p.closer.gate) c.self.view_is)) (lanes_named g.N.Naming.lanes _ c.args.self c.requires.lanes c.self.view_is)
+
+pub new-requires-3-clause-ends : goal.new-requires-3-clause-ends
+new-requires-3-clause-ends g c =
+    let inside = c.self.inside in
+    subst (λ (past : Past). AreKept g.N.Naming.hands past inside.ends.items) (sym (ap (λ core. core.store.past) c.new-2.ensures))
+    (subst (λ ps. AreKept ps inside.core.store.past inside.ends.items) (sym (pairs_named g.N.Naming.hands _ c.args.self c.requires.hands c.self.view_is)) c.self.invariant.held.kept)
+
+pub returns-clause-core : goal.returns-clause-core
+returns-clause-core g c = c.new-3.ensures ∙ c.new-2.ensures ∙ ap (λ (p : PartsState g.row.B.Denot g.row.B-Key.Denot g.row.B-Out.Denot). p.core) c.self.view_is
 
 pub returns-clause-workers : goal.returns-clause-workers
 returns-clause-workers g c =

@@ -1,9 +1,8 @@
-use Rattle.std.proofs.Common.{ℕ, ◌≡◌, ◌&&◌, true, List, Some, length, map, sym, ap, ◌∙◌, subst}
+use Rattle.std.proofs.Common.{ℕ, ◌≡◌, ◌&&◌, true, List, length, map, sym, ap, ◌∙◌, subst}
 use Rattle.std.specs.Prelude.{IfSome, slice_get}
 use Rattle.std.specs.List.{sum_by}
-use Rattle.std.specs.Option.{option_eq}
-use Rattle.std.proofs.Math.Dec.{eqb}
 use Rattle.fj_rules.specs.Answers.{is_quiet}
+use Rattle.fj_rules.specs.Epochs.{IsPast}
 use Rattle.fj_rules.specs.Pasts.{Past}
 use Rattle.fj_core.specs.Closes.{is_number}
 use Rattle.fj_core.specs.Closings.{is_over}
@@ -21,8 +20,7 @@ use Rattle.fj_parts.specs.Seats.{SeatState}
 use Rattle.fj_parts.specs.Winding.{has_terminated, submissions}
 use Rattle.fj_parts.proofs.Accepted.{booked_accepted}
 use Rattle.fj_parts.proofs.Emptied.{all_admitted, emptied}
-use Rattle.fj_parts.proofs.Records.{all_settled, numbers_either_way, same_number, second_made, second_spared, third_after}
-use Rattle.fj_parts.proofs.still.Still.wind_up.Goals.{then-eq, else-eq, then-reached, else-reached}
+use Rattle.fj_parts.proofs.Records.{all_settled, numbers_either_way}
 use Rattle.fj_parts.proofs.still.Still.wind_up.Goals as goal
 
 pub settle-entrants-requires-clause-lanes : goal.settle-entrants-requires-clause-lanes
@@ -32,6 +30,9 @@ settle-entrants-requires-clause-lanes g c =
 pub meet-tickets-requires-clause-same : goal.meet-tickets-requires-clause-same
 meet-tickets-requires-clause-same g c = λ k e low. c.settle-entrants.ensures.gates k e low ∙ sym c.closer.invariant.gate
 
+pub returns-clause-machine : goal.returns-clause-machine
+returns-clause-machine g c = c.into_remains-machine.ensures.past ∙ ap (λ core. core.store.past) (c.into_parts-core.ensures.core ∙ c.self.view_is)
+
 pub returns-clause-results : goal.returns-clause-results
 returns-clause-results g c = c.into_remains-machine.ensures.results ∙ ap (λ core. entries core.store.results) (c.into_parts-core.ensures.core ∙ c.self.view_is)
 
@@ -40,6 +41,26 @@ returns-clause-complete g c =
     let left = c.into_remains-machine.ensures in
     subst (λ (core : CoreState g.row.B.Denot g.row.B-Key.Denot g.row.B-Out.Denot). HasResults c.into_remains-machine.result.machine (entries c.into_remains-machine.result.results) core.store.taken)
     (c.into_parts-core.ensures.core ∙ c.self.view_is) (rw (left.past, left.results) left.complete)
+
+pub returns-clause-bookings : goal.returns-clause-bookings
+returns-clause-bookings g c = c.into_remains-machine.ensures.bookings ∙ ap (λ core. core.bookings) (c.into_parts-core.ensures.core ∙ c.self.view_is)
+
+pub returns-clause-parts : goal.returns-clause-parts
+returns-clause-parts g c =
+    let left = c.into_remains-machine.ensures in
+    let core = c.into_parts-core.ensures.core ∙ c.self.view_is in
+    (left.handed ∙ ap (λ core. core.handed) core, left.parts ∙ ap (λ core. core.parts) core)
+
+pub returns-clause-run : goal.returns-clause-run
+returns-clause-run g c = subst IsPast (sym c.into_remains-machine.ensures.past) c.into_remains-machine.ensures.run
+
+pub returns-clause-pool : goal.returns-clause-pool
+returns-clause-pool g c = ap (λ (past : Past). past.pool) c.into_remains-machine.ensures.past ∙ c.into_parts-core.ensures.pool
+
+pub returns-clause-history : goal.returns-clause-history
+returns-clause-history g c =
+    let left = c.into_remains-machine.ensures in
+    rw (left.handed, left.parts, left.past) left.history
 
 pub returns-clause-lanes : goal.returns-clause-lanes
 returns-clause-lanes g c =
@@ -57,6 +78,12 @@ returns-clause-admitted g c =
     let entrants : List EntrantState = map (λ (s : SeatState g.row.B.Denot). s.entrant) c.args.submitters.items in
     numbers_either_way c.meet-tickets.result.drawn entrants (subst (λ (es : List EntrantState). IsNumbersBelow c.meet-tickets.result.drawn (drawn_by es)) c.settle-entrants.ensures.entrants c.meet-tickets.ensures.numbers)
 
+pub returns-clause-closed : goal.returns-clause-closed
+returns-clause-closed g c = c.meet-tickets.ensures.closed ∙ ap (λ closer. closer.closed) c.closer.view_is
+
+pub returns-clause-at_close : goal.returns-clause-at_close
+returns-clause-at_close g c = c.meet-tickets.ensures.at_close
+
 pub returns-clause-taken_in : goal.returns-clause-taken_in
 returns-clause-taken_in g c =
     let left = c.into_remains-machine.ensures in
@@ -66,20 +93,12 @@ pub returns-clause-terminated : goal.returns-clause-terminated
 returns-clause-terminated g c =
     let machine = c.into_remains-machine.result.machine in
     let past : c.into_parts-core.result.0.store.past ≡ machine = sym c.into_remains-machine.ensures.past in
-    let closed : c.meet-tickets.result.closed ≡ c.args.closer.closed = c.meet-tickets.ensures.closed ∙ ap (λ closer. closer.closed) c.closer.view_is in
-    let number : c.eq.result ≡ is_number c.args.closer.closed (submissions machine) =
-    c.eq.ensures ∙ (λ i. option_eq eqb (closed i) (Some (c.len.ensures i))) ∙ same_number c.args.closer.closed (length c.into_remains-machine.result.bookings.bookings) ∙ ap (λ (n : ℕ). is_number c.args.closer.closed n) (returns-clause-taken_in g c) in
+    let closed : c.meet-tickets.result.closed ≡ c.args.closer.closed = returns-clause-closed g c in
+    let number : is_number c.meet-tickets.result.closed c.len.result ≡ is_number c.args.closer.closed (submissions machine) =
+    (λ i. is_number (closed i) (c.len.ensures i)) ∙ ap (λ (n : ℕ). is_number c.args.closer.closed n) (returns-clause-taken_in g c) in
     let shut : c.is_shut-shut.result ≡ is_over machine.events = c.is_shut-shut.ensures ∙ ap (λ p. is_over p.events) past in
     let quiet : c.is_quiescent-quiet.result ≡ is_quiet machine.pool.limits machine.events = c.is_quiescent-quiet.ensures ∙ ap (λ p. is_quiet p.pool.limits p.events) past in
-    let reached : c.if-eq.reached ≡ (c.eq.result && c.is_shut-shut.result) = elim c.if-eq.branch [
-      | then-eq w ↦ second_made c.eq.result c.is_shut-shut.result c.if-eq.reached w.if-eq.true w.reached-is
-      | else-eq w ↦ second_spared c.eq.result c.is_shut-shut.result c.if-eq.reached w.if-eq.false w.reached-is
-    ] in
-    let both : c.if-reached.terminated ≡ (c.if-eq.reached && c.is_quiescent-quiet.result) = elim c.if-reached.branch [
-      | then-reached w ↦ second_made c.if-eq.reached c.is_quiescent-quiet.result c.if-reached.terminated w.if-reached.true w.terminated-is
-      | else-reached w ↦ second_spared c.if-eq.reached c.is_quiescent-quiet.result c.if-reached.terminated w.if-reached.false w.terminated-is
-    ] in
-    third_after c.eq.result c.is_shut-shut.result c.is_quiescent-quiet.result c.if-eq.reached c.if-reached.terminated reached both ∙ (λ i. number i && shut i && quiet i)
+    c.has_ended-terminated.ensures ∙ (λ i. number i && shut i && quiet i)
 
 pub returns-clause-emptied : goal.returns-clause-emptied
 returns-clause-emptied g c terminated =
@@ -87,7 +106,7 @@ returns-clause-emptied g c terminated =
     let machine = c.into_remains-machine.result.machine in
     let bookings = c.into_remains-machine.result.bookings.bookings in
     let reached : has_terminated c.args.closer.closed machine ≡ true = sym (returns-clause-terminated g c) ∙ terminated in
-    let closed : c.meet-tickets.result.closed ≡ c.args.closer.closed = c.meet-tickets.ensures.closed ∙ ap (λ closer. closer.closed) c.closer.view_is in
+    let closed : c.meet-tickets.result.closed ≡ c.args.closer.closed = returns-clause-closed g c in
     let admitted : c.meet-tickets.result.drawn ≡ length bookings =
     all_admitted c.args.closer.closed machine c.meet-tickets.result.drawn reached (subst (λ o. IfSome o (λ m. c.meet-tickets.result.drawn ≡ m)) closed c.meet-tickets.ensures.at_close) ∙ sym (returns-clause-taken_in g c) in
     emptied c.into_remains-machine.result.drains.items c.args.submitters.items c.settle-entrants.result.1.items (length bookings) c.settle-entrants.ensures.rests c.settle-entrants.ensures.seats
