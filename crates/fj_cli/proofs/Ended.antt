@@ -1,5 +1,7 @@
 -- What the end of a command says of its exit status.
-use Rattle.std.proofs.Common.{ℕ, ◌≡◌, ◌≢◌, ◌⊎◌, refl, sym, subst, inl, inr, ⊎_elim, arith, List, Option}
+use Rattle.std.proofs.Common.{ℕ, ◌≡◌, ◌≢◌, ◌⊎◌, ◌∙◌, refl, sym, subst, inl, inr, ⊎_elim, arith, List, Option, Some, Ok}
+use Rattle.std.specs.Prelude.{IfSome}
+use Rattle.clap.specs.Words.{Text}
 use Rattle.fj_trees.specs.declared.tree_fault.TreeFault.{TreeFault}
 use Rattle.fj_trees.specs.declared.tree_fault.TreeFault.TheVariants.{Line, Memory, Read}
 use Rattle.fj_arguments.specs.declared.options.RangeOptions.{RangeOptions}
@@ -7,11 +9,11 @@ use Rattle.fj_arguments.specs.declared.command_line.Subcommand.{Subcommand}
 use Rattle.fj_arguments.specs.declared.command_line.Subcommand.TheVariants.{Replay, Upgrade, Compute, Record, Check, Trace, Test, Explain, View}
 use Rattle.fj_arguments.specs.declared.command_line.Job.{Job}
 use Rattle.fj_arguments.specs.declared.command_line.Job.TheVariants.{Sum, Min, Find, Tree}
+use Rattle.fj_arguments.specs.Commands.{IsForScript, ReadsScript, replay_words, upgrade_words}
 use Rattle.fj_cli.specs.Answers.{EndsRange, EndsTree, HasTooManyBlocks, status_of_fault}
-use Rattle.fj_commands.specs.Statuses.{EndsHistory, EndsReplay, IsOfFailure}
-use Rattle.fj_cli.specs.Statuses.{EndsCommand, EndsCompute, EndsRun}
+use Rattle.fj_commands.specs.Statuses.{EndsHistory, EndsReplay, EndsUpgrade, IsOfFailure}
+use Rattle.fj_cli.specs.Statuses.{EndsCommand, EndsCompute, EndsKnown, EndsRun}
 use Rattle.fj_cli.specs.Failures.{IsTooMuch}
-use Rattle.fj_replay.specs.Faults.{Replays}
 
 -- an exit status of a command that does not end by 2
 abbrev IsOfCommand : ℕ → Type 0
@@ -90,8 +92,14 @@ module _ (status : ℕ) (before ahead start now : Option (List ℕ)) where
   too_much Explain ends two = absurd (not_two status ends two)
   too_much (View o) ends two = ⊎_elim (λ unread. ⊎_elim (λ none. none.1) (λ failed. absurd (not_failed failed.0 two)) unread.0) (λ read. absurd (history_not_two read two)) ends.0
 
-  -- a replay that is asked for does not end by 2, and at 0 the script was replayed
-  pub known_of_replay : (asked : Subcommand) → EndsCommand asked status before ahead start now → asked ≡ Replay → (status ≢ 2) × (status ≡ 0 → Replays before ahead start now)
-  known_of_replay asked ends is =
-      let replay : EndsReplay status before ahead start now = subst (λ (a : Subcommand). EndsCommand a status before ahead start now) is ends in
-      (not_two status replay.known, replay.done)
+  -- the words of a script are read as its command, which does not end by 2
+  pub script_ended : (words : List Text) (asked : Subcommand) (read : Option Subcommand) → read ≡ Some asked → ReadsScript words (Ok read)
+      → EndsCommand asked status before ahead start now → (IsForScript words → status ≢ 2) × EndsKnown words status before ahead start now
+  script_ended words asked read is reads ends =
+      let as_read : (a : Subcommand) → read ≡ Some a → EndsCommand a status before ahead start now =
+      λ a same. subst (λ (o : Option Subcommand). IfSome o (λ b. EndsCommand b status before ahead start now)) (sym is ∙ same) ends in
+      let replay : words ≡ replay_words → EndsReplay status before ahead start now = λ names. as_read Replay (reads.0 names) in
+      let upgrade : words ≡ upgrade_words → EndsUpgrade status before ahead start now = λ names. as_read Upgrade (reads.1 names) in (
+        ⊎_elim (λ names. not_two status (replay names).known) (λ names. not_two status (upgrade names).known),
+        record { replayed = λ names. (replay names).done; upgraded = λ names. (upgrade names).done },
+      )

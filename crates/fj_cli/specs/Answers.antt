@@ -8,6 +8,8 @@ use Rattle.fj_rules.specs.declared.refusal.Refusal.TheVariants.{OutOfMemory}
 use Rattle.fj_trees.specs.declared.node.Node.{Node}
 use Rattle.fj_trees.specs.declared.tree_fault.TreeFault.{TreeFault}
 use Rattle.fj_trees.specs.declared.tree_fault.TreeFault.TheVariants.{Line, Memory, Read}
+use Rattle.fj_jobs.specs.declared.range_query.QueryValue.{QueryValue}
+use Rattle.fj_jobs.specs.declared.range_query.QueryValue.TheVariants.{Total, Least, Hit}
 use Rattle.fj_jobs.specs.Ranges.{range_sum, residues_hit, residues_least}
 use Rattle.fj_trees.specs.Trees.{FaultOf, IsTree, tree_text}
 use Rattle.fj_trees.specs.TreeValues.{node_value}
@@ -47,6 +49,11 @@ least_line None = codes "none" ++ LINE_FEED ∷ []
 abbrev pub hit_line : Option ℕ → List ℕ
 hit_line (Some x) = number_line x
 hit_line None = codes "none" ++ LINE_FEED ∷ []
+
+abbrev pub value_line : QueryValue → List ℕ
+value_line (Total sum) = number_line sum
+value_line (Least least) = least_line least
+value_line (Hit hit) = hit_line hit
 
 -- ---- ends
 

@@ -1,13 +1,12 @@
 //! The commands that run a job over a range: each starts a pool of its own, and writes the value of its job.
-ghost use Rattle.std.specs.Prelude.{◌≡◌, ◌<◌, ◌≤◌, IfNone, IfOk, IfSome};
+ghost use Rattle.std.specs.Prelude.{◌≡◌, ◌<◌, ◌≤◌, IfNone, IfOk, IfSome, string_bytes};
 ghost use Rattle.fj_rules.specs.declared.limits.TheConstants.{MAX_EVENTS, MAX_TASKS};
 ghost use Rattle.fj_rules.specs.Bounds.{bounds};
 ghost use Rattle.fj_streams.specs.Calls.{HasFailed};
 ghost use Rattle.fj_cli.specs.declared.job_commands.TheConstants.{MAX_BLOCKS};
 ghost use Rattle.fj_commands.specs.Answers.{number_line};
 ghost use Rattle.fj_jobs.specs.Queries.{query_value};
-ghost use Rattle.fj_jobs.specs.Ranges.{range_sum, residues_hit, residues_least};
-ghost use Rattle.fj_cli.specs.Answers.{EndsRange, blocks_of, count_of, hit_line, hit_of, least_line, least_of, sum_of};
+ghost use Rattle.fj_cli.specs.Answers.{EndsRange, blocks_of, count_of, hit_line, hit_of, least_line, least_of, sum_of, value_line};
 
 use crate::refused::refused;
 use fj_arguments::{FunctionOptions, RangeOptions, Workers};
@@ -16,7 +15,7 @@ use fj_invoke::{Open, Settings, invoke, invoke_lazily};
 use fj_jobs::{BlockedRange, LinearMod, Query, QueryValue, RangeQuery};
 use fj_rules::{Limits, MAX_EVENTS, MAX_TASKS, Mode, Refusal};
 use fj_streams::Sink;
-use std::alloc::Global;
+use std::alloc::{AllocError, Global};
 use std::sync::Wait;
 use std::thread::Threads;
 
@@ -37,13 +36,7 @@ pub fn run_sum<H: Threads + Wait + Sync, W: Sink, E: Sink>(
     ensures ends { EndsRange options result (number_line (sum_of options)) (W.contents out.old) (W.contents out.new) }
     ensures failed { result ≡ 5 → HasFailed (W.calls out.old) (W.calls out.new) }
 {
-    let Some(range) = blocks(options) else {
-        return told(err, TOO_MANY, 2);
-    };
-    match sum(rt, alloc, options, range) {
-        Ok(sum) => answered(format!(in alloc; "{sum}\n"), out, err),
-        Err(refusal) => refused(refusal, err),
-    }
+    run_query(rt, alloc, options, Query::Sum, out, err)
 }
 
 /// Writes the least value of a function over a range with the first number that has it, `none` where the range is empty, and answers
@@ -59,15 +52,7 @@ pub fn run_min<H: Threads + Wait + Sync, W: Sink, E: Sink>(
     ensures ends { EndsRange options result (least_line (least_of options function)) (W.contents out.old) (W.contents out.new) }
     ensures failed { result ≡ 5 → HasFailed (W.calls out.old) (W.calls out.new) }
 {
-    let Some(range) = blocks(options) else {
-        return told(err, TOO_MANY, 2);
-    };
-    let function = linear(function);
-    match least(rt, alloc, options, range, function) {
-        Ok(Some((least, number))) => answered(format!(in alloc; "{least} {number}\n"), out, err),
-        Ok(None) => answered(format!(in alloc; "none\n"), out, err),
-        Err(refusal) => refused(refusal, err),
-    }
+    run_query(rt, alloc, options, Query::Min(linear(function)), out, err)
 }
 
 /// Writes the first number of a range at which a function has a value, `none` where there is none, and answers the exit status.
@@ -83,14 +68,41 @@ pub fn run_find<H: Threads + Wait + Sync, W: Sink, E: Sink>(
     ensures ends { EndsRange options result (hit_line (hit_of options function want)) (W.contents out.old) (W.contents out.new) }
     ensures failed { result ≡ 5 → HasFailed (W.calls out.old) (W.calls out.new) }
 {
+    let query = Query::Find(linear(function), u64::from(want));
+    run_query(rt, alloc, options, query, out, err)
+}
+
+/// Writes the answer to a query over a range, and answers the exit status.
+fn run_query<H: Threads + Wait + Sync, W: Sink, E: Sink>(
+    rt: &H,
+    alloc: Global,
+    options: RangeOptions,
+    query: Query,
+    out: &mut W,
+    err: &mut E,
+) -> u8
+    ensures ends { EndsRange options result (value_line (query_value query options.from (count_of options))) (W.contents out.old) (W.contents out.new) }
+    ensures failed { result ≡ 5 → HasFailed (W.calls out.old) (W.calls out.new) }
+{
     let Some(range) = blocks(options) else {
         return told(err, TOO_MANY, 2);
     };
-    let function = linear(function);
-    match first(rt, alloc, options, range, function, u64::from(want)) {
-        Ok(Some(number)) => answered(format!(in alloc; "{number}\n"), out, err),
-        Ok(None) => answered(format!(in alloc; "none\n"), out, err),
+    match value(rt, alloc, options, RangeQuery { range, query }) {
+        Ok(value) => answered(line_of(alloc, value), out, err),
         Err(refusal) => refused(refusal, err),
+    }
+}
+
+/// The line of an answer.
+fn line_of(alloc: Global, value: QueryValue) -> Result<String, AllocError>
+    ensures { IfOk result (λ line. string_bytes line ≡ value_line value) }
+{
+    match value {
+        QueryValue::Total(number) | QueryValue::Hit(Some(number)) => {
+            format!(in alloc; "{number}\n")
+        }
+        QueryValue::Least(Some((least, number))) => format!(in alloc; "{least} {number}\n"),
+        QueryValue::Least(None) | QueryValue::Hit(None) => format!(in alloc; "none\n"),
     }
 }
 
@@ -113,60 +125,6 @@ pub fn linear(function: FunctionOptions) -> LinearMod
     ensures { (result.mul ≡ function.mul) × (result.add ≡ function.add) × (result.modulus ≡ function.modulus) }
 {
     LinearMod::new(function.mul, function.add, function.modulus)
-}
-
-/// The sum of a range.
-fn sum<H: Threads + Wait + Sync>(
-    rt: &H,
-    alloc: Global,
-    options: RangeOptions,
-    range: BlockedRange,
-) -> Result<u64, Refusal>
-    ensures { IfOk result (λ sum. sum ≡ range_sum range.numbers.from range.numbers.count) }
-{
-    let query = Query::Sum;
-    match value(rt, alloc, options, RangeQuery { range, query }) {
-        Ok(QueryValue::Total(sum)) => Ok(sum),
-        Ok(_) => unreachable!(),
-        Err(refusal) => Err(refusal),
-    }
-}
-
-/// The least value of a function over a range, and the first number that has it. None where the range is empty.
-fn least<H: Threads + Wait + Sync>(
-    rt: &H,
-    alloc: Global,
-    options: RangeOptions,
-    range: BlockedRange,
-    function: LinearMod,
-) -> Result<Option<(u64, u64)>, Refusal>
-    ensures { IfOk result (λ least. least ≡ residues_least function.mul function.add function.modulus range.numbers.from range.numbers.count) }
-{
-    let query = Query::Min(function);
-    match value(rt, alloc, options, RangeQuery { range, query }) {
-        Ok(QueryValue::Least(least)) => Ok(least),
-        Ok(_) => unreachable!(),
-        Err(refusal) => Err(refusal),
-    }
-}
-
-/// The first number of a range at which a function has a value. None where there is none.
-fn first<H: Threads + Wait + Sync>(
-    rt: &H,
-    alloc: Global,
-    options: RangeOptions,
-    range: BlockedRange,
-    function: LinearMod,
-    want: u64,
-) -> Result<Option<u64>, Refusal>
-    ensures { IfOk result (λ hit. hit ≡ residues_hit function.mul function.add function.modulus want range.numbers.from range.numbers.count) }
-{
-    let query = Query::Find(function, want);
-    match value(rt, alloc, options, RangeQuery { range, query }) {
-        Ok(QueryValue::Hit(hit)) => Ok(hit),
-        Ok(_) => unreachable!(),
-        Err(refusal) => Err(refusal),
-    }
 }
 
 /// The answer to a query, by the number of workers asked for.

@@ -31,7 +31,6 @@ use std::thread::Threads;
 /// script has another reply than the one behind it. 2: a usage error. 3: a fault of the input, or a job that
 /// the pool refused. 4: out of memory. 5: a read or a write failed. From 2 on a text is sent to `err`, which may fail. `out` is
 /// flushed after a command, and after help or the version; a failed flush gives 5. A file is opened only where an option names one.
-#[tactic(auto, using(fj_arguments::proofs::Answered::shown_asks, fj_arguments::proofs::Answered::else_at_fault, crate::proofs::Ended::status_of_command, crate::proofs::Ended::known_of_replay))]
 pub fn fj<H: Threads + Wait + Sync + Files + Clock, R: Source, W: Sink, E: Sink>(
     rt: &H,
     alloc: Global,

@@ -1,8 +1,8 @@
 //! The command that runs a job and writes the history of the run.
-ghost use Rattle.std.specs.Prelude.{◌≡◌, ◌<◌, ◌⊎◌, IfErr, OnOk, is_some, true};
+ghost use Rattle.std.specs.Prelude.{◌≡◌, ◌<◌, ◌⊎◌, IfErr, IfOk, OnOk, is_some, true};
 ghost use Rattle.fj_streams.specs.Calls.{HasFailed};
 ghost use Rattle.fj_cli.specs.declared.job_commands.TheConstants.{MAX_BLOCKS};
-ghost use Rattle.fj_cli.specs.Answers.{blocks_of};
+ghost use Rattle.fj_cli.specs.Answers.{HasTooManyBlocks, blocks_of};
 ghost use Rattle.fj_cli.specs.Statuses.{EndsRecord, EndsRun, WritesHistory};
 
 use crate::job_commands::{TOO_MANY, blocks, limits_of, linear};
@@ -15,7 +15,7 @@ use fj_fold::{Nodes, read_tree, record_fold};
 use fj_invoke::{Settings, record_job};
 use fj_jobs::{BlockedRange, Query, RangeQuery};
 use fj_record::{WriteFault, write_history};
-use fj_rules::Mode;
+use fj_rules::{Mode, Refusal};
 use fj_run::{Machine, RecordedValue};
 use fj_streams::{Sink, Source, flush_whole};
 use std::alloc::Global;
@@ -61,20 +61,26 @@ fn record_job_to<H: Threads + Wait + Sync + Files + Clock, R: Source, W: Sink, E
     ensures ends { EndsRecord job result (W.contents out.old) (W.contents out.new) }
     ensures failed { result ≡ 5 → HasFailed (R.calls input.old) (R.calls input.new) ⊎ (HasFailed (W.calls out.old) (W.calls out.new) ⊎ (is_some file.old ≡ true)) }
 {
-    match job {
-        Job::Sum(options) => record_query(rt, alloc, options, Query::Sum, file, out, err),
-        Job::Min(options, function) => {
-            let query = Query::Min(linear(function));
-            record_query(rt, alloc, options, query, file, out, err)
-        }
-        Job::Find(options, function, want) => {
-            let query = Query::Find(linear(function), u64::from(want));
-            record_query(rt, alloc, options, query, file, out, err)
-        }
-        Job::Tree(workers) => match read_tree(alloc, input) {
+    match query_of(job) {
+        Ok((options, query)) => record_query(rt, alloc, options, query, file, out, err),
+        Err(workers) => match read_tree(alloc, input) {
             Ok(nodes) => record_tree(rt, alloc, workers, &nodes, file, out, err),
             Err(fault) => told_of_fault(fault, err),
         },
+    }
+}
+
+/// What a job asks of its range; of a tree, the number of workers.
+fn query_of(job: Job) -> Result<(RangeOptions, Query), Workers>
+    ensures { IfOk result (λ asked. MAX_BLOCKS < blocks_of asked.0 → HasTooManyBlocks job) }
+{
+    match job {
+        Job::Sum(options) => Ok((options, Query::Sum)),
+        Job::Min(options, function) => Ok((options, Query::Min(linear(function)))),
+        Job::Find(options, function, want) => {
+            Ok((options, Query::Find(linear(function), u64::from(want))))
+        }
+        Job::Tree(workers) => Err(workers),
     }
 }
 
@@ -99,10 +105,8 @@ fn record_query<H: Threads + Wait + Sync + Files + Clock, W: Sink, E: Sink>(
         Err(error) => return told_of_error(&error, err),
     };
     let settings = Settings::with_limits(limits_of(options.workers)).in_mode(Mode::Joining);
-    match record_job(rt, alloc, settings, RangeQuery { range, query }, &watch) {
-        Ok(run) => told_of_run(alloc, Mode::Joining, run, &watch, file, out, err),
-        Err(refusal) => refused(refusal, err),
-    }
+    let run = record_job(rt, alloc, settings, RangeQuery { range, query }, &watch);
+    told_of_run(alloc, Mode::Joining, run, &watch, file, out, err)
 }
 
 /// Folds the tree, writes the history of the run, and answers the exit status.
@@ -123,33 +127,36 @@ fn record_tree<H: Threads + Wait + Sync + Files + Clock, W: Sink, E: Sink>(
         Ok(watch) => watch,
         Err(error) => return told_of_error(&error, err),
     };
-    match record_fold(rt, alloc, workers.count, nodes, &watch) {
-        Ok(run) => told_of_run(alloc, Mode::Async, run, &watch, file, out, err),
-        Err(refusal) => refused(refusal, err),
-    }
+    let run = record_fold(rt, alloc, workers.count, nodes, &watch);
+    told_of_run(alloc, Mode::Async, run, &watch, file, out, err)
 }
 
-/// Writes the history of a run that has a value, or why it has none, and answers the exit status. Precondition: the pool had this mode.
+/// Writes the history of a run that has a value, or why there is none, and answers the exit status. Precondition: the pool had this mode.
 fn told_of_run<V: Drop, C: Clock, F: Sink, W: Sink, E: Sink>(
     alloc: Global,
     mode: Mode,
-    run: RecordedValue<V>,
+    run: Result<RecordedValue<V>, Refusal>,
     watch: &Watch<C>,
     file: &mut Option<F>,
     out: &mut W,
     err: &mut E,
 ) -> u8
-    requires { mode ≡ run.machine.pool.mode }
+    requires { IfOk run (λ r. mode ≡ r.machine.pool.mode) }
     ensures ends { EndsRun result (W.contents out.old) (W.contents out.new) }
     ensures failed { result ≡ 5 → HasFailed (W.calls out.old) (W.calls out.new) ⊎ (is_some file.old ≡ true) }
 {
-    let status = told_of(alloc, mode, &run, watch, file, out, err);
-    // An explicit drop is proved faster.
-    drop(run);
-    status
+    match run {
+        Ok(run) => {
+            let status = told_of(alloc, mode, &run, watch, file, out, err);
+            // An explicit drop is proved faster.
+            drop(run);
+            status
+        }
+        Err(refusal) => refused(refusal, err),
+    }
 }
 
-/// The same with a run that the caller keeps.
+/// The same with a run, which the caller keeps.
 fn told_of<V: Drop, C: Clock, F: Sink, W: Sink, E: Sink>(
     alloc: Global,
     mode: Mode,
