@@ -34,9 +34,12 @@ pub fn fold_tree<R: Threads + Wait + Sync, T: Turnstile + Sync>(
 {
     let RecordedValue {
         value,
-        machine: _,
-        archive: _,
+        machine,
+        archive,
     } = record_fold(rt, alloc, workers, nodes, turnstile)?;
+    // Explicit drops are proved faster.
+    drop(machine);
+    drop(archive);
     value
 }
 

@@ -35,9 +35,12 @@ where
 {
     let RecordedValue {
         value,
-        machine: _,
-        archive: _,
+        machine,
+        archive,
     } = record_job(rt, alloc, settings_of(mode, limits, start), job, turnstile)?;
+    // Explicit drops are proved faster.
+    drop(machine);
+    drop(archive);
     value
 }
 
