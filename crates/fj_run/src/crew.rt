@@ -62,8 +62,8 @@ impl<B: Body, N: Naming, T: Turnstile, R: Wait> Crew<'_, '_, '_, B, N, T, R> {
         let Unused { submitters } = unused;
         let mut running = Running::new(self.pool, self.rt, submitters, self.places);
         let out = player.play(&mut running);
-        self.pool.shutdown(self.rt, &mut closer);
         let (submitters, front) = running.into_ends();
+        self.pool.shutdown(self.rt, &mut closer);
         Ran {
             player,
             played: Some((out, front)),
@@ -121,8 +121,10 @@ where
     thread::scope(thread::scope_env(), crew.rt, |scope| {
         let mut all = true;
         for (worker, hand) in hands.iter_mut().enumerate() {
-            let thread = thread_of(alloc, worker);
-            all = all && thread.spawn_scoped(scope, move || crew.work(hand)).is_ok();
+            all = all
+                && thread_of(alloc, worker)
+                    .spawn_scoped(scope, move || crew.work(hand))
+                    .is_ok();
         }
         if all {
             crew.play(unused, closer, player)

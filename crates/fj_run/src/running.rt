@@ -97,9 +97,9 @@ impl<'p, 'r, B: Body, N: Naming, R: Wait> Running<'p, 'r, B, N, R> {
         if self.outstanding >= self.places {
             return Err((Refusal::TooManyTasks, body));
         }
-        let ticket = self.submitters.submit(submitter, body)?;
-        self.outstanding = self.outstanding.saturating_add(1);
-        Ok(ticket)
+        let answer = self.submitters.submit(submitter, body);
+        self.outstanding = self.outstanding.saturating_add(u32::from(answer.is_ok()));
+        answer
     }
 
     /// Waits for an outcome, which is delivered once: `Pool::await_seen`.
@@ -122,9 +122,7 @@ impl<'p, 'r, B: Body, N: Naming, R: Wait> Running<'p, 'r, B, N, R> {
         ensures seats { self.new.seats ≡ self.old.seats }
     {
         let answer = self.pool.try_seen(self.rt, &mut self.front, ticket);
-        if answer.is_some() {
-            self.outstanding = self.outstanding.saturating_sub(1);
-        }
+        self.outstanding = self.outstanding.saturating_sub(u32::from(answer.is_some()));
         answer
     }
 
@@ -138,9 +136,7 @@ impl<'p, 'r, B: Body, N: Naming, R: Wait> Running<'p, 'r, B, N, R> {
         ensures seats { self.new.seats ≡ self.old.seats }
     {
         let told = self.pool.await_any_seen(self.rt, &mut self.front, tickets);
-        if told.is_some() {
-            self.outstanding = self.outstanding.saturating_sub(1);
-        }
+        self.outstanding = self.outstanding.saturating_sub(u32::from(told.is_some()));
         told
     }
 

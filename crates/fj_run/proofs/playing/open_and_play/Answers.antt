@@ -1,7 +1,7 @@
-use Rattle.std.proofs.Common.{rules, List, ap, subst}
+use Rattle.std.proofs.Common.{ℕ, rules, List, Option, sym, ap, ◌∙◌, subst}
 use Rattle.fj_gate.specs.Numbers.{IsNumbersBelow}
 use Rattle.fj_parts.specs.Seats.{SeatState}
-use Rattle.fj_parts.specs.Winding.{AreSettled, tickets_of}
+use Rattle.fj_parts.specs.Winding.{AreSettled, has_terminated, tickets_of}
 use Rattle.fj_run.specs.Playing.{RunningState}
 use Rattle.fj_run.proofs.playing.open_and_play.Goals as goal
 
@@ -24,3 +24,26 @@ returns-in-Some-clause-told g c =
         admitted = subst (λ (all : List (SeatState g.row.B.Denot)). IsNumbersBelow left.admitted (tickets_of all)) seats ends.admitted;
       },
     )
+
+pub returns-in-Some-clause-run : goal.returns-in-Some-clause-run
+returns-in-Some-clause-run g c = c.wind_up-record.ensures.run
+
+pub returns-in-Some-clause-pool : goal.returns-in-Some-clause-pool
+returns-in-Some-clause-pool g c = c.wind_up-record.ensures.pool
+
+pub returns-in-Some-clause-history : goal.returns-in-Some-clause-history
+returns-in-Some-clause-history g c = c.wind_up-record.ensures.history
+
+pub returns-in-Some-clause-at_close : goal.returns-in-Some-clause-at_close
+returns-in-Some-clause-at_close g c = c.wind_up-record.ensures.at_close
+
+pub returns-in-Some-clause-taken_in : goal.returns-in-Some-clause-taken_in
+returns-in-Some-clause-taken_in g c = c.wind_up-record.ensures.taken_in
+
+pub returns-in-Some-clause-emptied : goal.returns-in-Some-clause-emptied
+returns-in-Some-clause-emptied g c = c.wind_up-record.ensures.emptied
+
+pub returns-in-Some-clause-terminated : goal.returns-in-Some-clause-terminated
+returns-in-Some-clause-terminated g c =
+    let ends = c.wind_up-record.ensures in
+    ends.terminated ∙ ap (λ (closed : Option ℕ). has_terminated closed c.wind_up-record.result.machine) (sym ends.closed)
