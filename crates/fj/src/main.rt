@@ -1,4 +1,30 @@
-//! The program `fj`.
+//! The program `fj`: scripts, histories and jobs on the command line.
+//!
+//! ```text
+//! fj replay < SCRIPT           runs a script and writes its replies
+//! fj test < SCRIPT             compares its replies with those behind its lines
+//! fj explain < SCRIPT          writes it with its replies, and why nothing was done
+//! fj upgrade < SCRIPT          writes it with names for its tasks
+//! fj trace < SCRIPT            runs it and writes its history
+//! fj check < HISTORY           tells whether it is a history
+//! fj view --as VIEW < HISTORY  writes a table, counts, a path, a picture or a graph
+//! fj sum OPTIONS               adds up a range of numbers by workers in threads
+//! fj min OPTIONS               writes the least value of a function over a range
+//! fj find OPTIONS              writes the first number of a range with a value
+//! fj tree OPTIONS < TREE       writes the value of a tree
+//! fj record JOB OPTIONS        runs one of these jobs and writes its history
+//! ```
+//!
+//! It exits with one of these statuses:
+//!
+//! ```text
+//! 0  the command was carried out, or help or the version was written
+//! 1  check: a line may not stand there; test: a reply is another one
+//! 2  a usage error
+//! 3  a fault of the input, or a job that the pool refused
+//! 4  out of memory
+//! 5  a read or a write failed
+//! ```
 #![tactic(auto)]
 
 use fj_cli::{Watched, fj, without_words};
