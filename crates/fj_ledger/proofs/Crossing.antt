@@ -9,8 +9,8 @@ use Rattle.fj_rules.proofs.limits.Limits.TheSendSync.{the_send as limits_send}
 use Rattle.fj_rules.proofs.ids.Serial.TheSendSync.{the_send as serial_send}
 use Rattle.fj_queues.proofs.queues.Queues.TheSendSync.{the_send as queues_send}
 use Rattle.fj_tree.proofs.tree.Tree.TheSendSync.{the_send as tree_send}
-use Rattle.fj_ledger.proofs.stacks.Stacks.TheSendSync.{the_send as stacks_send}
-use Rattle.fj_ledger.proofs.open.OpenTasks.TheSendSync.{the_send as open_send}
+use Rattle.fj_queues.proofs.stacks.Stacks.TheSendSync.{the_send as stacks_send}
+use Rattle.fj_queues.proofs.open.OpenTasks.TheSendSync.{the_send as open_send}
 use Rattle.fj_ledger.proofs.ledger.hook.Hook.TheSendSync.{the_send as hook_send}
 use Rattle.fj_ledger.specs.contracts.log.Log as Log
 use Rattle.fj_ledger.specs.contracts.log.Log.TheKnot as knot

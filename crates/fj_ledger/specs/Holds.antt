@@ -20,7 +20,7 @@ use Rattle.fj_rules.specs.declared.epoch.TheConstants.{MAX_EVENTS_AND_SEALS}
 use Rattle.fj_queues.specs.Queues.{Lists as Waiting, queue_at}
 use Rattle.fj_tree.specs.declared.record.Record.{Record}
 use Rattle.fj_tree.specs.Records.{Records, record_at, handle_of, count}
-use Rattle.fj_ledger.specs.Stacks.{Lists, stack_at}
+use Rattle.fj_queues.specs.Stacks.{StackLists, stack_at}
 use Rattle.fj_ledger.specs.InHands.{InHand}
 
 -- one list for each owner, by the queue's number
@@ -30,7 +30,7 @@ pub record KeepsQueues (l : Bounds) (h : List Event) (queues : Waiting) : Type 0
   pub each : (i : ℕ) → i < queues_in l → queue_at queues i ≡ queue h (owner_at l i)
 
 -- one list for each worker
-pub record KeepsStacks (l : Bounds) (h : List Event) (stacks : Lists) : Type 0 where
+pub record KeepsStacks (l : Bounds) (h : List Event) (stacks : StackLists) : Type 0 where
   pub count : length stacks.lists ≡ l.workers
   pub room : stacks.room ≡ l.tasks
   pub each : (w : ℕ) → w < l.workers → stack_at stacks w ≡ stack h w
@@ -107,7 +107,7 @@ pub record IsSealed (pool : Pool) (sealed h : List Event) : Type 0 where
   pub left : accepted sealed ≤ length (gone sealed) + pool.limits.tasks
 
 -- all that is kept, and that the history is lawful and within the limit
-pub record Holds (pool : Pool) (sealed h : List Event) (queues : Waiting) (stacks : Lists) (hands : List (Option InHand)) (tree : Records) (opens gones : List ℕ) : Type 0 where
+pub record Holds (pool : Pool) (sealed h : List Event) (queues : Waiting) (stacks : StackLists) (hands : List (Option InHand)) (tree : Records) (opens gones : List ℕ) : Type 0 where
   pub within : IsWithin pool.limits.workers pool.limits.submitters pool.limits.tasks pool.limits.events
   pub lawful : AllowedFrom pool [] h
   pub climbs : ClimbsCompleters h

@@ -5,7 +5,5 @@ pub mod Holds
 pub mod InHands
 pub mod Logs
 pub mod Sources
-pub mod Stacks
-pub mod Windows
 -- Counts of tasks.
 pub mod Counts

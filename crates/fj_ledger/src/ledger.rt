@@ -27,9 +27,7 @@ mod take;
 
 pub use crate::ledger::hook::Hook;
 use crate::log::Log;
-use crate::open::OpenTasks;
-use crate::stacks::Stacks;
-use fj_queues::{Numbers, Queues};
+use fj_queues::{Numbers, OpenTasks, Queues, Stacks};
 use fj_rules::{Event, Limits, Mode, OutOfMemory, Owner, Serial, SubId, WorkerId, both};
 use fj_tree::{Handle, Record, Tree};
 use std::alloc::Global;

@@ -7,11 +7,7 @@
 
 mod ledger;
 mod log;
-mod open;
 mod queue_end;
-mod stacks;
-mod stamps;
-mod window;
 
 pub use ledger::{Hook, Ledger};
 pub use queue_end::QueueEnd;

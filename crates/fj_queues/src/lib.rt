@@ -1,7 +1,7 @@
-//! Double-ended queues of task numbers, one for each owner.
+//! Double-ended queues of task numbers, one for each owner; stacks of them; and those of the open tasks.
 //!
-//! Contracts see [`Queues`] as a list of lists, oldest numbers first, and the room that was asked for. All memory is allocated in
-//! [`Queues::new`]. A thief takes the oldest number of the first queue that has one:
+//! Contracts see [`Queues`] and [`Stacks`] as a list of lists, oldest numbers first, and the room that was asked for, [`OpenTasks`] as one
+//! list. All memory is allocated in `new`. A thief takes the oldest number of the first queue that has one:
 //!
 //! ```
 //! if let Some(o) = queues.first_from(r) {
@@ -13,7 +13,13 @@
 mod cells;
 mod ends;
 mod numbers;
+mod open;
 mod queues;
+mod stacks;
+mod stamps;
+mod window;
 
 pub use numbers::Numbers;
+pub use open::OpenTasks;
 pub use queues::Queues;
+pub use stacks::Stacks;

@@ -31,7 +31,7 @@ use Rattle.fj_tree.specs.Handles.{Handle}
 use Rattle.fj_tree.specs.Records.{Records, IsCompleter, count, record_at, handle_of}
 use Rattle.fj_tree.specs.Makes.{fresh, with_child_of}
 use Rattle.fj_tree.proofs.Index.Numbers.{good_found}
-use Rattle.fj_ledger.specs.Stacks.{Lists}
+use Rattle.fj_queues.specs.Stacks.{StackLists}
 use Rattle.fj_ledger.specs.InHands.{InHand}
 use Rattle.fj_ledger.specs.Holds.{Holds, KeepsQueues, KeepsTree, Tells}
 use Rattle.fj_ledger.proofs.Updates.Growing.{grown_holds}
@@ -116,11 +116,11 @@ queues_after_accept pool h queues o t k so may within keeps =
 
 -- ---- all
 
-unspent_new : {sealed : List Event} (pool : Pool) (h : List Event) (e : Event) (t : ℕ) (queues : Waiting) (stacks : Lists) (hands : List (Option InHand)) (tree : Records) (opens gones : List ℕ)
+unspent_new : {sealed : List Event} (pool : Pool) (h : List Event) (e : Event) (t : ℕ) (queues : Waiting) (stacks : StackLists) (hands : List (Option InHand)) (tree : Records) (opens gones : List ℕ)
     → Holds pool sealed h queues stacks hands tree opens gones → Allowed pool h e → accepted_by e ≡ Some t → list_any (fires_or_passes t) h ≡ false
 unspent_new pool h e t queues stacks hands tree opens gones holds may new = climbs_unfired h holds.climbs t (is_new pool h e t holds.lawful may new)
 
-pub accept_holds : {sealed : List Event} (pool : Pool) (h : List Event) (t : ℕ) (o : Owner) (k : Kind) (queues : Waiting) (stacks : Lists) (hands : List (Option InHand)) (tree new : Records) (opens gones : List ℕ) (key : ℕ)
+pub accept_holds : {sealed : List Event} (pool : Pool) (h : List Event) (t : ℕ) (o : Owner) (k : Kind) (queues : Waiting) (stacks : StackLists) (hands : List (Option InHand)) (tree new : Records) (opens gones : List ℕ) (key : ℕ)
     → Holds pool sealed h queues stacks hands tree opens gones → Allowed pool h (Acc t o k) → length h < length sealed + pool.limits.events → IsMade tree new key t k (Queued o)
     → Holds pool sealed (h ++ Acc t o k ∷ []) (with_queue queues (queue_number pool.limits o) (queue_at queues (queue_number pool.limits o) ++ t ∷ [])) stacks hands new opens gones
 accept_holds pool h t o k queues stacks hands tree new opens gones key holds may fits made =
@@ -136,7 +136,7 @@ accept_holds pool h t o k queues stacks hands tree new opens gones key holds may
       gone_kept = holds.gone_kept ∙ sym (submitted_gone pool h t o k so may);
     })
 
-pub trigger_holds : {sealed : List Event} (pool : Pool) (h : List Event) (t : ℕ) (k : Kind) (queues : Waiting) (stacks : Lists) (hands : List (Option InHand)) (tree new : Records) (opens gones : List ℕ) (key : ℕ)
+pub trigger_holds : {sealed : List Event} (pool : Pool) (h : List Event) (t : ℕ) (k : Kind) (queues : Waiting) (stacks : StackLists) (hands : List (Option InHand)) (tree new : Records) (opens gones : List ℕ) (key : ℕ)
     → Holds pool sealed h queues stacks hands tree opens gones → Allowed pool h (Make t k) → length h < length sealed + pool.limits.events → IsMade tree new key t k Open
     → Holds pool sealed (h ++ Make t k ∷ []) queues stacks hands new (opens ++ t ∷ []) gones
 trigger_holds pool h t k queues stacks hands tree new opens gones key holds may fits made =

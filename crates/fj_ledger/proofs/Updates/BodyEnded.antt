@@ -24,7 +24,7 @@ use Rattle.fj_tree.specs.Arrivals as record_is
 use Rattle.fj_tree.specs.Handles.{Handle}
 use Rattle.fj_tree.specs.Records.{Records, IsSound, changed, with_place}
 use Rattle.fj_tree.proofs.Index.Numbers.{written}
-use Rattle.fj_ledger.specs.Stacks.{Lists, stack_at, with_stack}
+use Rattle.fj_queues.specs.Stacks.{StackLists, stack_at, with_stack}
 use Rattle.fj_ledger.specs.InHands.{InHand}
 use Rattle.fj_ledger.specs.Holds.{Holds, KeepsStacks, Tells}
 use Rattle.fj_ledger.proofs.Recorded.ArrivalsTold.{spent_told}
@@ -37,7 +37,7 @@ use Rattle.fj_ledger.proofs.Recorded.Telling.{kept_more, pending_same, fired_sam
 use Rattle.fj_rules.proofs.Events.KindsKept.{kind_still}
 
 -- the last task of a stack leaves it, and the other stacks stay
-stacks_after_end : (pool : Pool) (h : List Event) (stacks : Lists) (w t : ℕ) → AllowedFrom pool [] h → w < pool.limits.workers → last_of (stack h w) ≡ Some t
+stacks_after_end : (pool : Pool) (h : List Event) (stacks : StackLists) (w t : ℕ) → AllowedFrom pool [] h → w < pool.limits.workers → last_of (stack h w) ≡ Some t
     → KeepsStacks pool.limits h stacks → KeepsStacks pool.limits (h ++ End t w ∷ []) (with_stack stacks w (take (length (stack_at stacks w) - 1) (stack_at stacks w)))
 stacks_after_end pool h stacks w t so within last keeps =
     let row = take (length (stack_at stacks w) - 1) (stack_at stacks w) in
@@ -57,7 +57,7 @@ pub stays_told : (h : List Event) (r : Record) → Tells h r → (is_completer_k
 unfolding is_completer
 stays_told h r tells = rw (tells.kind, spent_told h r tells) refl
 
-pub ended_holds : {sealed : List Event} (pool : Pool) (h : List Event) (t w : ℕ) (b : Bool) (p : Place) (queues : Waiting) (stacks : Lists) (hands : List (Option InHand)) (tree : Records) (opened gones opened2 gones2 : List ℕ) (at : Handle)
+pub ended_holds : {sealed : List Event} (pool : Pool) (h : List Event) (t w : ℕ) (b : Bool) (p : Place) (queues : Waiting) (stacks : StackLists) (hands : List (Option InHand)) (tree : Records) (opened gones opened2 gones2 : List ℕ) (at : Handle)
     → Holds pool sealed h queues stacks hands tree opened gones → IsSound tree → IsLocated tree t at → Allowed pool h (End t w) → w < pool.limits.workers → length h < length sealed + pool.limits.events
     → opens h t ≡ b → p ≡ (if b then Open else Gone) → opened2 ≡ opened ++ (if b then t ∷ [] else []) → gones2 ≡ gones ++ (if b then [] else t ∷ [])
     → Holds pool sealed (h ++ End t w ∷ []) queues (with_stack stacks w (take (length (stack_at stacks w) - 1) (stack_at stacks w))) hands (changed tree at.key (with_place p)) opened2 gones2

@@ -29,7 +29,7 @@ use Rattle.fj_tree.specs.Handles.{Handle}
 use Rattle.fj_tree.specs.Records.{Records, IsSound, record_at, record_of, changed, with_added}
 use Rattle.fj_tree.proofs.Index.Numbers.{written}
 use Rattle.fj_ledger.specs.Arriving.{as_arrival}
-use Rattle.fj_ledger.specs.Stacks.{Lists}
+use Rattle.fj_queues.specs.Stacks.{StackLists}
 use Rattle.fj_ledger.specs.InHands.{InHand}
 use Rattle.fj_ledger.specs.Holds.{Holds, Tells}
 use Rattle.fj_ledger.proofs.Recorded.ArrivalsTold.{arrival_told}
@@ -51,7 +51,7 @@ record IsCount (e : Event) (t : ℕ) : Type 0 where
   other : is_of_hook e ≡ false
   unsettled : settled_by e ≡ None
 
-count_holds : {sealed : List Event} (pool : Pool) (h : List Event) (e : Event) (queues : Waiting) (stacks : Lists) (hands : List (Option InHand)) (tree : Records) (opens gones : List ℕ) (at : Handle) (r : Record) (change : Record → Record)
+count_holds : {sealed : List Event} (pool : Pool) (h : List Event) (e : Event) (queues : Waiting) (stacks : StackLists) (hands : List (Option InHand)) (tree : Records) (opens gones : List ℕ) (at : Handle) (r : Record) (change : Record → Record)
     → Holds pool sealed h queues stacks hands tree opens gones → Allowed pool h e → length h < length sealed + pool.limits.events → IsCount e r.serial
     → ((d : ℕ) → climbed_by e ≡ Some d → is_completer h d ≡ true) → IsSound tree → record_at tree at.key ≡ Some r → (change r).serial ≡ r.serial → Tells (h ++ e ∷ []) (change r)
     → Holds pool sealed (h ++ e ∷ []) queues stacks hands (changed tree at.key change) opens gones
@@ -87,7 +87,7 @@ count_tells pool h e r n so may is unfired tells count =
       fired = fired_same h e r.serial unfired ∙ tells.fired;
     }
 
-pub raise_holds : {sealed : List Event} (pool : Pool) (h : List Event) (c n : ℕ) (queues : Waiting) (stacks : Lists) (hands : List (Option InHand)) (tree : Records) (opens gones : List ℕ) (at : Handle)
+pub raise_holds : {sealed : List Event} (pool : Pool) (h : List Event) (c n : ℕ) (queues : Waiting) (stacks : StackLists) (hands : List (Option InHand)) (tree : Records) (opens gones : List ℕ) (at : Handle)
     → Holds pool sealed h queues stacks hands tree opens gones → IsSound tree → IsLocated tree c at → Allowed pool h (Add c n) → length h < length sealed + pool.limits.events
     → Holds pool sealed (h ++ Add c n ∷ []) queues stacks hands (changed tree at.key (with_added n)) opens gones
 raise_holds {sealed = sealed} pool h c n queues stacks hands tree opens gones at holds sound l may fits =
@@ -101,7 +101,7 @@ raise_holds {sealed = sealed} pool h c n queues stacks hands tree opens gones at
     (count_holds pool h e queues stacks hands tree opens gones at r (with_added n) holds may_r fits is (λ d none. absurd cc) sound l.at refl
     (count_tells pool h e r (r.pending + n) holds.lawful may_r is refl tells (pending_added pool h r.serial n holds.lawful ∙ ap (λ (m : ℕ). m + n) tells.pending)))
 
-pub count_down_holds : {sealed : List Event} (pool : Pool) (h : List Event) (c : ℕ) (queues : Waiting) (stacks : Lists) (hands : List (Option InHand)) (tree : Records) (opens gones : List ℕ) (at : Handle)
+pub count_down_holds : {sealed : List Event} (pool : Pool) (h : List Event) (c : ℕ) (queues : Waiting) (stacks : StackLists) (hands : List (Option InHand)) (tree : Records) (opens gones : List ℕ) (at : Handle)
     → Holds pool sealed h queues stacks hands tree opens gones → IsSound tree → IsLocated tree c at → Allowed pool h (Dec c) → is_completer h c ≡ true → length h < length sealed + pool.limits.events
     → Holds pool sealed (h ++ Dec c ∷ []) queues stacks hands (changed tree at.key (arrived Counted)) opens gones
 count_down_holds {sealed = sealed} pool h c queues stacks hands tree opens gones at holds sound l may completer fits =
@@ -116,7 +116,7 @@ count_down_holds {sealed = sealed} pool h c queues stacks hands tree opens gones
     (count_tells pool h e r (r.pending - 1) holds.lawful may_r is refl tells (pending_counted h r.serial ∙ ap (λ (m : ℕ). m - 1) tells.pending)))
 
 -- the arrival that the record tells is the one of the event
-pub counted_at : {sealed : List Event} (pool : Pool) (h : List Event) (c : ℕ) (queues : Waiting) (stacks : Lists) (hands : List (Option InHand)) (tree : Records) (opens gones : List ℕ) (at : Handle) (a : Arrived)
+pub counted_at : {sealed : List Event} (pool : Pool) (h : List Event) (c : ℕ) (queues : Waiting) (stacks : StackLists) (hands : List (Option InHand)) (tree : Records) (opens gones : List ℕ) (at : Handle) (a : Arrived)
     → Holds pool sealed h queues stacks hands tree opens gones → IsLocated tree c at → Allowed pool h (Dec c) → Some a ≡ option_map arrival_at (record_of tree at) → a ≡ Counted
 counted_at pool h c queues stacks hands tree opens gones at a holds l may said =
     let r = l.found in
@@ -133,7 +133,7 @@ counted_at pool h c queues stacks hands tree opens gones at a holds l may said =
     only arrive.Fire is = absurd cc
 
 -- an addition that may be made is not refused
-pub addable : {sealed : List Event} (pool : Pool) (h : List Event) (c n : ℕ) (queues : Waiting) (stacks : Lists) (hands : List (Option InHand)) (tree : Records) (opens gones : List ℕ) (at : Handle)
+pub addable : {sealed : List Event} (pool : Pool) (h : List Event) (c n : ℕ) (queues : Waiting) (stacks : StackLists) (hands : List (Option InHand)) (tree : Records) (opens gones : List ℕ) (at : Handle)
     → Holds pool sealed h queues stacks hands tree opens gones → IsLocated tree c at → Allowed pool h (Add c n) → add_refusal tree at n ≡ None
 unfolding is_completer
 addable pool h c n queues stacks hands tree opens gones at holds l may =

@@ -10,12 +10,12 @@ use Rattle.fj_rules.proofs.Completers.Climbed.{climbs_more}
 use Rattle.fj_rules.proofs.Events.Lawful.{allowed_more, front_cases}
 use Rattle.fj_queues.specs.Queues.{Lists as Waiting}
 use Rattle.fj_tree.specs.Records.{Records}
-use Rattle.fj_ledger.specs.Stacks.{Lists}
+use Rattle.fj_queues.specs.Stacks.{StackLists}
 use Rattle.fj_ledger.specs.InHands.{InHand}
 use Rattle.fj_ledger.specs.Holds.{Holds, KeepsQueues, KeepsStacks, KeepsHands, KeepsTree}
 
 -- each part after the event
-pub record Parts (pool : Pool) (sealed h : List Event) (queues : Waiting) (stacks : Lists) (hands : List (Option InHand)) (tree : Records) (opens gones : List ℕ) : Type 0 where
+pub record Parts (pool : Pool) (sealed h : List Event) (queues : Waiting) (stacks : StackLists) (hands : List (Option InHand)) (tree : Records) (opens gones : List ℕ) : Type 0 where
   pub queues_kept : KeepsQueues pool.limits h queues
   pub stacks_kept : KeepsStacks pool.limits h stacks
   pub hands_kept : KeepsHands pool.limits h hands
@@ -27,7 +27,7 @@ climbs_one : (h : List Event) (e : Event) → ClimbsCompleters h → ((c : ℕ) 
 unfolding climbed
 climbs_one h e climbs at_completers = climbs_more h (e ∷ []) climbs (λ c there. ⊎_elim (at_completers c) (λ none. absurd cc) (front_cases c (climbed_by e) [] there))
 
-pub grown_holds : {sealed : List Event} (pool : Pool) (h : List Event) (e : Event) (queues queues2 : Waiting) (stacks stacks2 : Lists) (hands hands2 : List (Option InHand)) (tree tree2 : Records) (opens opens2 gones gones2 : List ℕ)
+pub grown_holds : {sealed : List Event} (pool : Pool) (h : List Event) (e : Event) (queues queues2 : Waiting) (stacks stacks2 : StackLists) (hands hands2 : List (Option InHand)) (tree tree2 : Records) (opens opens2 gones gones2 : List ℕ)
     → Holds pool sealed h queues stacks hands tree opens gones → Allowed pool h e → length h < length sealed + pool.limits.events
     → ((c : ℕ) → climbed_by e ≡ Some c → is_completer h c ≡ true)
     → Parts pool sealed (h ++ e ∷ []) queues2 stacks2 hands2 tree2 opens2 gones2

@@ -10,7 +10,7 @@ use Rattle.fj_rules.proofs.Places.PlaceLaws.{unmoved_queue, unmoved_stack}
 use Rattle.fj_rules.proofs.Events.Calm.{calm_open, calm_gone}
 use Rattle.fj_queues.specs.Queues.{Lists as Waiting}
 use Rattle.fj_tree.specs.Records.{Records}
-use Rattle.fj_ledger.specs.Stacks.{Lists}
+use Rattle.fj_queues.specs.Stacks.{StackLists}
 use Rattle.fj_ledger.specs.InHands.{InHand}
 use Rattle.fj_ledger.specs.Holds.{Holds}
 use Rattle.fj_ledger.proofs.Updates.Growing.{grown_holds}
@@ -18,7 +18,7 @@ use Rattle.fj_ledger.proofs.Lists.HandParts.{hands_ended}
 use Rattle.fj_ledger.proofs.Updates.Parts.{queues_same, stacks_same}
 use Rattle.fj_ledger.proofs.Recorded.Records.{tree_same}
 
-pub hook_end_holds : {sealed : List Event} (pool : Pool) (h : List Event) (c w : ℕ) (queues : Waiting) (stacks : Lists) (hands : List (Option InHand)) (tree : Records) (opens gones : List ℕ)
+pub hook_end_holds : {sealed : List Event} (pool : Pool) (h : List Event) (c w : ℕ) (queues : Waiting) (stacks : StackLists) (hands : List (Option InHand)) (tree : Records) (opens gones : List ℕ)
     → Holds pool sealed h queues stacks hands tree opens gones → w < pool.limits.workers → hand h w ≡ Some c → length h < length sealed + pool.limits.events
     → Holds pool sealed (h ++ Hooked c ∷ []) queues stacks (set hands w None) tree opens gones
 hook_end_holds pool h c w queues stacks hands tree opens gones holds within is fits =

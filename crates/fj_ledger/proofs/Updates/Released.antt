@@ -22,7 +22,7 @@ use Rattle.fj_tree.specs.Handles.{Handle}
 use Rattle.fj_tree.specs.Releases.{without_child, without_child_of}
 use Rattle.fj_tree.specs.Releases as record_is
 use Rattle.fj_tree.proofs.Index.Numbers.{there, at_found}
-use Rattle.fj_ledger.specs.Stacks.{Lists}
+use Rattle.fj_queues.specs.Stacks.{StackLists}
 use Rattle.fj_ledger.specs.InHands.{InHand, released_with}
 use Rattle.fj_ledger.specs.Holds.{Holds, Tells, TellsHook, TellsReleased, KeepsTree, KeepsHands}
 use Rattle.fj_ledger.proofs.Updates.Growing.{grown_holds}
@@ -175,7 +175,7 @@ hands_released pool h t s hands so may is = hands_mapped pool.limits h (Rel t) (
 
 -- ---- all
 
-pub release_holds : {sealed : List Event} (pool : Pool) (h : List Event) (t : ℕ) (s : Status) (queues : Waiting) (stacks : Lists) (hands : List (Option InHand)) (old new : Records) (opens gones : List ℕ) (key : ℕ) (r : Record)
+pub release_holds : {sealed : List Event} (pool : Pool) (h : List Event) (t : ℕ) (s : Status) (queues : Waiting) (stacks : StackLists) (hands : List (Option InHand)) (old new : Records) (opens gones : List ℕ) (key : ℕ) (r : Record)
     → Holds pool sealed h queues stacks hands old opens gones → IsSound old → IsReleased old new key r → r.serial ≡ t → Allowed pool h (Rel t) → length h < length sealed + pool.limits.events → status h t ≡ s
     → Holds pool sealed (h ++ Rel t ∷ []) queues stacks (map (option_map (released_with t s)) hands) new opens gones
 release_holds pool h t s queues stacks hands old new opens gones key r holds sound released number may fits is =

@@ -9,11 +9,11 @@ use Rattle.fj_rules.specs.declared.epoch.TheConstants.{MAX_EVENTS_AND_SEALS}
 use Rattle.fj_rules.proofs.Headline.Sealing.{quiet_left}
 use Rattle.fj_queues.specs.Queues.{Lists as Waiting}
 use Rattle.fj_tree.specs.Records.{Records}
-use Rattle.fj_ledger.specs.Stacks.{Lists}
+use Rattle.fj_queues.specs.Stacks.{StackLists}
 use Rattle.fj_ledger.specs.InHands.{InHand}
 use Rattle.fj_ledger.specs.Holds.{Holds}
 
-pub sealed_holds : {sealed : List Event} (pool : Pool) (h : List Event) (queues : Waiting) (stacks : Lists) (hands : List (Option InHand)) (tree : Records) (opens gones : List ℕ)
+pub sealed_holds : {sealed : List Event} (pool : Pool) (h : List Event) (queues : Waiting) (stacks : StackLists) (hands : List (Option InHand)) (tree : Records) (opens gones : List ℕ)
     → Holds pool sealed h queues stacks hands tree opens gones → is_quiet pool.limits h ≡ true → length h ≤ MAX_EVENTS_AND_SEALS
     → Holds pool h h queues stacks hands tree opens []
 sealed_holds pool h queues stacks hands tree opens gones holds quiet few = record {

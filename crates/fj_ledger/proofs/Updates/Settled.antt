@@ -29,7 +29,7 @@ use Rattle.fj_tree.specs.declared.record.Record.{Record}
 use Rattle.fj_tree.specs.Handles.{Handle}
 use Rattle.fj_tree.specs.Records.{Records, IsSound, changed, with_status, made_spent}
 use Rattle.fj_tree.proofs.Index.Numbers.{written}
-use Rattle.fj_ledger.specs.Stacks.{Lists}
+use Rattle.fj_queues.specs.Stacks.{StackLists}
 use Rattle.fj_ledger.specs.InHands.{InHand}
 use Rattle.fj_ledger.specs.Closing.{is_open_at, closed}
 use Rattle.fj_ledger.specs.Holds.{Holds, Tells}
@@ -80,7 +80,7 @@ passed_says h r tells = let e = Pass r.serial in record {
 pub left_shut : (pool : Pool) (h : List Event) (t : ℕ) → AllowedFrom pool [] h → is_in t (tasks h) ≡ true → is_kept h t ≡ false → is_open (place h t) ≡ false
 left_shut pool h t so known none = never (is_open (place h t)) (λ open_now. true≢false (sym (open_kept pool h t so open_now) ∙ none))
 
-pub settle_holds : {sealed : List Event} (pool : Pool) (h : List Event) (t : ℕ) (s : Status) (queues : Waiting) (stacks : Lists) (hands : List (Option InHand)) (tree : Records) (opens gones : List ℕ) (at : Handle)
+pub settle_holds : {sealed : List Event} (pool : Pool) (h : List Event) (t : ℕ) (s : Status) (queues : Waiting) (stacks : StackLists) (hands : List (Option InHand)) (tree : Records) (opens gones : List ℕ) (at : Handle)
     → Holds pool sealed h queues stacks hands tree opens gones → IsSound tree → IsLocated tree t at → Allowed pool h (Settle t s) → length h < length sealed + pool.limits.events
     → let mid = changed tree at.key (with_status s) in
     Holds pool sealed (h ++ Settle t s ∷ []) queues stacks hands (closed mid at) (if is_open_at mid at then without opens (at.serial ∷ []) else opens) (if is_open_at mid at then gones ++ at.serial ∷ [] else gones)
@@ -96,7 +96,7 @@ settle_holds {sealed = sealed} pool h t s queues stacks hands tree opens gones a
     (settled_says pool h s r holds.lawful may_r tells)
     (hands_same pool h e hands holds.lawful may_r refl refl (λ c said there. ap (is_kept h) (same_Some c r.serial (sym said)) ∙ tells.kept) holds.hands_kept))
 
-pub pass_holds : {sealed : List Event} (pool : Pool) (h : List Event) (c : ℕ) (queues : Waiting) (stacks : Lists) (hands : List (Option InHand)) (tree : Records) (opens gones : List ℕ) (at : Handle)
+pub pass_holds : {sealed : List Event} (pool : Pool) (h : List Event) (c : ℕ) (queues : Waiting) (stacks : StackLists) (hands : List (Option InHand)) (tree : Records) (opens gones : List ℕ) (at : Handle)
     → Holds pool sealed h queues stacks hands tree opens gones → IsSound tree → IsLocated tree c at → Allowed pool h (Pass c) → is_completer h c ≡ true → length h < length sealed + pool.limits.events
     → let mid = changed tree at.key made_spent in
     Holds pool sealed (h ++ Pass c ∷ []) queues stacks hands (closed mid at) (if is_open_at mid at then without opens (at.serial ∷ []) else opens) (if is_open_at mid at then gones ++ at.serial ∷ [] else gones)
@@ -119,7 +119,7 @@ unfired : (pool : Pool) (h : List Event) (c : ℕ) (how : How) → Allowed pool 
 unfired pool h c Zero may = unspent_unfired h c (fires_unspent h c may)
 unfired pool h c Complete may = unspent_unfired h c may.0
 
-pub fire_holds : {sealed : List Event} (pool : Pool) (h : List Event) (c w : ℕ) (how : How) (queues : Waiting) (stacks : Lists) (hands : List (Option InHand)) (hook : InHand) (tree : Records) (opens gones : List ℕ) (at : Handle)
+pub fire_holds : {sealed : List Event} (pool : Pool) (h : List Event) (c w : ℕ) (how : How) (queues : Waiting) (stacks : StackLists) (hands : List (Option InHand)) (hook : InHand) (tree : Records) (opens gones : List ℕ) (at : Handle)
     → Holds pool sealed h queues stacks hands tree opens gones → IsSound tree → (l : IsLocated tree c at) → Allowed pool h (Fire c how) → is_completer h c ≡ true → length h < length sealed + pool.limits.events
     → w < pool.limits.workers → hand h w ≡ None → receiver c (hooks h).just_ended (hooks h).last_worker ≡ Some w → hook.completer ≡ c → hook.parent ≡ parent_in (Some l.found.kind) → hook.how ≡ how → hook.released ≡ None
     → let mid = changed tree at.key made_spent in

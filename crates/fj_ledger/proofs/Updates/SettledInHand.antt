@@ -18,7 +18,7 @@ use Rattle.fj_rules.proofs.Events.Spending.{spending_open, spending_gone}
 use Rattle.fj_rules.proofs.Places.PlaceLaws.{unmoved_queue, unmoved_stack}
 use Rattle.fj_queues.specs.Queues.{Lists as Waiting}
 use Rattle.fj_tree.specs.Records.{Records}
-use Rattle.fj_ledger.specs.Stacks.{Lists}
+use Rattle.fj_queues.specs.Stacks.{StackLists}
 use Rattle.fj_ledger.specs.InHands.{InHand, released_with}
 use Rattle.fj_ledger.specs.Holds.{Holds, TellsHook}
 use Rattle.fj_ledger.proofs.Updates.Growing.{grown_holds}
@@ -44,7 +44,7 @@ settled_hook pool h t s k so may none tells = go (k.completer == t) refl
     })
     go false differs = rw differs (tells_hook pool h (Settle t s) k so may refl refl (λ said. absurd (true≢false (sym (eq-eqb k.completer t (sym (same_Some t k.completer said))) ∙ differs))) tells)
 
-pub settle_hand_holds : {sealed : List Event} (pool : Pool) (h : List Event) (t : ℕ) (s : Status) (queues : Waiting) (stacks : Lists) (hands : List (Option InHand)) (tree : Records) (opens gones : List ℕ)
+pub settle_hand_holds : {sealed : List Event} (pool : Pool) (h : List Event) (t : ℕ) (s : Status) (queues : Waiting) (stacks : StackLists) (hands : List (Option InHand)) (tree : Records) (opens gones : List ℕ)
     → Holds pool sealed h queues stacks hands tree opens gones → Allowed pool h (Settle t s) → length h < length sealed + pool.limits.events → is_kept h t ≡ false
     → Holds pool sealed (h ++ Settle t s ∷ []) queues stacks (map (option_map (released_with t s)) hands) tree opens gones
 settle_hand_holds pool h t s queues stacks hands tree opens gones holds may fits none =

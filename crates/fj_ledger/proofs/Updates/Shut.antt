@@ -26,7 +26,7 @@ use Rattle.fj_tree.specs.Records.{Records, record_at, count, with_status, with_p
 use Rattle.fj_tree.specs.Cancels.{if_undone_cancelled}
 use Rattle.fj_tree.specs.Closes.{if_open_gone}
 use Rattle.fj_tree.proofs.Index.Numbers.{there, at_found}
-use Rattle.fj_ledger.specs.Stacks.{Lists}
+use Rattle.fj_queues.specs.Stacks.{StackLists}
 use Rattle.fj_ledger.specs.InHands.{InHand, if_cancelled, cancelled}
 use Rattle.fj_ledger.specs.Holds.{Holds, Tells, TellsHook, TellsReleased, KeepsTree}
 use Rattle.fj_ledger.proofs.Updates.Growing.{grown_holds}
@@ -37,7 +37,7 @@ use Rattle.fj_ledger.proofs.Recorded.Telling.{fired_same}
 use Rattle.fj_rules.proofs.Events.KindsKept.{kept_known}
 
 -- no submission is accepted from now on
-pub close_holds : {sealed : List Event} (pool : Pool) (h : List Event) (queues : Waiting) (stacks : Lists) (hands : List (Option InHand)) (tree : Records) (opens gones : List ℕ)
+pub close_holds : {sealed : List Event} (pool : Pool) (h : List Event) (queues : Waiting) (stacks : StackLists) (hands : List (Option InHand)) (tree : Records) (opens gones : List ℕ)
     → Holds pool sealed h queues stacks hands tree opens gones → Allowed pool h Close → length h < length sealed + pool.limits.events
     → Holds pool sealed (h ++ Close ∷ []) queues stacks hands tree opens gones
 close_holds pool h queues stacks hands tree opens gones holds may fits =
@@ -159,7 +159,7 @@ stopped_hook pool h k so tells = record {
 -- ---- all
 
 -- each undone task is cancelled, and no task is accepted from now on
-pub stop_holds : {sealed : List Event} (pool : Pool) (h : List Event) (queues : Waiting) (stacks : Lists) (hands : List (Option InHand)) (old new : Records) (opens gones sorted : List ℕ)
+pub stop_holds : {sealed : List Event} (pool : Pool) (h : List Event) (queues : Waiting) (stacks : StackLists) (hands : List (Option InHand)) (old new : Records) (opens gones sorted : List ℕ)
     → Holds pool sealed h queues stacks hands old opens gones → Allowed pool h Stop → length h < length sealed + pool.limits.events → IsStopped old new → IsPermutation opens sorted → IsNonDecreasing sorted
     → Holds pool sealed (h ++ Stop ∷ []) queues stacks (map (option_map if_cancelled) hands) new [] (gones ++ sorted)
 stop_holds pool h queues stacks hands old new opens gones sorted holds may fits is moved up =

@@ -28,7 +28,7 @@ use Rattle.fj_tree.specs.declared.record.Record.{Record}
 use Rattle.fj_tree.specs.Handles.{Handle}
 use Rattle.fj_tree.specs.Records.{Records, IsSound, record_of, changed, with_place}
 use Rattle.fj_tree.proofs.Index.Numbers.{IsWritten, written, written_again}
-use Rattle.fj_ledger.specs.Stacks.{Lists}
+use Rattle.fj_queues.specs.Stacks.{StackLists}
 use Rattle.fj_ledger.specs.InHands.{InHand}
 use Rattle.fj_ledger.specs.Closing.{is_open_at, is_open_in}
 use Rattle.fj_ledger.specs.Closing as closing
@@ -60,7 +60,7 @@ unfolding accepted tasks
 few_more h more = rw filter_map-append (omega (arith, length-append (filter_map accepted_by h) (filter_map accepted_by more), few_selected more))
 
 -- since the last seal no more tasks went than were open then and were accepted since
-pub gone_room : {sealed : List Event} (pool : Pool) (h : List Event) (queues : Waiting) (stacks : Lists) (hands : List (Option InHand)) (tree : Records) (opens gones : List ℕ)
+pub gone_room : {sealed : List Event} (pool : Pool) (h : List Event) (queues : Waiting) (stacks : StackLists) (hands : List (Option InHand)) (tree : Records) (opens gones : List ℕ)
     → Holds pool sealed h queues stacks hands tree opens gones → length sealed + length gones + length opens ≤ length h + pool.limits.tasks
 gone_room {sealed} pool h queues stacks hands tree opens gones holds =
     let present = holds.sealed_part.begins.0 in
@@ -77,7 +77,7 @@ gone_room {sealed} pool h queues stacks hands tree opens gones holds =
     length_in es = length es
 
 -- no task is listed as open twice
-pub open_once : {sealed : List Event} (pool : Pool) (h : List Event) (queues : Waiting) (stacks : Lists) (hands : List (Option InHand)) (tree : Records) (opens gones : List ℕ)
+pub open_once : {sealed : List Event} (pool : Pool) (h : List Event) (queues : Waiting) (stacks : StackLists) (hands : List (Option InHand)) (tree : Records) (opens gones : List ℕ)
     → Holds pool sealed h queues stacks hands tree opens gones → (t : ℕ) → times_in t opens ≤ 1
 unfolding open_tasks
 open_once pool h queues stacks hands tree opens gones holds t =
@@ -167,7 +167,7 @@ spends_one (Pass d) c is = refl
 spends_one (Settle d s) c is = refl
 spends_one _ c is = absurd cc
 
-pub spent_holds : {sealed : List Event} (pool : Pool) (h : List Event) (e : Event) (queues : Waiting) (stacks : Lists) (hands hands2 : List (Option InHand)) (tree mid : Records) (opens gones : List ℕ) (at : Handle) (r s : Record)
+pub spent_holds : {sealed : List Event} (pool : Pool) (h : List Event) (e : Event) (queues : Waiting) (stacks : StackLists) (hands hands2 : List (Option InHand)) (tree mid : Records) (opens gones : List ℕ) (at : Handle) (r s : Record)
     → Holds pool sealed h queues stacks hands tree opens gones → Allowed pool h e → length h < length sealed + pool.limits.events → spends e ≡ Some at.serial
     → ((d : ℕ) → climbed_by e ≡ Some d → is_completer h d ≡ true) → IsSound tree → IsWritten tree mid at.key r s → r.serial ≡ at.serial → Respent (h ++ e ∷ []) r s
     → KeepsHands pool.limits (h ++ e ∷ []) hands2

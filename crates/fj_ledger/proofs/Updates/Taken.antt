@@ -34,7 +34,7 @@ use Rattle.fj_tree.specs.Records.{Records, IsSound, changed, with_place}
 use Rattle.fj_tree.proofs.Index.Numbers.{written}
 use Rattle.fj_ledger.specs.declared.queue_end.QueueEnd.{QueueEnd}
 use Rattle.fj_ledger.specs.declared.queue_end.QueueEnd.TheVariants.{Oldest, Newest}
-use Rattle.fj_ledger.specs.Stacks.{Lists, stack_at, with_stack}
+use Rattle.fj_queues.specs.Stacks.{StackLists, stack_at, with_stack}
 use Rattle.fj_ledger.specs.InHands.{InHand}
 use Rattle.fj_ledger.specs.Sources.{queue_of, end_of, rest_of}
 use Rattle.fj_ledger.specs.Holds.{Holds, KeepsQueues, KeepsStacks, Tells}
@@ -83,7 +83,7 @@ stack_out : (h : List Event) (w t : ℕ) → stack (h ++ event.Out t w ∷ []) w
 stack_out h w t = stack_more h w (event.Out t w) ∙ rw (eq-eqb w w refl, without_none) refl
 
 -- and the other stacks stay
-stacks_after_out : (l : Bounds) (h : List Event) (stacks : Lists) (w t : ℕ) → w < l.workers → KeepsStacks l h stacks → KeepsStacks l (h ++ event.Out t w ∷ []) (with_stack stacks w (stack_at stacks w ++ t ∷ []))
+stacks_after_out : (l : Bounds) (h : List Event) (stacks : StackLists) (w t : ℕ) → w < l.workers → KeepsStacks l h stacks → KeepsStacks l (h ++ event.Out t w ∷ []) (with_stack stacks w (stack_at stacks w ++ t ∷ []))
 stacks_after_out l h stacks w t within keeps = record {
   count = length-set stacks.lists w (stack_at stacks w ++ t ∷ []) ∙ keeps.count;
   room = keeps.room;
@@ -112,7 +112,7 @@ place_tells h e r p is moved none unfired added counted tells placed = record {
     some_none none said = absurd cc
 
 -- a task was skipped
-pub skipped_holds : {sealed : List Event} (pool : Pool) (h : List Event) (t w : ℕ) (source : QueueEnd) (queues : Waiting) (stacks : Lists) (hands : List (Option InHand)) (tree : Records) (opens gones : List ℕ) (at : Handle)
+pub skipped_holds : {sealed : List Event} (pool : Pool) (h : List Event) (t w : ℕ) (source : QueueEnd) (queues : Waiting) (stacks : StackLists) (hands : List (Option InHand)) (tree : Records) (opens gones : List ℕ) (at : Handle)
     → Holds pool sealed h queues stacks hands tree opens gones → IsSound tree → IsLocated tree t at → Allowed pool h (Skip t w) → length h < length sealed + pool.limits.events
     → queue_of source < queues_in pool.limits → end_of source (queue h (owner_at pool.limits (queue_of source))) ≡ Some t
     → Holds pool sealed (h ++ Skip t w ∷ []) (with_queue queues (queue_of source) (rest_of source (queue_at queues (queue_of source)))) stacks hands (changed tree at.key (with_place Gone)) opens (gones ++ t ∷ [])
@@ -133,7 +133,7 @@ skipped_holds pool h t w source queues stacks hands tree opens gones at holds so
     })
 
 -- a task was handed out
-pub handed_holds : {sealed : List Event} (pool : Pool) (h : List Event) (t w : ℕ) (source : QueueEnd) (queues : Waiting) (stacks : Lists) (hands : List (Option InHand)) (tree : Records) (opens gones : List ℕ) (at : Handle)
+pub handed_holds : {sealed : List Event} (pool : Pool) (h : List Event) (t w : ℕ) (source : QueueEnd) (queues : Waiting) (stacks : StackLists) (hands : List (Option InHand)) (tree : Records) (opens gones : List ℕ) (at : Handle)
     → Holds pool sealed h queues stacks hands tree opens gones → IsSound tree → IsLocated tree t at → Allowed pool h (Out t w) → length h < length sealed + pool.limits.events → w < pool.limits.workers
     → queue_of source < queues_in pool.limits → end_of source (queue h (owner_at pool.limits (queue_of source))) ≡ Some t
     → Holds pool sealed (h ++ Out t w ∷ []) (with_queue queues (queue_of source) (rest_of source (queue_at queues (queue_of source)))) (with_stack stacks w (stack_at stacks w ++ t ∷ [])) hands (changed tree at.key (with_place (Held w))) opens gones

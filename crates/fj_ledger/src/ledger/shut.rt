@@ -8,7 +8,7 @@ ghost use Rattle.fj_rules.specs.Runs.{grown};
 
 use crate::ledger::Ledger;
 use crate::ledger::hook::cancel_released;
-use crate::open::OpenTasks;
+use fj_queues::OpenTasks;
 use fj_rules::{Event, Serial};
 
 impl Ledger {

@@ -6,7 +6,7 @@ use Rattle.std.proofs.lemmas.Option.{slice_get-get_or}
 use Rattle.std.proofs.lemmas.List.Quantifiers.{position-Some}
 use Rattle.fj_rules.specs.Lists.{is_in}
 use Rattle.fj_rules.proofs.Places.OnePlace.{never}
-use Rattle.fj_ledger.proofs.open.OpenTasks.place.Goals as goal
+use Rattle.fj_queues.proofs.open.OpenTasks.place.Goals as goal
 
 one_more : (here there : Bool) (n k : ℕ) → (there ≡ true → n < k) → (here || there) ≡ true → cond (not here) (1 + n) 0 < suc k
 one_more true there n k before is = omega arith

@@ -1,5 +1,5 @@
 ghost use Rattle.std.specs.Prelude.{◌≡◌, ◌<◌, ◌∷◌, [], ◌++◌, length, IfOk, replicate, ◌-◌, take};
-ghost use Rattle.fj_ledger.specs.Stacks.{stack_at, with_stack};
+ghost use Rattle.fj_queues.specs.Stacks.{stack_at, with_stack};
 ghost use Rattle.fj_rules.specs.Lists.{is_empty};
 ghost use Rattle.std.specs.List.{list_all};
 
@@ -16,9 +16,9 @@ pub struct Stacks {
 
 impl Model for Stacks {
     ghost use Rattle.std.specs.Prelude.{◌≤◌, ◌<◌, vec_capacity, All, map};
-    ghost use Rattle.fj_ledger.specs.Stacks.{Lists};
+    ghost use Rattle.fj_queues.specs.Stacks.{StackLists};
 
-    ghost Value = { Lists };
+    ghost Value = { StackLists };
 
     ghost view = { λ s. record { lists = map (λ v. v.items) s.stacks.items; room = s.room } };
 

@@ -1,9 +1,9 @@
 use Rattle.std.proofs.Common.{ℕ, List, ap, sym}
 use Rattle.std.proofs.lemmas.Option.{slice_get_within, get_or_from_slice_get}
 use Rattle.fj_rules.proofs.Events.Queues.{without_absent}
-use Rattle.fj_ledger.specs.Windows.{Listed}
-use Rattle.fj_ledger.proofs.Lists.TakenOut.{without_at}
-use Rattle.fj_ledger.proofs.open.OpenTasks.remove.Goals as goal
+use Rattle.fj_queues.specs.Windows.{Listed}
+use Rattle.fj_queues.proofs.TakenOut.{without_at}
+use Rattle.fj_queues.proofs.open.OpenTasks.remove.Goals as goal
 
 abbrev listed : ℕ → List ℕ → Listed ℕ
 listed room ts = record { list = ts; room = room }

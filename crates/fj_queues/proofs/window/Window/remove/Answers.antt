@@ -1,9 +1,9 @@
 use Rattle.std.specs.List.{remove, copy_within}
 use Rattle.std.proofs.Common.{arith, ℕ, ◌≡◌, ◌<◌, ◌+◌, suc, refl, List, ◌++◌, length, take, drop, ap, append_assoc, length-drop}
 use Rattle.std.proofs.Math.Nat.{add-sub_cancel_left}
-use Rattle.fj_ledger.specs.Windows.{Listed}
+use Rattle.fj_queues.specs.Windows.{Listed}
 use Rattle.std.proofs.lemmas.List.{drop_at, drop-drop, drop-take, drop-append-le, length-take-le}
-use Rattle.fj_ledger.proofs.window.Window.remove.Goals as goal
+use Rattle.fj_queues.proofs.window.Window.remove.Goals as goal
 
 abbrev listed : {X : Type 0} → ℕ → List X → Listed X
 listed room xs = record { list = xs; room = room }

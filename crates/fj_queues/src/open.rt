@@ -23,7 +23,7 @@ pub struct OpenTasks {
 
 impl Model for OpenTasks {
     ghost use Rattle.std.specs.Prelude.{ℕ, ◌≡◌, length};
-    ghost use Rattle.fj_ledger.specs.Windows.{Listed};
+    ghost use Rattle.fj_queues.specs.Windows.{Listed};
 
     ghost Value = { Listed ℕ };
 

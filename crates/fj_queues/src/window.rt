@@ -17,7 +17,7 @@ pub struct Window<T> {
 
 impl<T> Model for Window<T> {
     ghost use Rattle.std.specs.Prelude.{◌≤◌, drop, length, vec_capacity};
-    ghost use Rattle.fj_ledger.specs.Windows.{Listed};
+    ghost use Rattle.fj_queues.specs.Windows.{Listed};
 
     ghost Value = { Listed T };
 
