@@ -11,7 +11,7 @@ use Rattle.fj_lane.specs.contracts.rest.Rest as Rest
 use Rattle.fj_bodies.specs.declared.body.Body as Body
 use Rattle.fj_wake.proofs.Crossing.{waking_core_send}
 use Rattle.fj_wake.specs.contracts.waking_core.WakingCore as WakingCore
-use Rattle.fj_guarded.specs.declared.naming.Naming as Naming
+use Rattle.fj_submitter.specs.declared.naming.Naming as Naming
 use Rattle.fj_guarded.specs.contracts.guarded.Guarded as Guarded
 use Rattle.fj_guarded.specs.contracts.guarded.Guarded.TheInside as GuardedInside
 

@@ -8,7 +8,8 @@ use Rattle.fj_core.specs.declared.taken_in.Intake.{Intake}
 use Rattle.fj_core.specs.declared.taken_in.Intake.TheVariants as intake
 use Rattle.fj_core.specs.Cores.{CoreState, ChangesStore}
 use Rattle.fj_core.specs.Intakes.{Intakes}
-use Rattle.fj_guarded.specs.Lanes.{KeepsLanes, lanes_of}
+use Rattle.fj_guarded.specs.Lanes.{KeepsLanes}
+use Rattle.fj_submitter.specs.Lanes.{lanes_of}
 
 -- a drain after a take is of the same lane
 set_keeps : {B : Type 0} (lanes : List (DrainState B)) (s : ℕ) (lane lane' : DrainState B) → slice_get lanes s ≡ Some lane → lane'.lane ≡ lane.lane → lanes_of (slice_set lanes s lane') ≡ lanes_of lanes

@@ -13,7 +13,8 @@ use Rattle.fj_core.specs.Cores.{CoreState}
 use Rattle.fj_core.specs.Intakes.{Intakes}
 use Rattle.fj_guarded.specs.declared.guarded.outside.TakenIn.{TakenIn}
 use Rattle.fj_guarded.specs.declared.guarded.outside.TakenIn.TheVariants.{Nothing}
-use Rattle.fj_guarded.specs.Lanes.{KeepsLanes, lanes_of}
+use Rattle.fj_guarded.specs.Lanes.{KeepsLanes}
+use Rattle.fj_submitter.specs.Lanes.{lanes_of}
 use Rattle.fj_guarded.specs.Looking.{TakesFrom, behind, so_far_behind, with_answer}
 use Rattle.fj_guarded.proofs.Lanes.{intakes_keep}
 

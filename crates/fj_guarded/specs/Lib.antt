@@ -2,12 +2,10 @@
 pub mod Asked
 -- a core that continues another one
 pub mod Continuing
--- the lanes of a pool
+-- the lanes of a pool stay
 pub mod Lanes
 -- submissions are taken in
 pub mod Looking
--- the gate of no pool
-pub mod Names
 -- what a body asks and hears, and why a worker leaves
 pub mod Turning
 -- what a worker does in one holding of the lock

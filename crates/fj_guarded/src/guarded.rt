@@ -1,19 +1,19 @@
 ghost use Rattle.std.specs.Prelude.{◌≡◌, ◌≤◌, [], IfOk, length, vec_capacity};
 ghost use Rattle.fj_sleep.specs.declared.places.TheConstants.{MAX_PLACES};
 ghost use Rattle.fj_wake.specs.Waiting.{NobodyWaits};
-ghost use Rattle.fj_guarded.specs.Lanes.{lanes_of};
+ghost use Rattle.fj_submitter.specs.Lanes.{lanes_of};
 
 mod outside;
 mod serve;
 mod sleeping;
 
-use crate::naming::Naming;
 use fj_bodies::Body;
 use fj_core::Core;
 use fj_gate::Entrant;
 use fj_lane::Rest;
 use fj_machine::Machine;
 use fj_rules::SubId;
+use fj_submitter::Naming;
 use fj_wake::{Waits, WakingCore};
 use std::alloc::{AllocError, Global};
 use std::marker::{Model, PhantomData};
@@ -32,7 +32,7 @@ pub struct Guarded<B: Body, N: Naming> {
 impl<B: Body, N: Naming> Model for Guarded<B, N> {
     ghost use Rattle.std.specs.Prelude.{◌≡◌, ◌<◌, ◌≤◌, [], length, vec_capacity};
     ghost use Rattle.fj_core.specs.Cores.{CoreState};
-    ghost use Rattle.fj_guarded.specs.Lanes.{lanes_of};
+    ghost use Rattle.fj_submitter.specs.Lanes.{lanes_of};
 
     ghost Value = { CoreState B B.Key B.Out };
 

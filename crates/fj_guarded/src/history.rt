@@ -1,9 +1,9 @@
 //! The history of a pool: one log of the states of its core.
 use crate::guarded::Guarded;
-use crate::naming::Naming;
 use fj_bodies::Body;
 use fj_core::Core;
 use fj_fronts::{Entry, Tells};
+use fj_submitter::Naming;
 use std::marker::{Model, PhantomData};
 
 /// The name of a pool's log.

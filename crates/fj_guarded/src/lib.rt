@@ -14,10 +14,9 @@
 
 mod guarded;
 mod history;
-mod naming;
 mod next;
 
+pub use fj_submitter::Naming;
 pub use guarded::{Guarded, Room};
 pub use history::{Front, Keeper, Log, LogOf, Moment};
-pub use naming::Naming;
 pub use next::{Next, Unneeded};

@@ -8,7 +8,7 @@ use Rattle.std.specs.declared.cmp.PartialEq as PartialEq
 use Rattle.fj_agreement.proofs.end.End.TheSendSync.{the_send as end_send}
 use Rattle.fj_bodies.specs.declared.body.Body as Body
 use Rattle.fj_fronts.proofs.keeper.Keeper.TheSendSync.{the_send as keeper_send}
-use Rattle.fj_guarded.specs.declared.naming.Naming as Naming
+use Rattle.fj_submitter.specs.declared.naming.Naming as Naming
 use Rattle.fj_guarded.proofs.Crossing.{guarded_send}
 use Rattle.fj_guarded.specs.contracts.guarded.Guarded as Guarded
 use Rattle.fj_parts.specs.contracts.locked.Locked as Locked

@@ -12,8 +12,8 @@ use Rattle.fj_core.specs.Closes.{is_number}
 use Rattle.fj_core.specs.Closings.{is_over}
 use Rattle.fj_rules.specs.Answers.{is_quiet}
 use Rattle.fj_rules.specs.Pasts.{Past}
-use Rattle.fj_parts.specs.Seats.{IsSeat, SeatState}
-use Rattle.fj_parts.specs.Winding.{AreEmpty, HaveMet, has_terminated, submissions, tickets_of}
+use Rattle.fj_submitter.specs.Seats.{HaveMet, IsSeat, SeatState}
+use Rattle.fj_parts.specs.Winding.{AreEmpty, has_terminated, submissions, tickets_of}
 
 module _ {B : Type 0} where
   abbrev drained : DrainState B → ℕ

@@ -1,6 +1,4 @@
--- the ends of lanes and gate meet, one after another
-mod Settling
--- a lane for each entrant
+-- the seats of a new pool
 mod Seating
 -- the tickets, the lanes and the end that a record tells of
 mod Records

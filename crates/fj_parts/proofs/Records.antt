@@ -12,8 +12,8 @@ use Rattle.fj_lane.specs.declared.parcel.Parcel.{Parcel}
 use Rattle.fj_lane.specs.Ends.{DrainState}
 use Rattle.fj_core.specs.declared.booking.Booking.{Booking}
 use Rattle.fj_core.specs.Booked.{IsBooked}
-use Rattle.fj_parts.specs.Seats.{SeatState}
-use Rattle.fj_parts.specs.Winding.{AreSettled, HaveMet, IsSettled}
+use Rattle.fj_submitter.specs.Seats.{HaveMet, SeatState}
+use Rattle.fj_parts.specs.Winding.{AreSettled, IsSettled}
 
 -- ---- the tickets, in either order of the entrants
 

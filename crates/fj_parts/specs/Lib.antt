@@ -1,5 +1,3 @@
--- a submitter's ends of gate and lane
-pub mod Seats
 -- the parts of a pool, before it is opened
 pub mod Parts
 -- what is left of a pool

@@ -10,7 +10,7 @@ use Rattle.fj_lane.specs.declared.new_lane.TheConstants.{MAX_CAPACITY}
 use Rattle.fj_lane.specs.Ends.{LaneId, DrainState, new_drain}
 use Rattle.fj_slots.specs.Hands.{HandState}
 use Rattle.fj_core.specs.Cores.{CoreState, IsNew, first_hands}
-use Rattle.fj_parts.specs.Seats.{SeatState, seats_for, seats_from}
+use Rattle.fj_submitter.specs.Seats.{SeatState, seats_for, seats_from}
 
 -- the core, the hand of each worker, the pair of its ends, the ends of each submitter, the end that closes the gate, and the log
 pub record PartsState (B K O : Type 0) : Type 0 where
@@ -35,13 +35,6 @@ pub record AreNew {B K O : Type 0} (mode : Mode) (limits : Bounds) (capacity sta
   pub hands : parts.hands ≡ first_hands limits.workers start
   pub seats : parts.seats ≡ seats_from parts.closer.gate capacity 0 lanes
   pub closer : parts.closer ≡ new_closer parts.closer.gate limits.submitters
-
--- a seat for each entrant, with a lane of its own
-pub record AreSeated {B : Type 0} (capacity : ℕ) (entrants : List EntrantState) (seats : List (SeatState B)) (drains : List (DrainState B)) : Type 0 where
-  pub lanes : List LaneId
-  pub lane_each : length lanes ≡ length entrants
-  pub seats_are : seats ≡ seats_for capacity 0 entrants lanes
-  pub drains_are : drains ≡ map (λ lane. new_drain lane capacity) lanes
 
 -- why a pool is refused: the capacity of a lane is out of range, or it is in range and an allocation failed
 abbrev pub RefusesPool : ℕ → Refusal → Type 0

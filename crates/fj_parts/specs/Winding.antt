@@ -17,25 +17,12 @@ use Rattle.fj_bodies.specs.Results.{outcome_of}
 use Rattle.fj_core.specs.Booked.{booked_by, booked_under}
 use Rattle.fj_core.specs.Closings.{is_over}
 use Rattle.fj_core.specs.Closes.{is_number}
-use Rattle.fj_parts.specs.Seats.{SeatState, tickets}
+use Rattle.fj_submitter.specs.Seats.{SeatState, tickets}
 
 module _ {B : Type 0} where
-  -- these are `count` submitters, in order of their numbers
-  abbrev pub AreAll : ℕ → List (SeatState B) → Type 0
-  AreAll count seats = (length seats ≡ count) × ((n : ℕ) (seat : SeatState B) → slice_get seats n ≡ Some seat → seat.number ≡ n)
-
   -- the tickets that these submitters drew, joined
   abbrev pub tickets_of : List (SeatState B) → List ℕ
   tickets_of seats = drawn_by (map (λ s. s.entrant) seats)
-
-  -- lane by lane, what the drain took, and then what is left, is what was pushed
-  abbrev pub HaveMet : List (DrainState B) → List (SeatState B) → List (List (Parcel B)) → Type 0
-  HaveMet [] [] [] = Unit {0}
-  HaveMet (d ∷ ds) (s ∷ ss) (r ∷ rs) = (d.drained ++ r ≡ s.feed.fed) × HaveMet ds ss rs
-  HaveMet [] [] (r ∷ rs) = ⊥
-  HaveMet [] (s ∷ ss) rs = ⊥
-  HaveMet (d ∷ ds) [] rs = ⊥
-  HaveMet (d ∷ ds) (s ∷ ss) [] = ⊥
 
   -- what was taken in from a submitter, and then what its lane still holds, is what it pushed, bodies and all; what was taken in is booked
   -- under its tickets, in order, and the tasks of that are those that were pushed into its queue

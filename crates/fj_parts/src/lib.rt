@@ -7,7 +7,6 @@
 //! ```
 #![tactic(auto)]
 
-mod closer;
 mod glance;
 mod hand;
 mod history;
@@ -16,13 +15,11 @@ mod locked;
 mod named;
 mod parts;
 mod record;
-mod seat;
 mod still;
-mod submitter;
 mod tied;
 mod turns;
 
-pub use closer::Closer;
+pub use fj_submitter::{Closer, Submitter};
 pub use glance::Glance;
 pub use hand::Hand;
 pub use history::History;
@@ -31,4 +28,3 @@ pub use named::Named;
 pub use parts::Parts;
 pub use record::Record;
 pub use still::Still;
-pub use submitter::Submitter;

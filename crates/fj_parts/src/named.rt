@@ -2,21 +2,18 @@
 ghost use Rattle.std.specs.Prelude.{◌≡◌, ◌≤◌, [], All, IfOk, length, vec_capacity, vec_len};
 ghost use Rattle.fj_sleep.specs.declared.places.TheConstants.{MAX_PLACES};
 ghost use Rattle.fj_wake.specs.Waiting.{NobodyWaits};
-ghost use Rattle.fj_guarded.specs.Lanes.{lanes_of};
+ghost use Rattle.fj_submitter.specs.Lanes.{lanes_of};
 ghost use Rattle.fj_parts.specs.Holdings.{IsTied, hands_of};
-ghost use Rattle.fj_parts.specs.Seats.{IsNamed};
-ghost use Rattle.fj_parts.specs.Winding.{AreAll};
+ghost use Rattle.fj_submitter.specs.Seats.{AreAll, IsNamed};
 
-use crate::closer::Closer;
 use crate::hand::Hand;
 use crate::locked::Locked;
 use crate::parts::Parts;
-use crate::seat::Seat;
-use crate::submitter::Submitter;
 use crate::tied::Tied;
 use fj_bodies::Body;
 use fj_guarded::{Guarded, Log, LogOf, Naming, Room, Unneeded};
 use fj_rules::OutOfMemory;
+use fj_submitter::{Closer, Seat, Submitter, name_all};
 use std::alloc::{AllocError, Global};
 use std::marker::PhantomData;
 
@@ -79,10 +76,7 @@ impl<B: Body> Parts<B> {
             log,
             hands,
             submitters,
-            closer: Closer {
-                end: closer,
-                of: PhantomData,
-            },
+            closer: Closer::new(closer),
         })
     }
 }
@@ -139,22 +133,4 @@ fn name_hands<B: Drop, N: Naming>(
         })?;
     }
     Ok(hands)
-}
-
-/// The submitters, under the name. Precondition: the name is that of these ends.
-fn name_all<B: Drop, N: Naming>(
-    alloc: Global,
-    seats: Vec<Seat<B>>,
-) -> Result<Vec<Submitter<B, N>>, AllocError>
-    requires { All (λ s. IsNamed N.gate N.lanes s) seats.items }
-    ensures { IfOk result (λ v. v.items ≡ seats.items) }
-{
-    let mut submitters = Vec::with_capacity(alloc, seats.len())?;
-    for seat in seats {
-        submitters.push(Submitter {
-            seat,
-            of: PhantomData,
-        })?;
-    }
-    Ok(submitters)
 }

@@ -2,19 +2,20 @@ ghost use Rattle.std.specs.Prelude.{◌≡◌, ◌≤◌, All, IfOk, IfErr, vec_
 ghost use Rattle.fj_rules.specs.declared.limits.TheConstants.{MAX_SUBMITTERS};
 ghost use Rattle.fj_lane.specs.declared.new_lane.TheConstants.{MAX_CAPACITY};
 ghost use Rattle.fj_gate.specs.Ends.{new_entrant};
-ghost use Rattle.fj_parts.specs.Parts.{AreNew, AreSeated, RefusesPool};
+ghost use Rattle.fj_parts.specs.Parts.{AreNew, RefusesPool};
+ghost use Rattle.fj_submitter.specs.Seats.{AreSeated};
 
 use crate::holding::Holding;
-use crate::seat::Seat;
 use crate::tied::{Tied, tie_all};
 use fj_agreement::End;
 use fj_bodies::Body;
 use fj_core::Core;
 use fj_fronts::Opened;
-use fj_gate::{Entrant, gate};
+use fj_gate::gate;
 use fj_guarded::Moment;
-use fj_lane::{Drain, MAX_CAPACITY, lane};
-use fj_rules::{Limits, Mode, OutOfMemory, Refusal, SubId, both};
+use fj_lane::MAX_CAPACITY;
+use fj_rules::{Limits, Mode, OutOfMemory, Refusal, both};
+use fj_submitter::{Seat, seat_all};
 use std::alloc::Global;
 use std::marker::Model;
 
@@ -31,7 +32,7 @@ pub struct Parts<B: Body> {
 
 impl<B: Body> Model for Parts<B> {
     ghost use Rattle.fj_parts.specs.Holdings.{HaveEnds, hands_of, pairs_of};
-    ghost use Rattle.fj_guarded.specs.Lanes.{lanes_of};
+    ghost use Rattle.fj_submitter.specs.Lanes.{lanes_of};
     ghost use Rattle.fj_parts.specs.Parts.{ArePaired, PartsState};
 
     ghost Value = { PartsState B B.Key B.Out };
@@ -102,27 +103,4 @@ fn make<B: Body>(
         closer,
         log,
     })
-}
-
-/// A numbered lane for each entrant. Preconditions: the capacity is in range, the entrants are new, and at most `MAX_SUBMITTERS`.
-fn seat_all<B: Drop>(
-    alloc: Global,
-    entrants: Vec<Entrant>,
-    lane_capacity: u32,
-) -> Result<(Vec<Seat<B>>, Vec<Drain<B>>), OutOfMemory>
-    requires capacity { (1 ≤ lane_capacity) × (lane_capacity ≤ MAX_CAPACITY) }
-    requires new { All (λ e. e ≡ new_entrant e.gate lane_capacity) entrants.items }
-    requires few { vec_len entrants ≤ MAX_SUBMITTERS }
-    ensures { IfOk result (λ r. AreSeated lane_capacity entrants.items r.0.items r.1.items) }
-{
-    let mut seats = Vec::with_capacity(alloc, entrants.len())?;
-    let mut drains = Vec::with_capacity(alloc, entrants.len())?;
-    let mut number = 0u32;
-    for entrant in entrants {
-        let (feed, drain) = lane(alloc, lane_capacity)?;
-        seats.push(Seat::new(SubId(number), entrant, feed, lane_capacity))?;
-        drains.push(drain)?;
-        number += 1;
-    }
-    Ok((seats, drains))
 }

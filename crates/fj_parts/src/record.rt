@@ -1,16 +1,13 @@
 ghost use Rattle.std.specs.Prelude.{◌≡◌, ◌≤◌, [], All, IfNone, IfSome, length, map, reverse, vec_len, vec_capacity};
 ghost use Rattle.fj_slots.specs.Shelves.{entries};
-ghost use Rattle.fj_guarded.specs.Lanes.{lanes_of};
-ghost use Rattle.fj_parts.specs.Seats.{IsSeat};
-ghost use Rattle.fj_parts.specs.Winding.{AreAll, HaveMet, IsLeft, IsTaken};
+ghost use Rattle.fj_submitter.specs.Lanes.{lanes_of};
+ghost use Rattle.fj_submitter.specs.Seats.{AreAll, HaveMet, IsSeat};
+ghost use Rattle.fj_parts.specs.Winding.{IsLeft, IsTaken};
 
-use crate::seat::Seat;
-use crate::submitter::Submitter;
 use fj_bodies::{Body, KeptResult, Outcome, told_outcome};
 use fj_core::{Archive, Bookings};
-use fj_gate::{Entrant, Ticket};
-use fj_guarded::Naming;
-use fj_lane::{Drain, Rest, meet};
+use fj_gate::Ticket;
+use fj_lane::Rest;
 use fj_machine::Machine;
 use fj_slots::SerialMap;
 
@@ -54,36 +51,4 @@ impl<B: Body> Record<B> {
             _ => None,
         }
     }
-}
-
-/// Joins the ends of each lane to its rest, and collects the entrants, the last first.
-pub(crate) fn settle<B: Drop, N: Naming>(
-    mut submitters: Vec<Submitter<B, N>>,
-    mut drains: Vec<Drain<B>>,
-    mut entrants: Vec<Entrant>,
-    mut rests: Vec<Rest<B>>,
-) -> (Vec<Entrant>, Vec<Rest<B>>)
-    requires all { AreAll (length N.lanes) submitters.items }
-    requires lanes { lanes_of drains.items ≡ N.lanes }
-    requires empty { (entrants.items ≡ []) × (rests.items ≡ []) }
-    requires room { (vec_len submitters ≤ vec_capacity entrants) × (vec_len submitters ≤ vec_capacity rests) }
-    ensures entrants { result.0.items ≡ reverse (map (λ s. s.entrant) submitters.items) }
-    ensures gates { All (λ e. e.gate ≡ N.gate) result.0.items }
-    ensures seats { All (λ s. IsSeat s) submitters.items }
-    ensures rests { HaveMet drains.items submitters.items result.1.items }
-{
-    while let Some(submitter) = submitters.pop() {
-        let Some(drain) = drains.pop() else {
-            unreachable!();
-        };
-        let Seat {
-            number: _,
-            entrant,
-            feed,
-        } = submitter.seat;
-        entrants.push_reserved(entrant);
-        rests.push_reserved(meet(feed, drain));
-    }
-    rests.reverse();
-    (entrants, rests)
 }

@@ -5,15 +5,15 @@ ghost use Rattle.fj_slots.specs.Shelves.{entries};
 ghost use Rattle.fj_bodies.specs.Stores.{HasResults};
 ghost use Rattle.fj_core.specs.Closes.{is_number};
 ghost use Rattle.fj_core.specs.Cores.{AreParts};
-ghost use Rattle.fj_parts.specs.Winding.{AreAll, AreEmpty, AreSettled, has_terminated, submissions, tickets_of};
+ghost use Rattle.fj_parts.specs.Winding.{AreEmpty, AreSettled, has_terminated, submissions, tickets_of};
+ghost use Rattle.fj_submitter.specs.Seats.{AreAll};
 
-use crate::closer::Closer;
-use crate::record::{Record, settle};
-use crate::submitter::Submitter;
+use crate::record::Record;
 use fj_bodies::Body;
 use fj_core::Remains;
 use fj_gate::meet as meet_gate;
 use fj_guarded::{Guarded, Naming};
+use fj_submitter::{Closer, Submitter, settle};
 use std::marker::Model;
 
 /// A pool that no thread shares any more: nothing happens in it until it is wound up. Java has no counterpart.
@@ -66,7 +66,7 @@ impl<B: Body, N: Naming> Still<B, N> {
             archive,
         } = core.into_remains();
         let (entrants, lanes) = settle(submitters, drains, entrants, rests);
-        let tickets = meet_gate(entrants, closer.end);
+        let tickets = meet_gate(entrants, closer.into_end());
         let terminated = has_ended(tickets.closed, bookings.len() as u64, shut, quiet);
         Record {
             machine,

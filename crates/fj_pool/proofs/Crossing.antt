@@ -7,7 +7,7 @@ use Rattle.std.specs.declared.cmp.Eq as Eq
 use Rattle.std.specs.declared.cmp.PartialEq as PartialEq
 use Rattle.fj_bodies.specs.declared.body.Body as Body
 use Rattle.fj_fronts.proofs.log.Log.TheSendSync.{the_sync as log_sync}
-use Rattle.fj_guarded.specs.declared.naming.Naming as Naming
+use Rattle.fj_submitter.specs.declared.naming.Naming as Naming
 use Rattle.fj_parts.proofs.Crossing.{locked_send}
 use Rattle.fj_parts.specs.contracts.locked.Locked as Locked
 use Rattle.fj_pool.proofs.condvars.Condvars.TheSendSync.{the_sync as condvars_sync}

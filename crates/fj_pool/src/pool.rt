@@ -1,6 +1,6 @@
 ghost use Rattle.std.specs.Prelude.{◌≡◌, IfOk, length, vec_len};
-ghost use Rattle.fj_guarded.specs.Lanes.{lanes_of};
-ghost use Rattle.fj_parts.specs.Winding.{AreAll};
+ghost use Rattle.fj_submitter.specs.Lanes.{lanes_of};
+ghost use Rattle.fj_submitter.specs.Seats.{AreAll};
 
 mod ending;
 mod lock;

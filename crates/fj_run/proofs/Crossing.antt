@@ -9,7 +9,7 @@ use Rattle.std.specs.declared.cmp.PartialEq as PartialEq
 use Rattle.fj_bodies.specs.declared.body.Body as Body
 use Rattle.fj_pool.proofs.Crossing.{pool_sync}
 use Rattle.fj_pool.specs.contracts.pool.Pool as Pool
-use Rattle.fj_guarded.specs.declared.naming.Naming as Naming
+use Rattle.fj_submitter.specs.declared.naming.Naming as Naming
 use Rattle.fj_run.specs.contracts.crew.Crew as Crew
 
 module _ (p r t : NamedLft) (B N T R K O : RattleType) (g : Body.Ghosts B.Denot K.Denot O.Denot) (e : PartialEq.Ghosts K.Denot) (q : Eq.Ghosts K.Denot) (n : Naming.Ghosts N.Denot)

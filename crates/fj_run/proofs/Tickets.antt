@@ -5,7 +5,7 @@ use Rattle.std.proofs.lemmas.Bool.{eqb-true}
 use Rattle.fj_gate.specs.Numbers.{IsNumbersBelow}
 use Rattle.fj_lane.specs.Ends.{LaneId}
 use Rattle.fj_gate.specs.Ends.{CloserState}
-use Rattle.fj_parts.specs.Seats.{SeatState, seats_from}
+use Rattle.fj_submitter.specs.Seats.{SeatState, seats_from}
 use Rattle.fj_parts.specs.Winding.{tickets_of}
 use Rattle.fj_rules.specs.Lists.{times_in}
 use Rattle.fj_rules.proofs.Lists.Members.{times_in_cons}

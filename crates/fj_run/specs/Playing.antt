@@ -6,7 +6,7 @@ use Rattle.fj_gate.specs.Numbers.{IsNumbersBelow}
 use Rattle.fj_core.specs.Cores.{CoreState}
 use Rattle.fj_guarded.specs.Continuing.{EndsIn, IsNow, IsTold, IsToldIn}
 use Rattle.fj_parts.specs.declared.record.Record.{Record}
-use Rattle.fj_parts.specs.Seats.{SeatState, Submits}
+use Rattle.fj_submitter.specs.Seats.{SeatState, Submits}
 use Rattle.fj_parts.specs.Winding.{AreSettled, tickets_of}
 
 -- the history of the pool that the player has seen, and what each submitter has submitted

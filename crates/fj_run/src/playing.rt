@@ -1,7 +1,7 @@
 ghost use Rattle.std.specs.Prelude.{◌≡◌, [], ◌++◌, IfErr, IfOk, IfSome, length, true};
 ghost use Rattle.fj_core.specs.Cores.{AreParts};
 ghost use Rattle.fj_rules.specs.Epochs.{IsPast};
-ghost use Rattle.fj_guarded.specs.Lanes.{lanes_of};
+ghost use Rattle.fj_submitter.specs.Lanes.{lanes_of};
 ghost use Rattle.fj_parts.specs.Parts.{AreNew};
 ghost use Rattle.fj_parts.specs.Winding.{AreEmpty, has_terminated, submissions, tickets_of};
 ghost use Rattle.fj_run.specs.Playing.{IsLeftOf, RunningState};

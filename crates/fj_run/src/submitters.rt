@@ -1,5 +1,6 @@
 ghost use Rattle.std.specs.Prelude.{◌≡◌, [], IfErr, IfOk, length};
-ghost use Rattle.fj_parts.specs.Winding.{AreAll, tickets_of};
+ghost use Rattle.fj_parts.specs.Winding.{tickets_of};
+ghost use Rattle.fj_submitter.specs.Seats.{AreAll};
 ghost use Rattle.fj_run.specs.Playing.{SubmitsBy};
 
 use fj_pool::{Body, Naming, Submitter, Ticket};

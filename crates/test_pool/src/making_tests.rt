@@ -1,5 +1,5 @@
 ghost use Rattle.std.specs.Prelude.{◌≡◌};
-ghost use Rattle.fj_guarded.specs.Lanes.{lanes_of};
+ghost use Rattle.fj_submitter.specs.Lanes.{lanes_of};
 
 use fj_invoke::{BlockedRange, Limits, Mode, RangeSum, Recursive};
 use fj_pool::{Naming, Parts, Pool, Rest, Submitter};

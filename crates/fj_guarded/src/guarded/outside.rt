@@ -8,11 +8,11 @@ ghost use Rattle.fj_guarded.specs.Asked.{CancelsBehind, CollectsAny};
 ghost use Rattle.fj_guarded.specs.Looking.{IsQuietBehind, LooksAtLanes, SealsWhere, TakesEach, TakesFrom, behind, with_answer};
 
 use crate::guarded::Guarded;
-use crate::naming::Naming;
 use fj_bodies::{Body, Outcome};
 use fj_core::Intake;
 use fj_gate::Ticket;
 use fj_rules::{Refusal, Sealed, SubId};
+use fj_submitter::Naming;
 use fj_wake::WakingCore;
 use std::alloc::Global;
 

@@ -14,11 +14,11 @@ ghost use Rattle.fj_wake.specs.Waiting.{is_joinable};
 
 use crate::guarded::Guarded;
 use crate::guarded::outside::TakenIn;
-use crate::naming::Naming;
 use crate::next::{MOST_SKIPPED, Next, Unneeded};
 use fj_bodies::{Ask, Body, Heard, Told};
 use fj_rules::{Refusal, Serial, WorkerId};
 use fj_slots::Hand;
+use fj_submitter::Naming;
 use std::alloc::Global;
 
 impl<B: Body, N: Naming> Guarded<B, N> {

@@ -3,10 +3,10 @@ ghost use Rattle.std.specs.Prelude.{◌≡◌, true};
 ghost use Rattle.fj_core.specs.Cores.{is_awaited};
 
 use crate::guarded::Guarded;
-use crate::naming::Naming;
 use fj_bodies::Body;
 use fj_gate::Ticket;
 use fj_rules::WorkerId;
+use fj_submitter::Naming;
 use fj_wake::ToWake;
 
 impl<B: Body, N: Naming> Guarded<B, N> {

@@ -4,7 +4,8 @@ ghost use Rattle.fj_gate.specs.Numbers.{IsNumbersBelow};
 ghost use Rattle.fj_rules.specs.Epochs.{IsPast};
 ghost use Rattle.fj_core.specs.Cores.{AreParts};
 ghost use Rattle.fj_guarded.specs.Continuing.{EndsIn};
-ghost use Rattle.fj_parts.specs.Winding.{AreAll, AreEmpty, AreSettled, has_terminated, submissions, tickets_of};
+ghost use Rattle.fj_parts.specs.Winding.{AreEmpty, AreSettled, has_terminated, submissions, tickets_of};
+ghost use Rattle.fj_submitter.specs.Seats.{AreAll};
 
 use crate::pool::Pool;
 use fj_bodies::Body;

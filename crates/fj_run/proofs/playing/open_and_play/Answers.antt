@@ -1,6 +1,6 @@
 use Rattle.std.proofs.Common.{ℕ, rules, List, Option, sym, ap, ◌∙◌, subst}
 use Rattle.fj_gate.specs.Numbers.{IsNumbersBelow}
-use Rattle.fj_parts.specs.Seats.{SeatState}
+use Rattle.fj_submitter.specs.Seats.{SeatState}
 use Rattle.fj_parts.specs.Winding.{AreSettled, has_terminated, tickets_of}
 use Rattle.fj_run.specs.Playing.{RunningState}
 use Rattle.fj_run.proofs.playing.open_and_play.Goals as goal

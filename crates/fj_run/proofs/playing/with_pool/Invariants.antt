@@ -1,4 +1,4 @@
-use Rattle.fj_guarded.specs.Lanes.{lanes_of}
+use Rattle.fj_submitter.specs.Lanes.{lanes_of}
 use Rattle.fj_run.proofs.playing.with_pool.Given as goal
 
 abbrev pub ghosts-open_and_play : goal.ghosts-open_and_play

@@ -1,4 +1,4 @@
-use Rattle.fj_guarded.specs.Lanes.{lanes_of}
+use Rattle.fj_submitter.specs.Lanes.{lanes_of}
 use Rattle.test_pool.proofs.making_tests.a_pool_is_made_and_wound_up.Given as goal
 
 abbrev pub ghosts-handed_in : goal.ghosts-handed_in

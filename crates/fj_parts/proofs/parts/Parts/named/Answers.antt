@@ -4,9 +4,9 @@ use Rattle.atomic_table.specs.Seated.{TableId}
 use Rattle.fj_lane.specs.Ends.{LaneId}
 use Rattle.fj_rules.specs.Pasts.{Past}
 use Rattle.fj_parts.specs.Holdings.{AreKept, IsTied}
-use Rattle.fj_guarded.specs.Lanes.{lanes_of}
+use Rattle.fj_submitter.specs.Lanes.{lanes_of}
 use Rattle.fj_parts.specs.Parts.{PartsState}
-use Rattle.fj_parts.specs.Winding.{AreAll}
+use Rattle.fj_submitter.specs.Seats.{AreAll}
 use Rattle.fj_parts.proofs.Seating.{all_named, all_seats}
 use Rattle.fj_parts.proofs.parts.Parts.named.Goals as goal
 

@@ -15,8 +15,8 @@ use Rattle.fj_core.specs.Booked.{IsBooked}
 use Rattle.fj_slots.specs.Shelves.{entries}
 use Rattle.fj_bodies.specs.Stores.{HasResults}
 use Rattle.fj_core.specs.Cores.{CoreState}
-use Rattle.fj_guarded.specs.Lanes.{lanes_of}
-use Rattle.fj_parts.specs.Seats.{SeatState}
+use Rattle.fj_submitter.specs.Lanes.{lanes_of}
+use Rattle.fj_submitter.specs.Seats.{SeatState}
 use Rattle.fj_parts.specs.Winding.{has_terminated, submissions}
 use Rattle.fj_parts.proofs.Accepted.{booked_accepted}
 use Rattle.fj_parts.proofs.Emptied.{all_admitted, emptied}
@@ -28,7 +28,7 @@ settle-entrants-requires-clause-lanes g c =
     ap (λ (ds : List (DrainState g.row.B.Denot)). lanes_of ds) c.into_remains-machine.ensures.drains ∙ c.into_parts-core.ensures.lanes
 
 pub meet-tickets-requires-clause-same : goal.meet-tickets-requires-clause-same
-meet-tickets-requires-clause-same g c = λ k e low. c.settle-entrants.ensures.gates k e low ∙ sym c.closer.invariant.gate
+meet-tickets-requires-clause-same g c = λ k e low. c.settle-entrants.ensures.gates k e low ∙ sym c.into_end.ensures.gate
 
 pub returns-clause-machine : goal.returns-clause-machine
 returns-clause-machine g c = c.into_remains-machine.ensures.past ∙ ap (λ core. core.store.past) (c.into_parts-core.ensures.core ∙ c.self.view_is)
@@ -79,7 +79,7 @@ returns-clause-admitted g c =
     numbers_either_way c.meet-tickets.result.drawn entrants (subst (λ (es : List EntrantState). IsNumbersBelow c.meet-tickets.result.drawn (drawn_by es)) c.settle-entrants.ensures.entrants c.meet-tickets.ensures.numbers)
 
 pub returns-clause-closed : goal.returns-clause-closed
-returns-clause-closed g c = c.meet-tickets.ensures.closed ∙ ap (λ closer. closer.closed) c.closer.view_is
+returns-clause-closed g c = c.meet-tickets.ensures.closed ∙ ap (λ closer. closer.closed) c.into_end.ensures.end
 
 pub returns-clause-at_close : goal.returns-clause-at_close
 returns-clause-at_close g c = c.meet-tickets.ensures.at_close

@@ -1,6 +1,6 @@
 use Rattle.std.proofs.Common.{ℕ, ◌≡◌, ◌<◌, Some}
 use Rattle.std.specs.Prelude.{slice_get}
-use Rattle.fj_parts.specs.Seats.{SeatState}
+use Rattle.fj_submitter.specs.Seats.{SeatState}
 use Rattle.fj_pool.proofs.pool.Pool.are_all.Given as goal
 
 -- the number of each one so far is its place

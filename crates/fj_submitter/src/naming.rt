@@ -27,7 +27,7 @@ pub trait Naming {
 
 impl Naming for Brand {
     ghost use Rattle.std.specs.Prelude.{[]};
-    ghost use Rattle.fj_guarded.specs.Names.{no_gate, no_pool};
+    ghost use Rattle.fj_submitter.specs.Names.{no_gate, no_pool};
 
     ghost gate = { no_gate };
 

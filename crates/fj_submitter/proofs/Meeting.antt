@@ -8,9 +8,8 @@ use Rattle.std.proofs.lemmas.Option.{slice_get-map}
 use Rattle.fj_gate.specs.Ends.{EntrantState}
 use Rattle.fj_lane.specs.declared.parcel.Parcel.{Parcel}
 use Rattle.fj_lane.specs.Ends.{DrainState, LaneId}
-use Rattle.fj_guarded.specs.Lanes.{lanes_of}
-use Rattle.fj_parts.specs.Seats.{IsSeat, SeatState}
-use Rattle.fj_parts.specs.Winding.{AreAll, HaveMet}
+use Rattle.fj_submitter.specs.Lanes.{lanes_of}
+use Rattle.fj_submitter.specs.Seats.{AreAll, HaveMet, IsSeat, SeatState}
 
 some_inj : {A : Type 0} (x y : A) → Some x ≡ Some y → x ≡ y
 some_inj x y e = cc

@@ -1,7 +1,7 @@
 ghost use Rattle.std.specs.Prelude.{◌≡◌, IfOk, IfErr};
 ghost use Rattle.fj_lane.specs.Ends.{new_feed};
 ghost use Rattle.fj_gate.specs.Ends.{new_entrant};
-ghost use Rattle.fj_parts.specs.Seats.{IsSeat, RefusesSubmission, Submits, new_seat};
+ghost use Rattle.fj_submitter.specs.Seats.{IsSeat, RefusesSubmission, Submits, new_seat};
 
 use fj_gate::{Entrant, Ticket};
 use fj_lane::{Feed, Parcel};
@@ -17,7 +17,7 @@ pub struct Seat<B> {
 }
 
 impl<B> Model for Seat<B> {
-    ghost use Rattle.fj_parts.specs.Seats.{IsSeat, SeatState};
+    ghost use Rattle.fj_submitter.specs.Seats.{IsSeat, SeatState};
 
     ghost Value = { SeatState B };
 

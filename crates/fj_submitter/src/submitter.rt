@@ -1,9 +1,9 @@
 ghost use Rattle.std.specs.Prelude.{◌≡◌, ◌+◌, IfOk, IfErr, length};
-ghost use Rattle.fj_parts.specs.Seats.{IsNamed, IsSeat, RefusesSubmission, Submits};
+ghost use Rattle.fj_submitter.specs.Seats.{IsNamed, IsSeat, RefusesSubmission, Submits};
 
+use crate::naming::Naming;
 use crate::seat::Seat;
 use fj_gate::Ticket;
-use fj_guarded::Naming;
 use fj_rules::{Refusal, SubId};
 use std::marker::{Model, PhantomData};
 
@@ -15,7 +15,7 @@ pub struct Submitter<B, N: Naming> {
 }
 
 impl<B, N: Naming> Model for Submitter<B, N> {
-    ghost use Rattle.fj_parts.specs.Seats.{IsNamed, SeatState};
+    ghost use Rattle.fj_submitter.specs.Seats.{IsNamed, SeatState};
 
     ghost Value = { SeatState B };
 

@@ -1,6 +1,6 @@
 use Rattle.std.proofs.Common.{◌≡◌, ◌≤◌, ◌+◌, All, vec_len, vec_capacity}
-use Rattle.fj_parts.proofs.Settling.{Halfway}
-use Rattle.fj_parts.proofs.record.settle.Given as goal
+use Rattle.fj_submitter.proofs.Meeting.{Halfway}
+use Rattle.fj_submitter.proofs.settling.settle.Given as goal
 
 abbrev pub invariant-loop-submitter : goal.invariant-loop-submitter
 invariant-loop-submitter g l = record {

@@ -1,11 +1,11 @@
 -- A submitter's ends: of the gate, and of its lane.
-use Rattle.std.specs.Prelude.{ℕ, ◌≡◌, ◌+◌, ◌<◌, true, List, [], ◌∷◌, Some, length, map, slice_get}
+use Rattle.std.specs.Prelude.{ℕ, ◌≡◌, ◌+◌, ◌<◌, true, List, [], ◌∷◌, ◌++◌, Some, length, map, slice_get}
 use Rattle.atomic_table.specs.Seated.{TableId}
 use Rattle.fj_rules.specs.declared.refusal.Refusal.{Refusal}
 use Rattle.fj_rules.specs.declared.refusal.Refusal.TheVariants.{Closed, LaneSpent}
 use Rattle.fj_gate.specs.Ends.{EntrantState, new_entrant, Draws}
 use Rattle.fj_lane.specs.declared.parcel.Parcel.{Parcel}
-use Rattle.fj_lane.specs.Ends.{LaneId, FeedState, new_feed, Pushes}
+use Rattle.fj_lane.specs.Ends.{DrainState, LaneId, FeedState, new_drain, new_feed, Pushes}
 
 -- the number of the submitter, and its ends of the gate and of its lane
 pub record SeatState (B : Type 0) : Type 0 where
@@ -52,3 +52,23 @@ module _ {B : Type 0} where
   RefusesSubmission old LaneSpent new = (length old.feed.fed ≡ old.feed.capacity) × (new ≡ old)
   RefusesSubmission old Closed new = (length old.feed.fed < old.feed.capacity) × (new ≡ record old { entrant = record old.entrant { told = true } })
   RefusesSubmission old _ new = ⊥
+
+  -- a seat for each entrant, with a lane of its own
+  pub record AreSeated (capacity : ℕ) (entrants : List EntrantState) (seats : List (SeatState B)) (drains : List (DrainState B)) : Type 0 where
+    pub lanes : List LaneId
+    pub lane_each : length lanes ≡ length entrants
+    pub seats_are : seats ≡ seats_for capacity 0 entrants lanes
+    pub drains_are : drains ≡ map (λ lane. new_drain lane capacity) lanes
+
+  -- these are `count` submitters, in order of their numbers
+  abbrev pub AreAll : ℕ → List (SeatState B) → Type 0
+  AreAll count seats = (length seats ≡ count) × ((n : ℕ) (seat : SeatState B) → slice_get seats n ≡ Some seat → seat.number ≡ n)
+
+  -- lane by lane, what the drain took, and then what is left, is what was pushed
+  abbrev pub HaveMet : List (DrainState B) → List (SeatState B) → List (List (Parcel B)) → Type 0
+  HaveMet [] [] [] = Unit {0}
+  HaveMet (d ∷ ds) (s ∷ ss) (r ∷ rs) = (d.drained ++ r ≡ s.feed.fed) × HaveMet ds ss rs
+  HaveMet [] [] (r ∷ rs) = ⊥
+  HaveMet [] (s ∷ ss) rs = ⊥
+  HaveMet (d ∷ ds) [] rs = ⊥
+  HaveMet (d ∷ ds) (s ∷ ss) [] = ⊥

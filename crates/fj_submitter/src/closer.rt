@@ -1,15 +1,15 @@
-ghost use Rattle.std.specs.Prelude.{◌≡◌};
+ghost use Rattle.std.specs.Prelude.{◌≡◌, length};
 ghost use Rattle.fj_gate.specs.Ends.{ClosedBy, Watched};
 
+use crate::naming::Naming;
 use fj_gate::{Closing, Look};
-use fj_guarded::Naming;
 use std::marker::{Model, PhantomData};
 
 /// Shuts a pool down. There is one for each pool. Java has no counterpart: there any thread may.
 #[derive(Drop)]
 pub struct Closer<N: Naming> {
-    pub(crate) end: fj_gate::Closer,
-    pub(crate) of: PhantomData<N>,
+    end: fj_gate::Closer,
+    of: PhantomData<N>,
 }
 
 impl<N: Naming> Model for Closer<N> {
@@ -27,6 +27,27 @@ impl<N: Naming> Model for Closer<N> {
 }
 
 impl<N: Naming> Closer<N> {
+    /// The end that closes the gate, under the name. Precondition: the name is that of its gate.
+    pub fn new(end: fj_gate::Closer) -> Closer<N>
+        requires gate { end.gate ≡ N.gate }
+        requires submitters { end.submitters ≡ length N.lanes }
+        ensures { result ≡ end }
+    {
+        Closer {
+            end,
+            of: PhantomData,
+        }
+    }
+
+    /// The end without the name.
+    pub fn into_end(self) -> fj_gate::Closer
+        ensures end { result ≡ self }
+        ensures gate { result.gate ≡ N.gate }
+        ensures submitters { result.submitters ≡ length N.lanes }
+    {
+        self.end
+    }
+
     /// Closes the gate only, by one atomic operation: what was admitted is still run, and the pool goes on until it is shut down. Takes no
     /// lock and never blocks.
     ///

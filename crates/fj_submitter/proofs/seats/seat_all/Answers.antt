@@ -2,8 +2,8 @@ use Rattle.std.proofs.Common.{ℕ, ◌≡◌, ◌<◌, List, [], ◌∷◌, All,
 use Rattle.std.proofs.lemmas.Iterator.Adapters.{YieldsList-from_vec}
 use Rattle.std.proofs.lemmas.Iterator.Consumers.{YieldsList-turn}
 use Rattle.fj_gate.specs.Ends.{new_entrant}
-use Rattle.fj_parts.proofs.Seating.{none_seated, one_seated}
-use Rattle.fj_parts.proofs.parts.seat_all.Goals as goal
+use Rattle.fj_submitter.proofs.Seating.{none_seated, one_seated}
+use Rattle.fj_submitter.proofs.seats.seat_all.Goals as goal
 
 -- what holds of all holds of the one that is yielded
 at_turn : {A : Type 0} (P : A → Type 0) (xs : List A) (k : ℕ) (x : A) → All P xs → (k < length xs) × (x ≡ get_or xs k x) → P x

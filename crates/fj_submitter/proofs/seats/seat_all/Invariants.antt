@@ -1,6 +1,6 @@
 use Rattle.std.proofs.Common.{◌≡◌, length}
-use Rattle.fj_parts.specs.Parts.{AreSeated}
-use Rattle.fj_parts.proofs.parts.seat_all.Given as goal
+use Rattle.fj_submitter.specs.Seats.{AreSeated}
+use Rattle.fj_submitter.proofs.seats.seat_all.Given as goal
 
 abbrev pub invariant-loop-entrant : goal.invariant-loop-entrant
 invariant-loop-entrant g l = record {

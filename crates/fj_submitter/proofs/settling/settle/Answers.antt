@@ -1,9 +1,9 @@
 use Rattle.std.proofs.Common.{◌≡◌, [], ◌∷◌, ◌++◌, ap, ◌∙◌, subst, arith, rules}
 use Rattle.std.proofs.lemmas.List.Elements.{All-push}
-use Rattle.fj_parts.specs.Seats.{IsNamed, IsSeat, SeatState}
-use Rattle.fj_parts.proofs.Settling.{begins, meets, steps}
-use Rattle.fj_parts.proofs.record.settle.Goals as goal
-use Rattle.fj_parts.proofs.record.settle.Given as given
+use Rattle.fj_submitter.specs.Seats.{IsNamed, IsSeat, SeatState}
+use Rattle.fj_submitter.proofs.Meeting.{begins, meets, steps}
+use Rattle.fj_submitter.proofs.settling.settle.Goals as goal
+use Rattle.fj_submitter.proofs.settling.settle.Given as given
 
 module _ (g : given.Over) where
   abbrev S : Type 0
