@@ -47,3 +47,15 @@ returns-else-is_some-2-clause-absent c =
     let t : Records = record { slots = c.self.inside.records.slots; made = c.self.inside.made; room = c.self.inside.room } in
     let none : record_of t (record { key = c.in_ok-key.key; serial = c.args.serial }) ≡ None = rw (← c.self.view_is) at (sym c.get-2.ensures ∙ none_copied c.get-2.result (sym c.is_some-2.ensures ∙ c.if-is_some-2.false)) in
     rw (← c.self.view_is) (released_kept t _ c.args.serial c.in_ok-key.key c.self.invariant.indexed c.in_ok-key.ensures.only none)
+
+pub returns-then-is_some-clause-sound : goal.returns-then-is_some-clause-sound
+returns-then-is_some-clause-sound c = subst IsSound c.self.view_is c.self.invariant.sound
+
+pub returns-in_err-key-clause-sound : goal.returns-in_err-key-clause-sound
+returns-in_err-key-clause-sound c = subst IsSound c.self.view_is c.self.invariant.sound
+
+pub returns-then-is_some-2-clause-sound : goal.returns-then-is_some-2-clause-sound
+returns-then-is_some-2-clause-sound c = subst IsSound c.self.view_is c.self.invariant.sound
+
+pub returns-else-is_some-2-clause-sound : goal.returns-else-is_some-2-clause-sound
+returns-else-is_some-2-clause-sound c = subst IsSound c.self.view_is c.self.invariant.sound
