@@ -1,4 +1,4 @@
-ghost use Rattle.std.specs.Prelude.{◌≡◌, ◌↔◌, IsOk, IfOk, OnErr, MatchOption};
+ghost use Rattle.std.specs.Prelude.{◌≡◌, ◌≤◌, ◌↔◌, IsTrue, IsOk, IfOk, OnErr, MatchOption};
 ghost use Rattle.fj_rules.specs.Bounds.{AreNumbers};
 
 use crate::owner::Owner;
@@ -62,10 +62,10 @@ impl Limits {
         // The largest of each, written out.
         ensures numbers { AreNumbers }
     {
-        if (1..=MAX_WORKERS).contains(&workers)
-            && (1..=MAX_SUBMITTERS).contains(&submitters)
-            && (1..=MAX_TASKS).contains(&tasks)
-            && (1..=MAX_EVENTS).contains(&events)
+        if is_from_1_to(workers, MAX_WORKERS)
+            && is_from_1_to(submitters, MAX_SUBMITTERS)
+            && is_from_1_to(tasks, MAX_TASKS)
+            && is_from_1_to(events, MAX_EVENTS)
         {
             Ok(Limits {
                 workers,
@@ -127,4 +127,11 @@ impl Limits {
             Owner::Sub(_) | Owner::Work(_) => None,
         }
     }
+}
+
+/// Whether a number is from 1 to this one.
+fn is_from_1_to(n: u32, most: u32) -> bool
+    ensures { IsTrue result ↔ ((1 ≤ n) × (n ≤ most)) }
+{
+    (1..=most).contains(&n)
 }
