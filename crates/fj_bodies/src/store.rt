@@ -68,12 +68,11 @@ impl<B: Body> Store<B> {
         let room = limits.tasks() as usize;
         // For the proof: the limits are in range.
         let _workers = limits.workers();
-        let kept = both(SerialMap::new(alloc, room), SerialMap::new(alloc, room));
-        let moved = both(
-            SerialSet::new(alloc, room),
-            Machine::new(alloc, mode, limits),
-        );
-        let ((bodies, results), (taken, machine)) = both(kept, moved)?;
+        let maps = both(SerialMap::new(alloc, room), SerialMap::new(alloc, room));
+        let ((bodies, results), taken) = both(maps, SerialSet::new(alloc, room))?;
+        let Ok(machine) = Machine::new(alloc, mode, limits) else {
+            return Err(OutOfMemory);
+        };
         Ok(Store {
             machine,
             bodies,

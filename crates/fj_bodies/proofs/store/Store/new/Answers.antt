@@ -8,28 +8,24 @@ use Rattle.fj_bodies.proofs.store.Store.new.Goals as goal
 pub invariant_of-result : goal.invariant_of-result
 invariant_of-result g c =
     let all = c.in_ok-bodies.ensures in
-    let kept = made _ all.0 c.both-kept.ensures in
-    let moved = made _ all.1 c.both-moved.ensures in
-    rw (made _ moved.1 c.new-4.ensures.ok, made _ moved.0 c.new-3.ensures) (record {
-      stored = fresh_stored c.args.mode c.args.limits _ _ (made _ kept.0 c.new.ensures.entries) (made _ kept.1 c.new-2.ensures.entries);
+    let maps = made _ all.0 c.both-maps.ensures in
+    rw (c.in-Ok.ensures.ok, made _ all.1 c.new-3.ensures) (record {
+      stored = fresh_stored c.args.mode c.args.limits _ _ (made _ maps.0 c.new.ensures.entries) (made _ maps.1 c.new-2.ensures.entries);
       complete = fresh_results c.args.mode c.args.limits _;
       room = record {
-        bodies = omega (arith, c.tasks-room.ensures.number, made _ kept.0 c.new.ensures.room);
-        results = omega (arith, c.tasks-room.ensures.number, made _ kept.1 c.new-2.ensures.room);
+        bodies = omega (arith, c.tasks-room.ensures.number, made _ maps.0 c.new.ensures.room);
+        results = omega (arith, c.tasks-room.ensures.number, made _ maps.1 c.new-2.ensures.room);
         taken = omega (arith, c.tasks-room.ensures.number);
         few = c.workers-workers.ensures.within.few_tasks;
       };
       rests = λ free u there. absurd cc;
     })
 
-pub returns-clause-past : goal.returns-clause-past
-returns-clause-past g c = made _ (made _ c.in_ok-bodies.ensures.1 c.both-moved.ensures).1 c.new-4.ensures.ok
-
 pub returns-clause-bodies : goal.returns-clause-bodies
-returns-clause-bodies g c = made _ (made _ c.in_ok-bodies.ensures.0 c.both-kept.ensures).0 c.new.ensures.entries
+returns-clause-bodies g c = made _ (made _ c.in_ok-bodies.ensures.0 c.both-maps.ensures).0 c.new.ensures.entries
 
 pub returns-clause-results : goal.returns-clause-results
-returns-clause-results g c = made _ (made _ c.in_ok-bodies.ensures.0 c.both-kept.ensures).1 c.new-2.ensures.entries
+returns-clause-results g c = made _ (made _ c.in_ok-bodies.ensures.0 c.both-maps.ensures).1 c.new-2.ensures.entries
 
 pub returns-clause-taken : goal.returns-clause-taken
-returns-clause-taken g c = ap (λ (l : SerialList). l.items) (made _ (made _ c.in_ok-bodies.ensures.1 c.both-moved.ensures).0 c.new-3.ensures)
+returns-clause-taken g c = ap (λ (l : SerialList). l.items) (made _ c.in_ok-bodies.ensures.1 c.new-3.ensures)
