@@ -29,7 +29,6 @@ use std::marker::Model;
 ///
 /// `act` serves what a body asks. If the machine refuses the step, the body hears that refusal, and nothing has changed. A stuck store
 /// answers `Stuck`, returns a body that came, and changes nothing; the private calls of one ask each require that it is not stuck.
-#[derive(Drop)]
 pub struct Store<B: Body> {
     machine: Machine,
     bodies: SerialMap<B>,
@@ -37,6 +36,19 @@ pub struct Store<B: Body> {
     /// Kept tasks whose outcome or result was taken: each is released as soon as it can be, by the call that makes it so.
     taken: SerialSet,
     stuck: bool,
+}
+
+// By hand, so that it is proved here alone: a derived one is proved in each crate that drops such a value.
+impl<B: Body> Drop for Store<B> {
+    fn drop(self) {
+        let Store {
+            machine: _,
+            bodies: _,
+            results: _,
+            taken: _,
+            stuck: _,
+        } = self;
+    }
 }
 
 impl<B: Body> Model for Store<B> {

@@ -34,7 +34,6 @@ use std::marker::Model;
 /// The state of a pool that its lock guards: the store, the drains of the lanes, the bookings, the closing number, and the sealed parts of
 /// the history. Each call is one action of a worker, of a caller from outside, or of the lanes. Java has no counterpart: its pool has no
 /// lock.
-#[derive(Drop)]
 pub struct Core<B: Body> {
     store: Store<B>,
     drains: Vec<Drain<B>>,
@@ -42,6 +41,20 @@ pub struct Core<B: Body> {
     closing: Cutoff,
     archive: Archive,
     missed_seals: Misses,
+}
+
+// By hand, so that it is proved here alone: a derived one is proved in each crate that drops such a value.
+impl<B: Body> Drop for Core<B> {
+    fn drop(self) {
+        let Core {
+            store: _,
+            drains: _,
+            bookings: _,
+            closing: _,
+            archive: _,
+            missed_seals: _,
+        } = self;
+    }
 }
 
 impl<B: Body> Model for Core<B> {

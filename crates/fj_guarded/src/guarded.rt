@@ -19,7 +19,6 @@ use std::alloc::{AllocError, Global};
 use std::marker::{Model, PhantomData};
 
 /// What the lock of a pool guards: its core, with the account of who sleeps, and room for the rests of the lanes when the pool is wound up.
-#[derive(Drop)]
 pub struct Guarded<B: Body, N: Naming> {
     pub(crate) core: WakingCore<B>,
     pub(crate) entrants: Vec<Entrant>,
@@ -27,6 +26,19 @@ pub struct Guarded<B: Body, N: Naming> {
     /// The submitter at which the next look at the lanes begins: the first for which the last look found no room.
     pub(crate) first: SubId,
     pub(crate) of: PhantomData<N>,
+}
+
+// By hand, so that it is proved here alone: a derived one is proved in each crate that drops such a value.
+impl<B: Body, N: Naming> Drop for Guarded<B, N> {
+    fn drop(self) {
+        let Guarded {
+            core: _,
+            entrants: _,
+            rests: _,
+            first: _,
+            of: _,
+        } = self;
+    }
 }
 
 impl<B: Body, N: Naming> Model for Guarded<B, N> {

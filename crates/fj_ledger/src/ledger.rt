@@ -36,7 +36,6 @@ use std::marker::Model;
 /// The history, with the state kept beside it. Contracts see its mode and limits, and the history.
 ///
 /// Its queries are here, and its updates in the modules below: each appends one event.
-#[derive(Drop)]
 pub struct Ledger {
     mode: Mode,
     limits: Limits,
@@ -47,6 +46,23 @@ pub struct Ledger {
     tree: Tree,
     open_tasks: OpenTasks,
     gone: Vec<Serial>,
+}
+
+// By hand, so that it is proved here alone: a derived one is proved in each crate that drops such a value.
+impl Drop for Ledger {
+    fn drop(self) {
+        let Ledger {
+            mode: _,
+            limits: _,
+            log: _,
+            queues: _,
+            stacks: _,
+            hands: _,
+            tree: _,
+            open_tasks: _,
+            gone: _,
+        } = self;
+    }
 }
 
 impl Model for Ledger {
