@@ -35,8 +35,8 @@ fn a_graph_may_be_larger_than_a_lane(rt: HostRuntime) -> Result<(), Fail> {
         &counter,
         &StopFlag::new(),
     )?;
-    assert_eq!(rt; ran.fates.len(), 70_000);
-    assert!(rt; ran.fates.iter().all(|fate| *fate == Fate::Done));
-    assert_eq!(rt; counter.calls.load(Ordering::SeqCst), 70_000);
+    let calls = counter.calls.load(Ordering::SeqCst);
+    let done = ran.fates.iter().all(|fate| *fate == Fate::Done);
+    assert_eq!(rt; (ran.fates.len(), done, calls), (70_000, true, 70_000));
     Ok(())
 }

@@ -3,15 +3,8 @@ ghost use Rattle.std.specs.Prelude.{◌≡◌, ◌<◌, ◌↔◌, length, IsTru
 use fj_gate::Ticket;
 use fj_lane::*;
 use fj_rules::OutOfMemory;
-use std::alloc::{AllocError, Global};
+use std::alloc::Global;
 use std::test::*;
-
-fn parcel(alloc: Global, number: u64) -> Result<Parcel<String>, AllocError> {
-    Ok(Parcel {
-        ticket: Ticket(number),
-        body: format!(in alloc; "body {number}")?,
-    })
-}
 
 fn numbered(number: u64) -> Parcel<u64> {
     Parcel {
@@ -21,24 +14,23 @@ fn numbered(number: u64) -> Parcel<u64> {
 }
 
 /// Whether this parcel is the one of this number.
-fn is_numbered(parcel: &Parcel<String>, number: u64) -> bool {
-    parcel.ticket == Ticket(number)
-        && parcel.body.strip_prefix("body ").map(str::parse) == Some(Ok(number))
+fn is_numbered(parcel: &Parcel<u64>, number: u64) -> bool {
+    parcel.ticket == Ticket(number) && parcel.body == !number
 }
 
 /// Whether there was room for a parcel, and whether it went in. One that does not comes back as it is.
-fn pushed(feed: &mut Feed<String>, parcel: Parcel<String>, number: u64) -> (bool, Result<(), bool>)
+fn pushed(feed: &mut Feed<u64>, number: u64) -> (bool, Result<(), bool>)
     ensures { feed.new.lane ≡ feed.old.lane }
 {
     let had_room = feed.has_room();
-    match feed.push(parcel) {
+    match feed.push(numbered(number)) {
         Ok(()) => (had_room, Ok(())),
         Err((LaneSpent, back)) => (had_room, Err(is_numbered(&back, number))),
     }
 }
 
 /// Whether the next parcel is the one of this number. None where nothing is in the lane.
-fn taken(drain: &mut Drain<String>, number: u64) -> Option<bool>
+fn taken(drain: &mut Drain<u64>, number: u64) -> Option<bool>
     ensures { drain.new.lane ≡ drain.old.lane }
 {
     match drain.take() {
@@ -50,42 +42,54 @@ fn taken(drain: &mut Drain<String>, number: u64) -> Option<bool>
 /// The capacity counts pushes over the lane's life, so a take makes no room.
 #[test]
 fn steps_in_figures(rt: HostRuntime) -> Result<(), Fail> {
-    let parcels = (
-        parcel(rt.alloc(), 0)?,
-        parcel(rt.alloc(), 1)?,
-        parcel(rt.alloc(), 2)?,
-    );
-    let (mut feed, mut drain) = lane::<String>(rt.alloc(), 2)?;
-    let first = pushed(&mut feed, parcels.0, 0);
-    let second = pushed(&mut feed, parcels.1, 1);
+    let (mut feed, mut drain) = lane::<u64>(rt.alloc(), 2)?;
+    let first = pushed(&mut feed, 0);
+    let second = pushed(&mut feed, 1);
     let oldest = taken(&mut drain, 0);
-    let spent = pushed(&mut feed, parcels.2, 2);
+    let spent = pushed(&mut feed, 2);
     let newest = taken(&mut drain, 1);
     let none = taken(&mut drain, 2);
+    let left = meet(feed, drain).next().is_some();
     assert_eq!(rt;
         [first, second, spent],
         [(true, Ok(())), (true, Ok(())), (false, Err(true))]
     );
     assert_eq!(rt; [oldest, newest, none], [Some(true), Some(true), None]);
-    assert!(rt; meet(feed, drain).next().is_none());
+    assert!(rt; !left);
     Ok(())
+}
+
+/// Whether the next parcel that is left is the one of this number. None where nothing is left.
+fn next_left(rest: &mut Rest<u64>, number: u64) -> Option<bool> {
+    match rest.next() {
+        Some(parcel) => Some(is_numbered(&parcel, number)),
+        None => None,
+    }
+}
+
+/// Three parcels go in. The first is taken before the ends meet, the others after that.
+fn three_parcels(alloc: Global) -> Result<[Option<bool>; 5], OutOfMemory> {
+    let (mut feed, mut drain) = lane::<u64>(alloc, 3)?;
+    let _pushed = [
+        pushed(&mut feed, 0),
+        pushed(&mut feed, 1),
+        pushed(&mut feed, 2),
+    ];
+    let first = taken(&mut drain, 0);
+    let mut rest = meet(feed, drain);
+    Ok([
+        first,
+        next_left(&mut rest, 1),
+        next_left(&mut rest, 2),
+        next_left(&mut rest, 3),
+        next_left(&mut rest, 3),
+    ])
 }
 
 #[test]
 fn what_is_left_comes_oldest_first(rt: HostRuntime) -> Result<(), Fail> {
-    let (mut feed, mut drain) = lane::<u64>(rt.alloc(), 3)?;
-    assert!(rt; feed.push(numbered(0)).is_ok());
-    assert!(rt; feed.push(numbered(1)).is_ok());
-    assert!(rt; feed.push(numbered(2)).is_ok());
-    let first = drain.take().expect(&rt, "the first of three");
-    assert_eq!(rt; first.ticket, Ticket(0));
-    let mut rest = meet(feed, drain);
-    let second = rest.next().expect(&rt, "the second of three");
-    assert_eq!(rt; second.ticket, Ticket(1));
-    let third = rest.next().expect(&rt, "the third of three");
-    assert_eq!(rt; (third.ticket, third.body), (Ticket(2), !2));
-    assert!(rt; rest.next().is_none());
-    assert!(rt; rest.next().is_none());
+    let found = three_parcels(rt.alloc())?;
+    assert_eq!(rt; found, [Some(true), Some(true), Some(true), None, None]);
     Ok(())
 }
 
@@ -147,8 +151,12 @@ fn a_body_may_borrow(rt: HostRuntime) -> Result<(), Fail> {
 
 #[test]
 fn a_body_comes_out_as_it_went_in(rt: HostRuntime) -> Result<(), Fail> {
-    let same = through(rt.alloc(), parcel(rt.alloc(), 7)?)?;
-    assert!(rt; is_numbered(&same, 7));
+    let parcel = Parcel {
+        ticket: Ticket(7),
+        body: format!(in rt.alloc(); "body 7")?,
+    };
+    let same = through(rt.alloc(), parcel)?;
+    assert!(rt; same.ticket == Ticket(7) && same.body.as_str() == "body 7");
     Ok(())
 }
 
@@ -166,7 +174,7 @@ fn takes_in(feed: &mut Feed<u64>, count: u64) -> bool {
 fn gives(drain: &mut Drain<u64>, count: u64) -> bool {
     for number in 0..count {
         match drain.take() {
-            Some(parcel) if parcel.ticket == Ticket(number) && parcel.body == !number => {}
+            Some(parcel) if is_numbered(&parcel, number) => {}
             _ => return false,
         }
     }
