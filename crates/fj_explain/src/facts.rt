@@ -37,15 +37,12 @@ impl<'a> Facts<'a> {
     fn of_refusal(self, step: &Step, refusal: Refusal) -> Option<Reason<'a>> {
         match refusal {
             Refusal::NoSuch => Some(self.of_no_such(step)),
-            Refusal::NotIdle => self.of_not_idle(worker_of(step)?),
-            Refusal::NotRunning => Some(of_not_running(step, worker_of(step)?)),
-            Refusal::Unknown => Some(self.of_unknown(named_by(step)?)),
+            Refusal::NotIdle => self.of_not_idle(step),
+            Refusal::NotRunning => of_not_running(step),
+            Refusal::Unknown => self.of_unknown(step),
             Refusal::NotCompleter => self.of_kind(step),
-            Refusal::NotDone => self.of_not_done(named_by(step)?),
-            Refusal::OwnStack => Some(Reason::Task(
-                self.tasks.name(named_by(step)?),
-                TaskReason::OnOwnStack(worker_of(step)?),
-            )),
+            Refusal::NotDone => self.of_not_done(step),
+            Refusal::OwnStack => self.of_own_stack(step),
             Refusal::Closed => Some(self.of_closed()),
             Refusal::CountTooLarge => Some(Reason::CountTooLarge),
             Refusal::TooManyTasks => Some(Reason::NoRoom(self.machine.live())),
@@ -74,22 +71,29 @@ impl<'a> Facts<'a> {
         }
     }
 
-    fn of_not_idle(self, w: WorkerId) -> Option<Reason<'a>> {
+    fn of_not_idle(self, step: &Step) -> Option<Reason<'a>> {
+        let w = worker_of(step)?;
         match self.hook(w) {
             Some(c) => Some(Reason::Worker(w, WorkerReason::HasHook(self.tasks.name(c)))),
             None => Some(Reason::Worker(w, WorkerReason::Polls(self.tasks.name(self.running(w)?)))),
         }
     }
 
-    fn of_unknown(self, t: Serial) -> Reason<'a> {
+    fn of_unknown(self, step: &Step) -> Option<Reason<'a>> {
+        let t = named_by(step)?;
         let task = self.tasks.name(t);
-        if t.0 < self.tasks.accepted {
+        Some(if t.0 < self.tasks.accepted {
             Reason::Task(task, TaskReason::Released)
         } else if self.tasks.names.is_empty() {
             Reason::Task(task, TaskReason::NeverAccepted(self.tasks.accepted))
         } else {
             Reason::Unnamed
-        }
+        })
+    }
+
+    fn of_own_stack(self, step: &Step) -> Option<Reason<'a>> {
+        let task = self.tasks.name(named_by(step)?);
+        Some(Reason::Task(task, TaskReason::OnOwnStack(worker_of(step)?)))
     }
 
     /// Why a task is of the wrong kind: the running one, or the one that is named.
@@ -107,7 +111,8 @@ impl<'a> Facts<'a> {
     }
 
     /// Why a task cannot be released: it is not gone, or has a child.
-    fn of_not_done(self, t: Serial) -> Option<Reason<'a>> {
+    fn of_not_done(self, step: &Step) -> Option<Reason<'a>> {
+        let t = named_by(step)?;
         let task = self.tasks.name(t);
         match self.machine.place(t)? {
             Place::Gone => Some(Reason::HasChild(self.tasks.name(self.child_of(t)?), task)),
@@ -205,11 +210,12 @@ impl<'a> Facts<'a> {
     }
 }
 
-fn of_not_running<'a>(step: &Step, w: WorkerId) -> Reason<'a> {
-    match step {
+fn of_not_running<'a>(step: &Step) -> Option<Reason<'a>> {
+    let w = worker_of(step)?;
+    Some(match step {
         Step::HookDone { .. } => Reason::Worker(w, WorkerReason::NoHook),
         _ => Reason::Worker(w, WorkerReason::RunsNothing),
-    }
+    })
 }
 
 /// The worker of a step.

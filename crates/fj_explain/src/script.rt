@@ -44,7 +44,9 @@ fn explain_from<W: Write>(
 ) -> Result<(), ExplainFault> {
     let has_names = matches!(&naming, TaskNaming::Names(_));
     let mut explainer = open(alloc, naming, number, heading)?;
-    explain_steps(alloc, &mut explainer, has_names, number, heading, steps, w)
+    let explained = explain_steps(alloc, &mut explainer, has_names, number, heading, steps, w);
+    drop(explainer);
+    explained
 }
 
 /// Writes the heading, and handles the steps behind it.

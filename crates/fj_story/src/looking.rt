@@ -13,6 +13,7 @@ use fj_streams::Sink;
 use fj_trace::{HistoryStop, check_line, read_heading};
 use std::alloc::Global;
 use std::marker::Model;
+use std::mem;
 
 /// Behind the heading of a history: what has happened so far, how many events that are, and their story.
 #[derive(Drop)]
@@ -123,7 +124,8 @@ impl Looking {
         requires { seen.story ≡ seen.checker }
         ensures { self.new ≡ check.Going seen.checker seen.events }
     {
-        self.seen = Some(seen);
+        // By a call, which is cheaper to prove than the drop in an assignment.
+        drop(mem::replace(self, Looking { seen: Some(seen) }));
     }
 
     /// The story, behind the heading.
@@ -132,7 +134,11 @@ impl Looking {
         ensures { (past : Past) (n : ℕ) → self ≡ check.Going past n → result ≡ past }
     {
         match self.seen {
-            Some(seen) => seen.story,
+            Some(seen) => {
+                let Seen { checker, story, .. } = seen;
+                drop(checker);
+                story
+            }
             None => unreachable!(),
         }
     }

@@ -26,6 +26,9 @@ pub fn read_story<R: Source>(alloc: Global, r: &mut R) -> Result<Story, CheckFau
     drop(nothing);
     match run {
         Ok(()) => Ok(state.into_story()),
-        Err(fault) => Err(check_fault(fault)),
+        Err(fault) => {
+            drop(state);
+            Err(check_fault(fault))
+        }
     }
 }
