@@ -109,25 +109,22 @@ fn write_text<T: fmt::Display, W: fmt::Write>(
     place: BoxPlace,
     out: &mut W,
 ) -> Result<bool, fmt::Error> {
-    let y = place.top.plus(Px(112));
-    if place.goes_on {
-        if place.width < needed.plus(Px(100)) {
-            return Ok(false);
-        }
-        let x = place.x.plus(Px(40));
-        write!(
-            out,
-            "<text x=\"{x}\" y=\"{y}\" class=\"m z\">\u{2039} {text}</text>"
-        )?;
+    let (class, sign, indent, room) = if place.goes_on {
+        ("m z", "\u{2039} ", Px(40), needed.plus(Px(100)))
     } else if place.width > needed.max(Px(700)) {
-        let x = place.x.plus(Px(50));
-        write!(out, "<text x=\"{x}\" y=\"{y}\" class=\"m\">{text}</text>")?;
-    } else if place.width >= needed {
-        let x = place.x.plus(place.width.half());
-        write!(out, "<text x=\"{x}\" y=\"{y}\" class=\"c\">{text}</text>")?;
+        ("m", "", Px(50), needed)
     } else {
+        ("c", "", place.width.half(), needed)
+    };
+    if place.width < room {
         return Ok(false);
     }
+    let x = place.x.plus(indent);
+    let y = place.top.plus(Px(112));
+    write!(
+        out,
+        "<text x=\"{x}\" y=\"{y}\" class=\"{class}\">{sign}{text}</text>"
+    )?;
     Ok(true)
 }
 

@@ -24,29 +24,28 @@ impl fmt::Display for Counted {
 pub fn write_title<W: fmt::Write>(story: &Story, page: &Page, out: &mut W) -> fmt::Result {
     let tasks = Counted(story.tasks().len() as u64, "task");
     let workers = Counted(story.workers().len() as u64, "worker");
-    writeln!(
-        out,
-        "<text x=\"24\" y=\"34\" class=\"t\">{tasks} on {workers}</text>"
-    )?;
     let mode = story.mode_word();
     write!(
         out,
-        "<text x=\"24\" y=\"54\" class=\"s\">{mode} mode \u{b7} "
+        "<text x=\"24\" y=\"34\" class=\"t\">{tasks} on {workers}</text>\n<text x=\"24\" y=\"54\" class=\"s\">{mode} mode \u{b7} "
     )?;
-    let events = Counted(story.now().0, "event");
     if page.window != Window::whole(story) {
         let from = page.window.from;
         let to = page.window.to;
         write!(out, "{from} to {to} of ")?;
     }
+    write_measures(story, out)
+}
+
+/// The rest of the title: how much happened.
+fn write_measures<W: fmt::Write>(story: &Story, out: &mut W) -> fmt::Result {
+    let events = Counted(story.now().0, "event");
     let steals = Counted(story.steals() as u64, "steal");
-    write!(out, "{events} \u{b7} {steals} \u{b7} ")?;
-    let tenths = story.busy_share(10);
+    let busy = Px(story.busy_share(10));
     let most = Counted(story.most_queued().tasks, "task");
     writeln!(
         out,
-        "on average {} workers busy \u{b7} at most {most} queued</text>",
-        Px(tenths)
+        "{events} \u{b7} {steals} \u{b7} on average {busy} workers busy \u{b7} at most {most} queued</text>"
     )
 }
 
@@ -62,17 +61,7 @@ pub fn write_legend<W: fmt::Write>(story: &Story, page: &Page, out: &mut W) -> f
         }
     }
     if story.tasks().iter().any(|task| is_skipped_in(task, page)) {
-        writeln!(
-            out,
-            "<text x=\"{}\" y=\"82\" class=\"k\">\u{d7}</text>",
-            x.plus(Px(60))
-        )?;
-        writeln!(
-            out,
-            "<text x=\"{}\" y=\"81\" class=\"l\">skipped</text>",
-            x.plus(Px(200))
-        )?;
-        x = x.plus(Px(900));
+        x = write_skipped(x, out)?;
     }
     if story.tasks().iter().any(|task| is_forked_in(task, page)) {
         write_forks(x, out)?;
@@ -162,38 +151,33 @@ fn write_sample<W: fmt::Write>(sample: Sample, x: Px, out: &mut W) -> Result<Px,
         width,
         round,
     } = sample;
-    write!(
-        out,
-        "<rect x=\"{x}\" y=\"71\" width=\"20\" height=\"12\" rx=\"{round}\" fill=\"{colour}\"/>"
-    )?;
+    let text = x.plus(Px(260));
     writeln!(
         out,
-        "<text x=\"{}\" y=\"81\" class=\"l\">{words}</text>",
-        x.plus(Px(260))
+        "<rect x=\"{x}\" y=\"71\" width=\"20\" height=\"12\" rx=\"{round}\" fill=\"{colour}\"/><text x=\"{text}\" y=\"81\" class=\"l\">{words}</text>"
     )?;
     Ok(x.plus(width))
+}
+
+/// The cross of a skipped task and its word. Answers where the next sample stands.
+fn write_skipped<W: fmt::Write>(x: Px, out: &mut W) -> Result<Px, fmt::Error> {
+    let cross = x.plus(Px(60));
+    let text = x.plus(Px(200));
+    writeln!(
+        out,
+        "<text x=\"{cross}\" y=\"82\" class=\"k\">\u{d7}</text>\n<text x=\"{text}\" y=\"81\" class=\"l\">skipped</text>"
+    )?;
+    Ok(x.plus(Px(900)))
 }
 
 /// A box with dots for forks.
 fn write_forks<W: fmt::Write>(x: Px, out: &mut W) -> fmt::Result {
     let colour = Fill::Own.colour();
-    write!(
-        out,
-        "<rect x=\"{x}\" y=\"71\" width=\"20\" height=\"12\" rx=\"1.5\" fill=\"{colour}\"/>"
-    )?;
-    write!(
-        out,
-        "<circle cx=\"{}\" cy=\"79.8\" r=\"1.5\" class=\"f\"/>",
-        x.plus(Px(60))
-    )?;
-    write!(
-        out,
-        "<circle cx=\"{}\" cy=\"79.8\" r=\"1.5\" class=\"f\"/>",
-        x.plus(Px(120))
-    )?;
+    let first = x.plus(Px(60));
+    let second = x.plus(Px(120));
+    let text = x.plus(Px(260));
     writeln!(
         out,
-        "<text x=\"{}\" y=\"81\" class=\"l\">where it forks</text>",
-        x.plus(Px(260))
+        "<rect x=\"{x}\" y=\"71\" width=\"20\" height=\"12\" rx=\"1.5\" fill=\"{colour}\"/><circle cx=\"{first}\" cy=\"79.8\" r=\"1.5\" class=\"f\"/><circle cx=\"{second}\" cy=\"79.8\" r=\"1.5\" class=\"f\"/><text x=\"{text}\" y=\"81\" class=\"l\">where it forks</text>"
     )
 }
