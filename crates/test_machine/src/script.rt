@@ -35,15 +35,13 @@ pub fn scripts<'a>(alloc: Global, text: &'a str) -> Result<Vec<Script<'a>>, Allo
         number = number.saturating_add(1);
         let (words, comment) = line.split_once('#').unwrap_or((line, ""));
         let words = words.trim();
-        if line.is_empty() {
-            goes_on = false;
-        } else if words.is_empty() {
-            title = if goes_on { title } else { comment.trim() };
-        } else if goes_on {
-            add(&mut scripts, line_of(number, words))?;
-        } else {
-            scripts.push(headed(alloc, title, number, words))?;
+        if !words.is_empty() {
+            add(alloc, &mut scripts, goes_on, title, number, words)?;
             goes_on = true;
+        } else if line.is_empty() {
+            goes_on = false;
+        } else if !goes_on {
+            title = comment.trim();
         }
     }
     Ok(scripts)
@@ -67,9 +65,19 @@ fn line_of<'a>(number: u64, words: &'a str) -> Line<'a> {
     }
 }
 
-fn add<'a>(scripts: &mut Vec<Script<'a>>, line: Line<'a>) -> Result<(), AllocError> {
-    if let Some(script) = scripts.last_mut() {
-        script.lines.push(line)?;
+/// Adds a line to the last script, if it goes on; else a new script with these headings.
+fn add<'a>(
+    alloc: Global,
+    scripts: &mut Vec<Script<'a>>,
+    goes_on: bool,
+    title: &'a str,
+    number: u64,
+    words: &'a str,
+) -> Result<(), AllocError> {
+    if !goes_on {
+        scripts.push(headed(alloc, title, number, words))?;
+    } else if let Some(script) = scripts.last_mut() {
+        script.lines.push(line_of(number, words))?;
     }
     Ok(())
 }

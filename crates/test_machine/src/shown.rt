@@ -1,113 +1,117 @@
 //! The state of a machine, as the lines of a script query it.
-use anyhow::Result;
 use fj_machine::Machine;
-use fj_rules::{Limits, Owner, Sealed, Serial, SubId, SubmittedKind, WorkerId};
-use std::alloc::Global;
+use fj_rules::{Limits, Owner, Refusal, Sealed, Serial, SubId, SubmittedKind, WorkerId};
+use std::alloc::{AllocError, Global};
 use std::fmt::Write;
 
-/// The answer to a query: the lists of tasks, the oldest first; `hand W`, the completer whose action a worker has in hand; `parent T`, a
-/// task's parent; `limits`; `submission S`, the refusal of a plain task of a submitter; `epoch`, the number of seals; `events N`, the
+/// Writes the answer to a query: the lists of tasks, the oldest first; `hand W`, the completer whose action a worker has in hand; `parent T`,
+/// a task's parent; `limits`; `submission S`, the refusal of a plain task of a submitter; `epoch`, the number of seals; `events N`, the
 /// events of the present history but for the first N.
-pub fn shown(alloc: Global, machine: &Machine, asked: &str) -> Result<String> {
+pub fn shown(
+    alloc: Global,
+    text: &mut String,
+    machine: &Machine,
+    asked: &str,
+) -> Result<(), AllocError> {
     let (word, number) = asked.split_once(' ').unwrap_or((asked, "0"));
     let Ok(number) = number.parse::<u32>() else {
-        return no_step(alloc);
+        return text.push_str("no step");
     };
     match word {
-        "submitter" => queue(alloc, machine, Owner::Sub(SubId(number))),
-        "worker" => queue(alloc, machine, Owner::Work(WorkerId(number))),
-        "stack" => numbers(alloc, machine.stack(WorkerId(number))),
-        "open" => numbers(alloc, machine.open()),
-        "gone" => numbers(alloc, machine.gone()),
-        "hand" => hand(alloc, machine, number),
-        "parent" => maybe(alloc, machine.parent(Serial(u64::from(number)))),
-        "limits" => limits(alloc, machine.limits()),
-        "submission" => submission(alloc, machine, SubId(number)),
-        "epoch" => epoch(alloc, machine),
-        "events" => events(alloc, machine, number),
-        _ => no_step(alloc),
+        "submitter" => queue(alloc, text, machine, Owner::Sub(SubId(number))),
+        "worker" => queue(alloc, text, machine, Owner::Work(WorkerId(number))),
+        "stack" => numbers(text, machine.stack(WorkerId(number))),
+        "open" => numbers(text, machine.open()),
+        "gone" => numbers(text, machine.gone()),
+        "hand" => hand(text, machine, number),
+        "parent" => maybe(text, machine.parent(Serial(u64::from(number)))),
+        "limits" => limits(text, machine.limits()),
+        "submission" => submission(text, machine, SubId(number)),
+        "epoch" => write!(text, "{}", machine.epoch()),
+        "events" => events(text, machine, number),
+        _ => text.push_str("no step"),
     }
 }
 
-/// The answer to what is neither a step nor a query.
-fn no_step(alloc: Global) -> Result<String> {
-    Ok(format!(in alloc; "no step")?)
-}
-
-/// The number of seals.
-fn epoch(alloc: Global, machine: &Machine) -> Result<String> {
-    Ok(format!(in alloc; "{}", machine.epoch())?)
-}
-
 /// How many events a sealed part has, and its gone tasks.
-pub fn part(alloc: Global, sealed: &Sealed) -> Result<String> {
-    let gone = numbers(alloc, sealed.gone.as_slice())?;
-    Ok(format!(in alloc; "sealed {} events, gone {gone}", sealed.events.len())?)
+pub fn part(text: &mut String, sealed: &Sealed) -> Result<(), AllocError> {
+    write!(text, "sealed {} events, gone ", sealed.events.len())?;
+    numbers(text, sealed.gone.as_slice())
+}
+
+/// The number of a refusal.
+pub fn refused(text: &mut String, refusal: Refusal) -> Result<(), AllocError> {
+    write!(text, "refused {}", refusal.number())
 }
 
 /// The completer whose action a worker has in hand; `no worker` for an unknown one.
-fn hand(alloc: Global, machine: &Machine, worker: u32) -> Result<String> {
+fn hand(text: &mut String, machine: &Machine, worker: u32) -> Result<(), AllocError> {
     if worker < machine.limits().workers() {
-        maybe(alloc, machine.hook(WorkerId(worker)))
+        maybe(text, machine.hook(WorkerId(worker)))
     } else {
-        Ok(format!(in alloc; "no worker")?)
+        text.push_str("no worker")
     }
 }
 
 /// A task's number, or `none`.
-fn maybe(alloc: Global, task: Option<Serial>) -> Result<String> {
+fn maybe(text: &mut String, task: Option<Serial>) -> Result<(), AllocError> {
     match task {
-        Some(t) => Ok(format!(in alloc; "{}", t.0)?),
-        None => Ok(format!(in alloc; "none")?),
+        Some(t) => write!(text, "{}", t.0),
+        None => text.push_str("none"),
     }
 }
 
-fn limits(alloc: Global, limits: Limits) -> Result<String> {
-    Ok(format!(in alloc;
+fn limits(text: &mut String, limits: Limits) -> Result<(), AllocError> {
+    write!(
+        text,
         "{} {} {} {}",
         limits.workers(),
         limits.submitters(),
         limits.tasks(),
         limits.events()
-    )?)
+    )
 }
 
-fn submission(alloc: Global, machine: &Machine, s: SubId) -> Result<String> {
+fn submission(text: &mut String, machine: &Machine, s: SubId) -> Result<(), AllocError> {
     match machine.submit_refusal(s, &SubmittedKind::Plain) {
-        Some(refusal) => Ok(format!(in alloc; "refused {}", refusal.number())?),
-        None => Ok(format!(in alloc; "accepted")?),
+        Some(refusal) => refused(text, refusal),
+        None => text.push_str("accepted"),
     }
 }
 
-fn queue(alloc: Global, machine: &Machine, owner: Owner) -> Result<String> {
+fn queue(
+    alloc: Global,
+    text: &mut String,
+    machine: &Machine,
+    owner: Owner,
+) -> Result<(), AllocError> {
     let tasks: Vec<Serial> = machine.queue(owner).collect(alloc)?;
-    numbers(alloc, tasks.as_slice())
+    numbers(text, tasks.as_slice())
 }
 
-/// The numbers of tasks.
-fn numbers(alloc: Global, tasks: &[Serial]) -> Result<String> {
-    let mut text = String::new(alloc);
-    for task in tasks {
-        write!(text, "{} ", task.0)?;
+/// The numbers of tasks, or `none`.
+fn numbers(text: &mut String, tasks: &[Serial]) -> Result<(), AllocError> {
+    for (k, task) in tasks.iter().enumerate() {
+        write!(text, "{}{}", gap(k), task.0)?;
     }
-    list(alloc, &text)
+    none(text, tasks.is_empty())
 }
 
-/// The events but for the first ones, printed by `{:?}`.
-fn events(alloc: Global, machine: &Machine, first: u32) -> Result<String> {
-    let mut text = String::new(alloc);
-    for event in machine.history().iter().skip(first as usize) {
-        write!(text, "{event:?} ")?;
+/// The events but for the first ones, printed by `{:?}`, or `none`.
+fn events(text: &mut String, machine: &Machine, first: u32) -> Result<(), AllocError> {
+    let events = machine.history().get(first as usize..).unwrap_or(&[]);
+    for (k, event) in events.iter().enumerate() {
+        write!(text, "{}{event:?}", gap(k))?;
     }
-    list(alloc, &text)
+    none(text, events.is_empty())
 }
 
-/// A list without the space at its end, or `none`.
-fn list(alloc: Global, text: &str) -> Result<String> {
-    let words = if text.is_empty() {
-        "none"
-    } else {
-        text.trim_end()
-    };
-    Ok(words.to_string(alloc)?)
+/// What stands before item `k` of a list.
+fn gap(k: usize) -> &'static str {
+    if k > 0 { " " } else { "" }
+}
+
+/// What stands for a list that is empty.
+fn none(text: &mut String, is_empty: bool) -> Result<(), AllocError> {
+    text.push_str(if is_empty { "none" } else { "" })
 }
