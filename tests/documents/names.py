@@ -16,6 +16,8 @@ MADE = {"out", "target", ".git"}
 STANDARD = {"AllocError", "Display", "From", "Hash", "Iterator", "Read::read", "Write::flush", "Write::write", "position", "spawn", "usize"}
 # What the text of a document names that is of no file here: of Java, of the toolchain, or no name.
 ELSEWHERE = {"ManagedBlocker", "Throwable", "chunks_from"}
+# The crates whose definitions, and whose traits with their clauses, those above share.
+SHARED = ("fj_rules", "fj_body", "fj_calls")
 # Definitions with their file, as docs/PROOFS.md names them.
 DEFINED = re.compile(r"((?:`[^`]+`(?:, )?)+) \((\w+)\)")
 
@@ -89,7 +91,7 @@ def code_words(cell):
     return [it for it in re.findall(r"`([^`]+)`", cell) if re.fullmatch(r"[\w:/.]+", it)]
 
 
-def unknown_in_part(part, own, others):
+def unknown_in_part(part, own, others, shared):
     """The functions, clauses and definitions in a part of docs/PROOFS.md, a cell or a paragraph on a crate, that neither it nor the others have."""
     for words, file in DEFINED.findall(part):
         there = {word for it in others for word in it.definitions.get(file, ())} | own.definitions.get(file, set())
@@ -97,7 +99,7 @@ def unknown_in_part(part, own, others):
     for piece in DEFINED.sub("", part).replace(")", "; ").split("; "):
         head, _, clauses = piece.partition("`: `")
         functions = [it.rpartition("::")[2] for it in re.findall(r"`([\w:]+)", head)]
-        known = {clause for name in functions for clause in own.contracts.get(name, ())} or own.clauses
+        known = {clause for name in functions for it in [own, *shared] for clause in it.contracts.get(name, ())} or own.clauses
         if clauses and "the same" not in head:
             yield from (f"{it}: no clause of {', '.join(functions)}" for it in code_words(f"`{clauses}") if it not in known)
         for word in code_words(piece):
@@ -219,9 +221,10 @@ def main():
         cells = line.strip("| ").split(" | ") if line.startswith("| ") else []
         unknown = unknown_tests(cells, names, trials) if is_tested and len(cells) == 3 else []
         if crate and not line.startswith("#"):
-            # The second cell names what the crate has, and definitions of fj_rules; the others name what any crate has.
-            parts = [(it, [names["fj_rules"]] if it is cells[1] else names.values()) for it in cells[1:]] or [(line, names.values())]
-            unknown = [word for it, others in parts for word in unknown_in_part(it, names[crate], others)]
+            # The second cell names what the crate has, and what crates share; the others name what any crate has.
+            shared = [names[it] for it in SHARED]
+            parts = [(it, shared if it is cells[1] else names.values()) for it in cells[1:]] or [(line, names.values())]
+            unknown = [word for it, others in parts for word in unknown_in_part(it, names[crate], others, shared)]
         told += [f"docs/PROOFS.md:{number}: {it}" for it in unknown]
     print("\n".join(told) or "each name in the documents is there")
     sys.exit(1 if told else 0)

@@ -1,10 +1,10 @@
 -- What the body of a target asks.
 use Rattle.std.specs.Prelude.{ℕ, ◌≡◌, true, List, Option, Some, None, IfSome, slice_get}
 use Rattle.fj_rules.specs.declared.kind.Kind.TheVariants.{Completer}
-use Rattle.fj_bodies.specs.declared.body.Ask.{Ask}
-use Rattle.fj_bodies.specs.declared.body.Ask.TheVariants.{Fork, Try, Fail}
-use Rattle.fj_bodies.specs.declared.body.Heard.{Heard}
-use Rattle.fj_bodies.specs.declared.body.Heard.TheVariants.{Start}
+use Rattle.fj_body.specs.declared.body.Ask.{Ask}
+use Rattle.fj_body.specs.declared.body.Ask.TheVariants.{Fork, Try, Fail}
+use Rattle.fj_body.specs.declared.body.Heard.{Heard}
+use Rattle.fj_body.specs.declared.body.Heard.TheVariants.{Start}
 use Rattle.ex_build.specs.declared.make.Course.{Course}
 use Rattle.ex_build.specs.declared.make.Course.TheVariants.{New, Adding, Forking, Taking}
 use Rattle.ex_build.specs.declared.target.Source.{Source}

@@ -1,5 +1,5 @@
 ghost use Rattle.std.specs.Prelude.{◌≡◌, ◌<◌, ◌+◌, ◌-◌, ◌^◌, Option, ℕ, Some, length, slice_get, vec_len};
-ghost use Rattle.fj_bodies.specs.Turns.{AskRight, HeardRight, Nearer};
+ghost use Rattle.fj_body.specs.Turns.{AskRight, HeardRight, Nearer};
 ghost use Rattle.ex_build.specs.Artifacts.{IsRight};
 ghost use Rattle.fj_run.specs.Asks.{AsksUnder};
 ghost use Rattle.ex_build.specs.Asks.{ForksInput, HasTask, end_of, own_task};

@@ -2,8 +2,8 @@
 use Rattle.std.specs.Prelude.{ℕ, ◌≡◌, ⊤, true, Option, Some, None}
 use Rattle.fj_rules.specs.declared.kind.Kind.{Kind}
 use Rattle.fj_rules.specs.declared.kind.Kind.TheVariants.{Completer}
-use Rattle.fj_bodies.specs.declared.body.Ask.{Ask}
-use Rattle.fj_bodies.specs.declared.body.Ask.TheVariants.{Fork}
+use Rattle.fj_body.specs.declared.body.Ask.{Ask}
+use Rattle.fj_body.specs.declared.body.Ask.TheVariants.{Fork}
 use Rattle.ex_pipeline.specs.declared.item.Item.{Item}
 use Rattle.ex_pipeline.specs.declared.stage.Stage.{Stage}
 use Rattle.ex_pipeline.specs.Stages.{after}

@@ -1,5 +1,5 @@
 ghost use Rattle.std.specs.Prelude.{◌≡◌, ℕ, Option, None, Some, IfSome};
-ghost use Rattle.fj_bodies.specs.Turns.{AskRight, HeardRight, Nearer};
+ghost use Rattle.fj_body.specs.Turns.{AskRight, HeardRight, Nearer};
 ghost use Rattle.ex_pipeline.specs.Courses.{turns_left};
 ghost use Rattle.ex_pipeline.specs.Asks.{ForksNext};
 ghost use Rattle.ex_pipeline.specs.Stages.{IsRight, after, item_of, number_of, run};

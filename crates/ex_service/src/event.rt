@@ -9,7 +9,7 @@ pub struct Event {
 
 impl Body for Event {
     ghost use Rattle.std.specs.Prelude.{◌≡◌, ◌*◌, ℕ, Option, None};
-    ghost use Rattle.fj_bodies.specs.Turns.{HeardRight, AskRight, Nearer};
+    ghost use Rattle.fj_body.specs.Turns.{HeardRight, AskRight, Nearer};
 
     type Key = u32;
 

@@ -3,7 +3,7 @@ use Rattle.std.proofs.Common.{◌<◌, sym, ◌∙◌, subst}
 use Rattle.fj_rules.specs.Pasts.{Past}
 use Rattle.fj_rules.proofs.Steps.KeepsHands.{KeepsHands}
 use Rattle.fj_slots.specs.Hands.{HandState}
-use Rattle.fj_bodies.specs.Fitting.{Fits}
+use Rattle.fj_body.specs.Fitting.{Fits}
 
 -- a hand fits as before
 pub still_fits : {B : Type 0} (past past' : Past) (hand : HandState B) → KeepsHands past past' → Fits past hand → Fits past' hand

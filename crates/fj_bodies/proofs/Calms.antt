@@ -25,18 +25,18 @@ use Rattle.fj_rules.specs.Runs.{Steps}
 use Rattle.fj_rules.proofs.Places.PlaceLaws.{moves}
 use Rattle.fj_rules.proofs.Steps.AnswersAllowed.{history_allowed, answer_allowed}
 use Rattle.fj_slots.specs.Shelves.{Entries, without_entries}
-use Rattle.fj_bodies.specs.Stores.{IsStored, HoldsBodies, went}
+use Rattle.fj_body.specs.Stores.{IsStored, HoldsBodies, went}
 use Rattle.fj_rules.specs.Statuses.{status, is_undone}
 use Rattle.fj_rules.specs.Completers.{pending}
 use Rattle.fj_slots.specs.Shelves.{entries}
-use Rattle.fj_bodies.specs.Stores.{StoreState, still_held}
-use Rattle.fj_bodies.specs.Releases.{Releases}
-use Rattle.fj_bodies.specs.Asking.{is_calm, Drops}
-use Rattle.fj_bodies.specs.Asking as does
+use Rattle.fj_body.specs.Stores.{StoreState, still_held}
+use Rattle.fj_body.specs.Releases.{Releases}
+use Rattle.fj_body.specs.Asking.{is_calm, Drops}
+use Rattle.fj_body.specs.Asking as does
 use Rattle.fj_rules.proofs.Steps.Answered.{Answered, Refuses, Makes, answered, last_none}
-use Rattle.fj_bodies.proofs.Following.{is_rest, rest_unmoved, rest_released, settling_rest, failing_rest}
-use Rattle.fj_bodies.proofs.Stored.{stored_on}
-use Rattle.fj_bodies.proofs.Sweeps.{unmoved_bodies}
+use Rattle.fj_body.proofs.Following.{is_rest, rest_unmoved, rest_released, settling_rest, failing_rest}
+use Rattle.fj_body.proofs.Stored.{stored_on}
+use Rattle.fj_body.proofs.Sweeps.{unmoved_bodies}
 
 -- the events move nothing, and release nothing
 abbrev pub IsStill : List Event → Type 0

@@ -11,7 +11,7 @@ use Rattle.fj_rules.proofs.Lists.Members.{is_in_append, times_in_some, length_wi
 use Rattle.fj_rules.proofs.Events.Growth.{without_none}
 use Rattle.fj_rules.specs.Releasable.{can_go, CanAllGo}
 use Rattle.fj_bodies.specs.declared.tries.HistoryFull.{HistoryFull}
-use Rattle.fj_bodies.specs.Releases.{AreAmong}
+use Rattle.fj_body.specs.Releases.{AreAmong}
 use Rattle.fj_bodies.specs.Waits.{WaitState, freed, ReleasesFrom, ReleasesSome, StopsFull}
 use Rattle.fj_bodies.proofs.Releases.{in_rest}
 use Rattle.fj_bodies.proofs.FromPlace.{none_beyond}

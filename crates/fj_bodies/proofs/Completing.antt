@@ -35,19 +35,19 @@ use Rattle.fj_rules.proofs.Completers.HookLists.{hand_after}
 use Rattle.fj_slots.specs.Aside.{numbers}
 use Rattle.fj_slots.specs.Shelves.{Entries, is_there, with_entry, without_entries, entries, AreFewer}
 use Rattle.fj_slots.specs.Hands.{HandState, HasOnTop, with_begun, with_hook}
-use Rattle.fj_bodies.specs.Fitting.{Fits}
-use Rattle.fj_bodies.specs.Stores.{StoreState, has_body, HoldsBodies, GivesNoMore, IsStored, still_held, went}
-use Rattle.fj_bodies.specs.Releases.{Releases}
-use Rattle.fj_bodies.specs.Endings.{is_over, EndsOver, EndsInHook}
-use Rattle.fj_bodies.proofs.Bodies.{has_kept, fewer_kept}
+use Rattle.fj_body.specs.Fitting.{Fits}
+use Rattle.fj_body.specs.Stores.{StoreState, has_body, HoldsBodies, GivesNoMore, IsStored, still_held, went}
+use Rattle.fj_body.specs.Releases.{Releases}
+use Rattle.fj_body.specs.Endings.{is_over, EndsOver, EndsInHook}
+use Rattle.fj_body.proofs.Bodies.{has_kept, fewer_kept}
 use Rattle.fj_bodies.proofs.Ended.{IsEnd, own_free, others_wait, ended_out, ended_in, fired_gone}
-use Rattle.fj_bodies.proofs.Given.{held_none, ok_given}
-use Rattle.fj_bodies.proofs.Endings.{take_front, newest_is, last_filled}
-use Rattle.fj_bodies.proofs.Following.{is_rest, rest_unmoved, rest_released, rest_hand, unmoved_stacks, AfterEnd, Fired, Unfired, after_ended}
+use Rattle.fj_body.proofs.Given.{held_none, ok_given}
+use Rattle.fj_body.proofs.Endings.{take_front, newest_is, last_filled}
+use Rattle.fj_body.proofs.Following.{is_rest, rest_unmoved, rest_released, rest_hand, unmoved_stacks, AfterEnd, Fired, Unfired, after_ended}
 use Rattle.fj_rules.proofs.Steps.RunsGrow.{history_more}
 use Rattle.fj_rules.proofs.Steps.Answered.{Answered, Refuses, Makes, OkDone, answered, last_none}
-use Rattle.fj_bodies.proofs.Stored.{stored_on, kept_on, numbers_more, numbers_long}
-use Rattle.fj_bodies.proofs.Taking.{released_fits}
+use Rattle.fj_body.proofs.Stored.{stored_on, kept_on, numbers_more, numbers_long}
+use Rattle.fj_body.proofs.Taking.{released_fits}
 
 -- ---- the answer to an end
 

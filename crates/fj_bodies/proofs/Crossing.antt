@@ -9,11 +9,11 @@ use Rattle.fj_machine.specs.contracts.machine.Machine as Machine
 use Rattle.fj_slots.proofs.serial_map.SerialMap.TheSendSync.{the_send as map_send}
 use Rattle.fj_slots.proofs.serial_set.SerialSet.TheSendSync.{the_send as set_send}
 use Rattle.fj_slots.specs.contracts.serial_set.SerialSet as SerialSet
-use Rattle.fj_bodies.proofs.kept_result.KeptResult.TheSendSync.{the_send as kept_send}
-use Rattle.fj_bodies.specs.contracts.kept_result.KeptResult as KeptResult
+use Rattle.fj_body.proofs.kept_result.KeptResult.TheSendSync.{the_send as kept_send}
+use Rattle.fj_body.specs.contracts.kept_result.KeptResult as KeptResult
 use Rattle.fj_bodies.specs.contracts.store.Store as Store
 use Rattle.fj_bodies.specs.contracts.store.Store.TheInside as Inside
-use Rattle.fj_bodies.specs.declared.body.Body as Body
+use Rattle.fj_body.specs.declared.body.Body as Body
 
 module _ (B K O : RattleType) (g : Body.Ghosts B.Denot K.Denot O.Denot) (e : PartialEq.Ghosts K.Denot) (b : IsSend B) (k : IsSend K) (o : IsSend O) where
   kept_row : IsSend (KeptResult.the_row B K O g e)

@@ -13,11 +13,11 @@ use Rattle.fj_rules.specs.Answers.{answer, events_of}
 use Rattle.fj_rules.specs.Pasts.{Past, grown}
 use Rattle.fj_rules.proofs.Steps.AnswersAllowed.{history_allowed, answer_allowed}
 use Rattle.fj_slots.specs.Shelves.{Entries}
-use Rattle.fj_bodies.specs.Stores.{IsStored}
+use Rattle.fj_body.specs.Stores.{IsStored}
 use Rattle.fj_rules.specs.Releasable.{can_go}
 use Rattle.fj_bodies.specs.DueTasks.{AreDue, OnlyGoes, due_after}
-use Rattle.fj_bodies.specs.Releases.{NoneGoes}
-use Rattle.fj_bodies.specs.Asking.{is_calm}
+use Rattle.fj_body.specs.Releases.{NoneGoes}
+use Rattle.fj_body.specs.Asking.{is_calm}
 use Rattle.fj_rules.proofs.Events.Releasable.{is_on_way, OnlyAbout, only_it_goes, none_goes}
 use Rattle.fj_rules.proofs.Steps.AboutTasks.{quiet_root_about, fault_about, cancel_about}
 use Rattle.fj_bodies.proofs.Results.{in_one_more}

@@ -22,9 +22,9 @@ use Rattle.fj_rules.proofs.Places.PlaceLaws.{moves}
 use Rattle.fj_rules.proofs.Places.PlacesKept.{place_held}
 use Rattle.fj_rules.proofs.Steps.Standing.{allowed_append}
 use Rattle.fj_slots.specs.Shelves.{Entries, is_there, with_entry, without_entries}
-use Rattle.fj_bodies.specs.Stores.{is_waiting, has_body, HoldsBodies}
-use Rattle.fj_bodies.proofs.Closes.{closes_all}
-use Rattle.fj_bodies.proofs.Sweeps.{unmoved_known, body_at, went_by}
+use Rattle.fj_body.specs.Stores.{is_waiting, has_body, HoldsBodies}
+use Rattle.fj_body.proofs.Closes.{closes_all}
+use Rattle.fj_body.proofs.Sweeps.{unmoved_known, body_at, went_by}
 
 -- a body ends, and what comes after it moves nothing
 pub record IsEnd (pool : Pool) (h : List Event) (t w : ℕ) (rest : List Event) : Type 0 where

@@ -27,9 +27,9 @@ use Rattle.fj_rules.proofs.Events.KindsKept.{completer_known}
 use Rattle.fj_rules.proofs.Events.Lawful.{by_events}
 use Rattle.fj_rules.proofs.Steps.Answered.{Answered, Refuses, Makes, answered}
 use Rattle.fj_rules.proofs.Steps.AnswersAllowed.{climbed_completer, history_allowed}
-use Rattle.fj_bodies.specs.Stores.{hook_ended_by, hooks_ended}
-use Rattle.fj_bodies.proofs.Following.{is_rest, AfterEnd, Fired, Unfired, after_ended, settling_rest, failing_rest}
-use Rattle.fj_bodies.proofs.HookEndings.{HookFired, HookUnfired}
+use Rattle.fj_body.specs.Stores.{hook_ended_by, hooks_ended}
+use Rattle.fj_body.proofs.Following.{is_rest, AfterEnd, Fired, Unfired, after_ended, settling_rest, failing_rest}
+use Rattle.fj_body.proofs.HookEndings.{HookFired, HookUnfired}
 use Rattle.fj_bodies.proofs.Normals.{in_one}
 
 pub ended_append : (h es : List Event) → hooks_ended (h ++ es) ≡ hooks_ended h ++ hooks_ended es

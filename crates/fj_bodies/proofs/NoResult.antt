@@ -17,12 +17,12 @@ use Rattle.fj_rules.specs.Pasts.{Past, grown}
 use Rattle.fj_rules.proofs.Steps.Answered.{Answered, Refuses, Makes, answered, choice_normal, join_takes}
 use Rattle.fj_rules.proofs.Steps.Standing.{stands}
 use Rattle.fj_slots.specs.Shelves.{Entries, entries}
-use Rattle.fj_bodies.specs.Stores.{StoreState, HasResults, hooks_ended}
+use Rattle.fj_body.specs.Stores.{StoreState, HasResults, hooks_ended}
 use Rattle.fj_slots.specs.Hands.{HandState, with_next_word}
-use Rattle.fj_bodies.specs.declared.body.Heard.TheVariants as hears
-use Rattle.fj_bodies.specs.declared.body.Told.TheVariants as told
-use Rattle.fj_bodies.specs.Choosing.{Joins, Moves}
-use Rattle.fj_bodies.specs.Results.{GivesNone, HasNone}
+use Rattle.fj_body.specs.declared.body.Heard.TheVariants as hears
+use Rattle.fj_body.specs.declared.body.Told.TheVariants as told
+use Rattle.fj_body.specs.Choosing.{Joins, Moves}
+use Rattle.fj_body.specs.Results.{GivesNone, HasNone}
 
 record IsJoined (h : List Event) (t : ℕ) : Type 0 where
   kept : is_kept h t ≡ true

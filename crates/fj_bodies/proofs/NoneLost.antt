@@ -26,12 +26,12 @@ use Rattle.fj_rules.proofs.Events.Releasing.{release_forgets}
 use Rattle.fj_rules.proofs.Steps.Answered.{OkDone}
 use Rattle.fj_rules.proofs.Steps.AnswersAllowed.{answer_allowed, history_allowed}
 use Rattle.fj_slots.specs.Shelves.{Entries, Shelved, entries, without_entry}
-use Rattle.fj_bodies.specs.Stores.{HasResults, hooks_ended}
-use Rattle.fj_bodies.specs.declared.bare_ending.BareEnding.{BareEnding}
-use Rattle.fj_bodies.specs.declared.bare_ending.BareEnding.TheVariants as bare_is
-use Rattle.fj_bodies.specs.Asking.{is_calm}
-use Rattle.fj_bodies.specs.Endings.{ending_in}
-use Rattle.fj_bodies.specs.Results.{KeepsIn}
+use Rattle.fj_body.specs.Stores.{HasResults, hooks_ended}
+use Rattle.fj_body.specs.declared.bare_ending.BareEnding.{BareEnding}
+use Rattle.fj_body.specs.declared.bare_ending.BareEnding.TheVariants as bare_is
+use Rattle.fj_body.specs.Asking.{is_calm}
+use Rattle.fj_body.specs.Endings.{ending_in}
+use Rattle.fj_body.specs.Results.{KeepsIn}
 use Rattle.fj_bodies.proofs.HooksEnded.{EndsOnly, answer_ends_none, ended_cases, ended_known, is_hook_done, known_kept}
 use Rattle.fj_bodies.proofs.Normals.{IsNormal, answer_completers, is_ok, normal_on, normals, settling_one}
 

@@ -25,9 +25,9 @@ use Rattle.fj_rules.proofs.Events.Releasable.{only_parent_goes}
 use Rattle.fj_rules.proofs.Lists.Members.{Once, is_in_append, once_more}
 use Rattle.fj_rules.proofs.Steps.AnswersAllowed.{climbed_completer, history_allowed}
 use Rattle.fj_slots.specs.Shelves.{Entries, without_entry}
-use Rattle.fj_bodies.specs.Stores.{StoreState, IsStored, HasResults}
-use Rattle.fj_bodies.specs.Releases.{NoneGoes, Releases, ReleasesPlain}
-use Rattle.fj_bodies.proofs.InHands.{after_one, climbed_fire}
+use Rattle.fj_body.specs.Stores.{StoreState, IsStored, HasResults}
+use Rattle.fj_body.specs.Releases.{NoneGoes, Releases, ReleasesPlain}
+use Rattle.fj_body.proofs.InHands.{after_one, climbed_fire}
 use Rattle.fj_bodies.proofs.Results.{marked_stored}
 use Rattle.fj_bodies.proofs.Releases.{release_stored, went}
 use Rattle.fj_bodies.proofs.Chains.{one_in}

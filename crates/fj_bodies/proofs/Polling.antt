@@ -6,16 +6,16 @@ use Rattle.fj_rules.specs.declared.said.Said.TheVariants as says
 use Rattle.fj_rules.specs.declared.refusal.Refusal.{Refusal}
 use Rattle.fj_rules.specs.declared.refusal.Refusal.TheVariants.{LogFull}
 use Rattle.fj_rules.specs.Runs.{Steps}
-use Rattle.fj_bodies.specs.declared.body.Heard.{Heard}
-use Rattle.fj_bodies.specs.declared.body.Heard.TheVariants as hears
-use Rattle.fj_bodies.specs.declared.body.Told.{Told}
-use Rattle.fj_bodies.specs.declared.body.Told.TheVariants as told
+use Rattle.fj_body.specs.declared.body.Heard.{Heard}
+use Rattle.fj_body.specs.declared.body.Heard.TheVariants as hears
+use Rattle.fj_body.specs.declared.body.Told.{Told}
+use Rattle.fj_body.specs.declared.body.Told.TheVariants as told
 use Rattle.fj_slots.specs.Hands.{HandState, with_next_word}
-use Rattle.fj_bodies.specs.Fitting.{Fits}
-use Rattle.fj_bodies.specs.Stores.{StoreState}
-use Rattle.fj_bodies.specs.Choosing.{Chooses, Refuses, GetsStuck, TellsRefusal, Polls, Helps}
+use Rattle.fj_body.specs.Fitting.{Fits}
+use Rattle.fj_body.specs.Stores.{StoreState}
+use Rattle.fj_body.specs.Choosing.{Chooses, Refuses, GetsStuck, TellsRefusal, Polls, Helps}
 use Rattle.fj_rules.proofs.Steps.Answered.{IsChoice, poll_full, poll_only, help_only}
-use Rattle.fj_bodies.proofs.Taking.{empty_stack, no_hook}
+use Rattle.fj_body.proofs.Taking.{empty_stack, no_hook}
 
 module _ {B K O : Type 0} where
   -- the choice by the next word of a hand

@@ -21,9 +21,9 @@ use Rattle.fj_rules.specs.Answers.{answer, answer_of, refusal_of, reply_of, firs
 use Rattle.fj_rules.specs.Pasts.{Past}
 use Rattle.fj_slots.specs.Aside.{numbers}
 use Rattle.fj_slots.specs.Hands.{HandState, hook_number}
-use Rattle.fj_bodies.specs.Fitting.{Fits}
-use Rattle.fj_bodies.specs.Endings.{is_over, end_refusal}
-use Rattle.fj_bodies.proofs.Following.{AfterEnd, Fired, Unfired, after_ended}
+use Rattle.fj_body.specs.Fitting.{Fits}
+use Rattle.fj_body.specs.Endings.{is_over, end_refusal}
+use Rattle.fj_body.proofs.Following.{AfterEnd, Fired, Unfired, after_ended}
 
 -- ---- what is made is not refused
 

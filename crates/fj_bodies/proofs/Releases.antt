@@ -23,14 +23,14 @@ use Rattle.fj_rules.proofs.Steps.AnswersAllowed.{history_allowed, answer_allowed
 use Rattle.fj_rules.proofs.Steps.RunsGrow.{history_more}
 use Rattle.std.specs.Prelude.{Option, None, is_some}
 use Rattle.fj_slots.specs.Shelves.{Entries}
-use Rattle.fj_bodies.specs.Stores.{is_waiting, HoldsBodies, GivesNoMore, IsStored}
+use Rattle.fj_body.specs.Stores.{is_waiting, HoldsBodies, GivesNoMore, IsStored}
 use Rattle.fj_rules.specs.Releasable.{hooked, is_hooked}
 use Rattle.fj_rules.specs.Releasable.{can_go}
 use Rattle.fj_rules.proofs.Events.KindsKept.{kept_known}
 use Rattle.fj_rules.proofs.Events.Releasable.{can_parts}
-use Rattle.fj_bodies.proofs.Given.{given_on}
-use Rattle.fj_bodies.proofs.InHands.{unreleased_rel}
-use Rattle.fj_bodies.proofs.Bodies.{same_body}
+use Rattle.fj_body.proofs.Given.{given_on}
+use Rattle.fj_body.proofs.InHands.{unreleased_rel}
+use Rattle.fj_body.proofs.Bodies.{same_body}
 use Rattle.fj_rules.proofs.Steps.Answered.{ReleaseGives, Went, Finds, Stays, release_gives}
 
 -- ---- what is left

@@ -12,9 +12,9 @@ use Rattle.fj_rules.proofs.Places.FewLive.{few_live}
 use Rattle.fj_rules.proofs.Places.KeptPlaces.{few_kept}
 use Rattle.fj_rules.proofs.Steps.AnswersAllowed.{history_allowed}
 use Rattle.fj_slots.specs.Shelves.{Entries, Shelved, entries, with_entry, without_entry, AreFewer}
-use Rattle.fj_bodies.specs.Results.{KeepsIn, Keeps, KeepsUnless}
-use Rattle.fj_bodies.specs.Stores.{StoreState, AreKept, GivesNoMore, IsStored}
-use Rattle.fj_bodies.proofs.Bodies.{fewer_kept}
+use Rattle.fj_body.specs.Results.{KeepsIn, Keeps, KeepsUnless}
+use Rattle.fj_body.specs.Stores.{StoreState, AreKept, GivesNoMore, IsStored}
+use Rattle.fj_body.proofs.Bodies.{fewer_kept}
 
 -- ---- lists of kept tasks
 

@@ -6,8 +6,8 @@ use Rattle.fj_rules.specs.Pasts.{Past, sealed_now}
 use Rattle.fj_rules.specs.Epochs.{IsPast, seal_refusal}
 use Rattle.fj_rules.proofs.Headline.Sealing.{seal_past}
 use Rattle.fj_slots.specs.Shelves.{Entries}
-use Rattle.fj_bodies.specs.Stores.{IsStored}
-use Rattle.fj_bodies.specs.Releases.{NoneGoes}
+use Rattle.fj_body.specs.Stores.{IsStored}
+use Rattle.fj_body.specs.Releases.{NoneGoes}
 
 -- what holds of a store speaks of its events and its pool, and both stay
 pub seal_stored : {B R T : Type 0} (r : Result T Refusal) (past new : Past) (bodies : Entries B) (results : Entries R) (ts : List ℕ) → IsStored past bodies results ts

@@ -10,10 +10,10 @@ use Rattle.fj_rules.specs.declared.refusal.Refusal.TheVariants.{LogFull}
 use Rattle.fj_rules.specs.declared.event.Event.{Event}
 use Rattle.fj_rules.specs.Pasts.{Past}
 use Rattle.fj_rules.specs.Answers.{answer, answer_of, refusal_of, does_not_fit, reply_of}
-use Rattle.fj_bodies.specs.Stores.{StoreState}
-use Rattle.fj_bodies.specs.Asking.{Drops, Shuts}
-use Rattle.fj_bodies.specs.Asking as does
-use Rattle.fj_bodies.specs.Choosing.{Refuses}
+use Rattle.fj_body.specs.Stores.{StoreState}
+use Rattle.fj_body.specs.Asking.{Drops, Shuts}
+use Rattle.fj_body.specs.Asking as does
+use Rattle.fj_body.specs.Choosing.{Refuses}
 use Rattle.fj_bodies.proofs.Calms.{drops_made, makes_reply}
 
 -- such a step replies that it is done, or finds no room

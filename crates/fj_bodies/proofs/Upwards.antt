@@ -17,7 +17,7 @@ use Rattle.fj_rules.proofs.Steps.AnswersAllowed.{history_allowed}
 use Rattle.fj_bodies.specs.declared.tries.HistoryFull.{HistoryFull}
 use Rattle.fj_bodies.specs.declared.tries.Tried.TheVariants as tried
 use Rattle.fj_rules.specs.Releasable.{can_go}
-use Rattle.fj_bodies.specs.Releases.{NoneGoes}
+use Rattle.fj_body.specs.Releases.{NoneGoes}
 use Rattle.fj_bodies.specs.Waits.{WaitState, NoneGoesFrom, OnlyGoesFrom, ReleasesDue, ReleasesFrom, ReleasesHere, ReleasesSome, ReleasesUp, StopsFull, Tries}
 use Rattle.fj_bodies.proofs.Chains.{fewer, none_went, one_went, more_went, then_full}
 use Rattle.fj_bodies.proofs.FromPlace.{stands, stood}

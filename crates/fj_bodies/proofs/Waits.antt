@@ -18,8 +18,8 @@ use Rattle.fj_rules.proofs.Steps.RunsGrow.{history_fits, history_more}
 use Rattle.fj_slots.specs.Marked.{SerialList}
 use Rattle.fj_slots.specs.Shelves.{Entries, Shelved, entries}
 use Rattle.fj_bodies.specs.DueTasks.{HasRoom, HoldsStore}
-use Rattle.fj_bodies.specs.Releases.{NoneGoes, Releases, RestsAt}
-use Rattle.fj_bodies.specs.Stores.{IsStored, HasResults}
+use Rattle.fj_body.specs.Releases.{NoneGoes, Releases, RestsAt}
+use Rattle.fj_body.specs.Stores.{IsStored, HasResults}
 use Rattle.fj_bodies.specs.Waits.{WaitState, AreWaiting, ReleasesDue, waits}
 use Rattle.fj_bodies.proofs.Chains.{without_twice}
 use Rattle.fj_bodies.proofs.NoneLost.{release_results}

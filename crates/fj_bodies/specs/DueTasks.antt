@@ -11,8 +11,8 @@ use Rattle.fj_slots.specs.Marked.{SerialList}
 use Rattle.fj_slots.specs.Shelves.{Shelved, entries}
 use Rattle.fj_bodies.specs.declared.due.Due.{Due}
 use Rattle.fj_bodies.specs.declared.due.Due.TheVariants as due
-use Rattle.fj_bodies.specs.Stores.{IsStored, HasResults}
-use Rattle.fj_bodies.specs.Releases.{NoneGoes}
+use Rattle.fj_body.specs.Stores.{IsStored, HasResults}
+use Rattle.fj_body.specs.Releases.{NoneGoes}
 
 -- at most this one of these can be released
 abbrev pub OnlyGoes : List Event → List ℕ → ℕ → Type 0

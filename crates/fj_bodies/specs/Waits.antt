@@ -9,7 +9,7 @@ use Rattle.fj_slots.specs.Marked.{SerialList}
 use Rattle.fj_bodies.specs.declared.tries.HistoryFull.{HistoryFull}
 use Rattle.fj_bodies.specs.declared.tries.Tried.{Tried}
 use Rattle.fj_bodies.specs.declared.tries.Tried.TheVariants as tried
-use Rattle.fj_bodies.specs.Releases.{AreAmong, NoneGoes, OneGoes, RestsAt}
+use Rattle.fj_body.specs.Releases.{AreAmong, NoneGoes, OneGoes, RestsAt}
 use Rattle.fj_bodies.specs.DueTasks.{OnlyGoes}
 
 -- what a release sees of a store: the machine's past, and the taken tasks

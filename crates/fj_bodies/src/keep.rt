@@ -1,7 +1,7 @@
 ghost use Rattle.std.specs.Prelude.{◌≡◌, None};
 ghost use Rattle.fj_rules.specs.Lists.{is_in};
 ghost use Rattle.fj_slots.specs.Shelves.{AreFewer, entries};
-ghost use Rattle.fj_bodies.specs.Results.{KeepsIn};
+ghost use Rattle.fj_body.specs.Results.{KeepsIn};
 
 use fj_rules::Serial;
 use fj_slots::{SerialMap, SerialSet};

@@ -2,23 +2,15 @@
 //! the body.
 #![tactic(auto)]
 
-mod bare_ending;
-mod body;
 mod due;
 mod hooked;
 mod keep;
-mod kept_result;
 mod moves;
-mod outcomes;
 mod places;
 mod plain;
 mod release;
 mod store;
 mod tries;
-mod turnstile;
 
-pub use body::{Ask, Body, Heard, Told};
-pub use kept_result::KeptResult;
-pub use outcomes::{Outcome, told_outcome};
+pub use fj_body::{Ask, Body, Heard, KeptResult, Open, Outcome, Told, Turnstile, told_outcome};
 pub use store::Store;
-pub use turnstile::{Open, Turnstile};

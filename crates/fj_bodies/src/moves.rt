@@ -4,7 +4,7 @@ ghost use Rattle.fj_rules.specs.Runs.{Steps};
 ghost use Rattle.fj_rules.specs.Pasts.{gone_since};
 ghost use Rattle.fj_rules.specs.Epochs.{IsPast};
 ghost use Rattle.fj_slots.specs.Shelves.{entries, without_entries};
-ghost use Rattle.fj_bodies.specs.Stores.{went};
+ghost use Rattle.fj_body.specs.Stores.{went};
 
 use fj_machine::Machine;
 use fj_rules::{Said, Step};

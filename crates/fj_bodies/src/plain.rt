@@ -1,5 +1,5 @@
 ghost use Rattle.std.specs.Prelude.{◌≡◌, true};
-ghost use Rattle.fj_bodies.specs.Releases.{ReleasesPlain};
+ghost use Rattle.fj_body.specs.Releases.{ReleasesPlain};
 
 use fj_machine::Machine;
 use fj_rules::{Said, Serial, Step};

@@ -3,8 +3,8 @@ ghost use Rattle.fj_rules.specs.Bounds.{IsWithin};
 ghost use Rattle.fj_rules.specs.Epochs.{IsPast};
 ghost use Rattle.fj_rules.specs.Pasts.{fresh};
 ghost use Rattle.fj_slots.specs.Shelves.{entries, no_entries};
-ghost use Rattle.fj_bodies.specs.Choosing.{TellsRefusal};
-ghost use Rattle.fj_bodies.specs.Releases.{NoneGoes};
+ghost use Rattle.fj_body.specs.Choosing.{TellsRefusal};
+ghost use Rattle.fj_body.specs.Releases.{NoneGoes};
 
 mod accept;
 mod act;
@@ -16,8 +16,7 @@ mod fits;
 mod seal;
 mod shut;
 
-use crate::body::{Body, Heard, Told};
-use crate::kept_result::KeptResult;
+use fj_body::{Body, Heard, KeptResult, Told};
 use fj_machine::Machine;
 use fj_rules::{Limits, Mode, OutOfMemory, Refusal, both};
 use fj_slots::{SerialMap, SerialSet};
@@ -38,7 +37,7 @@ pub struct Store<B: Body> {
     stuck: bool,
 }
 
-// By hand, so that it is proved here alone: a derived one is proved in each crate that drops such a value.
+// By hand: a derived one is proved in each crate that drops such a value.
 impl<B: Body> Drop for Store<B> {
     fn drop(self) {
         let Store {
@@ -53,7 +52,7 @@ impl<B: Body> Drop for Store<B> {
 
 impl<B: Body> Model for Store<B> {
     ghost use Rattle.fj_bodies.specs.DueTasks.{HoldsStore};
-    ghost use Rattle.fj_bodies.specs.Stores.{StoreState};
+    ghost use Rattle.fj_body.specs.Stores.{StoreState};
 
     ghost Value = { StoreState B B.Key B.Out };
 

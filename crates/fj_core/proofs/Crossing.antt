@@ -13,12 +13,12 @@ use Rattle.fj_lane.proofs.misses.Misses.TheSendSync.{the_send as misses_send}
 use Rattle.fj_lane.specs.contracts.drain.Drain as Drain
 use Rattle.fj_bodies.proofs.Crossing.{store_send}
 use Rattle.fj_bodies.specs.contracts.store.Store as Store
-use Rattle.fj_bodies.specs.declared.body.Body as Body
-use Rattle.fj_core.proofs.bookings.Bookings.TheSendSync.{the_send as bookings_send}
-use Rattle.fj_core.proofs.cutoff.Cutoff.TheSendSync.{the_send as cutoff_send}
-use Rattle.fj_core.specs.contracts.archive.Archive as Archive
-use Rattle.fj_core.specs.contracts.archive.Archive.TheKnot as archive
-use Rattle.fj_core.specs.declared.archive.Archive.TheDeep.{the_members as archive_members, member-Archive}
+use Rattle.fj_body.specs.declared.body.Body as Body
+use Rattle.fj_calls.proofs.bookings.Bookings.TheSendSync.{the_send as bookings_send}
+use Rattle.fj_calls.proofs.cutoff.Cutoff.TheSendSync.{the_send as cutoff_send}
+use Rattle.fj_calls.specs.contracts.archive.Archive as Archive
+use Rattle.fj_calls.specs.contracts.archive.Archive.TheKnot as archive
+use Rattle.fj_calls.specs.declared.archive.Archive.TheDeep.{the_members as archive_members, member-Archive}
 use Rattle.fj_core.specs.contracts.pool_core.Core as Core
 use Rattle.fj_core.specs.contracts.pool_core.Core.TheInside as CoreInside
 

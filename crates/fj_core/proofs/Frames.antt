@@ -1,10 +1,10 @@
 -- What a call of the store leaves of the core.
 use Rattle.std.proofs.Common.{List, length}
 use Rattle.fj_lane.specs.Ends.{DrainState}
-use Rattle.fj_bodies.specs.Stores.{StoreState, StaysInside}
-use Rattle.fj_core.specs.declared.booking.Booking.{Booking}
-use Rattle.fj_core.specs.declared.cutoff.Cutoff.{Cutoff}
-use Rattle.fj_core.specs.Cores.{IsCore}
+use Rattle.fj_body.specs.Stores.{StoreState, StaysInside}
+use Rattle.fj_calls.specs.declared.booking.Booking.{Booking}
+use Rattle.fj_calls.specs.declared.cutoff.Cutoff.{Cutoff}
+use Rattle.fj_calls.specs.Cores.{IsCore}
 use Rattle.fj_core.proofs.Lanes.{same_booked}
 use Rattle.fj_core.proofs.Reached.{closing_stays}
 

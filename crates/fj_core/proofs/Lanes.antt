@@ -17,9 +17,9 @@ use Rattle.fj_rules.specs.Pasts.{Past, grown}
 use Rattle.fj_rules.proofs.Events.Growth.{pushed_more}
 use Rattle.fj_lane.specs.declared.parcel.Parcel.{Parcel}
 use Rattle.fj_lane.specs.Ends.{DrainState}
-use Rattle.fj_core.specs.declared.booking.Booking.{Booking}
-use Rattle.fj_core.specs.Booked.{AreBooked, IsBooked, booked_by}
-use Rattle.fj_core.proofs.SetAt.{SetAt, Here, There, set_at}
+use Rattle.fj_calls.specs.declared.booking.Booking.{Booking}
+use Rattle.fj_calls.specs.Booked.{AreBooked, IsBooked, booked_by}
+use Rattle.fj_calls.proofs.SetAt.{SetAt, Here, There, set_at}
 
 -- ---- sums over lanes
 

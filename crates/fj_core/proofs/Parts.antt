@@ -5,14 +5,14 @@ use Rattle.fj_rules.specs.declared.event.Event.{Event}
 use Rattle.fj_rules.specs.Pasts.{Past, grown, sealed_now}
 use Rattle.fj_rules.specs.Places.{gone}
 use Rattle.fj_lane.specs.Ends.{DrainState}
-use Rattle.fj_bodies.specs.Stores.{StoreState, StaysInside}
-use Rattle.fj_bodies.specs.Sealing.{HandsPart}
-use Rattle.fj_bodies.proofs.Frames.{releases_stay}
-use Rattle.fj_core.specs.declared.booking.Booking.{Booking}
-use Rattle.fj_core.specs.declared.cutoff.Cutoff.{Cutoff}
-use Rattle.fj_core.specs.Archives.{Archived}
-use Rattle.fj_core.specs.Closes.{Dues}
-use Rattle.fj_core.specs.Cores.{AreParts, IsCore}
+use Rattle.fj_body.specs.Stores.{StoreState, StaysInside}
+use Rattle.fj_body.specs.Sealing.{HandsPart}
+use Rattle.fj_body.proofs.Frames.{releases_stay}
+use Rattle.fj_calls.specs.declared.booking.Booking.{Booking}
+use Rattle.fj_calls.specs.declared.cutoff.Cutoff.{Cutoff}
+use Rattle.fj_calls.specs.Archives.{Archived}
+use Rattle.fj_calls.specs.Closes.{Dues}
+use Rattle.fj_calls.specs.Cores.{AreParts, IsCore}
 use Rattle.fj_core.proofs.Lanes.{same_booked}
 
 -- nothing was sealed

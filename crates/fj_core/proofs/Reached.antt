@@ -3,8 +3,8 @@ use Rattle.std.proofs.Common.{ℕ, ◌≡◌, ◌+◌, Bool, true, false, List, 
 use Rattle.std.proofs.lemmas.Bool.{le-leb, leb-true}
 use Rattle.fj_rules.specs.declared.event.Event.{Event}
 use Rattle.fj_rules.specs.Allowed.{is_closed, is_stopped}
-use Rattle.fj_core.specs.declared.cutoff.Cutoff.{Cutoff}
-use Rattle.fj_core.specs.Closings.{IsClosing, IsReached, first_set, is_due, is_over}
+use Rattle.fj_calls.specs.declared.cutoff.Cutoff.{Cutoff}
+use Rattle.fj_calls.specs.Closings.{IsClosing, IsReached, first_set, is_due, is_over}
 
 pub due_there : (number : Option ℕ) (k : ℕ) → IsReached number k → is_due number k ≡ true
 due_there None k (n, is, few) = absurd (let no : ◌≡◌ {A = Option ℕ} None (Some n) = is in cc)

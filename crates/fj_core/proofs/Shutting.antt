@@ -13,15 +13,15 @@ use Rattle.fj_rules.specs.Runs.{Steps}
 use Rattle.fj_rules.proofs.Events.Growth.{pushed_more}
 use Rattle.fj_rules.proofs.Events.Closing.{closed_more, stopped_more}
 use Rattle.fj_lane.specs.Ends.{DrainState}
-use Rattle.fj_bodies.specs.Stores.{StoreState}
+use Rattle.fj_body.specs.Stores.{StoreState}
 use Rattle.fj_rules.proofs.Steps.Answered.{Answered, Refuses, Makes, answered}
-use Rattle.fj_core.specs.declared.booking.Booking.{Booking}
-use Rattle.fj_core.specs.declared.cutoff.Cutoff.{Cutoff}
-use Rattle.fj_core.specs.Closings.{IsClosing, first_set, is_due, is_over}
-use Rattle.fj_core.specs.Closes.{Dues, shut_step}
-use Rattle.fj_core.specs.Cores.{IsCore}
+use Rattle.fj_calls.specs.declared.booking.Booking.{Booking}
+use Rattle.fj_calls.specs.declared.cutoff.Cutoff.{Cutoff}
+use Rattle.fj_calls.specs.Closings.{IsClosing, first_set, is_due, is_over}
+use Rattle.fj_calls.specs.Closes.{Dues, shut_step}
+use Rattle.fj_calls.specs.Cores.{IsCore}
 use Rattle.fj_rules.specs.Inside.{IsInside}
-use Rattle.fj_bodies.proofs.Frames.{releases_stay}
+use Rattle.fj_body.proofs.Frames.{releases_stay}
 use Rattle.fj_core.proofs.Lanes.{PushesNone, same_booked}
 use Rattle.fj_core.proofs.Reached.{OnlyReached, due_there, due_reached, only_set}
 

@@ -18,18 +18,18 @@ use Rattle.fj_rules.specs.Pasts.{Past, grown}
 use Rattle.fj_rules.proofs.Events.Closing.{closed_more, stopped_more}
 use Rattle.fj_lane.specs.declared.parcel.Parcel.{Parcel}
 use Rattle.fj_lane.specs.Ends.{DrainState}
-use Rattle.fj_bodies.specs.Stores.{StoreState, StaysInside}
-use Rattle.fj_bodies.proofs.Frames.{same_past_stays, same_stays}
+use Rattle.fj_body.specs.Stores.{StoreState, StaysInside}
+use Rattle.fj_body.proofs.Frames.{same_past_stays, same_stays}
 use Rattle.fj_rules.proofs.Steps.Answered.{submit_made}
-use Rattle.fj_core.specs.declared.booking.Booking.{Booking}
-use Rattle.fj_core.specs.declared.cutoff.Cutoff.{Cutoff}
-use Rattle.fj_core.specs.declared.taken_in.Intake.{Intake}
-use Rattle.fj_core.specs.declared.taken_in.Intake.TheVariants as intake
-use Rattle.fj_core.specs.Booked.{AreBooked, Booked}
-use Rattle.fj_core.specs.Closings.{IsClosing, is_due}
-use Rattle.fj_core.specs.Closes.{Dues}
-use Rattle.fj_core.specs.Cores.{IsCore}
-use Rattle.fj_core.specs.Intakes.{Readies, is_log_full, with_drained}
+use Rattle.fj_calls.specs.declared.booking.Booking.{Booking}
+use Rattle.fj_calls.specs.declared.cutoff.Cutoff.{Cutoff}
+use Rattle.fj_calls.specs.declared.taken_in.Intake.{Intake}
+use Rattle.fj_calls.specs.declared.taken_in.Intake.TheVariants as intake
+use Rattle.fj_calls.specs.Booked.{AreBooked, Booked}
+use Rattle.fj_calls.specs.Closings.{IsClosing, is_due}
+use Rattle.fj_calls.specs.Closes.{Dues}
+use Rattle.fj_calls.specs.Cores.{IsCore}
+use Rattle.fj_calls.specs.Intakes.{Readies, is_log_full, with_drained}
 use Rattle.fj_core.proofs.Lanes.{PushesNone, took_booked, missed_booked}
 use Rattle.fj_core.proofs.Reached.{OnlyReached, only_same, only_more}
 use Rattle.fj_core.proofs.Shutting.{due_pushes_none, due_closes}

@@ -1,9 +1,10 @@
-ghost use Rattle.fj_core.specs.Closes.{Dues, shut_step};
-ghost use Rattle.fj_core.specs.Closings.{is_due};
-ghost use Rattle.fj_bodies.specs.Asking.{Shuts};
+ghost use Rattle.fj_calls.specs.Closes.{Dues, shut_step};
+ghost use Rattle.fj_calls.specs.Closings.{is_due};
+ghost use Rattle.fj_body.specs.Asking.{Shuts};
 
-use crate::cutoff::Cutoff;
-use fj_bodies::{Body, Store};
+use fj_bodies::Store;
+use fj_body::Body;
+use fj_calls::Cutoff;
 
 /// Makes the Shutdown or the Stop, if `taken_in` submissions reach the closing number, unless the store is stuck.
 pub fn make_due<B: Body>(store: &mut Store<B>, closing: Cutoff, taken_in: usize)

@@ -1,5 +1,5 @@
 ghost use Rattle.std.specs.Prelude.{◌≡◌, IfOk};
-ghost use Rattle.fj_core.specs.Cores.{first_hands};
+ghost use Rattle.fj_calls.specs.Cores.{first_hands};
 
 use fj_rules::WorkerId;
 use fj_slots::Hand;

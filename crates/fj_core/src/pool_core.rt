@@ -4,12 +4,12 @@ ghost use Rattle.fj_rules.specs.Bounds.{IsWithin};
 ghost use Rattle.fj_rules.specs.Epochs.{IsPast};
 ghost use Rattle.fj_rules.specs.Statuses.{status, is_undone};
 ghost use Rattle.fj_rules.specs.Tasks.{is_kept};
-ghost use Rattle.fj_bodies.specs.Choosing.{Polls};
-ghost use Rattle.fj_bodies.specs.Fitting.{Fits};
-ghost use Rattle.fj_bodies.specs.Stores.{StaysInside};
-ghost use Rattle.fj_core.specs.Booked.{HasTask, booked_under};
-ghost use Rattle.fj_core.specs.Cancels.{CancelsTicket};
-ghost use Rattle.fj_core.specs.Cores.{ChangesStore, CollectsTicket, IsNew, first_hands, is_awaited};
+ghost use Rattle.fj_body.specs.Choosing.{Polls};
+ghost use Rattle.fj_body.specs.Fitting.{Fits};
+ghost use Rattle.fj_body.specs.Stores.{StaysInside};
+ghost use Rattle.fj_calls.specs.Booked.{HasTask, booked_under};
+ghost use Rattle.fj_calls.specs.Cancels.{CancelsTicket};
+ghost use Rattle.fj_calls.specs.Cores.{ChangesStore, CollectsTicket, IsNew, first_hands, is_awaited};
 
 mod act;
 mod close;
@@ -17,17 +17,15 @@ mod intake;
 mod remains;
 mod seal;
 
-use crate::archive::Archive;
-use crate::bookings::Bookings;
-use crate::cutoff::Cutoff;
 use crate::first_hands::new_hands;
-use fj_bodies::{Body, Heard, Outcome, Store, Told};
+use fj_bodies::Store;
+use fj_body::{Body, Heard, Outcome, Told};
+use fj_calls::{Archive, Bookings, Cutoff};
 use fj_gate::Ticket;
 use fj_lane::{Drain, Misses};
 use fj_machine::Machine;
 use fj_rules::{Limits, Mode, OutOfMemory, Refusal, Serial, both};
 use fj_slots::Hand;
-pub use remains::Remains;
 use std::alloc::Global;
 use std::marker::Model;
 
@@ -43,7 +41,7 @@ pub struct Core<B: Body> {
     missed_seals: Misses,
 }
 
-// By hand, so that it is proved here alone: a derived one is proved in each crate that drops such a value.
+// By hand: a derived one is proved in each crate that drops such a value.
 impl<B: Body> Drop for Core<B> {
     fn drop(self) {
         let Core {
@@ -58,7 +56,7 @@ impl<B: Body> Drop for Core<B> {
 }
 
 impl<B: Body> Model for Core<B> {
-    ghost use Rattle.fj_core.specs.Cores.{CoreState, HoldsCore};
+    ghost use Rattle.fj_calls.specs.Cores.{CoreState, HoldsCore};
 
     ghost Value = { CoreState B B.Key B.Out };
 

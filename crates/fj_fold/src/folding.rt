@@ -1,5 +1,5 @@
 ghost use Rattle.std.specs.Prelude.{◌≡◌, ◌<◌, ◌≤◌, ◌++◌, IfErr, IfOk, length};
-ghost use Rattle.fj_core.specs.Cores.{AreParts};
+ghost use Rattle.fj_calls.specs.Cores.{AreParts};
 ghost use Rattle.fj_rules.specs.declared.limits.TheConstants.{MAX_EVENTS, MAX_TASKS, MAX_WORKERS};
 ghost use Rattle.fj_rules.specs.Bounds.{bounds};
 ghost use Rattle.fj_rules.specs.Epochs.{IsPast};

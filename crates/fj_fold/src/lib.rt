@@ -9,7 +9,7 @@
 
 mod folding;
 
-pub use fj_bodies::{Ask, Body, Heard};
+pub use fj_body::{Ask, Body, Heard};
 pub use fj_rules::Refusal;
 pub use fj_run::{Open, RecordedValue, Turnstile};
 pub use fj_tree_fold::{Family, NamedTree, TreeFold};

@@ -61,8 +61,8 @@ impl<J> Free<J> {
 
 impl<J: Turns> Body for Free<J> {
     ghost use Rattle.std.specs.Prelude.{ℕ, ⊤, Option, None};
-    ghost use Rattle.fj_bodies.specs.Turns.{HeardRight, AskRight, Nearer};
-    ghost use Rattle.fj_bodies.specs.declared.body.Ask.TheVariants.{Fail as AskFail};
+    ghost use Rattle.fj_body.specs.Turns.{HeardRight, AskRight, Nearer};
+    ghost use Rattle.fj_body.specs.declared.body.Ask.TheVariants.{Fail as AskFail};
     ghost use Rattle.fj_free.specs.declared.free.TheConstants.{SPENT};
 
     type Key = ();

@@ -1,6 +1,6 @@
 ghost use Rattle.std.specs.Prelude.{◌≡◌, ℕ, ⊤, Option, None};
 ghost use Rattle.fj_graph.specs.Turns.{FailsLater};
-ghost use Rattle.fj_bodies.specs.Turns.{AskRight, HeardRight, Nearer};
+ghost use Rattle.fj_body.specs.Turns.{AskRight, HeardRight, Nearer};
 
 use crate::calls::Calls;
 use crate::policy::Policy;

@@ -24,28 +24,28 @@ use Rattle.fj_rules.specs.Runs.{Steps}
 use Rattle.fj_rules.specs.Statuses.{accepts, is_undone, or_undone, status, status_by, status_from}
 use Rattle.fj_slots.specs.Hands.{HandState, newest_note}
 use Rattle.fj_slots.specs.Shelves.{entries}
-use Rattle.fj_bodies.specs.declared.body.Ask.{Ask}
-use Rattle.fj_bodies.specs.declared.body.Ask.TheVariants as asks
-use Rattle.fj_bodies.specs.declared.body.Told.{Told}
-use Rattle.fj_bodies.specs.declared.body.Told.TheVariants as told
-use Rattle.fj_bodies.specs.declared.outcomes.Outcome.{Outcome}
-use Rattle.fj_bodies.specs.declared.outcomes.Outcome.TheVariants as outcomes
-use Rattle.fj_bodies.specs.Asking.{Drops}
-use Rattle.fj_bodies.specs.Results.{outcome_of, status_in}
-use Rattle.fj_bodies.specs.Stores.{StoreState, StaysInside}
-use Rattle.fj_bodies.proofs.Frames.{collects_stay, polls_stay, releases_stay, same_past_stays}
-use Rattle.fj_bodies.proofs.Acts.{acts_stay}
-use Rattle.fj_core.specs.declared.booking.Booking.{Booking}
-use Rattle.fj_core.specs.declared.cutoff.Cutoff.{Cutoff}
-use Rattle.fj_core.specs.declared.taken_in.Intake.{Intake}
-use Rattle.fj_core.specs.declared.taken_in.Intake.TheVariants as intake
-use Rattle.fj_core.specs.Booked.{booked_under, is_under}
-use Rattle.fj_core.specs.Cancels.{CancelsTask, CancelsTicket, CancelsUnless}
-use Rattle.fj_core.specs.Closes.{Dues, ShutsAt, shut_step}
-use Rattle.fj_core.specs.Closings.{first_set, is_due, is_over}
-use Rattle.fj_core.specs.Cores.{ChangesStore, CollectsTicket, CollectsUnless, CoreState, unless_due}
-use Rattle.fj_core.specs.Intakes.{Intakes, Readies, kind_rooted}
-use Rattle.fj_core.specs.Sealing.{SealsCore, holds_back, may_be_sealed}
+use Rattle.fj_body.specs.declared.body.Ask.{Ask}
+use Rattle.fj_body.specs.declared.body.Ask.TheVariants as asks
+use Rattle.fj_body.specs.declared.body.Told.{Told}
+use Rattle.fj_body.specs.declared.body.Told.TheVariants as told
+use Rattle.fj_body.specs.declared.outcomes.Outcome.{Outcome}
+use Rattle.fj_body.specs.declared.outcomes.Outcome.TheVariants as outcomes
+use Rattle.fj_body.specs.Asking.{Drops}
+use Rattle.fj_body.specs.Results.{outcome_of, status_in}
+use Rattle.fj_body.specs.Stores.{StoreState, StaysInside}
+use Rattle.fj_body.proofs.Frames.{collects_stay, polls_stay, releases_stay, same_past_stays}
+use Rattle.fj_body.proofs.Acts.{acts_stay}
+use Rattle.fj_calls.specs.declared.booking.Booking.{Booking}
+use Rattle.fj_calls.specs.declared.cutoff.Cutoff.{Cutoff}
+use Rattle.fj_calls.specs.declared.taken_in.Intake.{Intake}
+use Rattle.fj_calls.specs.declared.taken_in.Intake.TheVariants as intake
+use Rattle.fj_calls.specs.Booked.{booked_under, is_under}
+use Rattle.fj_calls.specs.Cancels.{CancelsTask, CancelsTicket, CancelsUnless}
+use Rattle.fj_calls.specs.Closes.{Dues, ShutsAt, shut_step}
+use Rattle.fj_calls.specs.Closings.{first_set, is_due, is_over}
+use Rattle.fj_calls.specs.Cores.{ChangesStore, CollectsTicket, CollectsUnless, CoreState, unless_due}
+use Rattle.fj_calls.specs.Intakes.{Intakes, Readies, kind_rooted}
+use Rattle.fj_calls.specs.Sealing.{SealsCore, holds_back, may_be_sealed}
 use Rattle.fj_guarded.specs.declared.guarded.outside.TakenIn.{TakenIn}
 use Rattle.fj_guarded.specs.declared.next.Next.{Next}
 use Rattle.fj_guarded.specs.Asked.{CancelsBehind, CollectsAny}

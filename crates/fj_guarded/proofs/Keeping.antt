@@ -4,19 +4,19 @@ use Rattle.std.specs.Prelude.{⊤, Result, Ok, Err}
 use Rattle.fj_rules.specs.declared.refusal.Refusal.{Refusal}
 use Rattle.fj_rules.specs.Pasts.{Past}
 use Rattle.fj_slots.specs.Hands.{HandState}
-use Rattle.fj_bodies.specs.declared.outcomes.Outcome.{Outcome}
-use Rattle.fj_bodies.specs.Fitting.{Fits}
-use Rattle.fj_bodies.specs.Results.{Collects}
-use Rattle.fj_bodies.specs.Stores.{StoreState}
-use Rattle.fj_core.specs.declared.cutoff.Cutoff.{Cutoff}
-use Rattle.fj_core.specs.Booked.{booked_under}
-use Rattle.fj_core.specs.Closes.{ShutsAt}
-use Rattle.fj_core.specs.Closings.{is_due}
-use Rattle.fj_core.specs.Cancels.{CancelsTask, CancelsTicket, CancelsUnless}
-use Rattle.fj_core.specs.Cores.{CollectsTicket, CollectsUnless, CoreState}
-use Rattle.fj_core.specs.Hands.{KeepsHand}
-use Rattle.fj_core.specs.Sealing.{SealsCore, holds_back, may_be_sealed}
-use Rattle.fj_core.proofs.Others.{cancels_hands, collects_hands, intakes_hands, kept_fits, seals_hands, shuts_hands}
+use Rattle.fj_body.specs.declared.outcomes.Outcome.{Outcome}
+use Rattle.fj_body.specs.Fitting.{Fits}
+use Rattle.fj_body.specs.Results.{Collects}
+use Rattle.fj_body.specs.Stores.{StoreState}
+use Rattle.fj_calls.specs.declared.cutoff.Cutoff.{Cutoff}
+use Rattle.fj_calls.specs.Booked.{booked_under}
+use Rattle.fj_calls.specs.Closes.{ShutsAt}
+use Rattle.fj_calls.specs.Closings.{is_due}
+use Rattle.fj_calls.specs.Cancels.{CancelsTask, CancelsTicket, CancelsUnless}
+use Rattle.fj_calls.specs.Cores.{CollectsTicket, CollectsUnless, CoreState}
+use Rattle.fj_calls.specs.Hands.{KeepsHand}
+use Rattle.fj_calls.specs.Sealing.{SealsCore, holds_back, may_be_sealed}
+use Rattle.fj_calls.proofs.Others.{cancels_hands, collects_hands, intakes_hands, kept_fits, seals_hands, shuts_hands}
 use Rattle.fj_guarded.specs.declared.guarded.outside.TakenIn.{TakenIn}
 use Rattle.fj_guarded.specs.Keeping.{KeepsHands, KeepsOthers}
 use Rattle.fj_guarded.specs.declared.next.Next.{Next}

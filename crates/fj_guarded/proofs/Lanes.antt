@@ -4,10 +4,10 @@ use Rattle.std.specs.Prelude.{slice_get, slice_set}
 use Rattle.std.proofs.Math.Seq.{map-set_same}
 use Rattle.std.proofs.lemmas.Option.{get_or_from_slice_get}
 use Rattle.fj_lane.specs.Ends.{DrainState, LaneId}
-use Rattle.fj_core.specs.declared.taken_in.Intake.{Intake}
-use Rattle.fj_core.specs.declared.taken_in.Intake.TheVariants as intake
-use Rattle.fj_core.specs.Cores.{CoreState, ChangesStore}
-use Rattle.fj_core.specs.Intakes.{Intakes}
+use Rattle.fj_calls.specs.declared.taken_in.Intake.{Intake}
+use Rattle.fj_calls.specs.declared.taken_in.Intake.TheVariants as intake
+use Rattle.fj_calls.specs.Cores.{CoreState, ChangesStore}
+use Rattle.fj_calls.specs.Intakes.{Intakes}
 use Rattle.fj_guarded.specs.Lanes.{KeepsLanes}
 use Rattle.fj_submitter.specs.Lanes.{lanes_of}
 

@@ -4,13 +4,13 @@ use Rattle.std.specs.Option.{IfSome, option_or, unwrap_or}
 use Rattle.fj_rules.specs.declared.step.Step.{Step}
 use Rattle.fj_rules.specs.Bounds.{Pool}
 use Rattle.fj_rules.specs.Pasts.{Past}
-use Rattle.fj_bodies.specs.Stores.{StoreState}
-use Rattle.fj_bodies.specs.Asking.{Shuts}
-use Rattle.fj_core.specs.declared.taken_in.Intake.{Intake}
-use Rattle.fj_core.specs.declared.taken_in.Intake.TheVariants as intake
-use Rattle.fj_core.specs.Closes.{Dues, shut_step}
-use Rattle.fj_core.specs.Cores.{CoreState}
-use Rattle.fj_core.specs.Intakes.{Intakes}
+use Rattle.fj_body.specs.Stores.{StoreState}
+use Rattle.fj_body.specs.Asking.{Shuts}
+use Rattle.fj_calls.specs.declared.taken_in.Intake.{Intake}
+use Rattle.fj_calls.specs.declared.taken_in.Intake.TheVariants as intake
+use Rattle.fj_calls.specs.Closes.{Dues, shut_step}
+use Rattle.fj_calls.specs.Cores.{CoreState}
+use Rattle.fj_calls.specs.Intakes.{Intakes}
 use Rattle.fj_guarded.specs.declared.guarded.outside.TakenIn.{TakenIn}
 use Rattle.fj_guarded.specs.declared.guarded.outside.TakenIn.TheVariants.{Nothing}
 use Rattle.fj_guarded.specs.Lanes.{KeepsLanes}

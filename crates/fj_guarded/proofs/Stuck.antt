@@ -3,13 +3,13 @@ use Rattle.std.proofs.Common.{◌≡◌, Bool, true, false, Option, Some, None, 
 use Rattle.std.specs.Prelude.{◌⊎◌, is_some}
 use Rattle.fj_rules.specs.declared.step.Step.{Step}
 use Rattle.fj_slots.specs.Hands.{HandState}
-use Rattle.fj_bodies.specs.declared.body.Ask.{Ask}
-use Rattle.fj_bodies.specs.declared.body.Ask.TheVariants as asks
-use Rattle.fj_bodies.specs.declared.body.Told.{Told}
-use Rattle.fj_bodies.specs.declared.body.Told.TheVariants as told
-use Rattle.fj_bodies.specs.Acting.{Acts, ActsInBody, ActsInHook, ActsWhere, body_with, unserved}
-use Rattle.fj_bodies.specs.Choosing.{GetsStuck, Polls, WasStuck}
-use Rattle.fj_bodies.specs.Stores.{StoreState}
+use Rattle.fj_body.specs.declared.body.Ask.{Ask}
+use Rattle.fj_body.specs.declared.body.Ask.TheVariants as asks
+use Rattle.fj_body.specs.declared.body.Told.{Told}
+use Rattle.fj_body.specs.declared.body.Told.TheVariants as told
+use Rattle.fj_body.specs.Acting.{Acts, ActsInBody, ActsInHook, ActsWhere, body_with, unserved}
+use Rattle.fj_body.specs.Choosing.{GetsStuck, Polls, WasStuck}
+use Rattle.fj_body.specs.Stores.{StoreState}
 
 module _ {B K O : Type 0} where
   was : (old new : StoreState B K O) → old.stuck ≡ true → new ≡ old → new.stuck ≡ true

@@ -4,16 +4,16 @@ use Rattle.std.specs.Prelude.{is_some}
 use Rattle.fj_rules.specs.declared.step.Ending.{Ending}
 use Rattle.fj_rules.specs.declared.step.Ending.TheVariants as ending
 use Rattle.fj_slots.specs.Hands.{HandState, HasOnTop}
-use Rattle.fj_bodies.specs.declared.body.Ask.{Ask}
-use Rattle.fj_bodies.specs.declared.body.Ask.TheVariants as asks
-use Rattle.fj_bodies.specs.declared.body.Heard.TheVariants as hears
-use Rattle.fj_bodies.specs.declared.body.Told.{Told}
-use Rattle.fj_bodies.specs.declared.body.Told.TheVariants as told
-use Rattle.fj_bodies.specs.Stores.{StoreState}
-use Rattle.fj_bodies.specs.Choosing.{Polls, Helps, Joins}
-use Rattle.fj_bodies.specs.Endings.{EndsOk, EndsBody}
-use Rattle.fj_bodies.specs.HookEndings.{EndsHook}
-use Rattle.fj_bodies.specs.Acting.{Acts, ActsInBody, ActsInHook, ActsWhere}
+use Rattle.fj_body.specs.declared.body.Ask.{Ask}
+use Rattle.fj_body.specs.declared.body.Ask.TheVariants as asks
+use Rattle.fj_body.specs.declared.body.Heard.TheVariants as hears
+use Rattle.fj_body.specs.declared.body.Told.{Told}
+use Rattle.fj_body.specs.declared.body.Told.TheVariants as told
+use Rattle.fj_body.specs.Stores.{StoreState}
+use Rattle.fj_body.specs.Choosing.{Polls, Helps, Joins}
+use Rattle.fj_body.specs.Endings.{EndsOk, EndsBody}
+use Rattle.fj_body.specs.HookEndings.{EndsHook}
+use Rattle.fj_body.specs.Acting.{Acts, ActsInBody, ActsInHook, ActsWhere}
 
 module _ {B : Type 0} where
   -- of two hands that are the same

@@ -1,9 +1,9 @@
 -- Calls from outside, by one ticket or by several.
 use Rattle.std.specs.Prelude.{ℕ, ◌≡◌, ◌<◌, Bool, List, Option, Some, None, Result, slice_get}
 use Rattle.fj_rules.specs.declared.refusal.Refusal.{Refusal}
-use Rattle.fj_bodies.specs.declared.outcomes.Outcome.{Outcome}
-use Rattle.fj_core.specs.Cancels.{CancelsTicket}
-use Rattle.fj_core.specs.Cores.{CollectsTicket, CoreState}
+use Rattle.fj_body.specs.declared.outcomes.Outcome.{Outcome}
+use Rattle.fj_calls.specs.Cancels.{CancelsTicket}
+use Rattle.fj_calls.specs.Cores.{CollectsTicket, CoreState}
 use Rattle.fj_guarded.specs.declared.guarded.outside.TakenIn.{TakenIn}
 use Rattle.fj_guarded.specs.Looking.{LooksAtLanes}
 

@@ -3,12 +3,12 @@ use Rattle.std.specs.Prelude.{ℕ, ◌≡◌, false, All, List, [], ◌∷◌, �
 use mathlib.Core.List.{IsPrefix}
 use Rattle.fj_rules.specs.declared.event.Event.{Event}
 use Rattle.fj_rules.specs.Statuses.{status}
-use Rattle.fj_bodies.specs.declared.outcomes.Outcome.{Outcome}
-use Rattle.fj_bodies.specs.Results.{status_in}
-use Rattle.fj_bodies.specs.Stores.{StoreState}
-use Rattle.fj_core.specs.declared.booking.Booking.{Booking}
-use Rattle.fj_core.specs.Booked.{booked_under}
-use Rattle.fj_core.specs.Cores.{CoreState}
+use Rattle.fj_body.specs.declared.outcomes.Outcome.{Outcome}
+use Rattle.fj_body.specs.Results.{status_in}
+use Rattle.fj_body.specs.Stores.{StoreState}
+use Rattle.fj_calls.specs.declared.booking.Booking.{Booking}
+use Rattle.fj_calls.specs.Booked.{booked_under}
+use Rattle.fj_calls.specs.Cores.{CoreState}
 
 module _ {B K O : Type 0} where
   -- events were appended, and a store that was stuck is stuck

@@ -1,7 +1,7 @@
 -- What a call leaves of what the workers hold.
 use Rattle.std.specs.Prelude.{ℕ, ◌≡◌, ◌≢◌}
 use Rattle.fj_rules.specs.Pasts.{Past}
-use Rattle.fj_core.specs.Hands.{KeepsHand}
+use Rattle.fj_calls.specs.Hands.{KeepsHand}
 
 -- the pool has changed nothing of the hands of the workers
 pub record KeepsHands (old new : Past) : Type 0 where

@@ -1,6 +1,6 @@
 -- The lanes of a pool stay.
 use Rattle.std.specs.Prelude.{◌≡◌}
-use Rattle.fj_core.specs.Cores.{CoreState}
+use Rattle.fj_calls.specs.Cores.{CoreState}
 use Rattle.fj_submitter.specs.Lanes.{lanes_of}
 
 -- the drains are of the same lanes

@@ -12,3 +12,5 @@ pub mod Turning
 pub mod Working
 -- what a call leaves of what the workers hold
 pub mod Keeping
+-- what stands where no value is
+pub mod Moments

@@ -2,11 +2,11 @@
 use Rattle.std.specs.Prelude.{ℕ, ◌≡◌, ◌+◌, ⊤, zero, suc, Bool, true, false, if◌then◌else◌, nat_lt, Option, Result}
 use Rattle.fj_rules.specs.declared.refusal.Refusal.{Refusal}
 use Rattle.fj_rules.specs.Answers.{is_quiet}
-use Rattle.fj_core.specs.declared.taken_in.Intake.{Intake}
-use Rattle.fj_core.specs.declared.taken_in.Intake.TheVariants.{Took}
-use Rattle.fj_core.specs.Cores.{CoreState}
-use Rattle.fj_core.specs.Intakes.{Intakes}
-use Rattle.fj_core.specs.Sealing.{SealsCore, holds_back, may_be_sealed}
+use Rattle.fj_calls.specs.declared.taken_in.Intake.{Intake}
+use Rattle.fj_calls.specs.declared.taken_in.Intake.TheVariants.{Took}
+use Rattle.fj_calls.specs.Cores.{CoreState}
+use Rattle.fj_calls.specs.Intakes.{Intakes}
+use Rattle.fj_calls.specs.Sealing.{SealsCore, holds_back, may_be_sealed}
 use Rattle.fj_guarded.specs.declared.guarded.outside.TakenIn.{TakenIn}
 use Rattle.fj_guarded.specs.declared.guarded.outside.TakenIn.TheVariants.{Nothing, One, Several}
 

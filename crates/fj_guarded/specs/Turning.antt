@@ -3,12 +3,12 @@ use Rattle.std.specs.Prelude.{ℕ, ◌≡◌, ◌⊎◌, ⊤, true, [], IfSome, 
 use Rattle.fj_rules.specs.declared.refusal.Refusal.{Refusal}
 use Rattle.fj_rules.specs.declared.refusal.Refusal.TheVariants.{LogFull}
 use Rattle.fj_slots.specs.Hands.{HandState, HasOnTop, asker, with_body, with_hook}
-use Rattle.fj_bodies.specs.declared.body.Ask.{Ask}
-use Rattle.fj_bodies.specs.declared.body.Heard.{Heard}
-use Rattle.fj_bodies.specs.declared.body.Heard.TheVariants.{Start}
-use Rattle.fj_bodies.specs.Turns.{AskRight, HeardRight}
-use Rattle.fj_core.specs.Closes.{is_finished}
-use Rattle.fj_core.specs.Cores.{CoreState}
+use Rattle.fj_body.specs.declared.body.Ask.{Ask}
+use Rattle.fj_body.specs.declared.body.Heard.{Heard}
+use Rattle.fj_body.specs.declared.body.Heard.TheVariants.{Start}
+use Rattle.fj_body.specs.Turns.{AskRight, HeardRight}
+use Rattle.fj_calls.specs.Closes.{is_finished}
+use Rattle.fj_calls.specs.Cores.{CoreState}
 use Rattle.fj_guarded.specs.declared.next.Next.{Next}
 use Rattle.fj_guarded.specs.declared.next.Next.TheVariants.{Begin, Leave, Turn}
 use Rattle.fj_guarded.specs.Continuing.{IsNow}

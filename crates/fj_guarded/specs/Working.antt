@@ -2,21 +2,21 @@
 use Rattle.std.specs.Prelude.{ℕ, ◌≡◌, ⊤, zero, suc, Bool, true, false, Option, Some, None, is_some, [], Ok, Err}
 use Rattle.fj_rules.specs.declared.refusal.Refusal.TheVariants.{LogFull}
 use Rattle.fj_slots.specs.Hands.{HandState, newest_note, with_note}
-use Rattle.fj_bodies.specs.declared.body.Ask.{Ask}
-use Rattle.fj_bodies.specs.declared.body.Ask.TheVariants as asks
-use Rattle.fj_bodies.specs.declared.body.Heard.TheVariants as hears
-use Rattle.fj_bodies.specs.declared.body.Told.{Told}
-use Rattle.fj_bodies.specs.declared.body.Told.TheVariants as told
-use Rattle.fj_bodies.specs.Choosing.{Polls}
-use Rattle.fj_bodies.specs.Stores.{StoreState}
-use Rattle.fj_bodies.specs.Acting.{Acts}
-use Rattle.fj_core.specs.Closes.{is_finished}
-use Rattle.fj_core.specs.Cores.{ChangesStore, CoreState}
+use Rattle.fj_body.specs.declared.body.Ask.{Ask}
+use Rattle.fj_body.specs.declared.body.Ask.TheVariants as asks
+use Rattle.fj_body.specs.declared.body.Heard.TheVariants as hears
+use Rattle.fj_body.specs.declared.body.Told.{Told}
+use Rattle.fj_body.specs.declared.body.Told.TheVariants as told
+use Rattle.fj_body.specs.Choosing.{Polls}
+use Rattle.fj_body.specs.Stores.{StoreState}
+use Rattle.fj_body.specs.Acting.{Acts}
+use Rattle.fj_calls.specs.Closes.{is_finished}
+use Rattle.fj_calls.specs.Cores.{ChangesStore, CoreState}
 use Rattle.fj_guarded.specs.declared.guarded.outside.TakenIn.{TakenIn}
 use Rattle.fj_guarded.specs.declared.guarded.outside.TakenIn.TheVariants.{Nothing, One, Several}
 use Rattle.fj_guarded.specs.declared.next.Next.{Next}
 use Rattle.fj_guarded.specs.declared.next.Next.TheVariants.{Again, Begin, Leave, Rest, Turn, Wait}
-use Rattle.fj_wake.specs.Waiting.{is_joinable}
+use Rattle.fj_calls.specs.Joins.{is_joinable}
 use Rattle.fj_guarded.specs.Looking.{LooksAtLanes}
 
 module _ {B K O : Type 0} where

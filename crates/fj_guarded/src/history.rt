@@ -1,7 +1,7 @@
 //! The history of a pool: one log of the states of its core.
 use crate::guarded::Guarded;
-use fj_bodies::Body;
-use fj_core::Core;
+use fj_body::Body;
+use fj_calls::CoreView;
 use fj_fronts::{Entry, Tells};
 use fj_submitter::Naming;
 use std::marker::{Model, PhantomData};
@@ -17,15 +17,16 @@ impl<N: Naming> fj_fronts::Naming for LogOf<N> {
 
 /// A moment of a pool: a state of its core. It exists in proofs alone: no value of it is made.
 pub struct Moment<B: Body> {
-    core: Core<B>,
+    of: PhantomData<B>,
 }
 
 impl<B: Body> Model for Moment<B> {
-    ghost use Rattle.fj_core.specs.Cores.{CoreState};
+    ghost use Rattle.fj_calls.specs.Cores.{CoreState};
+    ghost use Rattle.fj_guarded.specs.Moments.{no_core};
 
     ghost Value = { CoreState B B.Key B.Out };
 
-    ghost view = { λ m. m.core };
+    ghost view = { λ _. no_core };
 }
 
 impl<B: Body> Entry for Moment<B> {
@@ -34,7 +35,7 @@ impl<B: Body> Entry for Moment<B> {
     ghost may_follow = { λ log core. ContinuesAll log core };
 }
 
-impl<B: Body, N: Naming> Tells<Moment<B>> for Guarded<B, N> {
+impl<B: Body, N: Naming, C: CoreView<B>> Tells<Moment<B>> for Guarded<B, N, C> {
     ghost told = { λ core. core };
 }
 

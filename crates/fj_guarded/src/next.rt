@@ -1,4 +1,4 @@
-use fj_bodies::{Body, Heard};
+use fj_body::{Body, Heard};
 use fj_rules::{Refusal, Serial};
 use std::alloc::{AllocError, Global};
 

@@ -2,7 +2,7 @@ ghost use Rattle.std.specs.Prelude.{◌≡◌, IfOk, IfErr};
 ghost use Rattle.fj_results.specs.Results.{RefusesAnswer, RefusesRun};
 
 use crate::idle::IdleWorkers;
-use fj_bodies::Outcome;
+use fj_body::Outcome;
 use fj_jobs::Divide;
 use fj_lazy::{Lazy, Signals};
 use fj_rules::Refusal;

@@ -1,9 +1,9 @@
 -- What is asked, and the turns that are left.
 use Rattle.std.specs.Prelude.{Result, Ok, Err, IfOk}
 use Rattle.std.proofs.Common.{ℕ, ◌≤◌, List, arith}
-use Rattle.fj_bodies.specs.declared.body.Ask.{Ask}
-use Rattle.fj_bodies.specs.declared.body.Ask.TheVariants as asks
-use Rattle.fj_bodies.specs.Turns.{Nearer}
+use Rattle.fj_body.specs.declared.body.Ask.{Ask}
+use Rattle.fj_body.specs.declared.body.Ask.TheVariants as asks
+use Rattle.fj_body.specs.Turns.{Nearer}
 use Rattle.fj_lazy.specs.Asks.{AsksOn}
 
 -- from further away an ask brings a body nearer to its ending, too

@@ -1,6 +1,6 @@
 -- What is joined, with one more part.
 use Rattle.std.proofs.Common.{ℕ, ◌≡◌, ◌≤◌, ◌+◌, List, [], ◌∷◌, ◌++◌, ap, arith, length, length-append, refl}
-use Rattle.fj_bodies.specs.declared.body.Ask.{Ask}
+use Rattle.fj_body.specs.declared.body.Ask.{Ask}
 use Rattle.fj_lazy.specs.declared.part.Outer.{Outer}
 use Rattle.fj_lazy.specs.declared.part.Outer.TheVariants.{Done, Forked}
 use Rattle.fj_lazy.specs.Asks.{JoinsOwn}

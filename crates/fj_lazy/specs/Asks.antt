@@ -1,11 +1,11 @@
 -- What a lazy body asks.
 use Rattle.std.specs.Prelude.{ℕ, ◌≡◌, ⊤, List, [], ◌∷◌, ◌++◌}
 use Rattle.fj_rules.specs.declared.kind.Kind.TheVariants.{Plain}
-use Rattle.fj_bodies.specs.declared.body.Heard.{Heard}
-use Rattle.fj_bodies.specs.declared.body.Heard.TheVariants as hears
-use Rattle.fj_bodies.specs.declared.body.Ask.{Ask}
-use Rattle.fj_bodies.specs.declared.body.Ask.TheVariants.{Fork, Join, Release, Ok as AskOk, Fail}
-use Rattle.fj_bodies.specs.Turns.{AskRight, Nearer}
+use Rattle.fj_body.specs.declared.body.Heard.{Heard}
+use Rattle.fj_body.specs.declared.body.Heard.TheVariants as hears
+use Rattle.fj_body.specs.declared.body.Ask.{Ask}
+use Rattle.fj_body.specs.declared.body.Ask.TheVariants.{Fork, Join, Release, Ok as AskOk, Fail}
+use Rattle.fj_body.specs.Turns.{AskRight, Nearer}
 use Rattle.fj_lazy.specs.declared.part.Inner.{Inner}
 use Rattle.fj_lazy.specs.declared.part.Outer.{Outer}
 use Rattle.fj_lazy.specs.declared.part.LazyStage.{LazyStage}

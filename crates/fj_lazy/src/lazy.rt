@@ -12,7 +12,7 @@ use crate::part::{Climb, DescentEnd, LazyStage};
 use crate::parts_aside::PartsAside;
 use crate::signals::Signals;
 use crate::span::Span;
-use fj_bodies::Ask;
+use fj_body::Ask;
 use fj_jobs::Divide;
 use fj_rules::{Kind, Refusal, WorkerId};
 use std::alloc::{AllocError, Global};

@@ -48,7 +48,7 @@ pub struct Ledger {
     gone: Vec<Serial>,
 }
 
-// By hand, so that it is proved here alone: a derived one is proved in each crate that drops such a value.
+// By hand: a derived one is proved in each crate that drops such a value.
 impl Drop for Ledger {
     fn drop(self) {
         let Ledger {

@@ -1,9 +1,9 @@
 -- What is heard and asked by a body inside another.
 use Rattle.std.specs.Prelude.{Option, Some, None}
-use Rattle.fj_bodies.specs.declared.body.Heard.{Heard}
-use Rattle.fj_bodies.specs.declared.body.Heard.TheVariants as heard
-use Rattle.fj_bodies.specs.declared.body.Ask.{Ask}
-use Rattle.fj_bodies.specs.declared.body.Ask.TheVariants as ask
+use Rattle.fj_body.specs.declared.body.Heard.{Heard}
+use Rattle.fj_body.specs.declared.body.Heard.TheVariants as heard
+use Rattle.fj_body.specs.declared.body.Ask.{Ask}
+use Rattle.fj_body.specs.declared.body.Ask.TheVariants as ask
 use Rattle.fj_notes.specs.declared.milestone.Milestone.{Milestone}
 use Rattle.fj_notes.specs.declared.milestone.Milestone.TheVariants as milestone
 

@@ -2,7 +2,7 @@ ghost use Rattle.std.specs.Prelude.{◌<◌, ◌^◌, IfSome};
 
 use crate::labelled::Labelled;
 use crate::page::Page;
-use fj_bodies::Turnstile;
+use fj_body::Turnstile;
 use fj_notes::{Label, Milestone};
 use fj_rules::{Serial, WorkerId};
 use std::alloc::{AllocError, Global};

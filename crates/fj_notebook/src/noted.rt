@@ -3,7 +3,7 @@ ghost use Rattle.std.specs.Prelude.{◌≡◌, None};
 use crate::labelled::Labelled;
 use crate::notebook::Notebook;
 use crate::wrapping::{ask_of, heard_inside, milestone_of};
-use fj_bodies::{Ask, Body, Heard};
+use fj_body::{Ask, Body, Heard};
 use fj_notes::Milestone;
 use fj_rules::Serial;
 use std::rt::Clock;
@@ -73,7 +73,7 @@ impl<'n, B: Body + Labelled, C: Clock + Drop> Noted<'n, B, C> {
 }
 
 impl<'n, B: Body + Labelled, C: Clock + Drop> Body for Noted<'n, B, C> {
-    ghost use Rattle.fj_bodies.specs.Turns.{HeardRight, AskRight, Nearer};
+    ghost use Rattle.fj_body.specs.Turns.{HeardRight, AskRight, Nearer};
 
     type Key = B::Key;
 

@@ -1,12 +1,12 @@
 //! What a body inside hears, and what is asked around it.
 ghost use Rattle.std.specs.Prelude.{◌≡◌, ℕ};
-ghost use Rattle.fj_bodies.specs.Turns.{HeardRight, AskRight, Nearer};
+ghost use Rattle.fj_body.specs.Turns.{HeardRight, AskRight, Nearer};
 ghost use Rattle.fj_notebook.specs.Wraps.{ask_by, heard_by, milestone_of};
 
 use crate::labelled::Labelled;
 use crate::notebook::Notebook;
 use crate::noted::Noted;
-use fj_bodies::{Ask, Body, Heard};
+use fj_body::{Ask, Body, Heard};
 use fj_notes::Milestone;
 use std::rt::Clock;
 

@@ -9,8 +9,8 @@ use Rattle.fj_rules.specs.Pasts.{Past}
 use Rattle.fj_rules.specs.Queues.{pushed}
 use Rattle.fj_lane.specs.declared.parcel.Parcel.{Parcel}
 use Rattle.fj_lane.specs.Ends.{DrainState}
-use Rattle.fj_core.specs.declared.booking.Booking.{Booking}
-use Rattle.fj_core.specs.Booked.{AreBooked, booked_by}
+use Rattle.fj_calls.specs.declared.booking.Booking.{Booking}
+use Rattle.fj_calls.specs.Booked.{AreBooked, booked_by}
 use Rattle.fj_parts.specs.Winding.{submissions}
 
 -- a sum over a list is that over the numbers of its places

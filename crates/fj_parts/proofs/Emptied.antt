@@ -8,8 +8,8 @@ use Rattle.std.proofs.lemmas.List.Elements.{All-tail}
 use Rattle.std.proofs.lemmas.List.Sums.{get_or-le-sum_by, sum_by-cons}
 use Rattle.fj_lane.specs.declared.parcel.Parcel.{Parcel}
 use Rattle.fj_lane.specs.Ends.{DrainState}
-use Rattle.fj_core.specs.Closes.{is_number}
-use Rattle.fj_core.specs.Closings.{is_over}
+use Rattle.fj_calls.specs.Closes.{is_number}
+use Rattle.fj_calls.specs.Closings.{is_over}
 use Rattle.fj_rules.specs.Answers.{is_quiet}
 use Rattle.fj_rules.specs.Pasts.{Past}
 use Rattle.fj_submitter.specs.Seats.{HaveMet, IsSeat, SeatState}

@@ -14,9 +14,9 @@ use Rattle.fj_rules.specs.Pasts.{Past, fresh}
 use Rattle.fj_rules.specs.Stacks.{stack as held}
 use Rattle.fj_rules.specs.Hooks.{hand as hook_of, hooks}
 use Rattle.fj_slots.specs.Hands.{HandState, new_hand}
-use Rattle.fj_bodies.specs.Fitting.{Fits}
-use Rattle.fj_core.specs.Cores.{first_hands}
-use Rattle.fj_core.specs.Hands.{KeepsHand}
+use Rattle.fj_body.specs.Fitting.{Fits}
+use Rattle.fj_calls.specs.Cores.{first_hands}
+use Rattle.fj_calls.specs.Hands.{KeepsHand}
 use Rattle.fj_parts.specs.declared.holding.Holding.{Holding}
 use Rattle.fj_parts.specs.Holdings.{AreKept, AreTied, HaveEnds, IsTied, TiedState, hands_of, holding_in, holding_of, nothing, pairs_of}
 use Rattle.fj_guarded.specs.Keeping.{KeepsHands, KeepsOthers}

@@ -10,8 +10,8 @@ use Rattle.fj_gate.specs.Ends.{EntrantState, drawn_by}
 use Rattle.fj_gate.specs.Numbers.{IsNumbersBelow}
 use Rattle.fj_lane.specs.declared.parcel.Parcel.{Parcel}
 use Rattle.fj_lane.specs.Ends.{DrainState}
-use Rattle.fj_core.specs.declared.booking.Booking.{Booking}
-use Rattle.fj_core.specs.Booked.{IsBooked}
+use Rattle.fj_calls.specs.declared.booking.Booking.{Booking}
+use Rattle.fj_calls.specs.Booked.{IsBooked}
 use Rattle.fj_submitter.specs.Seats.{HaveMet, SeatState}
 use Rattle.fj_parts.specs.Winding.{AreSettled, IsSettled}
 

@@ -9,7 +9,7 @@ use Rattle.fj_gate.specs.Ends.{CloserState, EntrantState, new_closer}
 use Rattle.fj_lane.specs.declared.new_lane.TheConstants.{MAX_CAPACITY}
 use Rattle.fj_lane.specs.Ends.{LaneId, DrainState, new_drain}
 use Rattle.fj_slots.specs.Hands.{HandState}
-use Rattle.fj_core.specs.Cores.{CoreState, IsNew, first_hands}
+use Rattle.fj_calls.specs.Cores.{CoreState, IsNew, first_hands}
 use Rattle.fj_submitter.specs.Seats.{SeatState, seats_for, seats_from}
 
 -- the core, the hand of each worker, the pair of its ends, the ends of each submitter, the end that closes the gate, and the log

@@ -9,14 +9,14 @@ use Rattle.fj_rules.specs.Queues.{pushed}
 use Rattle.fj_gate.specs.Ends.{drawn_by}
 use Rattle.fj_lane.specs.declared.parcel.Parcel.{Parcel}
 use Rattle.fj_lane.specs.Ends.{DrainState}
-use Rattle.fj_core.specs.declared.booking.Booking.{Booking}
+use Rattle.fj_calls.specs.declared.booking.Booking.{Booking}
 use Rattle.fj_rules.specs.Statuses.{status}
 use Rattle.fj_slots.specs.Shelves.{Entries, without_entry}
-use Rattle.fj_bodies.specs.declared.outcomes.Outcome.{Outcome}
-use Rattle.fj_bodies.specs.Results.{outcome_of}
-use Rattle.fj_core.specs.Booked.{booked_by, booked_under}
-use Rattle.fj_core.specs.Closings.{is_over}
-use Rattle.fj_core.specs.Closes.{is_number}
+use Rattle.fj_body.specs.declared.outcomes.Outcome.{Outcome}
+use Rattle.fj_body.specs.Results.{outcome_of}
+use Rattle.fj_calls.specs.Booked.{booked_by, booked_under}
+use Rattle.fj_calls.specs.Closings.{is_over}
+use Rattle.fj_calls.specs.Closes.{is_number}
 use Rattle.fj_submitter.specs.Seats.{SeatState, tickets}
 
 module _ {B : Type 0} where

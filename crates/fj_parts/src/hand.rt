@@ -1,12 +1,12 @@
 ghost use Rattle.std.specs.Prelude.{◌≡◌, ◌<◌, IfSome, length};
 ghost use Rattle.fj_slots.specs.Hands.{hook_number, newest_body};
-ghost use Rattle.fj_bodies.specs.Turns.{HeardRight};
+ghost use Rattle.fj_body.specs.Turns.{HeardRight};
 ghost use Rattle.fj_guarded.specs.Turning.{MayAsk, TakesTurn};
 
 use crate::holding::Holding;
 use crate::turns::take_turn;
 use fj_agreement::End;
-use fj_bodies::{Ask, Body, Heard};
+use fj_body::{Ask, Body, Heard};
 use fj_guarded::{Naming, Unneeded};
 use fj_rules::{Serial, WorkerId};
 use std::marker::{Model, PhantomData};

@@ -3,7 +3,7 @@ ghost use mathlib.Core.List.{IsPrefix};
 ghost use Rattle.fj_fronts.specs.Logs.{IsLegal};
 ghost use Rattle.fj_guarded.specs.Continuing.{ContinuesAll};
 
-use fj_bodies::Body;
+use fj_body::Body;
 use fj_guarded::{Front, Keeper, Log, Naming};
 use std::marker::Model;
 
@@ -17,7 +17,7 @@ pub struct History<B: Body, N: Naming> {
 
 impl<B: Body, N: Naming> Model for History<B, N> {
     ghost use Rattle.std.specs.Prelude.{List};
-    ghost use Rattle.fj_core.specs.Cores.{CoreState};
+    ghost use Rattle.fj_calls.specs.Cores.{CoreState};
 
     ghost Value = { List (CoreState B B.Key B.Out) };
 

@@ -1,9 +1,9 @@
 //! What the lock of a pool guards.
 ghost use Rattle.std.specs.Prelude.{◌≡◌, ◌++◌, [], true, IfNone, IfSome};
 ghost use mathlib.Core.List.{IsPrefix};
-ghost use Rattle.fj_core.specs.Closes.{ShutsAt, closed_at, is_finished, stopped_at};
-ghost use Rattle.fj_core.specs.Cores.{CollectsTicket, is_awaited};
-ghost use Rattle.fj_bodies.specs.Fitting.{Fits};
+ghost use Rattle.fj_calls.specs.Closes.{ShutsAt, closed_at, is_finished, stopped_at};
+ghost use Rattle.fj_calls.specs.Cores.{CollectsTicket, is_awaited};
+ghost use Rattle.fj_body.specs.Fitting.{Fits};
 ghost use Rattle.fj_guarded.specs.Asked.{CancelsBehind, CollectsAny};
 ghost use Rattle.fj_guarded.specs.Continuing.{EndsIn, EndsWith, IsNow};
 ghost use Rattle.fj_parts.specs.Glances.{IsGlance};
@@ -18,24 +18,24 @@ use crate::history::History;
 use crate::holding::Holding;
 use crate::still::Still;
 use fj_agreement::End;
-use fj_bodies::{Ask, Body, Outcome};
+use fj_body::{Ask, Body, Outcome};
+use fj_calls::{CoreLanes, CoreOutside, CoreQueries, CoreSleep, CoreView, CoreWorkers, ToWake};
 use fj_gate::Ticket;
 use fj_guarded::{Front, Guarded, Keeper, Log, Naming, Next};
 use fj_rules::{Refusal, Sealed, WorkerId};
-use fj_wake::ToWake;
 use std::alloc::Global;
 use std::marker::Model;
 
 /// The core of a pool with the account of waiting threads, and for each worker an end that knows what it holds. Its calls are those of
 /// `Guarded`: a worker brings its hand, whose end meets the worker's end here.
-pub struct Locked<B: Body, N: Naming> {
-    pub(crate) guarded: Guarded<B, N>,
+pub struct Locked<B: Body, N: Naming, C: CoreView<B>> {
+    pub(crate) guarded: Guarded<B, N, C>,
     pub(crate) ends: Vec<End<Holding>>,
     pub(crate) keeper: Keeper<B, N>,
 }
 
-// By hand, so that it is proved here alone: a derived one is proved in each crate that drops such a value.
-impl<B: Body, N: Naming> Drop for Locked<B, N> {
+// By hand: a derived one is proved in each crate that drops such a value.
+impl<B: Body, N: Naming, C: CoreView<B>> Drop for Locked<B, N, C> {
     fn drop(self) {
         let Locked {
             guarded: _,
@@ -45,8 +45,8 @@ impl<B: Body, N: Naming> Drop for Locked<B, N> {
     }
 }
 
-impl<B: Body, N: Naming> Model for Locked<B, N> {
-    ghost use Rattle.fj_core.specs.Cores.{CoreState};
+impl<B: Body, N: Naming, C: CoreView<B>> Model for Locked<B, N, C> {
+    ghost use Rattle.fj_calls.specs.Cores.{CoreState};
     ghost use Rattle.fj_guarded.specs.Continuing.{ContinuesAll};
     ghost use Rattle.fj_parts.specs.Holdings.{AreKept};
 
@@ -61,13 +61,13 @@ impl<B: Body, N: Naming> Model for Locked<B, N> {
     } };
 }
 
-impl<B: Body, N: Naming> Locked<B, N> {
+impl<B: Body, N: Naming, C: CoreView<B>> Locked<B, N, C> {
     /// A new pool's state. Preconditions: each worker has an end, which knows what it holds; the log is empty.
     pub(crate) fn new(
-        guarded: Guarded<B, N>,
+        guarded: Guarded<B, N, C>,
         ends: Vec<End<Holding>>,
         keeper: Keeper<B, N>,
-    ) -> Locked<B, N>
+    ) -> Locked<B, N, C>
         requires ends { AreKept N.hands guarded.store.past ends.items }
         requires log { keeper ≡ [] }
         ensures { result ≡ guarded }
@@ -95,7 +95,9 @@ impl<B: Body, N: Naming> Locked<B, N> {
         self.keeper.append(log, &self.guarded);
         front.learn(log, &mut self.keeper);
     }
+}
 
+impl<B: Body, N: Naming, C: CoreOutside<B>> Locked<B, N, C> {
     /// The outcome under a ticket, if there is one to return, as the caller sees it.
     pub fn tell(
         &mut self,
@@ -114,7 +116,13 @@ impl<B: Body, N: Naming> Locked<B, N> {
         front.learn(log, &mut self.keeper);
         answer
     }
+}
 
+impl<B: Body, N: Naming, C: CoreLanes<B> + CoreQueries<B> + CoreSleep<B> + CoreWorkers<B>> Locked<
+    B,
+    N,
+    C,
+> {
     /// Serves what the hook or the running body asks; without an ask the worker resumes. Precondition: the hand has a body or a hook that may
     /// ask this.
     pub fn serve(&mut self, alloc: Global, hand: &mut Hand<B, N>, ask: Option<Ask<B>>) -> Next<B>
@@ -158,7 +166,9 @@ impl<B: Body, N: Naming> Locked<B, N> {
         }
         next
     }
+}
 
+impl<B: Body, N: Naming, C: CoreSleep<B>> Locked<B, N, C> {
     /// A worker that slept has the lock.
     pub fn come_back(&mut self, worker: WorkerId)
         ensures { self.new ≡ self.old }
@@ -207,7 +217,9 @@ impl<B: Body, N: Naming> Locked<B, N> {
     {
         self.guarded.stand_up(seat);
     }
+}
 
+impl<B: Body, N: Naming, C: CoreOutside<B>> Locked<B, N, C> {
     /// The outcome under the first of these tickets that has one, with the index of that ticket, as the caller sees it.
     pub fn tell_any(
         &mut self,
@@ -225,7 +237,13 @@ impl<B: Body, N: Naming> Locked<B, N> {
         front.learn(log, &mut self.keeper);
         told
     }
+}
 
+impl<B: Body, N: Naming, C: CoreLanes<B> + CoreOutside<B> + CoreQueries<B> + CoreSleep<B>> Locked<
+    B,
+    N,
+    C,
+> {
     /// Cancels the submission under a ticket, after a look at the lanes, as the caller sees it.
     pub fn tell_cancelled(
         &mut self,
@@ -244,7 +262,9 @@ impl<B: Body, N: Naming> Locked<B, N> {
         front.learn(log, &mut self.keeper);
         cancelled
     }
+}
 
+impl<B: Body, N: Naming, C: CoreOutside<B>> Locked<B, N, C> {
     /// Hands out the sealed parts that are kept.
     pub fn take_parts(&mut self, alloc: Global) -> Vec<Sealed>
         ensures parts { result.items ≡ self.old.parts }
@@ -266,7 +286,9 @@ impl<B: Body, N: Naming> Locked<B, N> {
     {
         self.guarded.stop_at(number);
     }
+}
 
+impl<B: Body, N: Naming, C: CoreLanes<B> + CoreQueries<B> + CoreSleep<B>> Locked<B, N, C> {
     /// Whether all queues, stacks and hands are empty, after the history is sealed, if that is due, and submissions are taken in, as the
     /// caller sees it.
     pub fn tell_quiet(&mut self, alloc: Global, log: &Log<B, N>, front: &mut Front<B, N>) -> bool
@@ -280,7 +302,9 @@ impl<B: Body, N: Naming> Locked<B, N> {
         front.learn(log, &mut self.keeper);
         quiet
     }
+}
 
+impl<B: Body, N: Naming, C: CoreQueries<B>> Locked<B, N, C> {
     /// What the pool does at this moment.
     pub fn glance(&self) -> Glance
         ensures { IsGlance self.now.store.past result }
@@ -297,9 +321,11 @@ impl<B: Body, N: Naming> Locked<B, N> {
         self.show(log, front);
         self.guarded.is_terminated()
     }
+}
 
+impl<B: Body, N: Naming, C: CoreView<B>> Locked<B, N, C> {
     /// Nobody shares it any more: its core stands still, and the history is complete.
-    pub fn stand_still(self, log: Log<B, N>) -> (Still<B, N>, History<B, N>)
+    pub fn stand_still(self, log: Log<B, N>) -> (Still<B, N, C>, History<B, N>)
         ensures core { result.0 ≡ self }
         ensures ends { EndsIn result.1 result.0 }
     {

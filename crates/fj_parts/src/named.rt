@@ -1,7 +1,5 @@
 //! The parts of a pool under its name.
 ghost use Rattle.std.specs.Prelude.{◌≡◌, ◌≤◌, [], All, IfOk, length, vec_capacity, vec_len};
-ghost use Rattle.fj_sleep.specs.declared.places.TheConstants.{MAX_PLACES};
-ghost use Rattle.fj_wake.specs.Waiting.{NobodyWaits};
 ghost use Rattle.fj_submitter.specs.Lanes.{lanes_of};
 ghost use Rattle.fj_parts.specs.Holdings.{IsTied, hands_of};
 ghost use Rattle.fj_submitter.specs.Seats.{AreAll, IsNamed};
@@ -10,7 +8,8 @@ use crate::hand::Hand;
 use crate::locked::Locked;
 use crate::parts::Parts;
 use crate::tied::Tied;
-use fj_bodies::Body;
+use fj_body::Body;
+use fj_calls::{CoreQueries, CoreView};
 use fj_guarded::{Guarded, Log, LogOf, Naming, Room, Unneeded};
 use fj_rules::OutOfMemory;
 use fj_submitter::{Closer, Seat, Submitter, name_all};
@@ -19,9 +18,9 @@ use std::marker::PhantomData;
 
 /// The parts of a pool under its name: by their types they belong together, whichever thread has them.
 #[derive(Drop)]
-pub struct Named<B: Body, N: Naming> {
+pub struct Named<B: Body, N: Naming, C: CoreView<B>> {
     /// What the lock guards.
-    pub locked: Locked<B, N>,
+    pub locked: Locked<B, N, C>,
     /// The history, which threads share.
     pub log: Log<B, N>,
     /// A hand for each worker, in order.
@@ -32,11 +31,11 @@ pub struct Named<B: Body, N: Naming> {
     pub closer: Closer<N>,
 }
 
-impl<B: Body> Parts<B> {
+impl<B: Body, C: CoreQueries<B>> Parts<B, C> {
     /// Puts the parts under a name.
     ///
     /// `OutOfMemory` if an allocation fails. Precondition: the name is that of these parts.
-    pub fn named<N: Naming>(self, alloc: Global) -> Result<Named<B, N>, OutOfMemory>
+    pub fn named<N: Naming>(self, alloc: Global) -> Result<Named<B, N, C>, OutOfMemory>
         requires gate { N.gate ≡ self.closer.gate }
         requires lanes { N.lanes ≡ lanes_of self.core.lanes }
         requires pool { N.pool ≡ self.core.store.past.pool }
@@ -57,8 +56,7 @@ impl<B: Body> Parts<B> {
             closer,
             log,
         } = self;
-        let workers = core.limits().workers() as usize;
-        let Ok(beside) = Beside::new(alloc, workers, hands, seats) else {
+        let Ok(beside) = Beside::new(alloc, hands, seats) else {
             // Explicit drops are proved faster.
             drop(core);
             drop(ends);
@@ -90,24 +88,21 @@ struct Beside<B, N: Naming> {
 }
 
 impl<B: Drop, N: Naming> Beside<B, N> {
-    /// An error only if out of memory. Preconditions: the name is that of these hands and seats, and there are at most `MAX_PLACES` workers.
+    /// An error only if out of memory. Precondition: the name is that of these hands and seats.
     fn new(
         alloc: Global,
-        workers: usize,
         hands: Vec<Tied<B>>,
         seats: Vec<Seat<B>>,
     ) -> Result<Beside<B, N>, AllocError>
-        requires workers { workers ≤ MAX_PLACES }
         requires hands { All (λ h. IsTied N.hands h) hands.items }
         requires named { All (λ s. IsNamed N.gate N.lanes s) seats.items }
-        ensures waits { IfOk result (λ r. NobodyWaits r.room.waits) }
         ensures entrants { IfOk result (λ r. (r.room.entrants.items ≡ []) × (vec_len seats ≤ vec_capacity r.room.entrants)) }
         ensures rests { IfOk result (λ r. (r.room.rests.items ≡ []) × (vec_len seats ≤ vec_capacity r.room.rests)) }
         ensures hands { IfOk result (λ r. r.hands.items ≡ hands_of hands.items) }
         ensures submitters { IfOk result (λ r. r.submitters.items ≡ seats.items) }
     {
         Ok(Beside {
-            room: Room::new(alloc, workers, seats.len())?,
+            room: Room::new(alloc, seats.len())?,
             hands: name_hands(alloc, hands)?,
             submitters: name_all(alloc, seats)?,
         })

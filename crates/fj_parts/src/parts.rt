@@ -8,8 +8,8 @@ ghost use Rattle.fj_submitter.specs.Seats.{AreSeated};
 use crate::holding::Holding;
 use crate::tied::{Tied, tie_all};
 use fj_agreement::End;
-use fj_bodies::Body;
-use fj_core::Core;
+use fj_body::Body;
+use fj_calls::{CoreMaking, CoreView};
 use fj_fronts::Opened;
 use fj_gate::gate;
 use fj_guarded::Moment;
@@ -21,8 +21,8 @@ use std::marker::Model;
 
 /// All parts of a pool, before the caller picks a name for them. In Java that is part of one call, the constructor of `ForkJoinPool`.
 #[derive(Drop)]
-pub struct Parts<B: Body> {
-    pub(crate) core: Core<B>,
+pub struct Parts<B: Body, C: CoreView<B>> {
+    pub(crate) core: C,
     pub(crate) hands: Vec<Tied<B>>,
     pub(crate) ends: Vec<End<Holding>>,
     pub(crate) seats: Vec<Seat<B>>,
@@ -30,22 +30,22 @@ pub struct Parts<B: Body> {
     pub(crate) log: Opened<Moment<B>>,
 }
 
-impl<B: Body> Model for Parts<B> {
+impl<B: Body, C: CoreView<B>> Model for Parts<B, C> {
     ghost use Rattle.fj_parts.specs.Holdings.{HaveEnds, hands_of, pairs_of};
     ghost use Rattle.fj_submitter.specs.Lanes.{lanes_of};
     ghost use Rattle.fj_parts.specs.Parts.{ArePaired, PartsState};
 
     ghost Value = { PartsState B B.Key B.Out };
 
-    ghost view = { λ p. record { core = p.core; hands = hands_of p.hands.items; pairs = pairs_of p.hands.items; seats = p.seats.items; closer = p.closer; log = p.log } };
+    ghost view = { λ p. record { core = C.state p.core; hands = hands_of p.hands.items; pairs = pairs_of p.hands.items; seats = p.seats.items; closer = p.closer; log = p.log } };
 
     ghost invariant = { λ p. record {
-      paired : ArePaired p.closer (lanes_of p.core.lanes) p.seats.items;
-      held : HaveEnds p.core.store.past p.hands.items p.ends.items;
+      paired : ArePaired p.closer (lanes_of (C.state p.core).lanes) p.seats.items;
+      held : HaveEnds (C.state p.core).store.past p.hands.items p.ends.items;
     } };
 }
 
-impl<B: Body> Parts<B> {
+impl<B: Body, C: CoreMaking<B>> Parts<B, C> {
     /// The parts of a new pool. Allocates all memory, except that for seals and that which is allocated as the pool is opened: for the lock, for
     /// the lists of hands and submitters, and for winding up.
     ///
@@ -57,7 +57,7 @@ impl<B: Body> Parts<B> {
         limits: Limits,
         lane_capacity: u32,
         start: u32,
-    ) -> Result<Parts<B>, Refusal>
+    ) -> Result<Parts<B, C>, Refusal>
         ensures ok { IfOk result (λ parts. AreNew mode limits lane_capacity start parts) }
         ensures err { IfErr result (λ refusal. RefusesPool lane_capacity refusal) }
     {
@@ -72,19 +72,19 @@ impl<B: Body> Parts<B> {
 }
 
 /// The same, within its range.
-fn make<B: Body>(
+fn make<B: Body, C: CoreMaking<B>>(
     alloc: Global,
     mode: Mode,
     limits: Limits,
     lane_capacity: u32,
     start: u32,
-) -> Result<Parts<B>, OutOfMemory>
+) -> Result<Parts<B, C>, OutOfMemory>
     requires capacity { (1 ≤ lane_capacity) × (lane_capacity ≤ MAX_CAPACITY) }
     ensures { IfOk result (λ parts. AreNew mode limits lane_capacity start parts) }
 {
     let (entrants, closer) = gate(alloc, limits.submitters(), lane_capacity)?;
     let (seats, drains) = seat_all(alloc, entrants, lane_capacity)?;
-    let Ok((core, untied)) = Core::new(alloc, mode, limits, lane_capacity, drains, start) else {
+    let Ok((core, untied)) = C::new(alloc, mode, limits, lane_capacity, drains, start) else {
         drop(seats);
         return Err(OutOfMemory);
     };

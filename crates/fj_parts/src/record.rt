@@ -4,8 +4,8 @@ ghost use Rattle.fj_submitter.specs.Lanes.{lanes_of};
 ghost use Rattle.fj_submitter.specs.Seats.{AreAll, HaveMet, IsSeat};
 ghost use Rattle.fj_parts.specs.Winding.{IsLeft, IsTaken};
 
-use fj_bodies::{Body, KeptResult, Outcome, told_outcome};
-use fj_core::{Archive, Bookings};
+use fj_body::{Body, KeptResult, Outcome, told_outcome};
+use fj_calls::{Archive, Bookings};
 use fj_gate::Ticket;
 use fj_lane::Rest;
 use fj_machine::Machine;

@@ -2,15 +2,15 @@ ghost use Rattle.std.specs.Prelude.{◌≡◌, ◌++◌, ◌&&◌, IfSome, true,
 ghost use Rattle.fj_gate.specs.Numbers.{IsNumbersBelow};
 ghost use Rattle.fj_rules.specs.Epochs.{IsPast};
 ghost use Rattle.fj_slots.specs.Shelves.{entries};
-ghost use Rattle.fj_bodies.specs.Stores.{HasResults};
-ghost use Rattle.fj_core.specs.Closes.{is_number};
-ghost use Rattle.fj_core.specs.Cores.{AreParts};
+ghost use Rattle.fj_body.specs.Stores.{HasResults};
+ghost use Rattle.fj_calls.specs.Closes.{is_number};
+ghost use Rattle.fj_calls.specs.Cores.{AreParts};
 ghost use Rattle.fj_parts.specs.Winding.{AreEmpty, AreSettled, has_terminated, submissions, tickets_of};
 ghost use Rattle.fj_submitter.specs.Seats.{AreAll};
 
 use crate::record::Record;
-use fj_bodies::Body;
-use fj_core::Remains;
+use fj_body::Body;
+use fj_calls::{CoreMaking, CoreQueries, CoreView, Remains};
 use fj_gate::meet as meet_gate;
 use fj_guarded::{Guarded, Naming};
 use fj_submitter::{Closer, Submitter, settle};
@@ -18,19 +18,19 @@ use std::marker::Model;
 
 /// A pool that no thread shares any more: nothing happens in it until it is wound up. Java has no counterpart.
 #[derive(Drop)]
-pub struct Still<B: Body, N: Naming> {
-    pub(crate) guarded: Guarded<B, N>,
+pub struct Still<B: Body, N: Naming, C: CoreView<B>> {
+    pub(crate) guarded: Guarded<B, N, C>,
 }
 
-impl<B: Body, N: Naming> Model for Still<B, N> {
-    ghost use Rattle.fj_core.specs.Cores.{CoreState};
+impl<B: Body, N: Naming, C: CoreView<B>> Model for Still<B, N, C> {
+    ghost use Rattle.fj_calls.specs.Cores.{CoreState};
 
     ghost Value = { CoreState B B.Key B.Out };
 
     ghost view = { λ s. s.guarded };
 }
 
-impl<B: Body, N: Naming> Still<B, N> {
+impl<B: Body, N: Naming, C: CoreMaking<B> + CoreQueries<B>> Still<B, N, C> {
     /// Takes the pool apart. It never blocks and allocates nothing; bodies that the core still holds are dropped. Nothing happens in the pool by
     /// that: the record is of the core as it stood still. Java has no counterpart.
     ///

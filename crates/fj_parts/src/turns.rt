@@ -1,8 +1,8 @@
 ghost use Rattle.std.specs.Prelude.{IfSome};
-ghost use Rattle.fj_bodies.specs.Turns.{HeardRight};
+ghost use Rattle.fj_body.specs.Turns.{HeardRight};
 ghost use Rattle.fj_guarded.specs.Turning.{MayAsk, TakesTurn};
 
-use fj_bodies::{Ask, Body, Heard};
+use fj_body::{Ask, Body, Heard};
 use fj_slots::Hand;
 
 /// The hook of a hand, or else its running body, takes a turn. None if the hand is empty.

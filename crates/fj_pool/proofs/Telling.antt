@@ -3,8 +3,8 @@ use Rattle.std.proofs.Common.{ℕ, ◌<◌, List, length, Option, Some, None}
 use Rattle.std.specs.Prelude.{IfOk, IfSome, Result, Ok, Err}
 use Rattle.std.proofs.lemmas.Option.{slice_get_within}
 use Rattle.fj_rules.specs.declared.refusal.Refusal.{Refusal}
-use Rattle.fj_bodies.specs.declared.outcomes.Outcome.{Outcome}
-use Rattle.fj_core.specs.Cores.{CollectsTicket, CoreState}
+use Rattle.fj_body.specs.declared.outcomes.Outcome.{Outcome}
+use Rattle.fj_calls.specs.Cores.{CollectsTicket, CoreState}
 use Rattle.fj_guarded.specs.Asked.{CollectsAt}
 use Rattle.fj_guarded.specs.Continuing.{EndsWith, IsToldNow}
 use Rattle.fj_guarded.proofs.GoesOn.{seen_told}

@@ -1,7 +1,7 @@
 ghost use Rattle.std.specs.Prelude.{◌≡◌, IfOk, vec_len};
 
+use fj_calls::ToWake;
 use fj_sleep::{MAX_PLACES, Places};
-use fj_wake::ToWake;
 use std::alloc::{AllocError, Global};
 use std::sync::Condvar;
 

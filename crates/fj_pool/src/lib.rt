@@ -14,14 +14,17 @@
 mod condvars;
 mod pool;
 mod turns;
+mod types;
 
-pub use fj_bodies::{Ask, Body, Heard, KeptResult, Open, Outcome, Told, Turnstile};
-pub use fj_core::{Archive, Booking, Bookings, Core, Intake};
+pub use fj_body::{Ask, Body, Heard, KeptResult, Open, Outcome, Told, Turnstile};
+pub use fj_calls::{Archive, Booking, Bookings, Intake};
+pub use fj_core::Core;
 pub use fj_gate::{Closing, Ticket};
 pub use fj_guarded::{Front, Naming};
 pub use fj_lane::{Parcel, Rest};
 pub use fj_machine::Machine;
-pub use fj_parts::{Closer, Glance, Hand, History, Parts, Record, Still, Submitter};
+pub use fj_parts::{Closer, Glance, Hand, History, Record, Submitter};
 pub use fj_rules::{Kind, Limits, Mode, Refusal, Sealed, Serial, SubId, WorkerId};
 pub use fj_slots::SerialMap;
 pub use pool::{Opened, Pool};
+pub use types::{Parts, Still};

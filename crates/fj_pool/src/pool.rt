@@ -8,11 +8,12 @@ mod outside;
 mod work;
 
 use crate::condvars::Condvars;
-use fj_bodies::Body;
+use crate::types::{Locked, Parts};
+use fj_body::Body;
+use fj_calls::ToWake;
 use fj_guarded::{Log, Naming};
-use fj_parts::{Closer, Hand, Locked, Named, Parts, Submitter};
+use fj_parts::{Closer, Hand, Named, Submitter};
 use fj_rules::OutOfMemory;
-use fj_wake::ToWake;
 use std::alloc::Global;
 use std::sync::Mutex;
 

@@ -1,9 +1,9 @@
 ghost use Rattle.std.specs.Prelude.{IfSome};
-ghost use Rattle.fj_bodies.specs.Turns.{HeardRight};
-ghost use Rattle.fj_bodies.specs.declared.body.Heard.TheVariants.{Start};
+ghost use Rattle.fj_body.specs.Turns.{HeardRight};
+ghost use Rattle.fj_body.specs.declared.body.Heard.TheVariants.{Start};
 ghost use Rattle.fj_guarded.specs.Turning.{AtBegin, FollowsNext, MayAsk, NextRight, TakesTurn};
 
-use fj_bodies::{Ask, Body, Heard, Turnstile};
+use fj_body::{Ask, Body, Heard, Turnstile};
 use fj_guarded::{Naming, Next};
 use fj_parts::Hand;
 use fj_rules::Serial;

@@ -1,9 +1,9 @@
 -- The tasks of the left halves, with one more left half.
 use Rattle.std.specs.Prelude.{ℕ}
 use Rattle.std.proofs.Common.{◌≡◌, List, [], ◌∷◌, ◌++◌, refl}
-use Rattle.fj_bodies.specs.declared.body.Ask.{Ask}
-use Rattle.fj_bodies.specs.declared.body.Heard.{Heard}
-use Rattle.fj_bodies.specs.declared.body.Heard.TheVariants as hears
+use Rattle.fj_body.specs.declared.body.Ask.{Ask}
+use Rattle.fj_body.specs.declared.body.Heard.{Heard}
+use Rattle.fj_body.specs.declared.body.Heard.TheVariants as hears
 use Rattle.fj_recursive.specs.declared.recursive_stage.Left.{Left}
 use Rattle.fj_recursive.specs.declared.recursive_stage.Left.TheVariants.{Forked, Done}
 use Rattle.fj_recursive.specs.declared.recursive_stage.RecursiveStage.TheVariants.{Waiting}

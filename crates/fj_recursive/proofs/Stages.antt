@@ -1,7 +1,7 @@
 -- What a recursive body asks next.
 use Rattle.std.proofs.Common.{ℕ, ◌≡◌, ◌<◌, List}
-use Rattle.fj_bodies.specs.declared.body.Ask.{Ask}
-use Rattle.fj_bodies.specs.declared.body.Ask.TheVariants as asks
+use Rattle.fj_body.specs.declared.body.Ask.{Ask}
+use Rattle.fj_body.specs.declared.body.Ask.TheVariants as asks
 use Rattle.fj_recursive.specs.declared.recursive_stage.Left.{Left}
 use Rattle.fj_recursive.specs.declared.recursive_stage.RecursiveStage.{RecursiveStage}
 use Rattle.fj_recursive.specs.Stages.{Finishes, Forks, GoesOn}

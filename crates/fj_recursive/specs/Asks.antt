@@ -1,7 +1,7 @@
 -- The tasks that a recursive body has forked.
 use Rattle.std.specs.Prelude.{ℕ, List, [], ◌∷◌, ◌++◌, Option, Some, None, filter_map}
-use Rattle.fj_bodies.specs.declared.body.Heard.{Heard}
-use Rattle.fj_bodies.specs.declared.body.Heard.TheVariants as hears
+use Rattle.fj_body.specs.declared.body.Heard.{Heard}
+use Rattle.fj_body.specs.declared.body.Heard.TheVariants as hears
 use Rattle.fj_recursive.specs.declared.recursive_stage.Left.{Left}
 use Rattle.fj_recursive.specs.declared.recursive_stage.Left.TheVariants.{Forked, Done}
 use Rattle.fj_recursive.specs.declared.recursive_stage.RecursiveStage.{RecursiveStage}

@@ -3,10 +3,10 @@ use Rattle.std.specs.Prelude.{ℕ, ◌≡◌, ◌<◌, ⊤, ◌&&◌, Bool, true
 use Rattle.fj_rules.specs.declared.refusal.Refusal.{Refusal}
 use Rattle.fj_rules.specs.declared.refusal.Refusal.TheVariants.{OutOfMemory}
 use Rattle.fj_rules.specs.Refusals.{refusal_number}
-use Rattle.fj_bodies.specs.declared.body.Heard.{Heard}
-use Rattle.fj_bodies.specs.declared.body.Heard.TheVariants as hears
-use Rattle.fj_bodies.specs.declared.body.Ask.{Ask}
-use Rattle.fj_bodies.specs.declared.body.Ask.TheVariants as asks
+use Rattle.fj_body.specs.declared.body.Heard.{Heard}
+use Rattle.fj_body.specs.declared.body.Heard.TheVariants as hears
+use Rattle.fj_body.specs.declared.body.Ask.{Ask}
+use Rattle.fj_body.specs.declared.body.Ask.TheVariants as asks
 use Rattle.fj_lazy.specs.Failures.{code_heard, is_want_of_room}
 use Rattle.fj_recursive.specs.declared.recursive_stage.Left.{Left}
 use Rattle.fj_recursive.specs.declared.recursive_stage.RecursiveStage.{RecursiveStage}

@@ -1,6 +1,6 @@
 ghost use Rattle.std.specs.Prelude.{◌≡◌, ℕ, ◌+◌, ◌*◌, ◌<◌, ◌++◌, ◌∷◌, [], Option, None, IfOk, IfErr, IfSome, is_some, map, vec_len, vec_capacity};
 ghost use Rattle.fj_rules.specs.Refusals.{refusal_number};
-ghost use Rattle.fj_bodies.specs.Turns.{HeardRight, AskRight, Nearer};
+ghost use Rattle.fj_body.specs.Turns.{HeardRight, AskRight, Nearer};
 ghost use Rattle.fj_recursive.specs.Recursions.{Gives, HasRoom, turns_of, left_value, tail_value};
 ghost use Rattle.fj_lazy.specs.Asks.{AsksAsJob, AsksOn, JoinsOwn};
 ghost use Rattle.fj_lazy.specs.Failures.{code_heard, is_want_of_room};
@@ -10,7 +10,7 @@ ghost use Rattle.fj_recursive.specs.Stages.{AsksNext, Finishes, Forks, GoesOn, L
 
 use crate::lefts::{fold_done, last_forked};
 use crate::recursive_stage::{Left, RecursiveStage};
-use fj_bodies::{Ask, Body, Heard, Outcome};
+use fj_body::{Ask, Body, Heard, Outcome};
 use fj_jobs::{Divide, compute};
 use fj_results::result_under;
 use fj_rules::{Kind, Refusal, Serial};

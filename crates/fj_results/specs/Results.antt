@@ -3,8 +3,8 @@ use Rattle.std.specs.Prelude.{◌≡◌, ⊤, Bool, true, false, Some, None, Res
 use Rattle.fj_rules.specs.declared.refusal.Refusal.{Refusal}
 use Rattle.fj_rules.specs.declared.refusal.Refusal.TheVariants.{LogFull, OutOfMemory}
 use Rattle.fj_rules.specs.Refusals.{refusal_number}
-use Rattle.fj_bodies.specs.declared.outcomes.Outcome.{Outcome}
-use Rattle.fj_bodies.specs.declared.outcomes.Outcome.TheVariants.{Normal, Exceptional, Cancelled}
+use Rattle.fj_body.specs.declared.outcomes.Outcome.{Outcome}
+use Rattle.fj_body.specs.declared.outcomes.Outcome.TheVariants.{Normal, Exceptional, Cancelled}
 use Rattle.fj_results.specs.declared.results.NoResult.{NoResult}
 use Rattle.fj_results.specs.declared.results.NoResult.TheVariants.{Failed, Missing}
 

@@ -1,7 +1,7 @@
 ghost use Rattle.std.specs.Prelude.{◌≡◌, IfErr, IfOk};
 ghost use Rattle.fj_results.specs.Results.{IsRightFor, RefusesAnswer, RefusesOutcome, RefusesRun, refusal_of, result_in};
 
-use fj_bodies::{Body, Outcome};
+use fj_body::{Body, Outcome};
 use fj_rules::{Refusal, Status};
 
 /// Why an outcome has no result. Java throws: `ForkJoinTask.getException`.

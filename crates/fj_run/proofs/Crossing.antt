@@ -6,7 +6,7 @@ use denote.Ref.{NamedLft}
 use Rattle.std.proofs.Crossing.{crosses}
 use Rattle.std.specs.declared.cmp.Eq as Eq
 use Rattle.std.specs.declared.cmp.PartialEq as PartialEq
-use Rattle.fj_bodies.specs.declared.body.Body as Body
+use Rattle.fj_body.specs.declared.body.Body as Body
 use Rattle.fj_pool.proofs.Crossing.{pool_sync}
 use Rattle.fj_pool.specs.contracts.pool.Pool as Pool
 use Rattle.fj_submitter.specs.declared.naming.Naming as Naming

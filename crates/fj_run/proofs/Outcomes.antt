@@ -5,10 +5,9 @@ use Rattle.fj_rules.specs.declared.event.Event.{Event}
 use Rattle.fj_rules.specs.declared.refusal.Refusal.{Refusal}
 use Rattle.fj_rules.specs.declared.refusal.Refusal.TheVariants.{LogFull}
 use Rattle.fj_rules.specs.Pasts.{Past}
-use Rattle.fj_bodies.specs.declared.outcomes.Outcome.{Outcome}
+use Rattle.fj_body.specs.declared.outcomes.Outcome.{Outcome}
 use Rattle.fj_gate.specs.Numbers.{IsNumbersBelow}
-use Rattle.fj_core.specs.declared.booking.Booking.{Booking}
-use Rattle.fj_core.specs.Cores.{CoreState}
+use Rattle.fj_calls.specs.declared.booking.Booking.{Booking}
 use Rattle.fj_guarded.specs.Continuing.{IsToldIn, IsToldNow}
 use Rattle.fj_guarded.proofs.GoesOn.{told_at_last}
 use Rattle.fj_parts.specs.declared.record.Record.{Record}

@@ -1,9 +1,9 @@
 -- What a player sees of its pool, and what is left of the pool then.
 use Rattle.std.specs.Prelude.{ℕ, ◌≡◌, List, [], ◌∷◌, IfSome, Option, Some, slice_get, slice_set}
 use mathlib.Core.List.{IsPrefix}
-use Rattle.fj_bodies.specs.declared.outcomes.Outcome.{Outcome}
+use Rattle.fj_body.specs.declared.outcomes.Outcome.{Outcome}
 use Rattle.fj_gate.specs.Numbers.{IsNumbersBelow}
-use Rattle.fj_core.specs.Cores.{CoreState}
+use Rattle.fj_calls.specs.Cores.{CoreState}
 use Rattle.fj_guarded.specs.Continuing.{EndsIn, IsNow, IsTold, IsToldIn}
 use Rattle.fj_parts.specs.declared.record.Record.{Record}
 use Rattle.fj_submitter.specs.Seats.{SeatState, Submits}

@@ -1,5 +1,5 @@
 ghost use Rattle.std.specs.Prelude.{◌≡◌, ◌++◌, IfErr, IfOk};
-ghost use Rattle.fj_core.specs.Cores.{AreParts};
+ghost use Rattle.fj_calls.specs.Cores.{AreParts};
 ghost use Rattle.fj_rules.specs.Epochs.{IsPast};
 ghost use Rattle.fj_run.specs.Playing.{IsOutcomeOf};
 ghost use Rattle.fj_results.specs.Results.{RefusesRun};

@@ -1,12 +1,14 @@
+ghost use Rattle.std.specs.Prelude.{IsSome};
+
 use crate::play::Play;
 use crate::running::Running;
 use crate::submitters::{Submitters, Unused};
 use fj_pool::{Body, Closer, Front, Hand, Naming, Pool, Turnstile};
 use std::alloc::{AllocError, Global};
 use std::marker::Model;
-use std::sync::Wait;
+use std::sync::{Mutex, Wait};
 use std::thread;
-use std::thread::{Builder, Threads};
+use std::thread::{Builder, Scope, Threads};
 
 /// What the threads of a pool share.
 #[derive(Drop)]
@@ -52,6 +54,14 @@ impl<B: Body, N: Naming, T: Turnstile, R: Wait> Crew<'_, '_, '_, B, N, T, R> {
         let _left = self.pool.work(self.rt, hand, self.turnstile);
     }
 
+    /// The same, with the hand of this worker.
+    fn work_as(&self, worker: usize, hands: &Mutex<Vec<Hand<B, N>>>) {
+        let taken = take_hand(self.rt, worker, hands);
+        if let Some(mut hand) = taken {
+            self.work(&mut hand);
+        }
+    }
+
     /// Plays, and shuts the pool down.
     fn play<P: Play<B> + Drop>(
         &self,
@@ -90,6 +100,20 @@ impl<B: Body, N: Naming, T: Turnstile, R: Wait> Crew<'_, '_, '_, B, N, T, R> {
     }
 }
 
+/// The hand of this worker, if no thread has it yet.
+fn take_hand<B: Body, N: Naming, R: Wait>(
+    rt: &R,
+    worker: usize,
+    hands: &Mutex<Vec<Hand<B, N>>>,
+) -> Option<Hand<B, N>> {
+    let mut guard = hands.lock(rt);
+    let all = &mut *guard;
+    let place = all
+        .iter()
+        .position(|hand| hand.worker().0 as usize == worker)?;
+    Some(all.swap_remove(place))
+}
+
 /// The builder of a worker's thread, with a name that tools such as `top -H` show, as `fj-worker-3`; without one if out of memory.
 fn thread_of(alloc: Global, worker: usize) -> Builder {
     let name: Result<String, AllocError> = format!(in alloc; "fj-worker-{worker}");
@@ -109,7 +133,7 @@ pub fn run_all<
 >(
     alloc: Global,
     crew: &Crew<B, N, T, R>,
-    mut hands: Vec<Hand<B, N>>,
+    hands: Vec<Hand<B, N>>,
     unused: Unused<B, N>,
     closer: Closer<N>,
     player: P,
@@ -118,18 +142,52 @@ where
     B::Key: Send,
     B::Out: Send,
 {
-    thread::scope(thread::scope_env(), crew.rt, |scope| {
-        let mut all = true;
-        for (worker, hand) in hands.iter_mut().enumerate() {
-            all = all
-                && thread_of(alloc, worker)
-                    .spawn_scoped(scope, move || crew.work(hand))
-                    .is_ok();
+    let workers = hands.len();
+    let hands = Mutex::new(hands);
+    let mut given = Some((unused, closer, player));
+    thread::scope(
+        thread::scope_env(),
+        crew.rt,
+        |scope|
+            requires { IsSome given }
+        {
+            let all = start_all(scope, alloc, crew, &hands, workers);
+            match given.take() {
+                Some((unused, closer, player)) if all => crew.play(unused, closer, player),
+                Some((unused, closer, player)) => crew.stop(unused, closer, player),
+                None => unreachable!(),
+            }
+        },
+    )
+}
+
+/// Starts a thread for each worker. False if one cannot be started; then no further one is.
+fn start_all<
+    's,
+    E,
+    B: Body + Send,
+    N: Naming + Send + Sync,
+    T: Turnstile + Sync,
+    R: Threads + Wait + Sync,
+>(
+    scope: &Scope<'s, E>,
+    alloc: Global,
+    crew: &'s Crew<'_, '_, '_, B, N, T, R>,
+    hands: &'s Mutex<Vec<Hand<B, N>>>,
+    workers: usize,
+) -> bool
+where
+    B::Key: Send,
+    B::Out: Send,
+{
+    for worker in 0..workers {
+        let started = thread_of(alloc, worker).spawn_scoped(
+            scope,
+            move || crew.work_as(worker, hands),
+        );
+        if started.is_err() {
+            return false;
         }
-        if all {
-            crew.play(unused, closer, player)
-        } else {
-            crew.stop(unused, closer, player)
-        }
-    })
+    }
+    true
 }

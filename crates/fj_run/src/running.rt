@@ -1,6 +1,6 @@
 ghost use Rattle.std.specs.Prelude.{◌≡◌, ◌<◌, [], IfErr, IfNone, IfOk, IfSome, Some, length};
 ghost use mathlib.Core.List.{IsPrefix};
-ghost use Rattle.fj_core.specs.Cores.{CollectsTicket};
+ghost use Rattle.fj_calls.specs.Cores.{CollectsTicket};
 ghost use Rattle.fj_guarded.specs.Asked.{CollectsAt};
 ghost use Rattle.fj_guarded.specs.Continuing.{EndsWith, IsToldNow};
 ghost use Rattle.fj_pool.specs.Telling.{IsToldAt};

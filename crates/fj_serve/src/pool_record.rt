@@ -1,4 +1,4 @@
-use fj_core::Archive;
+use fj_calls::Archive;
 use fj_machine::Machine;
 use fj_run::{Body, Record};
 

@@ -3,10 +3,10 @@ use Rattle.std.specs.Prelude.{ℕ, ◌≡◌, ◌+◌, ◌-◌, ⊤, true, List,
 use Rattle.fj_rules.specs.declared.kind.Kind.TheVariants.{Completer}
 use Rattle.fj_rules.specs.declared.refusal.Refusal.TheVariants.{OutOfMemory}
 use Rattle.fj_rules.specs.Refusals.{refusal_number}
-use Rattle.fj_bodies.specs.declared.body.Heard.{Heard}
-use Rattle.fj_bodies.specs.declared.body.Heard.TheVariants.{Start, Hook, Task, Count}
-use Rattle.fj_bodies.specs.declared.body.Ask.{Ask}
-use Rattle.fj_bodies.specs.declared.body.Ask.TheVariants.{Fork, Take, Add, Try, Fail, HookDone}
+use Rattle.fj_body.specs.declared.body.Heard.{Heard}
+use Rattle.fj_body.specs.declared.body.Heard.TheVariants.{Start, Hook, Task, Count}
+use Rattle.fj_body.specs.declared.body.Ask.{Ask}
+use Rattle.fj_body.specs.declared.body.Ask.TheVariants.{Fork, Take, Add, Try, Fail, HookDone}
 use Rattle.fj_trees.specs.declared.node.Node.{Node}
 use Rattle.fj_trees.specs.TreeValues.{children}
 use Rattle.fj_tree_fold.specs.declared.child_sum.ChildSum.{ChildSum}

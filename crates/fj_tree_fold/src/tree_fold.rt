@@ -1,6 +1,6 @@
 ghost use Rattle.std.specs.Prelude.{◌≡◌, ◌==◌, ◌+◌, ◌<◌, ℕ, Option, Some, None, IfErr, IfOk, length, vec_len, vec_capacity};
 ghost use Rattle.fj_trees.specs.TreeValues.{node_value};
-ghost use Rattle.fj_bodies.specs.Turns.{AskRight, HeardRight, Nearer};
+ghost use Rattle.fj_body.specs.Turns.{AskRight, HeardRight, Nearer};
 ghost use Rattle.fj_results.specs.Results.{RefusesAnswer, RefusesRun};
 ghost use Rattle.fj_tree_fold.specs.Courses.{HasRoom, IsCourse, IsNew, turns_left};
 ghost use Rattle.fj_tree_fold.specs.Stages.{Adds, AsksNext, Fails, ForksNext, GoesOnWithout, TakesNext, tasks_by, with_task};
@@ -12,7 +12,7 @@ use crate::family::Family;
 use crate::fold_progress::{FoldProgress, FoldStage};
 use crate::in_place::value_in_place;
 use crate::named_tree::NamedTree;
-use fj_bodies::{Ask, Body, Heard, Outcome};
+use fj_body::{Ask, Body, Heard, Outcome};
 use fj_results::result_under;
 use fj_rules::{Kind, Refusal, Serial};
 use std::alloc::{AllocError, Global};

@@ -4,7 +4,7 @@ use denote.Param.SendFields.{declared_send, as_row_send}
 use denote.RattleType.{RattleType}
 use Rattle.std.proofs.Crossing.{crosses}
 use Rattle.std.specs.declared.cmp.PartialEq as PartialEq
-use Rattle.fj_bodies.specs.declared.body.Body as Body
+use Rattle.fj_body.specs.declared.body.Body as Body
 use Rattle.fj_core.proofs.Crossing.{core_send}
 use Rattle.fj_core.specs.contracts.pool_core.Core as Core
 use Rattle.fj_wake.proofs.waits.Waits.TheSendSync.{the_send as waits_send}

@@ -19,17 +19,18 @@ use Rattle.fj_rules.proofs.Events.Spending.{settled_by, status_kept}
 use Rattle.fj_rules.proofs.Headline.Parting.{past_begins}
 use Rattle.fj_rules.specs.declared.refusal.Refusal.{Refusal}
 use Rattle.fj_rules.specs.declared.refusal.Refusal.TheVariants.{LogFull}
-use Rattle.fj_bodies.specs.declared.outcomes.Outcome.{Outcome}
-use Rattle.fj_bodies.specs.Stores.{StaysInside, StoreState}
-use Rattle.fj_core.specs.declared.taken_in.Intake.{Intake}
-use Rattle.fj_core.specs.declared.taken_in.Intake.TheVariants as intake
-use Rattle.fj_core.specs.Booked.{booked_under}
-use Rattle.fj_core.specs.Cancels.{CancelsTicket, CancelsUnless}
-use Rattle.fj_core.specs.Closings.{is_due}
-use Rattle.fj_core.specs.Cores.{ChangesStore, CollectsTicket, CollectsUnless, CoreState, is_awaited, is_pending, unless_due}
-use Rattle.fj_core.specs.Intakes.{Intakes, Readies}
+use Rattle.fj_body.specs.declared.outcomes.Outcome.{Outcome}
+use Rattle.fj_body.specs.Stores.{StaysInside, StoreState}
+use Rattle.fj_calls.specs.declared.taken_in.Intake.{Intake}
+use Rattle.fj_calls.specs.declared.taken_in.Intake.TheVariants as intake
+use Rattle.fj_calls.specs.Booked.{booked_under}
+use Rattle.fj_calls.specs.Cancels.{CancelsTicket, CancelsUnless}
+use Rattle.fj_calls.specs.Closings.{is_due}
+use Rattle.fj_calls.specs.Cores.{ChangesStore, CollectsTicket, CollectsUnless, CoreState, is_awaited, is_pending, unless_due}
+use Rattle.fj_calls.specs.Intakes.{Intakes, Readies}
 use Rattle.fj_wake.specs.News.{ends_task, has_ended, takes}
-use Rattle.fj_wake.specs.Waiting.{StillToCome, is_joinable}
+use Rattle.fj_calls.specs.Joins.{is_joinable}
+use Rattle.fj_wake.specs.Waiting.{StillToCome}
 
 -- ---- one event that ends no task
 

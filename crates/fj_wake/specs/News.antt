@@ -4,9 +4,9 @@ use Rattle.std.specs.List.{list_any}
 use Rattle.fj_rules.specs.declared.event.Event.{Event}
 use Rattle.fj_rules.specs.declared.event.Event.TheVariants.{Acc, Settle, Stop, Rel}
 use Rattle.fj_rules.specs.Pasts.{present}
-use Rattle.fj_core.specs.declared.taken_in.Intake.{Intake}
-use Rattle.fj_core.specs.declared.taken_in.Intake.TheVariants.{Took}
-use Rattle.fj_core.specs.Cores.{CoreState}
+use Rattle.fj_calls.specs.declared.taken_in.Intake.{Intake}
+use Rattle.fj_calls.specs.declared.taken_in.Intake.TheVariants.{Took}
+use Rattle.fj_calls.specs.Cores.{CoreState}
 
 -- whether a task is queued by it
 abbrev pub queues_task : Event → Bool

@@ -1,17 +1,12 @@
 -- Who waits for what.
 use Rattle.std.specs.Prelude.{ℕ, ◌≡◌, ◌<◌, ◌&&◌, Bool, true, not, Some, List, length, slice_index_or}
-use Rattle.fj_rules.specs.Statuses.{status, is_undone}
-use Rattle.fj_rules.specs.Tasks.{is_kept}
-use Rattle.fj_core.specs.Cores.{CoreState, is_awaited}
+use Rattle.fj_calls.specs.Cores.{CoreState, is_awaited}
+use Rattle.fj_calls.specs.Joins.{is_joinable}
 use Rattle.fj_sleep.specs.declared.sleeper.Sleeper.{Sleeper}
 use Rattle.fj_sleep.specs.declared.sleeper.Sleeper.TheVariants.{Awake}
 use Rattle.fj_sleep.specs.declared.wanted.Wanted.TheVariants.{One}
 use Rattle.fj_sleep.specs.Places.{aim}
 use Rattle.fj_wake.specs.declared.waits.Waits.{Waits}
-
--- whether a worker may still wait for the end of a task: it is kept and undone, and the core is not stuck
-abbrev pub is_joinable : {B K O : Type 0} → CoreState B K O → ℕ → Bool
-is_joinable core t = not core.store.stuck && (is_kept core.store.past.events t && is_undone (status core.store.past.events t))
 
 -- each thread that waits at one of these places waits for what passes the test
 abbrev pub AllWaitFor : {T : Type 0} → (T → Bool) → List (Sleeper T) → Type 0

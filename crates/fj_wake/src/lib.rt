@@ -8,10 +8,9 @@
 #![tactic(auto)]
 
 mod news;
-mod to_wake;
 mod waits;
 mod waking_core;
 
-pub use to_wake::ToWake;
+pub use fj_calls::ToWake;
 pub use waits::{Waits, place_of};
 pub use waking_core::WakingCore;

@@ -3,7 +3,7 @@ ghost use Rattle.std.specs.Prelude.{◌≡◌, drop};
 ghost use Rattle.std.specs.List.{list_any};
 ghost use Rattle.fj_wake.specs.News.{ends_task, queues_task, takes};
 
-use fj_core::Intake;
+use fj_calls::Intake;
 use fj_rules::Event;
 
 /// Whether a task is queued by one of the events from this one on.

@@ -4,7 +4,7 @@ ghost use Rattle.fj_wake.specs.Waiting.{NobodyWaits, WaitForNothingNew, WaitOnly
 
 mod looking;
 
-use crate::to_wake::ToWake;
+use fj_calls::ToWake;
 use fj_gate::Ticket;
 use fj_rules::{Serial, WorkerId};
 use fj_sleep::{MAX_PLACES, Sleepers, Wanted};

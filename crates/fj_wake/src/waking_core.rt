@@ -1,35 +1,30 @@
-ghost use Rattle.std.specs.Prelude.{◌≡◌, ◌++◌, [], None, IfSome, IsSome, is_some};
-ghost use Rattle.fj_rules.specs.Answers.{is_quiet};
-ghost use Rattle.fj_rules.specs.Bounds.{IsWithin};
-ghost use Rattle.fj_rules.specs.Epochs.{IsPast};
+ghost use Rattle.std.specs.Prelude.{◌≡◌, ◌≤◌, [], All, IfOk, IfSome, IsSome, vec_len};
+ghost use Rattle.fj_lane.specs.declared.new_lane.TheConstants.{MAX_CAPACITY};
 ghost use Rattle.fj_slots.specs.Hands.{asker};
-ghost use Rattle.fj_slots.specs.Shelves.{entries};
-ghost use Rattle.fj_bodies.specs.Acting.{Acts};
-ghost use Rattle.fj_bodies.specs.Choosing.{Polls};
-ghost use Rattle.fj_bodies.specs.Fitting.{Fits};
-ghost use Rattle.fj_bodies.specs.Stores.{HasResults, StaysInside};
-ghost use Rattle.fj_bodies.specs.Turns.{AskRight, ToldRight};
-ghost use Rattle.fj_core.specs.Booked.{AreBooked};
-ghost use Rattle.fj_core.specs.Closes.{is_finished};
-ghost use Rattle.fj_core.specs.Closings.{is_over};
-ghost use Rattle.fj_core.specs.Cores.{AreParts, ChangesStore, is_awaited};
-ghost use Rattle.fj_core.specs.Sealing.{holds_back, may_be_sealed};
-ghost use Rattle.fj_wake.specs.Waiting.{NobodyWaits};
+ghost use Rattle.fj_body.specs.Acting.{Acts};
+ghost use Rattle.fj_body.specs.Fitting.{Fits};
+ghost use Rattle.fj_body.specs.Stores.{StaysInside};
+ghost use Rattle.fj_body.specs.Turns.{AskRight, ToldRight};
+ghost use Rattle.fj_calls.specs.Cores.{ChangesStore, IsNew, first_hands};
 
-mod outside;
-mod sleeping;
-
+use crate::news::takes;
 use crate::waits::Waits;
-use fj_bodies::{Ask, Body, Told};
-use fj_core::{Core, Remains};
+use fj_body::{Ask, Body, Outcome, Told};
+use fj_calls::{
+    CoreLanes, CoreMaking, CoreOutside, CoreQueries, CoreSleep, CoreView, CoreWorkers, Intake,
+    Remains, ToWake,
+};
+use fj_core::Core;
 use fj_gate::Ticket;
+use fj_lane::Drain;
 use fj_machine::Machine;
-use fj_rules::Limits;
+use fj_rules::{Limits, Mode, OutOfMemory, Refusal, Sealed, Serial, SubId, WorkerId};
 use fj_slots::Hand;
+use std::alloc::Global;
 use std::marker::Model;
 
 /// A core, and the account of who sleeps. Contracts see it as the core. Its invariant: no wake-up is lost, so each thread that waits does so
-/// for what has still to come. Its calls are those of [`Core`], and each marks who is to be woken by it.
+/// for what has still to come. Its calls are those of the traits of `fj_calls`.
 #[derive(Drop)]
 pub struct WakingCore<B: Body> {
     core: Core<B>,
@@ -37,7 +32,7 @@ pub struct WakingCore<B: Body> {
 }
 
 impl<B: Body> Model for WakingCore<B> {
-    ghost use Rattle.fj_core.specs.Cores.{CoreState};
+    ghost use Rattle.fj_calls.specs.Cores.{CoreState};
     ghost use Rattle.fj_wake.specs.Waiting.{NoLostWakeUp};
 
     ghost Value = { CoreState B B.Key B.Out };
@@ -47,52 +42,123 @@ impl<B: Body> Model for WakingCore<B> {
     ghost invariant = { λ w. NoLostWakeUp w.waits w.core };
 }
 
-impl<B: Body> WakingCore<B> {
-    /// Precondition: nobody waits.
-    pub fn new(core: Core<B>, waits: Waits) -> WakingCore<B>
-        requires { NobodyWaits waits }
-        ensures { result ≡ core }
+// Each call makes that of the core, and marks who is to be woken by it. The toolchain cannot give `new` and `act` the clauses of their traits, so
+// they stand here again.
+impl<B: Body> CoreView<B> for WakingCore<B> {
+    ghost state = { λ w. w };
+}
+
+impl<B: Body> CoreMaking<B> for WakingCore<B> {
+    fn new(
+        alloc: Global,
+        mode: Mode,
+        limits: Limits,
+        lane_capacity: u32,
+        drains: Vec<Drain<B>>,
+        start: u32,
+    ) -> Result<(WakingCore<B>, Vec<Hand<B>>), OutOfMemory>
+        requires lanes { vec_len drains ≡ limits.submitters }
+        requires capacity { lane_capacity ≤ MAX_CAPACITY }
+        requires capacities { All (λ d. d.capacity ≡ lane_capacity) drains.items }
+        requires untouched { All (λ d. d.drained ≡ []) drains.items }
+        ensures core { IfOk result (λ r. IsNew mode limits drains.items r.0) }
+        ensures hands { IfOk result (λ r. r.1.items ≡ first_hands limits.workers start) }
     {
-        WakingCore { core, waits }
+        let waits = Waits::new(alloc, limits.workers() as usize)?;
+        let (core, hands) = Core::new(alloc, mode, limits, lane_capacity, drains, start)?;
+        Ok((WakingCore { core, waits }, hands))
     }
 
-    /// How large the pool may grow.
-    pub fn limits(&self) -> Limits
-        ensures limits { result ≡ self.now.store.past.pool.limits }
-        ensures within { IsWithin result.workers result.submitters result.tasks result.events }
-        ensures run { IsPast self.now.store.past }
-    {
-        self.core.limits()
-    }
-
-    /// The machine beneath: its history, and what that shows.
-    pub fn machine(&self) -> &Machine
-        ensures { result.now ≡ self.now.store.past }
-    {
-        self.core.machine()
-    }
-
-    /// Takes the core apart, as [`Core::into_remains`].
-    pub fn into_remains(self) -> Remains<B>
-        ensures past { result.machine ≡ self.store.past }
-        ensures results { entries result.results ≡ entries self.store.results }
-        // No result was lost.
-        ensures complete { HasResults self.store.past (entries self.store.results) self.store.taken }
-        ensures drains { result.drains.items ≡ self.lanes }
-        ensures bookings { result.bookings.bookings ≡ self.bookings }
-        ensures handed { result.archive.handed ≡ self.handed }
-        ensures parts { result.archive.kept ≡ self.parts }
-        ensures run { IsPast self.store.past }
-        ensures booked { AreBooked self.store.past self.lanes self.bookings }
-        ensures history { AreParts (self.handed ++ self.parts) self.store.past }
-    {
+    fn into_remains(self) -> Remains<B> {
         let WakingCore { core, waits: _ } = self;
         core.into_remains()
     }
+}
 
-    /// What the running body or the hook asks, as [`Core::act`].
+impl<B: Body> CoreQueries<B> for WakingCore<B> {
+    fn limits(&self) -> Limits {
+        self.core.limits()
+    }
+
+    fn machine(&self) -> &Machine {
+        self.core.machine()
+    }
+
+    fn is_closing(&self) -> bool {
+        self.core.is_closing()
+    }
+
+    fn is_shut(&self) -> bool {
+        self.core.is_shut()
+    }
+
+    fn is_quiescent(&self) -> bool {
+        self.core.is_quiescent()
+    }
+
+    fn is_terminated(&self) -> bool {
+        self.core.is_terminated()
+    }
+}
+
+impl<B: Body> CoreOutside<B> for WakingCore<B> {
+    /// Before a shutdown or a stop is made, workers that wait in joins are woken, too: there may be room now for what the lanes show, and they
+    /// look there.
+    fn collect(&mut self, ticket: Ticket) -> Option<Result<Outcome<B>, Refusal>> {
+        let place = self.core.machine().history().len();
+        let answer = self.core.collect(ticket);
+        self.waits.tell_ended(&self.core, place);
+        let room = answer.is_some() && self.core.is_closing() && !self.core.is_shut();
+        self.waits.wake_joining_if(room);
+        answer
+    }
+
+    fn cancel(&mut self, ticket: Ticket) -> Result<bool, Refusal> {
+        let place = self.core.machine().history().len();
+        let answer = self.core.cancel(ticket);
+        self.waits.tell_ended(&self.core, place);
+        answer
+    }
+
+    fn close_at(&mut self, number: u64) {
+        self.core.close_at(number);
+        self.waits.wake_all();
+    }
+
+    fn stop_at(&mut self, number: u64) {
+        self.core.stop_at(number);
+        self.waits.wake_all();
+    }
+
+    fn take_parts(&mut self, alloc: Global) -> Vec<Sealed> {
+        self.core.take_parts(alloc)
+    }
+}
+
+impl<B: Body> CoreLanes<B> for WakingCore<B> {
+    fn intake(&mut self, s: SubId) -> Intake {
+        let answer = self.core.intake(s);
+        let took = takes(&answer);
+        self.waits.tell_intake(&self.core, took);
+        answer
+    }
+
+    fn seal(&mut self, alloc: Global) -> Result<(), Refusal> {
+        self.core.seal(alloc)
+    }
+
+    fn is_seal_due(&self) -> bool {
+        self.core.is_seal_due()
+    }
+
+    fn holds_back(&self) -> bool {
+        self.core.holds_back()
+    }
+}
+
+impl<B: Body> CoreWorkers<B> for WakingCore<B> {
     #[inline(always)]
-    pub fn act(&mut self, hand: &mut Hand<B>, ask: Ask<B>) -> Told<B>
+    fn act(&mut self, hand: &mut Hand<B>, ask: Ask<B>) -> Told<B>
         requires fits { Fits self.old.store.past hand.old }
         requires busy { IsSome (asker hand.old) }
         requires right { IfSome (asker hand.old) (λ b. AskRight B.right (B.key_of b.1) ask) }
@@ -108,68 +174,71 @@ impl<B: Body> WakingCore<B> {
         told
     }
 
-    /// An idle worker asks for its next task, as [`Core::poll`].
     #[inline(always)]
-    pub fn poll(&mut self, hand: &mut Hand<B>) -> Told<B>
-        requires fits { Fits self.old.store.past hand.old }
-        requires idle { (hand.old.stack ≡ []) × (hand.old.hook ≡ None) }
-        ensures polls { Polls self.old.store hand.old result self.new.store hand.new }
-        ensures others { ChangesStore self.old self.new }
-        ensures stays { StaysInside self.old.store self.new.store }
-        ensures fits { Fits self.new.store.past hand.new }
-    {
+    fn poll(&mut self, hand: &mut Hand<B>) -> Told<B> {
         let place = self.core.machine().history().len();
         let told = self.core.poll(hand);
         self.waits.tell_ended(&self.core, place);
         told
     }
 
-    /// Whether the outcome under a ticket is still to come, as [`Core::is_awaited`].
-    pub fn is_awaited(&self, ticket: Ticket) -> bool
-        ensures { result ≡ is_awaited self.now ticket }
-    {
+    fn is_joinable(&self, t: Serial) -> bool {
+        !self.core.is_stuck() && self.core.is_undone(t)
+    }
+
+    fn wait_for(&mut self, worker: WorkerId, t: Serial) {
+        self.waits.wait_for(worker, t);
+    }
+}
+
+impl<B: Body> CoreSleep<B> for WakingCore<B> {
+    #[inline(always)]
+    fn take_due(&mut self, due: &mut ToWake) {
+        self.waits.take_due(due);
+    }
+
+    fn come_back(&mut self, worker: WorkerId) {
+        self.waits.come_back(worker);
+    }
+
+    fn begin(&mut self, worker: WorkerId) {
+        self.waits.begin(worker);
+    }
+
+    fn rest(&mut self, worker: WorkerId) {
+        self.waits.rest(worker);
+    }
+
+    fn is_lookout(&self, worker: WorkerId) -> bool {
+        self.waits.is_lookout(worker)
+    }
+
+    fn is_awaited(&self, ticket: Ticket) -> bool {
         self.core.is_awaited(ticket)
     }
 
-    /// Whether the closing number is known, as [`Core::is_closing`].
-    pub fn is_closing(&self) -> bool
-        ensures { result ≡ is_some self.now.closing.number }
-    {
-        self.core.is_closing()
+    fn sit(&mut self, ticket: Ticket) -> Option<usize> {
+        self.waits.sit(ticket)
     }
 
-    /// Whether it is shut down or stopped, as [`Core::is_shut`].
-    pub fn is_shut(&self) -> bool
-        ensures { result ≡ is_over self.now.store.past.events }
-    {
-        self.core.is_shut()
+    fn sit_for_any(&mut self) {
+        self.waits.sit_for_any();
     }
 
-    /// Whether all queues, stacks and hands are empty, as [`Core::is_quiescent`].
-    pub fn is_quiescent(&self) -> bool
-        ensures { result ≡ is_quiet self.now.store.past.pool.limits self.now.store.past.events }
-    {
-        self.core.is_quiescent()
+    fn stand_up(&mut self, seat: Option<usize>) {
+        self.waits.stand_up(seat);
     }
 
-    /// Whether the pool has terminated, as [`Core::is_terminated`].
-    pub fn is_terminated(&self) -> bool
-        ensures { result ≡ is_finished self.now }
-    {
-        self.core.is_terminated()
+    #[inline(always)]
+    fn wake_one(&mut self) {
+        self.waits.wake_one();
     }
 
-    /// Whether a worker that looks for work seals first, as [`Core::is_seal_due`].
-    pub fn is_seal_due(&self) -> bool
-        ensures { result ≡ may_be_sealed self.now.store.past }
-    {
-        self.core.is_seal_due()
+    fn wake_workers(&mut self) {
+        self.waits.wake_workers();
     }
 
-    /// Whether nothing is to be taken in before the next seal, as [`Core::holds_back`].
-    pub fn holds_back(&self) -> bool
-        ensures { result ≡ holds_back self.now }
-    {
-        self.core.holds_back()
+    fn wake_all(&mut self) {
+        self.waits.wake_all();
     }
 }

@@ -4,10 +4,10 @@ ghost use Rattle.fj_rules.specs.Answers.{refusal_of};
 ghost use Rattle.fj_rules.specs.declared.step.Step.TheVariants.{Submit, Fork, Trigger};
 ghost use Rattle.fj_rules.specs.declared.said.Said.TheVariants.{Task};
 ghost use Rattle.fj_slots.specs.Shelves.{entries, with_entry};
-ghost use Rattle.fj_bodies.specs.Accepting.{Accepts};
+ghost use Rattle.fj_body.specs.Accepting.{Accepts};
 
-use crate::body::{Body, Heard, Told};
 use crate::store::Store;
+use fj_body::{Body, Heard, Told};
 use fj_rules::{Kind, Refusal, Said, Serial, Step, SubId, SubmittedKind, WorkerId};
 
 impl<B: Body> Store<B> {

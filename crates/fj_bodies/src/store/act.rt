@@ -1,13 +1,12 @@
 //! Requests of a running body or a hook.
 ghost use Rattle.std.specs.Prelude.{◌≡◌, IfSome, IsSome, None, false};
 ghost use Rattle.fj_slots.specs.Hands.{asker};
-ghost use Rattle.fj_bodies.specs.Acting.{Acts, ActsInBody, ActsInHook, body_with, handed_back};
-ghost use Rattle.fj_bodies.specs.Fitting.{Fits};
-ghost use Rattle.fj_bodies.specs.Turns.{AskRight, ToldRight};
+ghost use Rattle.fj_body.specs.Acting.{Acts, ActsInBody, ActsInHook, body_with, handed_back};
+ghost use Rattle.fj_body.specs.Fitting.{Fits};
+ghost use Rattle.fj_body.specs.Turns.{AskRight, ToldRight};
 
-use crate::bare_ending::BareEnding;
-use crate::body::{Ask, Body, Heard, Told};
 use crate::store::Store;
+use fj_body::{Ask, BareEnding, Body, Heard, Told};
 use fj_rules::Refusal;
 use fj_slots::Hand;
 

@@ -2,13 +2,13 @@ ghost use Rattle.std.specs.Prelude.{◌≡◌, ◌&&◌, true, false};
 ghost use Rattle.fj_rules.specs.declared.step.Step.TheVariants.{Add, QuietRoot, Fault, Cancel, State};
 ghost use Rattle.fj_rules.specs.Statuses.{status, is_undone};
 ghost use Rattle.fj_rules.specs.Tasks.{is_kept};
-ghost use Rattle.fj_bodies.specs.Asking.{is_calm, Makes, Adds, QuietsRoot, Settles, Shows};
+ghost use Rattle.fj_body.specs.Asking.{is_calm, Makes, Adds, QuietsRoot, Settles, Shows};
 
-use crate::body::{Body, Heard, Told};
 use crate::due::due_after;
 use crate::moves::make;
 use crate::release::release_due;
 use crate::store::Store;
+use fj_body::{Body, Heard, Told};
 use fj_rules::{Said, Serial, Step, WorkerId};
 
 impl<B: Body> Store<B> {

@@ -1,14 +1,14 @@
 ghost use Rattle.std.specs.Prelude.{◌≡◌, [], None, false};
 ghost use Rattle.fj_rules.specs.Answers.{answer};
-ghost use Rattle.fj_bodies.specs.Turns.{ToldRight};
-ghost use Rattle.fj_bodies.specs.Fitting.{Fits};
+ghost use Rattle.fj_body.specs.Turns.{ToldRight};
+ghost use Rattle.fj_body.specs.Fitting.{Fits};
 ghost use Rattle.fj_rules.specs.ChoiceTaken.{TakesChoice};
-ghost use Rattle.fj_bodies.specs.Choosing.{Chooses, Polls, Helps, Joins};
+ghost use Rattle.fj_body.specs.Choosing.{Chooses, Polls, Helps, Joins};
 
-use crate::body::{Body, Heard, Told};
 use crate::due::Due;
 use crate::release::release_due;
 use crate::store::Store;
+use fj_body::{Body, Heard, Told};
 use fj_rules::{Refusal, Said, Serial, Step};
 use fj_slots::Hand;
 

@@ -2,18 +2,16 @@ ghost use Rattle.std.specs.Prelude.{◌≡◌, true, false};
 ghost use Rattle.fj_rules.specs.Lists.{is_in};
 ghost use Rattle.fj_rules.specs.Tasks.{is_kept};
 ghost use Rattle.fj_slots.specs.Shelves.{entries};
-ghost use Rattle.fj_bodies.specs.Stores.{HasResults};
-ghost use Rattle.fj_bodies.specs.Turns.{ToldRight};
-ghost use Rattle.fj_bodies.specs.Results.{LetsGo, MarksAndReleases, TakesAndReleases, TakesResult, Collects};
+ghost use Rattle.fj_body.specs.Stores.{HasResults};
+ghost use Rattle.fj_body.specs.Turns.{ToldRight};
+ghost use Rattle.fj_body.specs.Results.{LetsGo, MarksAndReleases, TakesAndReleases, TakesResult, Collects};
 
-use crate::body::{Body, Heard, Told};
 use crate::due::Due;
-use crate::kept_result::KeptResult;
-use crate::outcomes::{Outcome, told_outcome};
 use crate::places::is_gone;
 use crate::plain::release_plain;
 use crate::release::release_due;
 use crate::store::Store;
+use fj_body::{Body, Heard, KeptResult, Outcome, Told, told_outcome};
 use fj_rules::{Refusal, Serial};
 
 impl<B: Body> Store<B> {

@@ -1,18 +1,16 @@
 ghost use Rattle.std.specs.Prelude.{◌≡◌, IfSome, false};
 ghost use Rattle.fj_slots.specs.Hands.{asker};
-ghost use Rattle.fj_bodies.specs.Fitting.{Fits};
-ghost use Rattle.fj_bodies.specs.Endings.{EndsBody, EndsOk, ending_in};
-ghost use Rattle.fj_bodies.specs.HookEndings.{EndsHook};
+ghost use Rattle.fj_body.specs.Fitting.{Fits};
+ghost use Rattle.fj_body.specs.Endings.{EndsBody, EndsOk, ending_in};
+ghost use Rattle.fj_body.specs.HookEndings.{EndsHook};
 
-use crate::bare_ending::{BareEnding, as_ending};
-use crate::body::{Body, Told};
 use crate::due::Due;
 use crate::keep::keep_unless_taken;
-use crate::kept_result::KeptResult;
 use crate::moves::{make, sweep_since};
 use crate::places::is_gone_now;
 use crate::release::release_due;
 use crate::store::Store;
+use fj_body::{BareEnding, Body, KeptResult, Told, as_ending};
 use fj_rules::{Ending, Said, Step};
 use fj_slots::Hand;
 

@@ -1,8 +1,8 @@
 ghost use Rattle.std.specs.Prelude.{◌≡◌, ◌↔◌, IsTrue};
-ghost use Rattle.fj_bodies.specs.Fitting.{Fits};
+ghost use Rattle.fj_body.specs.Fitting.{Fits};
 
-use crate::body::Body;
 use crate::store::Store;
+use fj_body::Body;
 use fj_rules::Serial;
 use fj_slots::Hand;
 

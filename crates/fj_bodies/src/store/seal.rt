@@ -1,13 +1,12 @@
 ghost use Rattle.std.specs.Prelude.{◌≡◌, false};
 ghost use Rattle.fj_rules.specs.Epochs.{IsPast};
 ghost use Rattle.fj_slots.specs.Shelves.{entries};
-ghost use Rattle.fj_bodies.specs.Sealing.{Seals, is_half_full};
-ghost use Rattle.fj_bodies.specs.Releases.{NoneGoes};
-ghost use Rattle.fj_bodies.specs.Stores.{HasResults};
+ghost use Rattle.fj_body.specs.Sealing.{Seals, is_half_full};
+ghost use Rattle.fj_body.specs.Releases.{NoneGoes};
+ghost use Rattle.fj_body.specs.Stores.{HasResults};
 
-use crate::body::Body;
-use crate::kept_result::KeptResult;
 use crate::store::Store;
+use fj_body::{Body, KeptResult};
 use fj_machine::Machine;
 use fj_rules::{Refusal, Sealed};
 use fj_slots::SerialMap;

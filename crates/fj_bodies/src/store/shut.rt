@@ -2,10 +2,10 @@ ghost use Rattle.std.specs.Prelude.{◌≡◌, ◌||◌};
 ghost use Rattle.fj_rules.specs.Allowed.{is_closed, is_stopped};
 ghost use Rattle.fj_rules.specs.Answers.{is_quiet};
 ghost use Rattle.fj_rules.specs.declared.step.Step.TheVariants.{Shutdown, Stop};
-ghost use Rattle.fj_bodies.specs.Asking.{Shuts};
+ghost use Rattle.fj_body.specs.Asking.{Shuts};
 
-use crate::body::Body;
 use crate::store::Store;
+use fj_body::Body;
 use fj_rules::{Said, Step};
 
 impl<B: Body> Store<B> {

@@ -1,14 +1,14 @@
 //! Requests of a running body or a hook.
 ghost use Rattle.std.specs.Prelude.{◌↔◌, IfSome, IsSome, IsTrue};
 ghost use Rattle.fj_slots.specs.Hands.{asker};
-ghost use Rattle.fj_bodies.specs.Acting.{Acts};
-ghost use Rattle.fj_bodies.specs.Fitting.{Fits};
-ghost use Rattle.fj_bodies.specs.Stores.{StaysInside};
-ghost use Rattle.fj_bodies.specs.Turns.{AskRight, ToldRight};
-ghost use Rattle.fj_core.specs.Cores.{ChangesStore};
+ghost use Rattle.fj_body.specs.Acting.{Acts};
+ghost use Rattle.fj_body.specs.Fitting.{Fits};
+ghost use Rattle.fj_body.specs.Stores.{StaysInside};
+ghost use Rattle.fj_body.specs.Turns.{AskRight, ToldRight};
+ghost use Rattle.fj_calls.specs.Cores.{ChangesStore};
 
 use crate::pool_core::Core;
-use fj_bodies::{Ask, Body, Told};
+use fj_body::{Ask, Body, Told};
 use fj_slots::Hand;
 
 impl<B: Body> Core<B> {

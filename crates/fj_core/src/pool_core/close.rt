@@ -1,12 +1,12 @@
 ghost use Rattle.std.specs.Prelude.{◌≡◌, is_some};
 ghost use Rattle.fj_rules.specs.Answers.{is_quiet};
-ghost use Rattle.fj_core.specs.Closes.{ShutsAt, closed_at, is_finished, stopped_at};
-ghost use Rattle.fj_core.specs.Closings.{is_over};
+ghost use Rattle.fj_calls.specs.Closes.{ShutsAt, closed_at, is_finished, stopped_at};
+ghost use Rattle.fj_calls.specs.Closings.{is_over};
 
-use crate::cutoff::Cutoff;
 use crate::due::make_due;
 use crate::pool_core::Core;
-use fj_bodies::Body;
+use fj_body::Body;
+use fj_calls::Cutoff;
 
 impl<B: Body> Core<B> {
     /// Makes the Shutdown as soon as `number` submissions are taken in, at once if they are: `ForkJoinPool.shutdown`.

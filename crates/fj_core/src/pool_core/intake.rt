@@ -4,13 +4,13 @@ ghost use Rattle.fj_rules.specs.declared.limits.TheConstants.{MAX_PENDING};
 ghost use Rattle.fj_rules.specs.declared.owner.Owner.TheVariants.{Sub};
 ghost use Rattle.fj_rules.specs.Tasks.{count_in, submitted_kind};
 ghost use Rattle.fj_rules.specs.Runs.{grown};
-ghost use Rattle.fj_core.specs.Intakes.{Intakes, Readies, Submits, kind_rooted, refused_now};
+ghost use Rattle.fj_calls.specs.Intakes.{Intakes, Readies, Submits, kind_rooted, refused_now};
 
-use crate::booking::Booking;
 use crate::due::make_due;
 use crate::pool_core::Core;
-use crate::taken_in::Intake;
-use fj_bodies::{Body, Store};
+use fj_bodies::Store;
+use fj_body::Body;
+use fj_calls::{Booking, Intake};
 use fj_lane::Parcel;
 use fj_rules::{Refusal, Serial, SubId, SubmittedKind};
 

@@ -1,11 +1,11 @@
 ghost use Rattle.std.specs.Prelude.{◌≡◌, [], ◌++◌, true, false};
 ghost use Rattle.fj_rules.specs.Answers.{is_quiet};
-ghost use Rattle.fj_core.specs.Closings.{is_over};
-ghost use Rattle.fj_core.specs.Cores.{AreParts};
-ghost use Rattle.fj_core.specs.Sealing.{SealsCore, SealsPart, holds_back, is_without_memory, may_be_sealed};
+ghost use Rattle.fj_calls.specs.Closings.{is_over};
+ghost use Rattle.fj_calls.specs.Cores.{AreParts};
+ghost use Rattle.fj_calls.specs.Sealing.{SealsCore, SealsPart, holds_back, is_without_memory, may_be_sealed};
 
 use crate::pool_core::Core;
-use fj_bodies::Body;
+use fj_body::Body;
 use fj_rules::{Refusal, Sealed};
 use std::alloc::Global;
 

@@ -1,19 +1,18 @@
 //! Calls from outside, and the intake of submissions.
 ghost use Rattle.std.specs.Prelude.{◌≡◌, ◌<◌, ◌++◌, [], true, IfNone, IfSome};
-ghost use Rattle.fj_core.specs.Closes.{ShutsAt, closed_at, is_finished, stopped_at};
-ghost use Rattle.fj_core.specs.Cores.{CollectsTicket, is_awaited};
-ghost use Rattle.fj_core.specs.Sealing.{may_be_sealed};
+ghost use Rattle.fj_calls.specs.Closes.{ShutsAt, closed_at, is_finished, stopped_at};
+ghost use Rattle.fj_calls.specs.Cores.{CollectsTicket, is_awaited};
+ghost use Rattle.fj_calls.specs.Sealing.{may_be_sealed};
 ghost use Rattle.fj_guarded.specs.Lanes.{KeepsLanes};
 ghost use Rattle.fj_guarded.specs.Asked.{CancelsBehind, CollectsAny};
 ghost use Rattle.fj_guarded.specs.Looking.{IsQuietBehind, LooksAtLanes, SealsWhere, TakesEach, TakesFrom, behind, with_answer};
 
 use crate::guarded::Guarded;
-use fj_bodies::{Body, Outcome};
-use fj_core::Intake;
+use fj_body::{Body, Outcome};
+use fj_calls::{CoreLanes, CoreOutside, CoreQueries, CoreSleep, Intake};
 use fj_gate::Ticket;
 use fj_rules::{Refusal, Sealed, SubId};
 use fj_submitter::Naming;
-use fj_wake::WakingCore;
 use std::alloc::Global;
 
 /// How many tasks a look at the lanes queued.
@@ -24,7 +23,7 @@ pub enum TakenIn {
     Several,
 }
 
-impl<B: Body, N: Naming> Guarded<B, N> {
+impl<B: Body, N: Naming, C: CoreLanes<B> + CoreQueries<B> + CoreSleep<B>> Guarded<B, N, C> {
     /// A look at the lanes, by a worker or a caller that cancels: seals the history if that is due, and then takes in submissions, unless the core holds back.
     pub(crate) fn look_at_lanes(&mut self, alloc: Global) -> TakenIn
         ensures { LooksAtLanes B.rooted_as self.old result self.new }
@@ -48,7 +47,9 @@ impl<B: Body, N: Naming> Guarded<B, N> {
         }
         taken
     }
+}
 
+impl<B: Body, N: Naming, C: CoreLanes<B>> Guarded<B, N, C> {
     /// Seals the history if that is due. A refusal is ignored: the next look retries.
     fn seal_where_due(&mut self, alloc: Global)
         ensures { SealsWhere (may_be_sealed self.old.store.past) self.old self.new }
@@ -57,7 +58,9 @@ impl<B: Body, N: Naming> Guarded<B, N> {
             let _sealed = self.core.seal(alloc);
         }
     }
+}
 
+impl<B: Body, N: Naming, C: CoreOutside<B>> Guarded<B, N, C> {
     /// The outcome under a ticket, as `Core::collect` returns it.
     pub fn collect(&mut self, ticket: Ticket) -> Option<Result<Outcome<B>, Refusal>>
         ensures collects { CollectsTicket self.old ticket result self.new }
@@ -80,7 +83,13 @@ impl<B: Body, N: Naming> Guarded<B, N> {
         }
         None
     }
+}
 
+impl<B: Body, N: Naming, C: CoreLanes<B> + CoreOutside<B> + CoreQueries<B> + CoreSleep<B>> Guarded<
+    B,
+    N,
+    C,
+> {
     /// Cancels the submission under a ticket, after a look at the lanes.
     pub fn cancel(&mut self, alloc: Global, ticket: Ticket) -> Result<bool, Refusal>
         ensures { CancelsBehind B.rooted_as self.old ticket result self.new }
@@ -90,7 +99,9 @@ impl<B: Body, N: Naming> Guarded<B, N> {
         }
         self.core.cancel(ticket)
     }
+}
 
+impl<B: Body, N: Naming, C: CoreOutside<B>> Guarded<B, N, C> {
     /// Hands out the sealed parts that are kept.
     pub fn take_parts(&mut self, alloc: Global) -> Vec<Sealed>
         ensures parts { result.items ≡ self.old.parts }
@@ -112,7 +123,9 @@ impl<B: Body, N: Naming> Guarded<B, N> {
     {
         self.core.stop_at(number);
     }
+}
 
+impl<B: Body, N: Naming, C: CoreLanes<B> + CoreQueries<B> + CoreSleep<B>> Guarded<B, N, C> {
     /// Whether all queues, stacks and hands are empty, after the history is sealed, if that is due, and submissions are taken in.
     pub fn is_quiescent(&mut self, alloc: Global) -> bool
         ensures { IsQuietBehind B.rooted_as self.old result self.new }
@@ -123,7 +136,9 @@ impl<B: Body, N: Naming> Guarded<B, N> {
         }
         self.core.is_quiescent()
     }
+}
 
+impl<B: Body, N: Naming, C: CoreQueries<B>> Guarded<B, N, C> {
     /// Whether the pool has terminated.
     pub fn is_terminated(&self) -> bool
         ensures { result ≡ is_finished self.now }
@@ -133,12 +148,15 @@ impl<B: Body, N: Naming> Guarded<B, N> {
 }
 
 /// One intake for each submitter, from this one on. Also returns the first for which there was no room, or else this one.
-fn take_each<B: Body>(core: &mut WakingCore<B>, first: SubId) -> (TakenIn, SubId)
-    requires { first < core.old.store.past.pool.limits.submitters }
-    ensures takes { TakesFrom B.rooted_as core.old.store.past.pool.limits.submitters first core.old.store.past.pool.limits.submitters core.old result.0 core.new }
-    ensures next { result.1 < core.old.store.past.pool.limits.submitters }
-    ensures lanes { KeepsLanes core.old core.new }
-    ensures pool { core.new.store.past.pool ≡ core.old.store.past.pool }
+fn take_each<B: Body, C: CoreLanes<B> + CoreQueries<B>>(
+    core: &mut C,
+    first: SubId,
+) -> (TakenIn, SubId)
+    requires { first < (C.state core.old).store.past.pool.limits.submitters }
+    ensures takes { TakesFrom B.rooted_as (C.state core.old).store.past.pool.limits.submitters first (C.state core.old).store.past.pool.limits.submitters (C.state core.old) result.0 (C.state core.new) }
+    ensures next { result.1 < (C.state core.old).store.past.pool.limits.submitters }
+    ensures lanes { KeepsLanes (C.state core.old) (C.state core.new) }
+    ensures pool { (C.state core.new).store.past.pool ≡ (C.state core.old).store.past.pool }
 {
     let submitters = core.limits().submitters();
     let mut taken = TakenIn::Nothing;

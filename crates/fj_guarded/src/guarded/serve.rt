@@ -1,27 +1,32 @@
 //! What a worker does in one holding of the lock: all that needs no turn of a body is done at once.
 ghost use Rattle.std.specs.Prelude.{◌≡◌, [], None, IfSome, IfNone, IsSome, Err, true, false};
 ghost use Rattle.fj_slots.specs.Hands.{asker};
-ghost use Rattle.fj_bodies.specs.Choosing.{Polls};
-ghost use Rattle.fj_bodies.specs.Fitting.{Fits};
-ghost use Rattle.fj_bodies.specs.Turns.{AskRight, ToldRight};
-ghost use Rattle.fj_bodies.specs.Acting.{Acts};
-ghost use Rattle.fj_core.specs.Closes.{is_finished};
-ghost use Rattle.fj_core.specs.Cores.{ChangesStore};
+ghost use Rattle.fj_body.specs.Choosing.{Polls};
+ghost use Rattle.fj_body.specs.Fitting.{Fits};
+ghost use Rattle.fj_body.specs.Turns.{AskRight, ToldRight};
+ghost use Rattle.fj_body.specs.Acting.{Acts};
+ghost use Rattle.fj_calls.specs.Closes.{is_finished};
+ghost use Rattle.fj_calls.specs.Cores.{ChangesStore};
 ghost use Rattle.fj_guarded.specs.Keeping.{KeepsOthers};
 ghost use Rattle.fj_guarded.specs.Turning.{LeavesWell, MayAsk, NextRight};
 ghost use Rattle.fj_guarded.specs.Working.{JoinsOnce, IsPolled, LooksForWork, NextOfPoll, PollsOn, Resumes, Serves, Then, Waits, WithoutTask, joined_of, next_asleep, next_idle, noted};
-ghost use Rattle.fj_wake.specs.Waiting.{is_joinable};
+ghost use Rattle.fj_calls.specs.Joins.{is_joinable};
 
 use crate::guarded::Guarded;
 use crate::guarded::outside::TakenIn;
 use crate::next::{MOST_SKIPPED, Next, Unneeded};
-use fj_bodies::{Ask, Body, Heard, Told};
+use fj_body::{Ask, Body, Heard, Told};
+use fj_calls::{CoreLanes, CoreQueries, CoreSleep, CoreWorkers};
 use fj_rules::{Refusal, Serial, WorkerId};
 use fj_slots::Hand;
 use fj_submitter::Naming;
 use std::alloc::Global;
 
-impl<B: Body, N: Naming> Guarded<B, N> {
+impl<B: Body, N: Naming, C: CoreLanes<B> + CoreQueries<B> + CoreSleep<B> + CoreWorkers<B>> Guarded<
+    B,
+    N,
+    C,
+> {
     /// Serves what the hook or the running body asks; without an ask the worker resumes. Preconditions: the hand fits, and has a body or a
     /// hook that may ask this.
     pub fn serve(

@@ -1,15 +1,15 @@
 //! Threads go to sleep, and come back.
 ghost use Rattle.std.specs.Prelude.{◌≡◌, true};
-ghost use Rattle.fj_core.specs.Cores.{is_awaited};
+ghost use Rattle.fj_calls.specs.Cores.{is_awaited};
 
 use crate::guarded::Guarded;
-use fj_bodies::Body;
+use fj_body::Body;
+use fj_calls::{CoreSleep, ToWake};
 use fj_gate::Ticket;
 use fj_rules::WorkerId;
 use fj_submitter::Naming;
-use fj_wake::ToWake;
 
-impl<B: Body, N: Naming> Guarded<B, N> {
+impl<B: Body, N: Naming, C: CoreSleep<B>> Guarded<B, N, C> {
     /// Puts into `due` who is to be woken by all that was done since the last call, if anybody is.
     #[inline(always)]
     pub fn take_due(&mut self, due: &mut ToWake)

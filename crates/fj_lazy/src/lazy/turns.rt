@@ -1,7 +1,7 @@
 //! The turns of a lazy body.
 ghost use Rattle.std.specs.Prelude.{◌≡◌, ℕ, ◌+◌, ◌<◌, ◌++◌, ◌∷◌, [], Option, None, IfSome, true, vec_len, vec_capacity};
 ghost use Rattle.std.specs.VecDeque.{deque_len, deque_capacity};
-ghost use Rattle.fj_bodies.specs.Turns.{HeardRight, AskRight, Nearer};
+ghost use Rattle.fj_body.specs.Turns.{HeardRight, AskRight, Nearer};
 ghost use Rattle.fj_lazy.specs.PartsAside.{around, beside, forked_in, outside, whole};
 ghost use Rattle.fj_lazy.specs.Splits.{turns_left, turns_of};
 ghost use Rattle.fj_lazy.specs.Asks.{AsksAsJob, AsksOn, HoldsNothing, JoinsOwn, forked_by};
@@ -9,7 +9,7 @@ ghost use Rattle.fj_lazy.specs.Failures.{AsksFailing, code_heard, is_want_of_roo
 
 use super::Lazy;
 use crate::part::{LazyStage, Outer};
-use fj_bodies::{Ask, Body, Heard};
+use fj_body::{Ask, Body, Heard};
 use fj_jobs::Divide;
 use fj_rules::{Refusal, Serial};
 use std::mem;

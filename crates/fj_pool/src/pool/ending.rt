@@ -2,15 +2,16 @@
 ghost use Rattle.std.specs.Prelude.{◌≡◌, ◌++◌, ◌↔◌, IfSome, IsTrue, true, length};
 ghost use Rattle.fj_gate.specs.Numbers.{IsNumbersBelow};
 ghost use Rattle.fj_rules.specs.Epochs.{IsPast};
-ghost use Rattle.fj_core.specs.Cores.{AreParts};
+ghost use Rattle.fj_calls.specs.Cores.{AreParts};
 ghost use Rattle.fj_guarded.specs.Continuing.{EndsIn};
 ghost use Rattle.fj_parts.specs.Winding.{AreEmpty, AreSettled, has_terminated, submissions, tickets_of};
 ghost use Rattle.fj_submitter.specs.Seats.{AreAll};
 
 use crate::pool::Pool;
-use fj_bodies::Body;
+use crate::types::Still;
+use fj_body::Body;
 use fj_guarded::Naming;
-use fj_parts::{Closer, History, Record, Still, Submitter};
+use fj_parts::{Closer, History, Record, Submitter};
 
 impl<B: Body, N: Naming> Pool<B, N> {
     /// Whether these are all submitters of the pool, in order of their numbers.

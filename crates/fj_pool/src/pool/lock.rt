@@ -1,8 +1,8 @@
 //! How the lock is taken.
 use crate::pool::Pool;
-use fj_bodies::Body;
+use crate::types::Locked;
+use fj_body::Body;
 use fj_guarded::Naming;
-use fj_parts::Locked;
 use fj_sleep::Contention;
 use std::sync::{MutexGuard, Wait};
 use std::{hint, thread};

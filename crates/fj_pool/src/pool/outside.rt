@@ -1,8 +1,8 @@
 //! Calls by threads that are no workers of the pool.
 ghost use Rattle.std.specs.Prelude.{◌≡◌, ◌<◌, [], IfNone, IfOk, IfSome, Some, length};
 ghost use mathlib.Core.List.{IsPrefix};
-ghost use Rattle.fj_core.specs.Closes.{is_finished};
-ghost use Rattle.fj_core.specs.Cores.{CollectsTicket, CoreState};
+ghost use Rattle.fj_calls.specs.Closes.{is_finished};
+ghost use Rattle.fj_calls.specs.Cores.{CollectsTicket, CoreState};
 ghost use Rattle.fj_guarded.specs.Asked.{CancelsBehind, CollectsAt};
 ghost use Rattle.fj_guarded.specs.Continuing.{EndsWith, IsNow, IsToldNow};
 ghost use Rattle.fj_pool.specs.Telling.{IsToldAt};
@@ -10,12 +10,13 @@ ghost use Rattle.fj_guarded.specs.Looking.{IsQuietBehind};
 
 use crate::pool::Pool;
 use crate::pool::work::LONGEST_WAIT;
-use fj_bodies::{Body, Outcome};
+use crate::types::Locked;
+use fj_body::{Body, Outcome};
+use fj_calls::ToWake;
 use fj_gate::{Closing, Ticket};
 use fj_guarded::{Front, Naming};
-use fj_parts::{Closer, Glance, Locked};
+use fj_parts::{Closer, Glance};
 use fj_rules::{Refusal, Sealed};
-use fj_wake::ToWake;
 use std::sync::{MutexGuard, Wait};
 use std::time::Duration;
 

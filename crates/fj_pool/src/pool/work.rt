@@ -1,18 +1,20 @@
 //! What a worker does, from its start to the end of its pool.
 ghost use Rattle.std.specs.Prelude.{◌<◌, IfSome, length};
 ghost use mathlib.Core.List.{IsPrefix};
-ghost use Rattle.fj_core.specs.Cores.{CoreState};
+ghost use Rattle.fj_calls.specs.Cores.{CoreState};
 ghost use Rattle.fj_guarded.specs.Continuing.{IsNow};
 ghost use Rattle.fj_guarded.specs.Turning.{IsSeenLeaving, MayAsk, MayLeave, NextRight};
 
 use crate::pool::Pool;
 use crate::turns::follow;
-use fj_bodies::{Ask, Body, Turnstile};
+use crate::types::Locked;
+use fj_body::{Ask, Body, Turnstile};
+use fj_calls::ToWake;
 use fj_guarded::{Front, Naming, Next};
-use fj_parts::{Hand, Locked};
+use fj_parts::Hand;
 use fj_rules::{Refusal, WorkerId};
 use fj_sleep::{Contention, Idle};
-use fj_wake::{ToWake, place_of};
+use fj_wake::place_of;
 use std::sync::{MutexGuard, Wait};
 use std::thread;
 use std::time::Duration;

@@ -1,12 +1,13 @@
 //! Who is to be woken by what has happened at a core.
 ghost use Rattle.std.specs.Prelude.{◌≡◌, ℕ, Bool, true, false};
-ghost use Rattle.fj_core.specs.Cores.{is_awaited};
+ghost use Rattle.fj_calls.specs.Cores.{is_awaited};
 ghost use Rattle.fj_wake.specs.News.{has_ended};
-ghost use Rattle.fj_wake.specs.Waiting.{AllWaitFor, LooksAt, NoLostWakeUp, StillToCome, WaitBelow, WaitForNothingNew, WaitOnlyFor, is_joinable};
+ghost use Rattle.fj_calls.specs.Joins.{is_joinable};
+ghost use Rattle.fj_wake.specs.Waiting.{AllWaitFor, LooksAt, NoLostWakeUp, StillToCome, WaitBelow, WaitForNothingNew, WaitOnlyFor};
 
 use crate::news::{ends_any, queues_any, since};
 use crate::waits::Waits;
-use fj_bodies::Body;
+use fj_body::Body;
 use fj_core::Core;
 use fj_gate::Ticket;
 use fj_rules::{Event, Serial};

@@ -1,7 +1,7 @@
 use Rattle.std.proofs.Common.{ap, sym, ◌∙◌, arith}
 use Rattle.fj_rules.specs.Bounds.{Bounds}
 use Rattle.fj_rules.proofs.Steps.AnswersAllowed.{history_allowed}
-use Rattle.fj_bodies.proofs.InHands.{in_hand_hooked, hooked_none}
+use Rattle.fj_body.proofs.InHands.{in_hand_hooked, hooked_none}
 use Rattle.fj_bodies.proofs.hooked.is_hooked.Goals as goal
 
 pub returns-then-is_this : goal.returns-then-is_this

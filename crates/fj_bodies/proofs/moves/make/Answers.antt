@@ -2,7 +2,7 @@ use Rattle.std.proofs.Common.{ℕ, List, length, drop, ap, ◌∙◌}
 use Rattle.fj_rules.specs.Answers.{answer}
 use Rattle.fj_rules.specs.Pasts.{gone_since}
 use Rattle.fj_slots.specs.Shelves.{entries, without_entries}
-use Rattle.fj_bodies.proofs.Sweeps.{gone_longer, went_shown}
+use Rattle.fj_body.proofs.Sweeps.{gone_longer, went_shown}
 use Rattle.fj_bodies.proofs.Calms.{nothing_went}
 use Rattle.fj_bodies.proofs.moves.make.Goals as goal
 

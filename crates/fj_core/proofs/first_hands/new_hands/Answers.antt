@@ -1,7 +1,7 @@
 use Rattle.std.proofs.Common.{arith, ◌+◌, ◌%◌, ◌^◌, ◌++◌, ◌∷◌, [], ap, sym, ◌∙◌}
 use Rattle.std.proofs.lemmas.List.FromFn.{map-range_with_len_more}
 use Rattle.fj_slots.specs.Hands.{new_hand}
-use Rattle.fj_core.specs.Cores.{first_hands}
+use Rattle.fj_calls.specs.Cores.{first_hands}
 use Rattle.fj_core.proofs.first_hands.new_hands.Goals as goal
 
 pub loop-w-preserved : goal.loop-w-preserved

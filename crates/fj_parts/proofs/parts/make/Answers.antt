@@ -1,7 +1,7 @@
 use Rattle.std.proofs.Common.{◌≡◌, [], All, refl, sym, ◌∙◌, subst, arith}
 use Rattle.fj_rules.proofs.Making.{made}
 use Rattle.fj_gate.specs.Ends.{new_closer}
-use Rattle.fj_core.specs.Cores.{IsNew}
+use Rattle.fj_calls.specs.Cores.{IsNew}
 use Rattle.fj_parts.specs.Holdings.{holding_of, nothing}
 use Rattle.fj_parts.proofs.Holdings.{first_nothing, tied_have_ends}
 use Rattle.fj_parts.proofs.Seating.{all_drains, all_new, paired}
@@ -19,9 +19,9 @@ tie_all-requires g c = subst (λ hs. All (λ h. holding_of h ≡ nothing) hs) (s
 pub invariant_of-result : goal.invariant_of-result
 invariant_of-result g c =
     let opened = c.in_ok-entrants.ensures in record {
-      paired = paired c.args.lane_capacity c.submitters.result c.in_ok-entrants.closer c.in_ok-entrants.entrants.items c.in_ok-seats.seats.items c.in_ok-seats.drains.items c.in-Ok.core.lanes c.in_ok-seats.ensures opened.closer
+      paired = paired c.args.lane_capacity c.submitters.result c.in_ok-entrants.closer c.in_ok-entrants.entrants.items c.in_ok-seats.seats.items c.in_ok-seats.drains.items (g.C.CoreView.state c.in-Ok.core).lanes c.in_ok-seats.ensures opened.closer
           (omega (arith, opened.entrants.0, c.in_ok-entrants.entrants.ok.0)) opened.entrants.1 c.in-Ok.ensures.core.lanes_same;
-      held = tied_have_ends c.args.mode c.args.limits c.args.start c.in-Ok.core.store.past c.in-Ok.untied.items c.in-Ok-both.tied.0.items c.in-Ok-both.tied.1.items c.in-Ok.ensures.core.past c.in-Ok.ensures.hands
+      held = tied_have_ends c.args.mode c.args.limits c.args.start (g.C.CoreView.state c.in-Ok.core).store.past c.in-Ok.untied.items c.in-Ok-both.tied.0.items c.in-Ok-both.tied.1.items c.in-Ok.ensures.core.past c.in-Ok.ensures.hands
           (made _ c.in-Ok-both.ensures.0 c.tie_all.ensures);
     }
 
@@ -31,7 +31,7 @@ returns g c =
     let seated = c.in_ok-seats.ensures in record {
       lanes = seated.lanes;
       lane_each = omega (arith, seated.lane_each, opened.entrants.0, c.in_ok-entrants.entrants.ok.0, c.submitters.ensures.number);
-      core = subst (λ ds. IsNew c.args.mode c.args.limits ds c.in-Ok.core) seated.drains_are c.in-Ok.ensures.core;
+      core = subst (λ ds. IsNew c.args.mode c.args.limits ds (g.C.CoreView.state c.in-Ok.core)) seated.drains_are c.in-Ok.ensures.core;
       hands = (made _ c.in-Ok-both.ensures.0 c.tie_all.ensures).hands_are ∙ c.in-Ok.ensures.hands;
       seats = all_new c.in_ok-entrants.closer.gate c.args.lane_capacity c.in_ok-entrants.entrants.items c.in_ok-seats.seats.items c.in_ok-seats.drains.items seated opened.entrants.1;
       closer = subst (λ n. c.in_ok-entrants.closer ≡ new_closer c.in_ok-entrants.closer.gate n) c.submitters.ensures.number opened.closer;

@@ -2,9 +2,9 @@ use Rattle.std.proofs.Common.{ℕ, ◌≡◌, false, Option, Some, None, inl, in
 use Rattle.std.specs.Prelude.{IfSome, IsSome, is_some}
 use Rattle.fj_rules.specs.Lists.{or_else}
 use Rattle.fj_slots.specs.Hands.{HandState, asker, hook_number, with_hook}
-use Rattle.fj_bodies.specs.declared.body.Ask.{Ask}
-use Rattle.fj_bodies.specs.Turns.{AskRight}
-use Rattle.fj_bodies.proofs.Endings.{newest_is}
+use Rattle.fj_body.specs.declared.body.Ask.{Ask}
+use Rattle.fj_body.specs.Turns.{AskRight}
+use Rattle.fj_body.proofs.Endings.{newest_is}
 use Rattle.fj_guarded.specs.Turning.{MayAsk}
 use Rattle.fj_parts.proofs.turns.take_turn.Goals as goal
 

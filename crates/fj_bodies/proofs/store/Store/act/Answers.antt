@@ -1,6 +1,6 @@
 use Rattle.std.proofs.Common.{true, false, ◌∙◌, ap, sym}
 use Rattle.std.specs.Prelude.{is_some}
-use Rattle.fj_bodies.proofs.Acts.{hook_there, acts_as, stuck_acts}
+use Rattle.fj_body.proofs.Acts.{hook_there, acts_as, stuck_acts}
 use Rattle.fj_bodies.proofs.store.Store.act.Goals as goal
 
 pub returns-then-is_stuck-clause-acts : goal.returns-then-is_stuck-clause-acts

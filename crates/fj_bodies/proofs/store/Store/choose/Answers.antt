@@ -2,11 +2,11 @@ use Rattle.std.proofs.Common.{[], ◌∷◌, refl, sym, ap, subst, ◌∙◌}
 use Rattle.fj_rules.specs.declared.event.Event.TheVariants.{Out, Skip}
 use Rattle.fj_rules.specs.Answers.{answer}
 use Rattle.fj_rules.specs.Runs.{Past}
-use Rattle.fj_bodies.specs.Fitting.{Fits}
+use Rattle.fj_body.specs.Fitting.{Fits}
 use Rattle.fj_rules.specs.ChoiceTaken.{TakesChoice}
 use Rattle.fj_rules.proofs.Steps.Answered.{choice_ran, choice_skipped, choice_idle, choice_normal, choice_failed, choice_cancelled, choice_replies}
-use Rattle.fj_bodies.proofs.Stored.{same_stored}
-use Rattle.fj_bodies.proofs.Taking.{taken_there, out_stored, skip_stored, out_room, chosen_run_fits, chosen_same_fits, chosen_skip_fits}
+use Rattle.fj_body.proofs.Stored.{same_stored}
+use Rattle.fj_body.proofs.Taking.{taken_there, out_stored, skip_stored, out_room, chosen_run_fits, chosen_same_fits, chosen_skip_fits}
 use Rattle.fj_rules.proofs.Steps.AboutTasks.{skip_about}
 use Rattle.fj_bodies.proofs.NoneLost.{choice_results}
 use Rattle.fj_bodies.proofs.DueTasks.{step_due, still_rests}

@@ -1,8 +1,8 @@
 use Rattle.std.proofs.Common.{inr, refl, sym, ap, subst, ◌∙◌}
 use Rattle.fj_rules.specs.declared.step.Step.TheVariants.{End}
-use Rattle.fj_bodies.specs.Choosing.{TellsRefusal}
-use Rattle.fj_bodies.specs.Endings.{EndsBody}
-use Rattle.fj_bodies.specs.Fitting.{Fits}
+use Rattle.fj_body.specs.Choosing.{TellsRefusal}
+use Rattle.fj_body.specs.Endings.{EndsBody}
+use Rattle.fj_body.specs.Fitting.{Fits}
 use Rattle.fj_bodies.proofs.Completing.{end_fired, end_unfired, not_over, popped, popped_runs, popped_ends, filled_hand, fired_fits, unfired_fits, fired_stored, out_stored, in_stored, end_kept, end_free, end_room, ends_in_hook, ends_over_out, ends_over_in}
 use Rattle.fj_rules.proofs.Steps.AboutTasks.{end_about}
 use Rattle.fj_bodies.proofs.Calms.{refused_steps}

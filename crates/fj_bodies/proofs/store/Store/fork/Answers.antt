@@ -3,7 +3,7 @@ use Rattle.fj_rules.specs.declared.event.Event.TheVariants.{Acc}
 use Rattle.fj_rules.specs.declared.owner.Owner.TheVariants.{Work}
 use Rattle.fj_rules.specs.declared.step.Step.TheVariants.{Fork}
 use Rattle.fj_rules.proofs.Steps.Answered.{fork_replies, fork_made}
-use Rattle.fj_bodies.proofs.Stored.{accept_stored, accept_free, accept_room, none_released_acc}
+use Rattle.fj_body.proofs.Stored.{accept_stored, accept_free, accept_room, none_released_acc}
 use Rattle.fj_bodies.proofs.NoneLost.{step_results}
 use Rattle.fj_bodies.proofs.DueTasks.{still_rests}
 use Rattle.fj_bodies.proofs.store.Store.fork.Goals as goal

@@ -3,14 +3,14 @@ use Rattle.fj_rules.specs.declared.step.Step.TheVariants.{HookDone}
 use Rattle.fj_rules.specs.Lists.{is_in}
 use Rattle.fj_slots.specs.Shelves.{entries}
 use Rattle.fj_slots.specs.Hands.{with_hook}
-use Rattle.fj_bodies.specs.Choosing.{TellsRefusal}
-use Rattle.fj_bodies.specs.Fitting.{Fits}
-use Rattle.fj_bodies.specs.HookEndings.{EndsHook}
-use Rattle.fj_bodies.specs.Stores.{StoreState}
+use Rattle.fj_body.specs.Choosing.{TellsRefusal}
+use Rattle.fj_body.specs.Fitting.{Fits}
+use Rattle.fj_body.specs.HookEndings.{EndsHook}
+use Rattle.fj_body.specs.Stores.{StoreState}
 use Rattle.fj_bodies.proofs.Completing.{not_over}
-use Rattle.fj_bodies.proofs.Sweeps.{gone_longer}
-use Rattle.fj_bodies.proofs.HookEndings.{hook_fired, hook_unfired, hook_in, hook_swept, parent_there, hook_fired_stored, hook_over_stored}
-use Rattle.fj_bodies.proofs.HookEndings.{hook_task, own_hook_about, hook_first, hook_last, hook_kept_fired, hook_kept_over, hook_fired_fits, hook_over_fits, hook_ends_in_hook, hook_ends_over}
+use Rattle.fj_body.proofs.Sweeps.{gone_longer}
+use Rattle.fj_body.proofs.HookEndings.{hook_fired, hook_unfired, hook_in, hook_swept, parent_there, hook_fired_stored, hook_over_stored}
+use Rattle.fj_body.proofs.HookEndings.{hook_task, own_hook_about, hook_first, hook_last, hook_kept_fired, hook_kept_over, hook_fired_fits, hook_over_fits, hook_ends_in_hook, hook_ends_over}
 use Rattle.fj_bodies.proofs.Calms.{refused_steps}
 use Rattle.fj_bodies.proofs.HooksEnded.{fired_only, over_only}
 use Rattle.fj_bodies.proofs.NoneLost.{hook_results}

@@ -6,7 +6,7 @@ use Rattle.fj_rules.specs.Runs.{grown}
 use Rattle.fj_rules.specs.ChoiceTaken.{TakesChoice}
 use Rattle.fj_rules.proofs.Steps.Answered.{join_takes}
 use Rattle.fj_bodies.proofs.NoResult.{joins_bare}
-use Rattle.fj_bodies.proofs.Taking.{released_fits}
+use Rattle.fj_body.proofs.Taking.{released_fits}
 use Rattle.fj_bodies.proofs.store.Store.join.Goals as goal
 
 pub choose-requires-clause-takes : goal.choose-requires-clause-takes

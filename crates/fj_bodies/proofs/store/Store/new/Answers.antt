@@ -1,7 +1,7 @@
 use Rattle.std.proofs.Common.{ap, arith}
 use Rattle.fj_rules.proofs.Making.{made}
 use Rattle.fj_slots.specs.Marked.{SerialList}
-use Rattle.fj_bodies.proofs.Stored.{fresh_stored}
+use Rattle.fj_body.proofs.Stored.{fresh_stored}
 use Rattle.fj_bodies.proofs.NoneLost.{fresh_results}
 use Rattle.fj_bodies.proofs.store.Store.new.Goals as goal
 

@@ -3,12 +3,12 @@ use Rattle.fj_rules.specs.declared.step.Step.TheVariants.{End}
 use Rattle.fj_rules.specs.declared.step.Ending.TheVariants.{Ok as EndOk}
 use Rattle.fj_rules.specs.Lists.{is_in}
 use Rattle.fj_slots.specs.Shelves.{entries}
-use Rattle.fj_bodies.specs.Choosing.{TellsRefusal}
-use Rattle.fj_bodies.specs.Endings.{EndsOk}
-use Rattle.fj_bodies.specs.Fitting.{Fits}
-use Rattle.fj_bodies.specs.Stores.{StoreState}
+use Rattle.fj_body.specs.Choosing.{TellsRefusal}
+use Rattle.fj_body.specs.Endings.{EndsOk}
+use Rattle.fj_body.specs.Fitting.{Fits}
+use Rattle.fj_body.specs.Stores.{StoreState}
 use Rattle.fj_rules.proofs.Steps.Answered.{ok_done, ok_replies, end_free}
-use Rattle.fj_bodies.proofs.Endings.{ok_stored, filled, newest_kept, ok_fits, asker_is}
+use Rattle.fj_body.proofs.Endings.{ok_stored, filled, newest_kept, ok_fits, asker_is}
 use Rattle.fj_bodies.proofs.Calms.{refused_steps}
 use Rattle.fj_bodies.proofs.Completing.{popped, popped_runs, ok_first, ok_last}
 use Rattle.fj_bodies.proofs.Polling.{tells_refusal}

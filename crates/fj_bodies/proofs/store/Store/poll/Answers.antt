@@ -3,7 +3,7 @@ use Rattle.fj_rules.specs.declared.step.Step.TheVariants.{Poll}
 use Rattle.fj_rules.specs.Answers.{answer}
 use Rattle.fj_rules.specs.ChoiceTaken.{TakesChoice}
 use Rattle.fj_rules.proofs.Steps.Answered.{poll_takes}
-use Rattle.fj_bodies.specs.declared.body.Told.TheVariants.{Hear}
+use Rattle.fj_body.specs.declared.body.Told.TheVariants.{Hear}
 use Rattle.fj_bodies.proofs.Polling.{by_next, poll_sticks}
 use Rattle.fj_bodies.proofs.store.Store.poll.Goals as goal
 

@@ -1,5 +1,5 @@
 use Rattle.std.proofs.Common.{refl}
-use Rattle.fj_bodies.proofs.Acts.{accepts_leave, lets_leave, takes_leave, adds_leave, quiets_leave, settles_leave, shows_leave}
+use Rattle.fj_body.proofs.Acts.{accepts_leave, lets_leave, takes_leave, adds_leave, quiets_leave, settles_leave, shows_leave}
 use Rattle.fj_bodies.proofs.Bare.{still_fits}
 use Rattle.fj_bodies.proofs.store.Store.serve_body.Goals as goal
 

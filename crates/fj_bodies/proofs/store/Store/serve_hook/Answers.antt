@@ -1,4 +1,4 @@
-use Rattle.fj_bodies.proofs.Acts.{takes_leave}
+use Rattle.fj_body.proofs.Acts.{takes_leave}
 use Rattle.fj_bodies.proofs.Bare.{still_fits}
 use Rattle.fj_bodies.proofs.store.Store.serve_hook.Goals as goal
 

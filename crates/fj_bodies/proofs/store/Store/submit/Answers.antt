@@ -5,7 +5,7 @@ use Rattle.fj_rules.specs.declared.step.Step.TheVariants.{Submit}
 use Rattle.fj_rules.specs.Tasks.{submitted_kind}
 use Rattle.fj_rules.specs.Answers.{refusal_of}
 use Rattle.fj_rules.proofs.Steps.Answered.{submit_made, submit_task}
-use Rattle.fj_bodies.proofs.Stored.{accept_stored, accept_free, accept_room, none_released_acc}
+use Rattle.fj_body.proofs.Stored.{accept_stored, accept_free, accept_room, none_released_acc}
 use Rattle.fj_bodies.proofs.NoneLost.{step_results}
 use Rattle.fj_bodies.proofs.DueTasks.{still_rests}
 use Rattle.fj_bodies.proofs.store.Store.submit.Goals as goal

@@ -4,7 +4,7 @@ use Rattle.fj_rules.specs.Lists.{is_in}
 use Rattle.fj_rules.specs.Tasks.{is_kept}
 use Rattle.fj_rules.proofs.Lists.Members.{once_more}
 use Rattle.fj_slots.specs.Shelves.{entries}
-use Rattle.fj_bodies.specs.Releases.{ReleasesPlain}
+use Rattle.fj_body.specs.Releases.{ReleasesPlain}
 use Rattle.fj_bodies.proofs.DueTasks.{marked_due}
 use Rattle.fj_bodies.proofs.PlainTasks.{plain_due, plain_releases, plain_results, plain_stored}
 use Rattle.fj_bodies.proofs.NoneLost.{marked_results}

@@ -3,7 +3,7 @@ use Rattle.fj_rules.specs.declared.event.Event.TheVariants.{Make}
 use Rattle.fj_rules.specs.declared.kind.Kind.TheVariants.{Completer}
 use Rattle.fj_rules.specs.declared.step.Step.TheVariants.{Trigger}
 use Rattle.fj_rules.proofs.Steps.Answered.{trigger_replies, trigger_made}
-use Rattle.fj_bodies.proofs.Stored.{make_stored, accept_free, accept_room, none_released_make}
+use Rattle.fj_body.proofs.Stored.{make_stored, accept_free, accept_room, none_released_make}
 use Rattle.fj_bodies.proofs.NoneLost.{step_results}
 use Rattle.fj_bodies.proofs.DueTasks.{still_rests}
 use Rattle.fj_bodies.proofs.store.Store.trigger.Goals as goal

@@ -1,6 +1,6 @@
 use Rattle.std.proofs.Common.{subst}
-use Rattle.fj_bodies.specs.Stores.{StaysInside}
-use Rattle.fj_bodies.proofs.Acts.{acts_stay}
+use Rattle.fj_body.specs.Stores.{StaysInside}
+use Rattle.fj_body.proofs.Acts.{acts_stay}
 use Rattle.fj_core.proofs.Frames.{core_stays}
 use Rattle.fj_core.proofs.Parts.{parts_stay}
 use Rattle.fj_core.proofs.pool_core.Core.act.Goals as goal

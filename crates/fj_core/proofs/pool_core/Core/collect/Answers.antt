@@ -1,6 +1,6 @@
 use Rattle.std.proofs.Common.{subst}
-use Rattle.fj_bodies.specs.Stores.{StaysInside}
-use Rattle.fj_bodies.proofs.Frames.{collects_stay}
+use Rattle.fj_body.specs.Stores.{StaysInside}
+use Rattle.fj_body.proofs.Frames.{collects_stay}
 use Rattle.fj_core.proofs.Frames.{core_stays}
 use Rattle.fj_core.proofs.Parts.{parts_stay}
 use Rattle.fj_core.proofs.pool_core.Core.collect.Goals as goal

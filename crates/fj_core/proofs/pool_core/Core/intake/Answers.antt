@@ -2,15 +2,15 @@ use Rattle.std.proofs.Common.{◌≡◌, ◌<◌, ◌+◌, ◌∷◌, [], ◌++�
 use Rattle.std.specs.Prelude.{slice_get, slice_set}
 use Rattle.std.proofs.lemmas.Option.{slice_get_read}
 use Rattle.fj_lane.specs.Ends.{DrainState}
-use Rattle.fj_bodies.specs.Stores.{StoreState}
-use Rattle.fj_core.specs.declared.booking.Booking.{Booking}
+use Rattle.fj_body.specs.Stores.{StoreState}
+use Rattle.fj_calls.specs.declared.booking.Booking.{Booking}
 use Rattle.fj_rules.specs.Tasks.{submitted_kind}
-use Rattle.fj_core.specs.Booked.{Booked}
-use Rattle.fj_core.specs.Cores.{CoreState}
-use Rattle.fj_core.specs.Intakes.{Submits, kind_rooted, with_drained}
-use Rattle.fj_core.specs.Closes.{Dues}
-use Rattle.fj_core.specs.Closings.{is_due}
-use Rattle.fj_bodies.proofs.Frames.{same_stays}
+use Rattle.fj_calls.specs.Booked.{Booked}
+use Rattle.fj_calls.specs.Cores.{CoreState}
+use Rattle.fj_calls.specs.Intakes.{Submits, kind_rooted, with_drained}
+use Rattle.fj_calls.specs.Closes.{Dues}
+use Rattle.fj_calls.specs.Closings.{is_due}
+use Rattle.fj_body.proofs.Frames.{same_stays}
 use Rattle.fj_core.proofs.Frames.{core_stays}
 use Rattle.fj_core.proofs.Lanes.{same_capacity, booking_room}
 use Rattle.fj_core.proofs.Parts.{parts_stay, parts_taken}

@@ -1,6 +1,6 @@
 use Rattle.std.proofs.Common.{◌∙◌, ap, subst}
 use Rattle.fj_slots.specs.Shelves.{entries}
-use Rattle.fj_bodies.specs.Stores.{HasResults}
+use Rattle.fj_body.specs.Stores.{HasResults}
 use Rattle.fj_core.proofs.pool_core.Core.into_remains.Goals as goal
 
 pub returns-clause-results : goal.returns-clause-results

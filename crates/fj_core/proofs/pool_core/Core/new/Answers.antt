@@ -4,9 +4,9 @@ use Rattle.fj_rules.proofs.Making.{made}
 use Rattle.fj_rules.proofs.Headline.Parting.{fits_none}
 use Rattle.fj_core.proofs.Lanes.{new_booked, enough_room}
 use Rattle.fj_core.proofs.Reached.{new_closing}
-use Rattle.fj_core.specs.Archives.{Archived}
-use Rattle.fj_core.specs.Booked.{AreBooked, Booked}
-use Rattle.fj_core.specs.Cores.{AreParts}
+use Rattle.fj_calls.specs.Archives.{Archived}
+use Rattle.fj_calls.specs.Booked.{AreBooked, Booked}
+use Rattle.fj_calls.specs.Cores.{AreParts}
 use Rattle.fj_core.proofs.pool_core.Core.new.Goals as goal
 
 pub invariant_of-core : goal.invariant_of-core

@@ -1,6 +1,6 @@
 use Rattle.std.proofs.Common.{◌∷◌, [], ◌++◌, ap, ◌∙◌}
-use Rattle.fj_core.specs.Archives.{Archived}
-use Rattle.fj_core.specs.Cores.{CoreState}
+use Rattle.fj_calls.specs.Archives.{Archived}
+use Rattle.fj_calls.specs.Cores.{CoreState}
 use Rattle.fj_core.proofs.Parts.{parts_kept, sealed_core}
 use Rattle.fj_core.proofs.pool_core.Core.seal_part.Goals as goal
 

@@ -1,5 +1,5 @@
 use Rattle.std.proofs.Common.{◌≡◌, true, subst}
-use Rattle.fj_core.specs.declared.cutoff.Cutoff.{Cutoff}
+use Rattle.fj_calls.specs.declared.cutoff.Cutoff.{Cutoff}
 use Rattle.fj_core.proofs.Parts.{parts_due}
 use Rattle.fj_core.proofs.Shutting.{number_of, due_pushes_none, shut_core}
 use Rattle.fj_core.proofs.pool_core.Core.stop_at.Goals as goal

@@ -4,7 +4,7 @@ use Rattle.fj_rules.specs.declared.owner.Owner.TheVariants.{Sub}
 use Rattle.fj_rules.specs.Tasks.{submitted_kind}
 use Rattle.fj_rules.specs.Runs.{grown}
 use Rattle.fj_rules.proofs.Steps.SubmitRefused.{kind_same}
-use Rattle.fj_core.specs.Intakes.{kind_rooted}
+use Rattle.fj_calls.specs.Intakes.{kind_rooted}
 use Rattle.fj_core.proofs.TakingIn.{submitted_event}
 use Rattle.fj_core.proofs.pool_core.intake.hand_in.Goals as goal
 

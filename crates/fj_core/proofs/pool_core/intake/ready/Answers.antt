@@ -2,7 +2,7 @@ use Rattle.std.proofs.Common.{◌≡◌, Bool, false, inr, Some, refl, sym, ap, 
 use Rattle.std.specs.Prelude.{◌&&◌}
 use Rattle.fj_rules.specs.declared.kind.SubmittedKind.TheVariants.{Plain}
 use Rattle.fj_rules.specs.Answers.{is_quiet}
-use Rattle.fj_bodies.specs.Stores.{StoreState}
+use Rattle.fj_body.specs.Stores.{StoreState}
 use Rattle.fj_rules.proofs.Steps.SubmitRefused.{met, met_free, met_closed, met_open}
 use Rattle.fj_core.proofs.TakingIn.{not_full, full_open}
 use Rattle.fj_core.proofs.pool_core.intake.ready.Goals as goal

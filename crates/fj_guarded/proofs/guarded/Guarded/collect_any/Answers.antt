@@ -2,9 +2,9 @@ use Rattle.std.proofs.Common.{ℕ, ◌≡◌, ◌+◌, Bool, true, false, List, 
 use Rattle.std.specs.Prelude.{slice_get}
 use Rattle.std.proofs.lemmas.Option.{get_or_from_slice_get, slice_get_within}
 use borrow.Author.Count.{below_more}
-use Rattle.fj_bodies.specs.Stores.{StoreState}
-use Rattle.fj_core.specs.Booked.{booked_under}
-use Rattle.fj_core.specs.Cores.{CollectsTicket, CollectsUnless, CoreState}
+use Rattle.fj_body.specs.Stores.{StoreState}
+use Rattle.fj_calls.specs.Booked.{booked_under}
+use Rattle.fj_calls.specs.Cores.{CollectsTicket, CollectsUnless, CoreState}
 use Rattle.fj_guarded.specs.Asked.{AreAwaited}
 use Rattle.fj_guarded.proofs.guarded.Guarded.collect_any.Goals as goal
 

@@ -1,5 +1,5 @@
 use Rattle.std.proofs.Common.{ℕ, ◌≡◌, [], None}
-use Rattle.fj_bodies.specs.Fitting.{Fits}
+use Rattle.fj_body.specs.Fitting.{Fits}
 use Rattle.fj_guarded.specs.Keeping.{KeepsOthers}
 use Rattle.fj_guarded.specs.Working.{Skips}
 use Rattle.fj_guarded.proofs.guarded.Guarded.poll_again.Given as goal

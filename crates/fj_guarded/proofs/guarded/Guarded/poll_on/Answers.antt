@@ -1,5 +1,5 @@
 use Rattle.std.proofs.Common.{ℕ, zero, suc, refl, sym, subst}
-use Rattle.fj_core.specs.Cores.{CoreState}
+use Rattle.fj_calls.specs.Cores.{CoreState}
 use Rattle.fj_slots.specs.Hands.{HandState}
 use Rattle.fj_guarded.specs.Working.{Skips, SkipsOnce}
 use Rattle.fj_guarded.specs.Turning.{LeavesWell}

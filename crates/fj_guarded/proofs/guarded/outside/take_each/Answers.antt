@@ -6,7 +6,7 @@ use Rattle.fj_guarded.proofs.guarded.outside.take_each.Goals as goal
 
 pub loop-look-init : goal.loop-look-init
 loop-look-init g c = record {
-  taken = takes_none g.B.Body.rooted_as c.args.core.now.store.past.pool.limits.submitters c.args.first c.args.core.now;
+  taken = takes_none g.B.Body.rooted_as (g.C.CoreView.state c.args.core.now).store.past.pool.limits.submitters c.args.first (g.C.CoreView.state c.args.core.now);
   at = refl;
   within = c.requires;
   waits = tt;
@@ -14,8 +14,8 @@ loop-look-init g c = record {
 
 pub intake-answer-requires : goal.intake-answer-requires
 intake-answer-requires g c =
-    let submitters = c.args.core.now.store.past.pool.limits.submitters in
-    let same = takes_same g.B.Body.rooted_as submitters c.args.first c.loop-look._look c.args.core.now c.loop-look.core c.loop-look.taken c.loop-look.invariant.taken in
+    let submitters = (g.C.CoreView.state c.args.core.now).store.past.pool.limits.submitters in
+    let same = takes_same g.B.Body.rooted_as submitters c.args.first c.loop-look._look (g.C.CoreView.state c.args.core.now) (g.C.CoreView.state c.loop-look.core) c.loop-look.taken c.loop-look.invariant.taken in
     subst (λ n. c.loop-look.s < n) (sym (ap (λ (p : Pool). p.limits.submitters) same)) c.loop-look.invariant.within
 
 pub next_behind-s-requires : goal.next_behind-s-requires
@@ -25,10 +25,10 @@ next_behind-s-requires g c =
 
 pub loop-look-preserved : goal.loop-look-preserved
 loop-look-preserved g c =
-    let submitters = c.args.core.now.store.past.pool.limits.submitters in
+    let submitters = (g.C.CoreView.state c.args.core.now).store.past.pool.limits.submitters in
     let count = c.submitters-submitters.ensures.number ∙ ap (λ (b : Bounds). b.submitters) c.limits.ensures.limits in
     let before = c.loop-look.invariant in record {
-      taken = takes_next g.B.Body.rooted_as submitters c.args.first c.loop-look._look c.loop-look.s c.args.core.now c.loop-look.core c.intake-answer.new.self c.loop-look.taken c.count-taken.result c.intake-answer.result
+      taken = takes_next g.B.Body.rooted_as submitters c.args.first c.loop-look._look c.loop-look.s (g.C.CoreView.state c.args.core.now) (g.C.CoreView.state c.loop-look.core) (g.C.CoreView.state c.intake-answer.new.self) c.loop-look.taken c.count-taken.result c.intake-answer.result
           before.taken before.at c.intake-answer.ensures.intakes c.count-taken.ensures;
       at = one_behind submitters c.args.first c.loop-look._look c.loop-look.s c.next_behind-s.result before.at (subst (λ n. c.next_behind-s.result ≡ behind n c.loop-look.s) count c.next_behind-s.ensures.is);
       within = subst (λ n. c.next_behind-s.result < n) count c.next_behind-s.ensures.within;
@@ -37,19 +37,19 @@ loop-look-preserved g c =
 
 pub returns-clause-takes : goal.returns-clause-takes
 returns-clause-takes g c =
-    let submitters = c.args.core.now.store.past.pool.limits.submitters in
+    let submitters = (g.C.CoreView.state c.args.core.now).store.past.pool.limits.submitters in
     let all : c.loop-look._look ≡ c.submitters-submitters.result = omega (arith, c.loop-look-test.false, c.loop-look.auto._look-end) in
-    subst (λ n. TakesFrom g.B.Body.rooted_as submitters c.args.first n c.args.core.now c.loop-look.taken c.loop-look.core)
+    subst (λ n. TakesFrom g.B.Body.rooted_as submitters c.args.first n (g.C.CoreView.state c.args.core.now) c.loop-look.taken (g.C.CoreView.state c.loop-look.core))
     (all ∙ c.submitters-submitters.ensures.number ∙ ap (λ (b : Bounds). b.submitters) c.limits.ensures.limits)
     c.loop-look.invariant.taken
 
 pub returns-clause-next : goal.returns-clause-next
-returns-clause-next g c = rw c.unwrap_or.ensures (waits_or_first c.args.core.now.store.past.pool.limits.submitters c.args.first c.loop-look.waits c.loop-look.invariant.waits c.requires)
+returns-clause-next g c = rw c.unwrap_or.ensures (waits_or_first (g.C.CoreView.state c.args.core.now).store.past.pool.limits.submitters c.args.first c.loop-look.waits c.loop-look.invariant.waits c.requires)
 
 pub returns-clause-lanes : goal.returns-clause-lanes
 returns-clause-lanes g c =
-    takes_keep g.B.Body.rooted_as c.args.core.now.store.past.pool.limits.submitters c.args.first c.loop-look._look c.args.core.now c.loop-look.core c.loop-look.taken c.loop-look.invariant.taken
+    takes_keep g.B.Body.rooted_as (g.C.CoreView.state c.args.core.now).store.past.pool.limits.submitters c.args.first c.loop-look._look (g.C.CoreView.state c.args.core.now) (g.C.CoreView.state c.loop-look.core) c.loop-look.taken c.loop-look.invariant.taken
 
 pub returns-clause-pool : goal.returns-clause-pool
 returns-clause-pool g c =
-    takes_same g.B.Body.rooted_as c.args.core.now.store.past.pool.limits.submitters c.args.first c.loop-look._look c.args.core.now c.loop-look.core c.loop-look.taken c.loop-look.invariant.taken
+    takes_same g.B.Body.rooted_as (g.C.CoreView.state c.args.core.now).store.past.pool.limits.submitters c.args.first c.loop-look._look (g.C.CoreView.state c.args.core.now) (g.C.CoreView.state c.loop-look.core) c.loop-look.taken c.loop-look.invariant.taken

@@ -1,7 +1,7 @@
 use Rattle.std.proofs.Common.{Some, sym, ap, ◌∙◌, subst}
 use Rattle.std.specs.Prelude.{slice_get}
 use Rattle.fj_agreement.specs.Ends.{EndState}
-use Rattle.fj_bodies.specs.Fitting.{Fits}
+use Rattle.fj_body.specs.Fitting.{Fits}
 use Rattle.fj_parts.specs.declared.holding.Holding.{Holding}
 use Rattle.fj_guarded.proofs.GoesOn.{all_on, asked_on}
 use Rattle.fj_parts.proofs.Holdings.{fits_holding, kept_after, met_fits, same_pair}

@@ -27,14 +27,14 @@ new-requires-clause-hands g c =
 pub new-requires-clause-named : goal.new-requires-clause-named
 new-requires-clause-named g c =
     let inside = c.self.inside in
-    all_named inside.closer g.N.Naming.gate (lanes_of inside.core.lanes) g.N.Naming.lanes inside.seats.items c.self.invariant.paired
+    all_named inside.closer g.N.Naming.gate (lanes_of (g.C.CoreView.state inside.core).lanes) g.N.Naming.lanes inside.seats.items c.self.invariant.paired
     (c.requires.gate ∙ sym (ap (λ (p : PartsState g.row.B.Denot g.row.B-Key.Denot g.row.B-Out.Denot). p.closer.gate) c.self.view_is)) (lanes_named g.N.Naming.lanes _ c.args.self c.requires.lanes c.self.view_is)
 
 pub new-requires-3-clause-ends : goal.new-requires-3-clause-ends
 new-requires-3-clause-ends g c =
     let inside = c.self.inside in
     subst (λ (past : Past). AreKept g.N.Naming.hands past inside.ends.items) (sym (ap (λ core. core.store.past) c.new-2.ensures))
-    (subst (λ ps. AreKept ps inside.core.store.past inside.ends.items) (sym (pairs_named g.N.Naming.hands _ c.args.self c.requires.hands c.self.view_is)) c.self.invariant.held.kept)
+    (subst (λ ps. AreKept ps (g.C.CoreView.state inside.core).store.past inside.ends.items) (sym (pairs_named g.N.Naming.hands _ c.args.self c.requires.hands c.self.view_is)) c.self.invariant.held.kept)
 
 pub returns-clause-core : goal.returns-clause-core
 returns-clause-core g c = c.new-3.ensures ∙ c.new-2.ensures ∙ ap (λ (p : PartsState g.row.B.Denot g.row.B-Key.Denot g.row.B-Out.Denot). p.core) c.self.view_is
@@ -49,4 +49,4 @@ pub returns-clause-all : goal.returns-clause-all
 returns-clause-all g c =
     let inside = c.self.inside in
     subst (λ seats. AreAll (length g.N.Naming.lanes) seats) (sym c.in-Ok.ensures.submitters)
-    (all_seats inside.closer (lanes_of inside.core.lanes) g.N.Naming.lanes inside.seats.items c.self.invariant.paired (lanes_named g.N.Naming.lanes _ c.args.self c.requires.lanes c.self.view_is))
+    (all_seats inside.closer (lanes_of (g.C.CoreView.state inside.core).lanes) g.N.Naming.lanes inside.seats.items c.self.invariant.paired (lanes_named g.N.Naming.lanes _ c.args.self c.requires.lanes c.self.view_is))

@@ -4,17 +4,17 @@ use Rattle.std.specs.List.{sum_by}
 use Rattle.fj_rules.specs.Answers.{is_quiet}
 use Rattle.fj_rules.specs.Epochs.{IsPast}
 use Rattle.fj_rules.specs.Pasts.{Past}
-use Rattle.fj_core.specs.Closes.{is_number}
-use Rattle.fj_core.specs.Closings.{is_over}
+use Rattle.fj_calls.specs.Closes.{is_number}
+use Rattle.fj_calls.specs.Closings.{is_over}
 use Rattle.fj_gate.specs.Ends.{EntrantState, drawn_by}
 use Rattle.fj_gate.specs.Numbers.{IsNumbersBelow}
 use Rattle.fj_lane.specs.Ends.{DrainState}
 use Rattle.fj_rules.specs.declared.event.Event.{Event}
-use Rattle.fj_core.specs.declared.booking.Booking.{Booking}
-use Rattle.fj_core.specs.Booked.{IsBooked}
+use Rattle.fj_calls.specs.declared.booking.Booking.{Booking}
+use Rattle.fj_calls.specs.Booked.{IsBooked}
 use Rattle.fj_slots.specs.Shelves.{entries}
-use Rattle.fj_bodies.specs.Stores.{HasResults}
-use Rattle.fj_core.specs.Cores.{CoreState}
+use Rattle.fj_body.specs.Stores.{HasResults}
+use Rattle.fj_calls.specs.Cores.{CoreState}
 use Rattle.fj_submitter.specs.Lanes.{lanes_of}
 use Rattle.fj_submitter.specs.Seats.{SeatState}
 use Rattle.fj_parts.specs.Winding.{has_terminated, submissions}
@@ -66,7 +66,7 @@ pub returns-clause-lanes : goal.returns-clause-lanes
 returns-clause-lanes g c =
     let ended = c.into_remains-machine.result in
     let left = c.into_remains-machine.ensures in
-    let events : ended.machine.events ≡ c.into_parts-core.result.0.store.past.events = ap (λ past. past.events) left.past in
+    let events : ended.machine.events ≡ (g.C.CoreView.state c.into_parts-core.result.0).store.past.events = ap (λ past. past.events) left.past in
     all_settled ended.machine.events ended.bookings.bookings ended.drains.items c.args.submitters.items c.settle-entrants.result.1.items c.settle-entrants.ensures.rests
     (λ k d at.
     subst (λ (x : List Event × List Booking). IsBooked x.0 x.1 k d) (λ i. (sym events i, sym left.bookings i))
@@ -87,12 +87,12 @@ returns-clause-at_close g c = c.meet-tickets.ensures.at_close
 pub returns-clause-taken_in : goal.returns-clause-taken_in
 returns-clause-taken_in g c =
     let left = c.into_remains-machine.ensures in
-    ap (λ (bs : List Booking). length bs) left.bookings ∙ booked_accepted c.into_parts-core.result.0.store.past c.into_parts-core.result.0.lanes c.into_parts-core.result.0.bookings left.booked ∙ ap (λ (past : Past). submissions past) (sym left.past)
+    ap (λ (bs : List Booking). length bs) left.bookings ∙ booked_accepted (g.C.CoreView.state c.into_parts-core.result.0).store.past (g.C.CoreView.state c.into_parts-core.result.0).lanes (g.C.CoreView.state c.into_parts-core.result.0).bookings left.booked ∙ ap (λ (past : Past). submissions past) (sym left.past)
 
 pub returns-clause-terminated : goal.returns-clause-terminated
 returns-clause-terminated g c =
     let machine = c.into_remains-machine.result.machine in
-    let past : c.into_parts-core.result.0.store.past ≡ machine = sym c.into_remains-machine.ensures.past in
+    let past : (g.C.CoreView.state c.into_parts-core.result.0).store.past ≡ machine = sym c.into_remains-machine.ensures.past in
     let closed : c.meet-tickets.result.closed ≡ c.args.closer.closed = returns-clause-closed g c in
     let number : is_number c.meet-tickets.result.closed c.len.result ≡ is_number c.args.closer.closed (submissions machine) =
     (λ i. is_number (closed i) (c.len.ensures i)) ∙ ap (λ (n : ℕ). is_number c.args.closer.closed n) (returns-clause-taken_in g c) in

@@ -1,7 +1,7 @@
 use Rattle.std.proofs.Common.{sym, subst}
 use Rattle.std.specs.Prelude.{IfOk, Result}
 use Rattle.fj_rules.specs.declared.refusal.Refusal.{Refusal}
-use Rattle.fj_bodies.specs.declared.outcomes.Outcome.{Outcome}
+use Rattle.fj_body.specs.declared.outcomes.Outcome.{Outcome}
 use Rattle.fj_run.specs.Playing.{RunningState, SawOne}
 use Rattle.fj_run.proofs.Outcomes.{saw_one}
 use Rattle.fj_run.proofs.alone.AlonePlay.play.Goals.{in-Ok, in-Err}

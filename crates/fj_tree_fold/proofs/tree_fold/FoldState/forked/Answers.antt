@@ -1,7 +1,7 @@
 use Rattle.std.specs.Prelude.{Option, Some, None}
 use Rattle.std.proofs.Common.{ℕ, List}
-use Rattle.fj_bodies.specs.declared.body.Ask.{Ask}
-use Rattle.fj_bodies.specs.declared.body.Ask.TheVariants.{Fork}
+use Rattle.fj_body.specs.declared.body.Ask.{Ask}
+use Rattle.fj_body.specs.declared.body.Ask.TheVariants.{Fork}
 use Rattle.fj_trees.specs.declared.node.Node.{Node}
 use Rattle.fj_tree_fold.specs.declared.fold_progress.FoldStage.{FoldStage}
 use Rattle.fj_tree_fold.specs.declared.fold_progress.FoldStage.TheVariants.{Forking}

@@ -1,5 +1,5 @@
-use Rattle.fj_core.specs.Cores.{is_awaited}
-use Rattle.fj_wake.specs.Waiting.{is_joinable}
+use Rattle.fj_calls.specs.Cores.{is_awaited}
+use Rattle.fj_calls.specs.Joins.{is_joinable}
 use Rattle.fj_wake.proofs.waits.Waits.tell_ended.Goals as goal
 
 pub returns-then-is_stuck : goal.returns-then-is_stuck

@@ -1,5 +1,5 @@
 use Rattle.std.proofs.Common.{ℕ, ◌≡◌, ◌<◌, true, get_or, Some}
-use Rattle.fj_core.specs.Cores.{is_awaited}
+use Rattle.fj_calls.specs.Cores.{is_awaited}
 use Rattle.fj_sleep.specs.declared.sleeper.Sleeper.TheVariants.{Awake}
 use Rattle.fj_sleep.specs.Places.{aim}
 use Rattle.fj_wake.specs.Waiting.{WaitBelow}

@@ -1,6 +1,6 @@
 use Rattle.std.proofs.Common.{◌∙◌, arith, below_more}
 use Rattle.fj_wake.proofs.Fewer.{all_of}
-use Rattle.fj_wake.specs.Waiting.{is_joinable}
+use Rattle.fj_calls.specs.Joins.{is_joinable}
 use Rattle.fj_wake.proofs.waits.looking.wake_joining.Goals as goal
 
 pub loop-place-preserved : goal.loop-place-preserved

@@ -1,7 +1,7 @@
 use Rattle.std.proofs.Common.{ℕ, ◌≡◌, ◌<◌, true, length, get_or, Some}
 use Rattle.fj_sleep.specs.declared.sleeper.Sleeper.TheVariants.{Awake}
 use Rattle.fj_sleep.specs.Places.{aim}
-use Rattle.fj_wake.specs.Waiting.{is_joinable}
+use Rattle.fj_calls.specs.Joins.{is_joinable}
 use Rattle.fj_wake.proofs.waits.looking.wake_joining.Given as goal
 
 -- each worker at a place so far waits for a task that has still to end

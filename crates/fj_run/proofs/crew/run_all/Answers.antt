@@ -1,0 +1,22 @@
+use mathlib.Core.Bool.{true}
+use mathlib.Core.Path.{refl}
+use denote.Exit.{no}
+use denote.Param.Send.{arg_send, arg_sync, param_send, param_sync}
+use Rattle.fj_run.proofs.crew.run_all.Goals as goal
+
+-- what the player is given is there, and the bounds are those of `run_all`
+pub scoped-requires : goal.scoped-requires
+scoped-requires g c = let bounds = c.type_bounds in record {
+  at = λ _. (
+    refl {a = true},
+    (
+      param_send 0 _ (arg_send _ no _ bounds.send-B),
+      param_send 1 _ (arg_send _ no _ bounds.send-N),
+      param_send 5 _ (arg_send _ no _ bounds.send-B-Key),
+      param_send 6 _ (arg_send _ no _ bounds.send-B-Out),
+      param_sync 1 _ (arg_sync _ no _ bounds.sync-N),
+      param_sync 3 _ (arg_sync _ no _ bounds.sync-T),
+      param_sync 4 _ (arg_sync _ no _ bounds.sync-R),
+    ),
+  );
+}
