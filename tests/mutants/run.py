@@ -115,7 +115,7 @@ def check(room, crate, jobs, mutants):
 def refusals(said):
     """Returns what the check refused, by its name, and the goals that it did not prove."""
     found = {}
-    for name, why in re.findall(r"^\w+ (\S+): (no.*)$", said, re.M):
+    for name, why in re.findall(r"^\w+ (\S+::\S+): (no.*)$", said, re.M):
         # the folder of a function that calls itself begins with a plus
         *outer, last = map(re.escape, name.split("::")[1:])
         folder = "/".join([*outer, rf"\+?{last}"])
