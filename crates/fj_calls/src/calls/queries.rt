@@ -10,7 +10,7 @@ use fj_body::Body;
 use fj_machine::Machine;
 use fj_rules::Limits;
 
-/// What a core tells of itself.
+/// Reads the state of a core.
 pub trait CoreQueries<B: Body>: CoreView<B> {
     /// How large the pool may grow.
     fn limits(&self) -> Limits
