@@ -5,10 +5,10 @@ use Rattle.std.proofs.lemmas.List.{append-nil, length-append}
 use Rattle.fj_history.specs.declared.read.TheConstants.{MAX_ENTRY}
 use Rattle.fj_filter.specs.Cuts.{cut, lines, rest}
 use Rattle.fj_filter.proofs.Lines.{cut-append, left-append, left-uncut, yes_or_no}
-use Rattle.fj_trace.specs.declared.fault.CheckFault.{CheckFault}
-use Rattle.fj_trace.specs.declared.fault.CheckFault.TheVariants.{Objection, Line, Limits, Memory, Read}
-use Rattle.fj_trace.specs.Checks.{FaultMeans, IsBarred, IsChecked, IsFaulty, IsOpenedWrong, IsWrong, StopsCheck}
-use Rattle.fj_trace.specs.Histories.{IsHistory}
+use Rattle.fj_check.specs.declared.fault.CheckFault.{CheckFault}
+use Rattle.fj_check.specs.declared.fault.CheckFault.TheVariants.{Objection, Line, Limits, Memory, Read}
+use Rattle.fj_check.specs.Checks.{FaultMeans, IsBarred, IsChecked, IsFaulty, IsOpenedWrong, IsWrong, StopsCheck}
+use Rattle.fj_check.specs.Histories.{IsHistory}
 use Rattle.fj_c.specs.Checks.{TextFault}
 
 -- ---- lines of more bytes

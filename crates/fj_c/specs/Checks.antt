@@ -2,10 +2,10 @@
 use Rattle.std.specs.Prelude.{ℕ, ◌≡◌, ◌⊎◌, ⊤, List, [], Some}
 use Rattle.fj_rules.specs.declared.refusal.Refusal.TheVariants.{OutOfMemory, BadLimits}
 use Rattle.fj_rules.specs.Refusals.{refusal_number}
-use Rattle.fj_trace.specs.declared.fault.CheckFault.{CheckFault}
-use Rattle.fj_trace.specs.declared.fault.CheckFault.TheVariants.{Objection, Line, Limits, Memory, Read}
-use Rattle.fj_trace.specs.Checks.{IsBarred, IsFaulty, IsOpenedWrong}
-use Rattle.fj_trace.specs.Histories.{IsHistory}
+use Rattle.fj_check.specs.declared.fault.CheckFault.{CheckFault}
+use Rattle.fj_check.specs.declared.fault.CheckFault.TheVariants.{Objection, Line, Limits, Memory, Read}
+use Rattle.fj_check.specs.Checks.{IsBarred, IsFaulty, IsOpenedWrong}
+use Rattle.fj_check.specs.Histories.{IsHistory}
 use Rattle.fj_codes.specs.declared.codes.TheConstants as code
 use Rattle.fj_codes.specs.declared.replies.Reply.{Reply}
 use Rattle.fj_codes.specs.Codings.{reply}

@@ -4,8 +4,8 @@ use Rattle.clap.specs.Words.{Text}
 use Rattle.std.specs.declared.io.ErrorKind.{ErrorKind}
 use Rattle.std.specs.declared.io.ErrorKind.TheVariants.{InvalidData}
 use Rattle.std.specs.Io.KnownBytes.{Appends}
+use Rattle.fj_check.specs.Histories.{IsHistory}
 use Rattle.fj_replay.specs.Faults.{Replays, Upgrades}
-use Rattle.fj_trace.specs.Histories.{IsHistory}
 use Rattle.fj_arguments.specs.declared.command_line.Subcommand.{Subcommand}
 use Rattle.fj_arguments.specs.declared.command_line.Subcommand.TheVariants.{Replay, Upgrade, Compute, Record, Check, Trace, Test, Explain, View}
 use Rattle.fj_arguments.specs.declared.command_line.Job.{Job}

@@ -13,6 +13,7 @@ mod record_command;
 mod refused;
 mod tree_command;
 
+pub use fj_check::{CheckFault, check};
 pub use fj_expect::{Mismatch, TestFault, test};
 pub use fj_explain::{ExplainFault, Flaw, LimitFlaw, explain};
 pub use fj_fold::{Family, NamedTree, Node, Nodes, TreeFault, TreeFold, fold_tree, read_tree};
@@ -22,5 +23,5 @@ pub use fj_invoke::{
 };
 pub use fj_replay::{ReplayFault, replay, replayed, upgrade, upgraded};
 pub use fj_streams::{Sink, Source, Watched};
-pub use fj_trace::{CheckFault, check, trace};
+pub use fj_trace::trace;
 pub use program::{fj, without_words};

@@ -1,9 +1,9 @@
 -- How a check ended, by what was read and by what was written.
 use Rattle.std.proofs.Common.{ℕ, ◌≡◌, ◌⊎◌, ◌++◌, List, Option, ⊎_elim, inl, inr, arith}
 use Rattle.std.specs.Prelude.{codes}
-use Rattle.fj_trace.specs.declared.fault.CheckFault.{CheckFault}
-use Rattle.fj_trace.specs.declared.fault.CheckFault.TheVariants.{Objection, Line, Limits, Memory, Read}
-use Rattle.fj_trace.specs.Checks.{IsChecked, StopsCheck}
+use Rattle.fj_check.specs.declared.fault.CheckFault.{CheckFault}
+use Rattle.fj_check.specs.declared.fault.CheckFault.TheVariants.{Objection, Line, Limits, Memory, Read}
+use Rattle.fj_check.specs.Checks.{IsChecked, StopsCheck}
 use Rattle.fj_commands.specs.Answers.{EndsJob, number_line}
 use Rattle.fj_commands.specs.Statuses.{EndsCheck, EndsHistory, IsEndOfCheck, IsOfFailure, IsWritten}
 

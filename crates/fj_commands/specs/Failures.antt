@@ -2,9 +2,9 @@
 use Rattle.std.specs.Prelude.{◌-◌, ◌^◌, ◌<◌, ◌≤◌, ◌⊎◌, ⊤, Option, Some, None, Result, Err}
 use Rattle.fj_streams.specs.Calls.{Calls, HasFailed, IsFine}
 use Rattle.fj_filter.specs.Tells.{Seen}
+use Rattle.fj_check.specs.Checks.{FailsToRead}
 use Rattle.fj_replay.specs.declared.fault.ReplayFault.{ReplayFault}
 use Rattle.fj_replay.specs.declared.fault.ReplayFault.TheVariants.{Read, Write}
-use Rattle.fj_trace.specs.Checks.{FailsToRead}
 
 -- a call of this stream has failed, or after 2^64 - 1 of them the caller had to call again; of a stream whose calls are not known nothing
 -- is said

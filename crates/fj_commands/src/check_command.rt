@@ -2,12 +2,12 @@
 ghost use Rattle.std.specs.Prelude.{◌≡◌, ◌⊎◌};
 ghost use Rattle.fj_streams.specs.Calls.{HasFailed};
 ghost use Rattle.fj_filter.specs.Tells.{seen};
-ghost use Rattle.fj_trace.specs.Checks.{FailsToRead};
+ghost use Rattle.fj_check.specs.Checks.{FailsToRead};
 ghost use Rattle.fj_commands.specs.Statuses.{EndsCheck, IsEndOfCheck};
 
 use crate::answer::{answered, objected, told_line};
+use fj_check::{CheckFault, check};
 use fj_streams::{Sink, Source};
-use fj_trace::{CheckFault, check};
 use std::alloc::Global;
 
 /// Reads a history to its end, or to the first line that may not stand there, writes which, and answers the exit status.

@@ -3,7 +3,7 @@ ghost use Rattle.std.specs.Prelude.{◌≡◌, ◌⊎◌, ℕ, List, Some, IfOk,
 ghost use Rattle.std.specs.Io.KnownBytes.{Appends};
 ghost use Rattle.fj_streams.specs.Calls.{HasFailed};
 ghost use Rattle.fj_filter.specs.Tells.{seen};
-ghost use Rattle.fj_trace.specs.Checks.{FailsToRead};
+ghost use Rattle.fj_check.specs.Checks.{FailsToRead};
 ghost use Rattle.fj_views.specs.Tables.{table_text};
 ghost use Rattle.fj_commands.specs.Statuses.{EndsView, HasNotes, HasWindow, IsUnviewed, IsWritten};
 

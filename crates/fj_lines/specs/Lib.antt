@@ -5,3 +5,4 @@ pub mod Readings
 pub mod Replies
 pub mod Shown
 pub mod Lines
+pub mod Headings

@@ -11,14 +11,14 @@ use Rattle.fj_rules.specs.Pasts.{Past, present}
 use Rattle.fj_rules.specs.Tasks.{accepted}
 use Rattle.fj_rules.proofs.Completers.Climbed.{climbs_none}
 use Rattle.fj_lines.specs.declared.read.TheConstants.{LINE_FEED}
+use Rattle.fj_lines.specs.Headings.{pool_in, start}
 use Rattle.fj_lines.proofs.Reading.HeadLaws.{head_again}
 use Rattle.fj_history.specs.declared.entry.Entry.TheVariants as entry
 use Rattle.fj_history.specs.Entries.{AllHaveCodes, entries_text}
 use Rattle.fj_history.specs.Headings.{heading, heading_line}
-use Rattle.fj_replay.specs.Stages.{pool_in, start}
+use Rattle.fj_check.specs.Entries.{event_count}
+use Rattle.fj_check.specs.Histories.{IsHistory}
 use Rattle.fj_replay.proofs.Version2.Accepted.{few_tasks}
-use Rattle.fj_trace.specs.Entries.{event_count}
-use Rattle.fj_trace.specs.Histories.{IsHistory}
 use Rattle.fj_trace.proofs.Printed.{heading_narrow}
 use Rattle.fj_trace.proofs.Traced.{events_small, follow_come}
 use Rattle.fj_trace.proofs.Whole.{history_of}

@@ -5,7 +5,7 @@ ghost use Rattle.fj_rules.specs.Pasts.{present};
 ghost use Rattle.fj_history.specs.Entries.{AllHaveCodes};
 ghost use Rattle.fj_streams.specs.Beginnings.{AppendsSome};
 ghost use Rattle.fj_streams.specs.Calls.{IsFine};
-ghost use Rattle.fj_trace.specs.Histories.{IsHistory};
+ghost use Rattle.fj_check.specs.Histories.{IsHistory};
 ghost use Rattle.fj_record.specs.Texts.{events_told, history_entries, history_text};
 ghost use Rattle.fj_record.specs.Writes.{FaultTells, Writes};
 

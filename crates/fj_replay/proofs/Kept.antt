@@ -4,6 +4,7 @@ use Rattle.std.specs.Option.{option_and_then}
 use Rattle.std.proofs.Common.{ℕ, ◌≡◌, List, [], ◌∷◌, refl, subst, Option, Some, None}
 use Rattle.fj_rules.specs.Bounds.{Pool}
 use Rattle.fj_lines.proofs.Reading.PartLaws.{some_is}
+use Rattle.fj_lines.specs.Headings.{pool_in, start}
 use Rattle.fj_replay.specs.declared.task_naming.TaskNaming.{TaskNaming}
 use Rattle.fj_replay.specs.declared.task_naming.TaskNaming.TheVariants.{Numbers, Names}
 use Rattle.fj_replay.specs.declared.asked.Asked.{Asked}
@@ -11,7 +12,7 @@ use Rattle.fj_replay.specs.declared.script_stage.ScriptStage.{ScriptStage}
 use Rattle.fj_replay.specs.declared.script_stage.ScriptStage.TheVariants.{Start, Titled, Plays, Old, Rewrites}
 use Rattle.fj_replay.specs.Plays.{Play, asked_in, play_after, is_title}
 use Rattle.fj_replay.specs.Scripts.{stage_from}
-use Rattle.fj_replay.specs.Stages.{pool_in, start, opened}
+use Rattle.fj_replay.specs.Stages.{opened}
 
 -- it stays so at a line
 abbrev pub Stays : (Play → Type 0) → Type 0

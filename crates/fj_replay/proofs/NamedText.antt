@@ -16,6 +16,7 @@ use Rattle.fj_rules.specs.Pasts.{Past, grown}
 use Rattle.fj_rules.specs.Tasks.{accepted}
 use Rattle.fj_rules.proofs.Places.OnePlace.{never}
 use Rattle.fj_lines.specs.Lines.{Line2, line2_in}
+use Rattle.fj_lines.specs.Headings.{pool_in, start}
 use Rattle.fj_filter.specs.Cuts.{lines}
 use Rattle.fj_replay.specs.declared.asked.Asked.{Asked}
 use Rattle.fj_replay.specs.declared.asked.Asked.TheVariants as ask
@@ -27,7 +28,7 @@ use Rattle.fj_replay.specs.Namings.{number_of, is_taken, name_of, replied_line}
 use Rattle.fj_replay.specs.NamedText.{Given, GoesOn, task_called, name_given, number_behind, gives, named_reply, reply_by, sealing_told, told_from, before_these, lines2_of, named_replies, named_by, named_text, stepped, line_of}
 use Rattle.fj_replay.specs.Plays.{Play, asked_by, asked_with, play_after, accepting, sealing, seal_reply, reply_text, is_task}
 use Rattle.fj_replay.specs.Scripts.{text_from, text, is_titled}
-use Rattle.fj_replay.specs.Stages.{pool_in, start, opened}
+use Rattle.fj_replay.specs.Stages.{opened}
 use Rattle.fj_replay.proofs.Named.{IsFit, by, fit_kept, name_at, next_number}
 
 -- ---- a table, as names that were given

@@ -7,6 +7,7 @@ use Rattle.fj_rules.specs.Bounds.{Pool}
 use Rattle.fj_rules.specs.Answers.{answer}
 use Rattle.fj_rules.specs.Pasts.{Past, grown}
 use Rattle.fj_lines.specs.Lines.{step_in}
+use Rattle.fj_lines.specs.Headings.{pool_in, start}
 use Rattle.fj_lines.proofs.Reading.PartLaws.{some_is}
 use Rattle.fj_filter.proofs.States.{state-append, text-line as text-by-line}
 use Rattle.fj_replay.specs.declared.task_naming.TaskNaming.{TaskNaming}
@@ -15,7 +16,7 @@ use Rattle.fj_replay.specs.declared.asked.Asked.{Asked}
 use Rattle.fj_replay.specs.declared.script_stage.ScriptStage.{ScriptStage}
 use Rattle.fj_replay.specs.declared.script_stage.ScriptStage.TheVariants.{Start, Titled, Plays, Old, Rewrites}
 use Rattle.fj_replay.specs.Plays.{Play, asked_in, play_after, is_title}
-use Rattle.fj_replay.specs.Stages.{pool_in, opened, rewriting, start, stage_after, line_text, has_heading, IsHeadless, script_rules}
+use Rattle.fj_replay.specs.Stages.{opened, rewriting, stage_after, line_text, has_heading, IsHeadless, script_rules}
 use Rattle.fj_replay.specs.Scripts.{stage_from, text_from}
 
 -- ---- lines behind lines

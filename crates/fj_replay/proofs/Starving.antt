@@ -8,6 +8,7 @@ use Rattle.fj_rules.specs.Answers.{first_that_stands}
 use Rattle.fj_rules.specs.Epochs.{RefusesSeal, seal_refusal}
 use Rattle.fj_rules.specs.Pasts.{Past}
 use Rattle.fj_lines.specs.Lines.{step_in}
+use Rattle.fj_lines.specs.Headings.{pool_in}
 use Rattle.fj_lines.proofs.Reading.PartLaws.{some_is}
 use Rattle.fj_filter.specs.declared.fault.FilterFault.{FilterFault}
 use Rattle.fj_filter.specs.declared.fault.FilterFault.TheVariants as filter
@@ -23,7 +24,7 @@ use Rattle.fj_replay.specs.declared.script_stop.ScriptStop.{ScriptStop}
 use Rattle.fj_replay.specs.declared.script_stop.ScriptStop.TheVariants as stop
 use Rattle.fj_replay.specs.Plays.{Play}
 use Rattle.fj_replay.specs.Scripts.{is_titled, stage_from}
-use Rattle.fj_replay.specs.Stages.{IsHeadless, has_heading, pool_in, script_rules}
+use Rattle.fj_replay.specs.Stages.{IsHeadless, has_heading, script_rules}
 use Rattle.fj_replay.specs.Starving.{IsShort, NeedsMemory, Starves}
 use Rattle.fj_replay.specs.Stops.{replay_fault}
 use Rattle.fj_replay.proofs.Kept.{Stays, holds_of, opened_holds}

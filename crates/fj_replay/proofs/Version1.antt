@@ -9,6 +9,7 @@ use Rattle.fj_rules.specs.Answers.{answer}
 use Rattle.fj_rules.specs.Pasts.{Past, grown}
 use Rattle.fj_rules.specs.Runs.{RunsFrom}
 use Rattle.fj_lines.specs.Lines.{step_in, reply_line}
+use Rattle.fj_lines.specs.Headings.{pool_in, start}
 use Rattle.fj_replay.specs.declared.task_naming.TaskNaming.TheVariants.{Numbers}
 use Rattle.fj_replay.specs.declared.replied.Replied.TheVariants.{Said as Says}
 use Rattle.fj_replay.specs.declared.asked.Asked.TheVariants as ask
@@ -17,7 +18,7 @@ use Rattle.fj_filter.specs.Cuts.{lines}
 use Rattle.fj_replay.specs.Namings.{replied_line}
 use Rattle.fj_replay.specs.Plays.{Play, play_after, reply_text}
 use Rattle.fj_replay.specs.Scripts.{text_from, text, before_those, steps_of, replies, joined, said, after, numbered_text, AreRun, is_titled}
-use Rattle.fj_replay.specs.Stages.{pool_in, start, opened}
+use Rattle.fj_replay.specs.Stages.{opened}
 use Rattle.fj_replay.proofs.NameTables.{numbered_line}
 
 -- a play by numbers

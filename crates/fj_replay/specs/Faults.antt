@@ -2,6 +2,7 @@
 use Rattle.std.specs.Prelude.{ℕ, ◌≡◌, ◌⊎◌, List, [], ◌∷◌, ◌++◌, Option, Some, true}
 use Rattle.std.specs.Io.KnownBytes.{Appends, Consumes, IsAtEnd}
 use Rattle.fj_rules.specs.Pasts.{Past}
+use Rattle.fj_lines.specs.Headings.{IsOutOfLimits}
 use Rattle.fj_streams.specs.Beginnings.{AppendsSome}
 use Rattle.fj_filter.specs.Cuts.{lines, rest}
 use Rattle.fj_filter.specs.Faults.{Stands, IsNoLine, IsGoodSoFar}
@@ -10,7 +11,7 @@ use Rattle.fj_replay.specs.declared.fault.ReplayFault.TheVariants.{Line, Limits,
 use Rattle.fj_replay.specs.declared.script_stage.ScriptStage.{ScriptStage}
 use Rattle.fj_replay.specs.declared.script_stage.ScriptStage.TheVariants.{Start, Old, Rewrites}
 use Rattle.fj_replay.specs.declared.script_stop.ScriptStop.TheVariants.{Faulty}
-use Rattle.fj_replay.specs.Stages.{IsHeadless, IsOutOfLimits, script_rules}
+use Rattle.fj_replay.specs.Stages.{IsHeadless, script_rules}
 use Rattle.fj_replay.specs.Scripts.{stage_from, text_from, is_good, text, up, IsRun}
 
 -- this line is the first that is faulty or that does not end: it is whole, or it is longer than any canonical line, or the

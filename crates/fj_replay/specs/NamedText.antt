@@ -15,11 +15,11 @@ use Rattle.fj_lines.specs.declared.read.TheConstants.{LINE_FEED}
 use Rattle.fj_lines.specs.Lines.{Line2, line2_in}
 use Rattle.fj_lines.specs.Replies.{reply_words}
 use Rattle.fj_lines.specs.Words.{joined}
+use Rattle.fj_lines.specs.Headings.{pool_in, start}
 use Rattle.fj_replay.specs.declared.asked.Asked.{Asked}
 use Rattle.fj_replay.specs.declared.asked.Asked.TheVariants as ask
 use Rattle.fj_replay.specs.Namings.{task_told, words_by}
 use Rattle.fj_replay.specs.Plays.{asked_with}
-use Rattle.fj_replay.specs.Stages.{pool_in, start}
 
 -- ---- names. One belongs for good to the task in the reply `task` to its line
 

@@ -14,6 +14,7 @@ use Rattle.fj_rules.specs.Pasts.{Past, grown}
 use Rattle.fj_rules.specs.Runs.{Runs}
 use Rattle.fj_rules.specs.Epochs.{IsPast}
 use Rattle.fj_lines.specs.Lines.{step_in, reply_line}
+use Rattle.fj_lines.specs.Headings.{pool_in, start}
 use Rattle.fj_replay.specs.declared.task_naming.TaskNaming.TheVariants.{Names}
 use Rattle.fj_replay.specs.declared.asked.Asked.TheVariants.{Accept}
 use Rattle.fj_replay.specs.declared.replied.Replied.TheVariants.{Said as Says}
@@ -21,7 +22,7 @@ use Rattle.fj_replay.specs.declared.script_stage.ScriptStage.{ScriptStage}
 use Rattle.fj_replay.specs.declared.script_stage.ScriptStage.TheVariants.{Start, Plays, Old}
 use Rattle.fj_filter.specs.Cuts.{lines}
 use Rattle.fj_filter.specs.Rules.{state_from, text_from as written_from, is_good as is_allowed}
-use Rattle.fj_replay.specs.Stages.{script_rules, pool_in, start}
+use Rattle.fj_replay.specs.Stages.{script_rules}
 use Rattle.fj_replay.specs.Namings.{AreNamesOf, StandsFor}
 use Rattle.fj_replay.specs.Plays.{Play, asked_in, replied, moves_told, AreMoves, is_title}
 

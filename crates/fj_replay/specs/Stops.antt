@@ -1,6 +1,7 @@
 -- Why the line of a script was not handled, and the fault that comes of it.
 use Rattle.std.specs.Prelude.{ℕ, ⊤, ◌≡◌, List, None, true, is_some}
 use Rattle.fj_lines.specs.Lines.{head_in}
+use Rattle.fj_lines.specs.Headings.{IsOutOfLimits, pool_in}
 use Rattle.fj_filter.specs.declared.fault.LineStop.{LineStop}
 use Rattle.fj_filter.specs.declared.fault.LineStop.TheVariants.{Stop, Memory, Write}
 use Rattle.fj_filter.specs.declared.fault.FilterFault.{FilterFault}
@@ -9,7 +10,6 @@ use Rattle.fj_replay.specs.declared.fault.ReplayFault.{ReplayFault}
 use Rattle.fj_replay.specs.declared.fault.ReplayFault.TheVariants as replay
 use Rattle.fj_replay.specs.declared.script_stop.ScriptStop.{ScriptStop}
 use Rattle.fj_replay.specs.declared.script_stop.ScriptStop.TheVariants.{Faulty, Limits}
-use Rattle.fj_replay.specs.Stages.{IsOutOfLimits, pool_in}
 
 -- why no pool was made by the heading in this line
 abbrev pub IsHeadStop : List ℕ → LineStop ScriptStop → Type 0

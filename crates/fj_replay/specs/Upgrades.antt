@@ -6,6 +6,7 @@ use Rattle.fj_rules.specs.declared.said.Said.{Said}
 use Rattle.fj_rules.specs.Bounds.{Bounds, Pool}
 use Rattle.fj_lines.specs.Words.{joined}
 use Rattle.fj_lines.specs.Replies.{reply_words}
+use Rattle.fj_lines.specs.Headings.{pool_in, start}
 use Rattle.fj_rules.specs.Tasks.{accepted}
 use Rattle.fj_rules.specs.Pasts.{Past, grown}
 use Rattle.fj_rules.specs.Answers.{answer}
@@ -13,7 +14,6 @@ use Rattle.fj_filter.specs.Cuts.{lines}
 use Rattle.fj_replay.specs.Namings.{task_told, words_by}
 use Rattle.fj_replay.specs.TaskNames.{task_name, named_line, titled_head}
 use Rattle.fj_replay.specs.Scripts.{steps_of, replies, text, up}
-use Rattle.fj_replay.specs.Stages.{pool_in, start}
 use Rattle.fj_replay.specs.Faults.{IsOldScript}
 
 -- ---- the script

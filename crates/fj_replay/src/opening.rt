@@ -1,5 +1,5 @@
 ghost use Rattle.std.specs.Prelude.{◌≡◌, Some, IfOk, IfErr};
-ghost use Rattle.fj_replay.specs.Stages.{pool_in, start};
+ghost use Rattle.fj_lines.specs.Headings.{pool_in, start};
 ghost use Rattle.fj_replay.specs.Stops.{IsHeadStop};
 
 use crate::script_stop::ScriptStop;

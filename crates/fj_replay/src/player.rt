@@ -1,10 +1,10 @@
 ghost use Rattle.std.specs.Prelude.{◌≡◌, Some, OnOk, OnErr, IfOk, IfErr};
 ghost use Rattle.fj_lines.specs.Words.{Reads};
+ghost use Rattle.fj_lines.specs.Headings.{pool_in, start};
 ghost use Rattle.fj_rules.specs.Epochs.{IsPast};
 ghost use Rattle.fj_rules.specs.Pasts.{present};
 ghost use Rattle.fj_replay.specs.Plays.{asked_in, play_after, replied};
 ghost use Rattle.fj_replay.specs.Starving.{TakesMemory};
-ghost use Rattle.fj_replay.specs.Stages.{pool_in, start};
 ghost use Rattle.fj_replay.specs.Stops.{IsHeadStop};
 
 use crate::asked::Asked;

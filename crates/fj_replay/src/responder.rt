@@ -1,12 +1,12 @@
 ghost use Rattle.std.specs.Prelude.{◌≡◌, [], Some, OnOk, OnErr, IfOk, IfErr};
 ghost use Rattle.std.specs.Io.KnownBytes.{Appends};
 ghost use Rattle.fj_lines.specs.Words.{Reads};
+ghost use Rattle.fj_lines.specs.Headings.{pool_in, start};
 ghost use Rattle.fj_streams.specs.Calls.{HasFailed, IsFine};
 ghost use Rattle.fj_filter.specs.Tells.{WriterTells};
 ghost use Rattle.fj_streams.specs.Beginnings.{AppendsSome};
 ghost use Rattle.fj_replay.specs.Namings.{replied_line};
 ghost use Rattle.fj_replay.specs.Plays.{asked_in, play_after, reply_text};
-ghost use Rattle.fj_replay.specs.Stages.{pool_in, start};
 ghost use Rattle.fj_replay.specs.Starving.{StarvesAsked};
 ghost use Rattle.fj_replay.specs.Stops.{IsHeadStop, IsCutOff};
 

@@ -3,10 +3,10 @@ ghost use Rattle.std.specs.Io.KnownBytes.{Appends};
 ghost use Rattle.fj_rules.specs.Answers.{answer};
 ghost use Rattle.fj_rules.specs.Pasts.{grown};
 ghost use Rattle.fj_rules.specs.Tasks.{accepted};
+ghost use Rattle.fj_lines.specs.Headings.{pool_in, start};
 ghost use Rattle.fj_streams.specs.Calls.{HasFailed, IsFine};
 ghost use Rattle.fj_streams.specs.Beginnings.{AppendsSome};
 ghost use Rattle.fj_replay.specs.TaskNames.{named_line};
-ghost use Rattle.fj_replay.specs.Stages.{pool_in, start};
 ghost use Rattle.fj_replay.specs.Stops.{IsHeadStop};
 
 use crate::named_step::{STEP_ROOM, push_named};

@@ -4,12 +4,12 @@ use Rattle.std.proofs.lemmas.Bool.{false≢true}
 use Rattle.fj_rules.specs.Pasts.{Past}
 use Rattle.fj_filter.specs.declared.fault.FilterFault.{FilterFault}
 use Rattle.fj_filter.specs.Faults.{EndsFrom, Finishes}
-use Rattle.fj_trace.specs.declared.history_check.HistoryCheck.{HistoryCheck}
-use Rattle.fj_trace.specs.declared.history_check.HistoryCheck.TheVariants.{Start, Going}
-use Rattle.fj_trace.specs.declared.history_stop.HistoryStop.{HistoryStop}
-use Rattle.fj_trace.specs.Checks.{IsReadAs, StopsCheck}
-use Rattle.fj_trace.specs.Rules.{check_fault, check_rules}
-use Rattle.fj_trace.proofs.Found.{read_as, stops}
+use Rattle.fj_check.specs.declared.history_check.HistoryCheck.{HistoryCheck}
+use Rattle.fj_check.specs.declared.history_check.HistoryCheck.TheVariants.{Start, Going}
+use Rattle.fj_check.specs.declared.history_stop.HistoryStop.{HistoryStop}
+use Rattle.fj_check.specs.Checks.{IsReadAs, StopsCheck}
+use Rattle.fj_check.specs.Rules.{check_fault, check_rules}
+use Rattle.fj_check.proofs.Found.{read_as, stops}
 
 read_on : (state : HistoryCheck) (story : Past) (before ahead start now : Option (List ℕ)) → Finishes check_rules Start state before ahead start now
     → ((past : Past) (n : ℕ) → state ≡ Going past n → story ≡ past) → IsReadAs story before ahead

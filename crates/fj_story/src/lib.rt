@@ -23,8 +23,8 @@ mod task;
 mod timeline;
 mod worker;
 
+pub use fj_check::CheckFault;
 pub use fj_notes::{Milestone, Notes, NotesFault, read_notes};
-pub use fj_trace::CheckFault;
 pub use mark::{Mark, What};
 pub use moment::Moment;
 pub use queues::Most;

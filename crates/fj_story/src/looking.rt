@@ -1,16 +1,16 @@
 ghost use Rattle.std.specs.Prelude.{◌≡◌, ℕ, Some, OnOk, IfErr, IfOk, true};
 ghost use Rattle.fj_rules.specs.Pasts.{Past};
 ghost use Rattle.fj_history.specs.declared.read.TheConstants.{MAX_ENTRY};
-ghost use Rattle.fj_trace.specs.declared.history_check.HistoryCheck.TheVariants as check;
-ghost use Rattle.fj_trace.specs.LongLines.{too_long};
-ghost use Rattle.fj_trace.specs.Rules.{IsEntryStop, IsHeadStop, after, check_rules, has_heading};
+ghost use Rattle.fj_check.specs.declared.history_check.HistoryCheck.TheVariants as check;
+ghost use Rattle.fj_check.specs.LongLines.{too_long};
+ghost use Rattle.fj_check.specs.Rules.{IsEntryStop, IsHeadStop, after, check_rules, has_heading};
 
 use crate::story::Story;
+use fj_check::{HistoryStop, check_line, read_heading};
 use fj_checker::Checker;
 use fj_filter::{LineFilter, LineStop};
 use fj_history::MAX_ENTRY;
 use fj_streams::Sink;
-use fj_trace::{HistoryStop, check_line, read_heading};
 use std::alloc::Global;
 use std::marker::Model;
 use std::mem;
@@ -51,8 +51,8 @@ pub struct Looking {
 impl Model for Looking {
     ghost use Rattle.std.specs.Prelude.{◌≡◌, IfSome};
     ghost use Rattle.std.specs.Option.{option_map_or};
-    ghost use Rattle.fj_trace.specs.declared.history_check.HistoryCheck.{HistoryCheck};
-    ghost use Rattle.fj_trace.specs.declared.history_check.HistoryCheck.TheVariants.{Start, Going};
+    ghost use Rattle.fj_check.specs.declared.history_check.HistoryCheck.{HistoryCheck};
+    ghost use Rattle.fj_check.specs.declared.history_check.HistoryCheck.TheVariants.{Start, Going};
 
     ghost Value = { HistoryCheck };
 

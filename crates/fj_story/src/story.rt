@@ -1,7 +1,7 @@
 ghost use Rattle.std.specs.Prelude.{◌≡◌, [], length, IfOk, OnOk};
 ghost use Rattle.std.specs.List.{range_with_len};
 ghost use Rattle.fj_rules.specs.Tasks.{tasks};
-ghost use Rattle.fj_trace.specs.Entries.{MayCome, past_after};
+ghost use Rattle.fj_check.specs.Entries.{MayCome, past_after};
 ghost use Rattle.fj_story.specs.Rows.{rows};
 
 use crate::mark::Mark;

@@ -12,6 +12,7 @@ use Rattle.fj_rules.specs.Pasts.{Past, grown, sealed_now}
 use Rattle.fj_rules.specs.Tasks.{accepted}
 use Rattle.fj_lines.specs.declared.read.TheConstants.{LINE_FEED}
 use Rattle.fj_lines.specs.Lines.{head_in}
+use Rattle.fj_lines.specs.Headings.{is_within, limits_of, pool_in, pool_of}
 use Rattle.fj_lines.proofs.Reading.FeedLaws.{is_free}
 use Rattle.fj_lines.proofs.Reading.HeadLaws.{head_found, head_free}
 use Rattle.fj_lines.proofs.Reading.PartLaws.{some_is}
@@ -21,14 +22,13 @@ use Rattle.fj_history.specs.declared.entry.Entry.{Entry}
 use Rattle.fj_history.specs.declared.entry.Entry.TheVariants as entry
 use Rattle.fj_history.specs.Entries.{entries_text, entry_line}
 use Rattle.fj_history.proofs.Entries.LineLaws.{entry_free}
+use Rattle.fj_check.specs.Entries.{AllMayCome, past_after, past_from}
+use Rattle.fj_check.specs.Histories.{AllHaveLines}
 use Rattle.fj_replay.specs.declared.asked.Asked.{Asked}
 use Rattle.fj_replay.specs.Plays.{Play, asked_in, play_after}
-use Rattle.fj_replay.specs.Stages.{is_within, limits_of, pool_in, pool_of}
 use Rattle.fj_replay.proofs.Runs.{play_past}
 use Rattle.fj_replay.proofs.Version2.FeedFree.{cut_one}
 use Rattle.fj_trace.specs.declared.trace_stage.TraceStage.TheVariants.{Going}
-use Rattle.fj_trace.specs.Entries.{AllMayCome, past_after, past_from}
-use Rattle.fj_trace.specs.Histories.{AllHaveLines}
 use Rattle.fj_trace.specs.Traces.{entries_of, trace_rules}
 use Rattle.fj_trace.proofs.Codes.{line_has}
 use Rattle.fj_trace.proofs.Small.{IsNarrow}

@@ -20,12 +20,12 @@ use Rattle.fj_rules.proofs.Steps.Following.{answer_follows}
 use Rattle.fj_history.specs.declared.entry.Entry.{Entry}
 use Rattle.fj_history.specs.declared.entry.Entry.TheVariants as entry
 use Rattle.fj_history.specs.Entries.{AllHaveCodes}
+use Rattle.fj_check.specs.Entries.{AllMayCome, past_from}
+use Rattle.fj_check.specs.Histories.{AllHaveLines}
 use Rattle.fj_replay.specs.declared.asked.Asked.{Asked}
 use Rattle.fj_replay.specs.declared.asked.Asked.TheVariants as ask
 use Rattle.fj_replay.specs.Namings.{is_named}
 use Rattle.fj_replay.specs.Plays.{Play, accepting, play_after, sealing}
-use Rattle.fj_trace.specs.Entries.{AllMayCome, past_from}
-use Rattle.fj_trace.specs.Histories.{AllHaveLines}
 use Rattle.fj_trace.specs.Traces.{entries_of, seal_entry}
 use Rattle.fj_trace.proofs.Codes.{HasAskedCode, answer_has}
 use Rattle.fj_trace.proofs.Small.{IsNarrow, event_small}

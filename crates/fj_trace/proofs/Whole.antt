@@ -5,18 +5,18 @@ use Rattle.std.specs.Option.{option_and_then, option_map_or}
 use Rattle.fj_rules.specs.Bounds.{Pool}
 use Rattle.fj_rules.specs.Tasks.{accepted}
 use Rattle.fj_lines.specs.declared.read.TheConstants.{LINE_FEED}
+use Rattle.fj_lines.specs.Headings.{pool_in, start}
 use Rattle.fj_filter.specs.Cuts.{lines, rest}
 use Rattle.fj_filter.specs.Rules.{state_from, text_from}
 use Rattle.fj_history.specs.declared.entry.Entry.{Entry}
 use Rattle.fj_history.specs.Entries.{entries_text}
+use Rattle.fj_check.specs.Entries.{AllMayCome, event_count}
+use Rattle.fj_check.specs.Histories.{AllHaveLines, IsHistory}
 use Rattle.fj_replay.specs.declared.task_naming.TaskNaming.{TaskNaming}
 use Rattle.fj_replay.specs.declared.task_naming.TaskNaming.TheVariants.{Numbers, Names}
 use Rattle.fj_replay.specs.Plays.{Play, is_title}
-use Rattle.fj_replay.specs.Stages.{pool_in, start}
 use Rattle.fj_replay.proofs.Version2.FeedFree.{cut_one}
 use Rattle.fj_trace.specs.declared.trace_stage.TraceStage.TheVariants.{Start, Titled, Going}
-use Rattle.fj_trace.specs.Entries.{AllMayCome, event_count}
-use Rattle.fj_trace.specs.Histories.{AllHaveLines, IsHistory}
 use Rattle.fj_trace.specs.Traced.{PrintsHistories}
 use Rattle.fj_trace.specs.Traces.{opened, trace_rules}
 use Rattle.fj_trace.proofs.Printed.{entries_cut, entries_left, heading_free, heading_narrow, left_one, prints}

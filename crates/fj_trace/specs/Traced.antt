@@ -6,13 +6,13 @@ use Rattle.fj_filter.specs.Faults.{Finishes}
 use Rattle.fj_filter.specs.Rules.{state_from}
 use Rattle.fj_filter.specs.Tells.{Seen, StopsFrom}
 use Rattle.fj_rules.specs.Tasks.{accepted}
+use Rattle.fj_check.specs.Histories.{IsHistory}
 use Rattle.fj_replay.specs.declared.fault.ReplayFault.{ReplayFault}
 use Rattle.fj_replay.specs.declared.script_stop.ScriptStop.{ScriptStop}
 use Rattle.fj_replay.specs.Plays.{Play}
 use Rattle.fj_replay.specs.Stops.{replay_fault}
 use Rattle.fj_trace.specs.declared.trace_stage.TraceStage.{TraceStage}
 use Rattle.fj_trace.specs.declared.trace_stage.TraceStage.TheVariants.{Start, Going}
-use Rattle.fj_trace.specs.Histories.{IsHistory}
 use Rattle.fj_trace.specs.Traces.{trace_rules, trace_text}
 
 -- the whole input was read as a script, and what is written at its lines was written

@@ -8,6 +8,7 @@ use Rattle.fj_rules.specs.Epochs.{seal_refusal}
 use Rattle.fj_lines.specs.declared.read.TheConstants.{LINE_FEED}
 use Rattle.fj_lines.specs.declared.read.line2.TheConstants.{MAX_LINE2}
 use Rattle.fj_lines.specs.Lines.{head_in}
+use Rattle.fj_lines.specs.Headings.{IsOutOfLimits, pool_in, start}
 use Rattle.fj_history.specs.declared.entry.Entry.{Entry}
 use Rattle.fj_history.specs.declared.entry.Entry.TheVariants.{Event, Seal}
 use Rattle.fj_history.specs.Entries.{entries_text}
@@ -21,7 +22,6 @@ use Rattle.fj_replay.specs.declared.task_naming.TaskNaming.{TaskNaming}
 use Rattle.fj_replay.specs.declared.task_naming.TaskNaming.TheVariants.{Numbers, Names}
 use Rattle.fj_replay.specs.Namings.{is_named}
 use Rattle.fj_replay.specs.Plays.{Play, asked_in, is_title, play_after}
-use Rattle.fj_replay.specs.Stages.{IsOutOfLimits, pool_in, start}
 use Rattle.fj_trace.specs.declared.trace_stage.TraceStage.{TraceStage}
 use Rattle.fj_trace.specs.declared.trace_stage.TraceStage.TheVariants.{Start, Titled, Going}
 

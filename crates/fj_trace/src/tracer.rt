@@ -1,12 +1,12 @@
 ghost use Rattle.std.specs.Prelude.{◌≡◌, ◌≤◌, ◌++◌, [], drop, length, Some, OnOk, OnErr, IfOk, IfErr, string_bytes};
 ghost use Rattle.std.specs.Io.KnownBytes.{Appends};
 ghost use Rattle.fj_lines.specs.Words.{Reads};
+ghost use Rattle.fj_lines.specs.Headings.{pool_in, start};
 ghost use Rattle.fj_streams.specs.Calls.{IsFine};
 ghost use Rattle.fj_streams.specs.Beginnings.{AppendsSome};
 ghost use Rattle.fj_filter.specs.Tells.{WriterTells};
 ghost use Rattle.fj_history.specs.Entries.{entries_text};
 ghost use Rattle.fj_replay.specs.Plays.{asked_in, play_after};
-ghost use Rattle.fj_replay.specs.Stages.{pool_in, start};
 ghost use Rattle.fj_replay.specs.Stops.{IsHeadStop, IsCutOff};
 ghost use Rattle.fj_trace.specs.Traces.{entries_of};
 

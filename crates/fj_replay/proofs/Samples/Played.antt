@@ -5,11 +5,11 @@ use Rattle.fj_rules.specs.Bounds.{Pool}
 use Rattle.fj_rules.specs.Epochs.{seal_refusal}
 use Rattle.fj_rules.proofs.Samples.Scripts.{computing as steps_computing}
 use Rattle.fj_lines.specs.Lines.{Line2}
+use Rattle.fj_lines.specs.Headings.{start}
 use Rattle.fj_replay.specs.declared.replied.Replied.{Replied}
 use Rattle.fj_replay.specs.declared.task_naming.TaskNaming.{TaskNaming}
 use Rattle.fj_replay.specs.declared.task_naming.TaskNaming.TheVariants.{Numbers, Names}
 use Rattle.fj_replay.specs.Plays.{Play, asked_by, play_after, replied}
-use Rattle.fj_replay.specs.Stages.{start}
 
 abbrev pub names_in : TaskNaming → List (List ℕ)
 names_in Numbers = []

@@ -20,9 +20,9 @@ use Rattle.fj_rules.specs.Epochs.{IsPast}
 use Rattle.fj_rules.proofs.Events.Lawful.{is_numbered}
 use Rattle.fj_rules.proofs.Steps.AnswersAllowed.{history_allowed}
 use Rattle.fj_rules.proofs.Steps.RunsGrow.{history_fits}
+use Rattle.fj_lines.specs.Headings.{start}
 use Rattle.fj_replay.specs.Counted.{IsCounted}
 use Rattle.fj_replay.specs.Plays.{is_task}
-use Rattle.fj_replay.specs.Stages.{start}
 
 -- a number that no task has is not kept
 pub unknown_number : (past : Past) (t : ℕ) → IsPast past → accepted past.events ≤ t → is_kept past.events t ≡ false

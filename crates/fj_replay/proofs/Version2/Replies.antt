@@ -32,9 +32,10 @@ use Rattle.fj_replay.specs.TaskNames.{task_name, named_step, named_line, titled_
 use Rattle.fj_lines.specs.Readings.{head_said}
 use Rattle.fj_lines.specs.Words.{joined as words_joined, words}
 use Rattle.fj_lines.specs.Replies.{reply_words}
+use Rattle.fj_lines.specs.Headings.{is_within, limits_of, pool_of, pool_in, start}
 use Rattle.fj_lines.proofs.Reading.FeedLaws.{is_free}
 use Rattle.fj_replay.specs.Scripts.{stage_from, text_from, text, up, before_those, steps_of, replies, joined, said, numbered_text, is_titled}
-use Rattle.fj_replay.specs.Stages.{is_within, limits_of, pool_of, pool_in, start, rewriting, stage_after, line_text}
+use Rattle.fj_replay.specs.Stages.{rewriting, stage_after, line_text}
 use Rattle.fj_replay.specs.Upgrades.{named_lines, up_by, up_text, called_line, called_lines, called_by, called_text, KeepsReplies, IsNotUpgraded}
 use Rattle.fj_replay.proofs.NameTables.{numbered_line}
 use Rattle.fj_replay.proofs.Stages.{text-line}

@@ -1,7 +1,7 @@
 use Rattle.std.proofs.Common.{⊎_elim, inl, inr, refl, subst}
 use Rattle.std.specs.Io.KnownBytes.{Appends}
 use Rattle.fj_rules.specs.Pasts.{Past}
-use Rattle.fj_trace.proofs.Found.{read_checked}
+use Rattle.fj_check.proofs.Found.{read_checked}
 use Rattle.fj_views.specs.Tables.{table_text}
 use Rattle.fj_commands.proofs.Checked.{view_ended, failed_unfinished, fault_ended, fault_unfinished}
 use Rattle.fj_commands.proofs.view_command.run_view.Goals as goal

@@ -1,5 +1,5 @@
 use Rattle.std.proofs.Common.{sym, ◌∙◌}
-use Rattle.fj_trace.proofs.Found.{read_failed}
+use Rattle.fj_check.proofs.Found.{read_failed}
 use Rattle.fj_story.proofs.Read.{read_fault, read_whole}
 use Rattle.fj_story.proofs.reading.read_story.Goals as goal
 

@@ -1,5 +1,5 @@
 use Rattle.std.specs.Prelude.{⊤, Err}
-use Rattle.fj_trace.proofs.Found.{entry_stops, silent}
+use Rattle.fj_check.proofs.Found.{entry_stops, silent}
 use Rattle.fj_story.proofs.looking.LookingLineFilter.advance.Goals as goal
 
 pub returns-in_default-clause-memory : goal.returns-in_default-clause-memory

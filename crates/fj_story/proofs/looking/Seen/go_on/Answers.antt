@@ -1,6 +1,6 @@
 use Rattle.std.proofs.Common.{sym, ap, ◌∙◌}
 use Rattle.fj_rules.specs.Pasts.{Past}
-use Rattle.fj_trace.specs.Entries.{past_after}
+use Rattle.fj_check.specs.Entries.{past_after}
 use Rattle.fj_story.proofs.looking.Seen.go_on.Goals as goal
 
 pub tell-requires-clause-may : goal.tell-requires-clause-may

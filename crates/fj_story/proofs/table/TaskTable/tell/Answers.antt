@@ -3,7 +3,7 @@ use Rattle.fj_rules.specs.declared.event.Event.{Event}
 use Rattle.fj_rules.specs.Follows.{Follows}
 use Rattle.fj_rules.specs.Pasts.{Past, grown}
 use Rattle.fj_history.specs.declared.entry.Entry.{Entry}
-use Rattle.fj_trace.specs.Entries.{MayCome, past_after}
+use Rattle.fj_check.specs.Entries.{MayCome, past_after}
 use Rattle.fj_story.proofs.Tabling.{tabled_more, told_fits, told_there}
 use Rattle.fj_story.proofs.table.TaskTable.tell.Goals as goal
 

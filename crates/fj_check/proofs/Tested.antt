@@ -18,8 +18,8 @@ use Rattle.fj_rules.proofs.Samples.AllowedTest.{allowed_test}
 use Rattle.fj_rules.proofs.Samples.AllowedTested.{told, tested}
 use Rattle.fj_history.specs.declared.entry.Entry.{Entry}
 use Rattle.fj_history.specs.declared.entry.Entry.TheVariants as entry
-use Rattle.fj_trace.specs.Entries.{MayCome}
-use Rattle.fj_trace.specs.Rules.{names_test, hand_free, hand_test, follows_test, can_come}
+use Rattle.fj_check.specs.Entries.{MayCome}
+use Rattle.fj_check.specs.Rules.{names_test, hand_free, hand_test, follows_test, can_come}
 
 -- ---- it holds exactly where the entry may come
 

@@ -1,9 +1,9 @@
 use Rattle.std.proofs.Common.{rules, IsOk, ◌≡◌, true}
 use Rattle.fj_history.specs.declared.entry.Entry.TheVariants.{Event}
-use Rattle.fj_trace.specs.Rules.{can_come}
-use Rattle.fj_trace.proofs.Tested.{come_tested}
-use Rattle.fj_trace.proofs.history_check.append.Goals as goal
-use Rattle.fj_trace.proofs.history_check.append.Goals.{After-may_follow}
+use Rattle.fj_check.specs.Rules.{can_come}
+use Rattle.fj_check.proofs.Tested.{come_tested}
+use Rattle.fj_check.proofs.history_check.append.Goals as goal
+use Rattle.fj_check.proofs.history_check.append.Goals.{After-may_follow}
 
 comes : (c : After-may_follow) → IsOk c.may_follow.result → can_come c.args.checker.now (Event c.args.event.now) ≡ true
 comes c ok = come_tested c.args.checker.now (Event c.args.event.now) c.may_follow.ensures.lawful (c.may_follow.ensures.follows.0 ok)

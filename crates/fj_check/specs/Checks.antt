@@ -7,16 +7,15 @@ use Rattle.fj_history.specs.declared.entry.Entry.{Entry}
 use Rattle.fj_history.specs.declared.read.TheConstants.{MAX_ENTRY}
 use Rattle.fj_history.specs.Entries.{entry_in}
 use Rattle.fj_lines.specs.Lines.{head_in}
+use Rattle.fj_lines.specs.Headings.{start, IsOutOfLimits}
 use Rattle.fj_streams.specs.Calls.{HasFailed}
 use Rattle.fj_filter.specs.declared.read_loop.TheConstants.{CHUNK}
 use Rattle.fj_filter.specs.Cuts.{lines, rest}
 use Rattle.fj_filter.specs.Tells.{Seen}
-use Rattle.fj_replay.specs.Stages.{start}
-use Rattle.fj_replay.specs.Stages.{IsOutOfLimits}
-use Rattle.fj_trace.specs.declared.fault.CheckFault.{CheckFault}
-use Rattle.fj_trace.specs.declared.fault.CheckFault.TheVariants.{Objection, Line, Limits, Memory, Read}
-use Rattle.fj_trace.specs.Entries.{MayCome, past_from}
-use Rattle.fj_trace.specs.Histories.{AreHistory, IsHistory}
+use Rattle.fj_check.specs.declared.fault.CheckFault.{CheckFault}
+use Rattle.fj_check.specs.declared.fault.CheckFault.TheVariants.{Objection, Line, Limits, Memory, Read}
+use Rattle.fj_check.specs.Entries.{MayCome, past_from}
+use Rattle.fj_check.specs.Histories.{AreHistory, IsHistory}
 
 -- these bytes are the whole input, and a history of so many events
 pub record IsChecked (n : ℕ) (before ahead : Option (List ℕ)) : Type 0 where

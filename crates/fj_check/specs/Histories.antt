@@ -1,11 +1,11 @@
 -- Which bytes are a history: a heading within the limits, and behind it entries each of which may come.
 use Rattle.std.specs.Prelude.{ℕ, ◌≡◌, List, [], ◌∷◌, Some, map}
 use Rattle.fj_rules.specs.Bounds.{Pool}
+use Rattle.fj_lines.specs.Headings.{pool_in, start}
 use Rattle.fj_history.specs.declared.entry.Entry.{Entry}
 use Rattle.fj_history.specs.Entries.{HasEntryLine, entry_line}
 use Rattle.fj_filter.specs.Cuts.{lines, rest}
-use Rattle.fj_replay.specs.Stages.{pool_in, start}
-use Rattle.fj_trace.specs.Entries.{AllMayCome, event_count}
+use Rattle.fj_check.specs.Entries.{AllMayCome, event_count}
 
 -- each of these has a line
 abbrev pub AllHaveLines : List Entry → Type 0

@@ -1,8 +1,8 @@
 ghost use Rattle.std.specs.Prelude.{◌≡◌, IfOk, IfErr, OnOk};
 ghost use Rattle.fj_streams.specs.Calls.{IsFine};
 ghost use Rattle.fj_filter.specs.Tells.{seen};
-ghost use Rattle.fj_trace.specs.Checks.{FailsToRead, IsChecked, StopsCheck};
-ghost use Rattle.fj_trace.specs.Rules.{check_fault, events_in};
+ghost use Rattle.fj_check.specs.Checks.{FailsToRead, IsChecked, StopsCheck};
+ghost use Rattle.fj_check.specs.Rules.{check_fault, events_in};
 
 use crate::fault::CheckFault;
 use crate::history_check::HistoryCheck;

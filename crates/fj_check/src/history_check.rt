@@ -1,10 +1,10 @@
 ghost use Rattle.std.specs.Prelude.{◌≡◌, ℕ, Some, IfOk, IfErr, OnOk};
+ghost use Rattle.fj_lines.specs.Headings.{pool_in, start};
 ghost use Rattle.fj_history.specs.declared.read.TheConstants.{MAX_ENTRY};
-ghost use Rattle.fj_replay.specs.Stages.{pool_in, start};
 ghost use Rattle.fj_history.specs.declared.entry.Entry.{Entry as EntryCase};
-ghost use Rattle.fj_trace.specs.Entries.{MayCome, past_after};
-ghost use Rattle.fj_trace.specs.Rules.{after, came, check_rules, IsHeadStop, IsEntryStop, IsStopAt};
-ghost use Rattle.fj_trace.specs.LongLines.{too_long};
+ghost use Rattle.fj_check.specs.Entries.{MayCome, past_after};
+ghost use Rattle.fj_check.specs.Rules.{after, came, check_rules, IsHeadStop, IsEntryStop, IsStopAt};
+ghost use Rattle.fj_check.specs.LongLines.{too_long};
 
 use crate::history_stop::HistoryStop;
 use fj_checker::Checker;

@@ -1,6 +1,6 @@
 use Rattle.std.proofs.Common.{sym, ◌∙◌}
-use Rattle.fj_trace.proofs.Found.{checked, read_failed, stops}
-use Rattle.fj_trace.proofs.check_history.check.Goals as goal
+use Rattle.fj_check.proofs.Found.{checked, read_failed, stops}
+use Rattle.fj_check.proofs.check_history.check.Goals as goal
 
 pub returns-in-Ok-clause-ok : goal.returns-in-Ok-clause-ok
 returns-in-Ok-clause-ok g c = rw c.events_in-events.ensures (checked c.filter-run.new.state _ _ _ _ c.in-Ok.ensures.ok)

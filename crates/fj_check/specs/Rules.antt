@@ -12,6 +12,7 @@ use Rattle.fj_rules.specs.Pasts.{Past, limit}
 use Rattle.fj_rules.specs.Epochs.{seal_refusal}
 use Rattle.fj_rules.proofs.Samples.AllowedTest.{allowed_test}
 use Rattle.fj_lines.specs.Lines.{head_in}
+use Rattle.fj_lines.specs.Headings.{pool_in, start, IsOutOfLimits}
 use Rattle.fj_history.specs.declared.entry.Entry.{Entry}
 use Rattle.fj_history.specs.declared.entry.Entry.TheVariants as entry
 use Rattle.fj_history.specs.Entries.{entry_in}
@@ -19,17 +20,15 @@ use Rattle.fj_history.specs.declared.read.TheConstants.{MAX_ENTRY}
 use Rattle.fj_filter.specs.Rules.{Rules}
 use Rattle.fj_filter.specs.declared.fault.LineStop.{LineStop}
 use Rattle.fj_filter.specs.declared.fault.LineStop.TheVariants as fails
-use Rattle.fj_replay.specs.Stages.{pool_in, start}
-use Rattle.fj_replay.specs.Stages.{IsOutOfLimits}
-use Rattle.fj_trace.specs.declared.history_check.HistoryCheck.{HistoryCheck}
-use Rattle.fj_trace.specs.declared.history_check.HistoryCheck.TheVariants.{Start, Going}
-use Rattle.fj_trace.specs.declared.history_stop.HistoryStop.{HistoryStop}
-use Rattle.fj_trace.specs.declared.history_stop.HistoryStop.TheVariants as stop
-use Rattle.fj_trace.specs.Entries.{MayCome, past_after}
+use Rattle.fj_check.specs.declared.history_check.HistoryCheck.{HistoryCheck}
+use Rattle.fj_check.specs.declared.history_check.HistoryCheck.TheVariants.{Start, Going}
+use Rattle.fj_check.specs.declared.history_stop.HistoryStop.{HistoryStop}
+use Rattle.fj_check.specs.declared.history_stop.HistoryStop.TheVariants as stop
+use Rattle.fj_check.specs.Entries.{MayCome, past_after}
 use Rattle.fj_filter.specs.declared.fault.FilterFault.{FilterFault}
 use Rattle.fj_filter.specs.declared.fault.FilterFault.TheVariants as filter
-use Rattle.fj_trace.specs.declared.fault.CheckFault.{CheckFault}
-use Rattle.fj_trace.specs.declared.fault.CheckFault.TheVariants as check
+use Rattle.fj_check.specs.declared.fault.CheckFault.{CheckFault}
+use Rattle.fj_check.specs.declared.fault.CheckFault.TheVariants as check
 
 -- ---- the test
 

@@ -5,18 +5,18 @@ use Rattle.std.specs.Option.{option_and_then}
 use Rattle.fj_rules.specs.Bounds.{Pool}
 use Rattle.fj_rules.specs.Pasts.{Past}
 use Rattle.fj_lines.proofs.Reading.PartLaws.{some_is}
+use Rattle.fj_lines.specs.Headings.{pool_in, start}
 use Rattle.fj_history.specs.declared.entry.Entry.{Entry}
 use Rattle.fj_history.specs.declared.entry.Entry.TheVariants as entry
 use Rattle.fj_history.specs.Entries.{entry_in, entry_line, HasEntryLine}
 use Rattle.fj_history.proofs.Entries.EntryLaws.{entry_found}
 use Rattle.fj_filter.specs.Rules.{state_from}
-use Rattle.fj_replay.specs.Stages.{pool_in, start}
-use Rattle.fj_trace.specs.declared.history_check.HistoryCheck.{HistoryCheck}
-use Rattle.fj_trace.specs.declared.history_check.HistoryCheck.TheVariants.{Start, Going}
-use Rattle.fj_trace.specs.Entries.{MayCome, AllMayCome, past_after, past_from, event_count}
-use Rattle.fj_trace.specs.Histories.{AllHaveLines, AreHistory}
-use Rattle.fj_trace.specs.Rules.{after, opened, came, can_come, count_of, check_rules}
-use Rattle.fj_trace.proofs.Tested.{come_told}
+use Rattle.fj_check.specs.declared.history_check.HistoryCheck.{HistoryCheck}
+use Rattle.fj_check.specs.declared.history_check.HistoryCheck.TheVariants.{Start, Going}
+use Rattle.fj_check.specs.Entries.{MayCome, AllMayCome, past_after, past_from, event_count}
+use Rattle.fj_check.specs.Histories.{AllHaveLines, AreHistory}
+use Rattle.fj_check.specs.Rules.{after, opened, came, can_come, count_of, check_rules}
+use Rattle.fj_check.proofs.Tested.{come_told}
 
 -- ---- one line behind the heading
 

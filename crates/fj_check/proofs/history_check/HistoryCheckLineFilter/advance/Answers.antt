@@ -2,10 +2,10 @@ use Rattle.std.proofs.Common.{sym, subst}
 use Rattle.std.specs.Prelude.{IfErr}
 use Rattle.std.proofs.lemmas.Result.{MatchResult-weaker}
 use Rattle.fj_filter.specs.Faults.{StopsAtLine}
-use Rattle.fj_trace.specs.declared.history_check.HistoryCheck.{HistoryCheck}
-use Rattle.fj_trace.specs.Rules.{check_rules}
-use Rattle.fj_trace.proofs.Found.{entry_stops, silent}
-use Rattle.fj_trace.proofs.history_check.HistoryCheckLineFilter.advance.Goals as goal
+use Rattle.fj_check.specs.declared.history_check.HistoryCheck.{HistoryCheck}
+use Rattle.fj_check.specs.Rules.{check_rules}
+use Rattle.fj_check.proofs.Found.{entry_stops, silent}
+use Rattle.fj_check.proofs.history_check.HistoryCheckLineFilter.advance.Goals as goal
 
 pub returns-in-Going-clause-err : goal.returns-in-Going-clause-err
 returns-in-Going-clause-err g c =
