@@ -23,7 +23,7 @@ pub use fj_submitter::{Closer, Submitter};
 pub use glance::Glance;
 pub use hand::Hand;
 pub use history::History;
-pub use locked::Locked;
+pub use locked::{Locked, Waking};
 pub use named::Named;
 pub use parts::Parts;
 pub use record::Record;

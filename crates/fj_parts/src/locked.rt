@@ -19,12 +19,22 @@ use crate::holding::Holding;
 use crate::still::Still;
 use fj_agreement::End;
 use fj_body::{Ask, Body, Outcome};
-use fj_calls::{CoreLanes, CoreOutside, CoreQueries, CoreSleep, CoreView, CoreWorkers, ToWake};
+use fj_calls::{
+    CoreLanes, CoreOutside, CoreQueries, CoreSeats, CoreSleep, CoreView, CoreWaking, CoreWorkers,
+    ToWake,
+};
 use fj_gate::Ticket;
 use fj_guarded::{Front, Guarded, Keeper, Log, Naming, Next};
 use fj_rules::{Refusal, Sealed, WorkerId};
 use std::alloc::Global;
 use std::marker::Model;
+
+/// Whether a worker slept since it last had the lock, and whom it is to wake once it has let go.
+#[derive(Drop)]
+pub struct Waking {
+    pub slept: bool,
+    pub due: ToWake,
+}
 
 /// The core of a pool with the account of waiting threads, and for each worker an end that knows what it holds. Its calls are those of
 /// `Guarded`: a worker brings its hand, whose end meets the worker's end here.
@@ -118,11 +128,11 @@ impl<B: Body, N: Naming, C: CoreOutside<B>> Locked<B, N, C> {
     }
 }
 
-impl<B: Body, N: Naming, C: CoreLanes<B> + CoreQueries<B> + CoreSleep<B> + CoreWorkers<B>> Locked<
-    B,
-    N,
-    C,
-> {
+impl<
+    B: Body,
+    N: Naming,
+    C: CoreLanes<B> + CoreQueries<B> + CoreSleep<B> + CoreWaking<B> + CoreWorkers<B>,
+> Locked<B, N, C> {
     /// Serves what the hook or the running body asks; without an ask the worker resumes. Precondition: the hand has a body or a hook that may
     /// ask this.
     pub fn serve(&mut self, alloc: Global, hand: &mut Hand<B, N>, ask: Option<Ask<B>>) -> Next<B>
@@ -142,7 +152,8 @@ impl<B: Body, N: Naming, C: CoreLanes<B> + CoreQueries<B> + CoreSleep<B> + CoreW
         next
     }
 
-    /// The same. A worker that leaves sees the history up to now.
+    /// The same, by a worker that may have slept: it comes back, and begins if it has something to do. If it leaves, it sees the history up to
+    /// now.
     #[inline(always)]
     pub fn serve_seen(
         &mut self,
@@ -151,6 +162,7 @@ impl<B: Body, N: Naming, C: CoreLanes<B> + CoreQueries<B> + CoreSleep<B> + CoreW
         hand: &mut Hand<B, N>,
         ask: Option<Ask<B>>,
         front: &mut Front<B, N>,
+        waking: &mut Waking,
     ) -> Next<B>
         requires { IfSome ask (λ a. MayAsk B.right B.key_of hand.old a) }
         ensures fits { Fits self.old.store.past hand.old }
@@ -160,7 +172,16 @@ impl<B: Body, N: Naming, C: CoreLanes<B> + CoreQueries<B> + CoreSleep<B> + CoreW
         ensures goes_on { IsPrefix front.old front.new }
         ensures left { IsSeenLeaving front.new result }
     {
+        let worker = hand.worker();
+        if waking.slept {
+            self.come_back(worker);
+        }
         let next = self.serve(alloc, hand, ask);
+        if waking.slept && !matches!(next, Next::Rest) {
+            self.begin(worker);
+        }
+        self.take_due(&mut waking.due);
+        waking.slept = matches!(next, Next::Wait | Next::Rest);
         if let Next::Leave(_) = &next {
             self.show(log, front);
         }
@@ -183,19 +204,13 @@ impl<B: Body, N: Naming, C: CoreSleep<B>> Locked<B, N, C> {
         self.guarded.begin(worker);
     }
 
-    /// Puts into `due` the threads that were marked since the last call, if there are any.
-    #[inline(always)]
-    pub fn take_due(&mut self, due: &mut ToWake)
-        ensures { self.new ≡ self.old }
-    {
-        self.guarded.take_due(due);
-    }
-
     /// Whether this worker is the lookout.
     pub fn is_lookout(&self, worker: WorkerId) -> bool {
         self.guarded.is_lookout(worker)
     }
+}
 
+impl<B: Body, N: Naming, C: CoreSeats<B>> Locked<B, N, C> {
     /// A caller awaits this outcome from now on. Returns its seat; none if it joins the crowd. Precondition: it is still to come.
     pub fn sit(&mut self, ticket: Ticket) -> Option<usize>
         requires { is_awaited self.old ticket ≡ true }
@@ -219,6 +234,16 @@ impl<B: Body, N: Naming, C: CoreSleep<B>> Locked<B, N, C> {
     }
 }
 
+impl<B: Body, N: Naming, C: CoreWaking<B>> Locked<B, N, C> {
+    /// Puts into `due` the threads that were marked since the last call, if there are any.
+    #[inline(always)]
+    pub fn take_due(&mut self, due: &mut ToWake)
+        ensures { self.new ≡ self.old }
+    {
+        self.guarded.take_due(due);
+    }
+}
+
 impl<B: Body, N: Naming, C: CoreOutside<B>> Locked<B, N, C> {
     /// The outcome under the first of these tickets that has one, with the index of that ticket, as the caller sees it.
     pub fn tell_any(
@@ -239,7 +264,7 @@ impl<B: Body, N: Naming, C: CoreOutside<B>> Locked<B, N, C> {
     }
 }
 
-impl<B: Body, N: Naming, C: CoreLanes<B> + CoreOutside<B> + CoreQueries<B> + CoreSleep<B>> Locked<
+impl<B: Body, N: Naming, C: CoreLanes<B> + CoreOutside<B> + CoreQueries<B> + CoreWaking<B>> Locked<
     B,
     N,
     C,
@@ -288,7 +313,7 @@ impl<B: Body, N: Naming, C: CoreOutside<B>> Locked<B, N, C> {
     }
 }
 
-impl<B: Body, N: Naming, C: CoreLanes<B> + CoreQueries<B> + CoreSleep<B>> Locked<B, N, C> {
+impl<B: Body, N: Naming, C: CoreLanes<B> + CoreQueries<B> + CoreWaking<B>> Locked<B, N, C> {
     /// Whether all queues, stacks and hands are empty, after the history is sealed, if that is due, and submissions are taken in, as the
     /// caller sees it.
     pub fn tell_quiet(&mut self, alloc: Global, log: &Log<B, N>, front: &mut Front<B, N>) -> bool

@@ -11,8 +11,8 @@ use crate::news::takes;
 use crate::waits::Waits;
 use fj_body::{Ask, Body, Outcome, Told};
 use fj_calls::{
-    CoreLanes, CoreMaking, CoreOutside, CoreQueries, CoreSleep, CoreView, CoreWorkers, Intake,
-    Remains, ToWake,
+    CoreLanes, CoreMaking, CoreOutside, CoreQueries, CoreSeats, CoreSleep, CoreView, CoreWaking,
+    CoreWorkers, Intake, Remains, ToWake,
 };
 use fj_core::Core;
 use fj_gate::Ticket;
@@ -25,10 +25,16 @@ use std::marker::Model;
 
 /// A core, and the account of who sleeps. Contracts see it as the core. Its invariant: no wake-up is lost, so each thread that waits does so
 /// for what has still to come. Its calls are those of the traits of `fj_calls`.
-#[derive(Drop)]
 pub struct WakingCore<B: Body> {
     core: Core<B>,
     waits: Waits,
+}
+
+// By hand: a derived one is proved in each crate that drops such a value.
+impl<B: Body> Drop for WakingCore<B> {
+    fn drop(self) {
+        let WakingCore { core: _, waits: _ } = self;
+    }
 }
 
 impl<B: Body> Model for WakingCore<B> {
@@ -192,11 +198,6 @@ impl<B: Body> CoreWorkers<B> for WakingCore<B> {
 }
 
 impl<B: Body> CoreSleep<B> for WakingCore<B> {
-    #[inline(always)]
-    fn take_due(&mut self, due: &mut ToWake) {
-        self.waits.take_due(due);
-    }
-
     fn come_back(&mut self, worker: WorkerId) {
         self.waits.come_back(worker);
     }
@@ -212,7 +213,9 @@ impl<B: Body> CoreSleep<B> for WakingCore<B> {
     fn is_lookout(&self, worker: WorkerId) -> bool {
         self.waits.is_lookout(worker)
     }
+}
 
+impl<B: Body> CoreSeats<B> for WakingCore<B> {
     fn is_awaited(&self, ticket: Ticket) -> bool {
         self.core.is_awaited(ticket)
     }
@@ -227,6 +230,13 @@ impl<B: Body> CoreSleep<B> for WakingCore<B> {
 
     fn stand_up(&mut self, seat: Option<usize>) {
         self.waits.stand_up(seat);
+    }
+}
+
+impl<B: Body> CoreWaking<B> for WakingCore<B> {
+    #[inline(always)]
+    fn take_due(&mut self, due: &mut ToWake) {
+        self.waits.take_due(due);
     }
 
     #[inline(always)]

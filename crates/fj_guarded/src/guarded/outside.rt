@@ -9,7 +9,7 @@ ghost use Rattle.fj_guarded.specs.Looking.{IsQuietBehind, LooksAtLanes, SealsWhe
 
 use crate::guarded::Guarded;
 use fj_body::{Body, Outcome};
-use fj_calls::{CoreLanes, CoreOutside, CoreQueries, CoreSleep, Intake};
+use fj_calls::{CoreLanes, CoreOutside, CoreQueries, CoreWaking, Intake};
 use fj_gate::Ticket;
 use fj_rules::{Refusal, Sealed, SubId};
 use fj_submitter::Naming;
@@ -23,7 +23,7 @@ pub enum TakenIn {
     Several,
 }
 
-impl<B: Body, N: Naming, C: CoreLanes<B> + CoreQueries<B> + CoreSleep<B>> Guarded<B, N, C> {
+impl<B: Body, N: Naming, C: CoreLanes<B> + CoreQueries<B> + CoreWaking<B>> Guarded<B, N, C> {
     /// A look at the lanes, by a worker or a caller that cancels: seals the history if that is due, and then takes in submissions, unless the core holds back.
     pub(crate) fn look_at_lanes(&mut self, alloc: Global) -> TakenIn
         ensures { LooksAtLanes B.rooted_as self.old result self.new }
@@ -85,7 +85,7 @@ impl<B: Body, N: Naming, C: CoreOutside<B>> Guarded<B, N, C> {
     }
 }
 
-impl<B: Body, N: Naming, C: CoreLanes<B> + CoreOutside<B> + CoreQueries<B> + CoreSleep<B>> Guarded<
+impl<B: Body, N: Naming, C: CoreLanes<B> + CoreOutside<B> + CoreQueries<B> + CoreWaking<B>> Guarded<
     B,
     N,
     C,
@@ -125,7 +125,7 @@ impl<B: Body, N: Naming, C: CoreOutside<B>> Guarded<B, N, C> {
     }
 }
 
-impl<B: Body, N: Naming, C: CoreLanes<B> + CoreQueries<B> + CoreSleep<B>> Guarded<B, N, C> {
+impl<B: Body, N: Naming, C: CoreLanes<B> + CoreQueries<B> + CoreWaking<B>> Guarded<B, N, C> {
     /// Whether all queues, stacks and hands are empty, after the history is sealed, if that is due, and submissions are taken in.
     pub fn is_quiescent(&mut self, alloc: Global) -> bool
         ensures { IsQuietBehind B.rooted_as self.old result self.new }

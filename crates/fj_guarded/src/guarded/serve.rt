@@ -16,17 +16,17 @@ use crate::guarded::Guarded;
 use crate::guarded::outside::TakenIn;
 use crate::next::{MOST_SKIPPED, Next, Unneeded};
 use fj_body::{Ask, Body, Heard, Told};
-use fj_calls::{CoreLanes, CoreQueries, CoreSleep, CoreWorkers};
+use fj_calls::{CoreLanes, CoreQueries, CoreSleep, CoreWaking, CoreWorkers};
 use fj_rules::{Refusal, Serial, WorkerId};
 use fj_slots::Hand;
 use fj_submitter::Naming;
 use std::alloc::Global;
 
-impl<B: Body, N: Naming, C: CoreLanes<B> + CoreQueries<B> + CoreSleep<B> + CoreWorkers<B>> Guarded<
-    B,
-    N,
-    C,
-> {
+impl<
+    B: Body,
+    N: Naming,
+    C: CoreLanes<B> + CoreQueries<B> + CoreSleep<B> + CoreWaking<B> + CoreWorkers<B>,
+> Guarded<B, N, C> {
     /// Serves what the hook or the running body asks; without an ask the worker resumes. Preconditions: the hand fits, and has a body or a
     /// hook that may ask this.
     pub fn serve(

@@ -4,20 +4,12 @@ ghost use Rattle.fj_calls.specs.Cores.{is_awaited};
 
 use crate::guarded::Guarded;
 use fj_body::Body;
-use fj_calls::{CoreSleep, ToWake};
+use fj_calls::{CoreSeats, CoreSleep, CoreWaking, ToWake};
 use fj_gate::Ticket;
 use fj_rules::WorkerId;
 use fj_submitter::Naming;
 
 impl<B: Body, N: Naming, C: CoreSleep<B>> Guarded<B, N, C> {
-    /// Puts into `due` who is to be woken by all that was done since the last call, if anybody is.
-    #[inline(always)]
-    pub fn take_due(&mut self, due: &mut ToWake)
-        ensures { self.new ≡ self.old }
-    {
-        self.core.take_due(due);
-    }
-
     /// A worker is back from its sleep.
     pub fn come_back(&mut self, worker: WorkerId)
         ensures { self.new ≡ self.old }
@@ -43,7 +35,9 @@ impl<B: Body, N: Naming, C: CoreSleep<B>> Guarded<B, N, C> {
     pub fn is_lookout(&self, worker: WorkerId) -> bool {
         self.core.is_lookout(worker)
     }
+}
 
+impl<B: Body, N: Naming, C: CoreSeats<B>> Guarded<B, N, C> {
     /// A caller awaits this outcome: at which seat, or at none where all are taken. Precondition: it is still to come.
     pub fn sit(&mut self, ticket: Ticket) -> Option<usize>
         requires { is_awaited self.old ticket ≡ true }
@@ -64,6 +58,16 @@ impl<B: Body, N: Naming, C: CoreSleep<B>> Guarded<B, N, C> {
         ensures { self.new ≡ self.old }
     {
         self.core.stand_up(seat);
+    }
+}
+
+impl<B: Body, N: Naming, C: CoreWaking<B>> Guarded<B, N, C> {
+    /// Puts into `due` who is to be woken by all that was done since the last call, if anybody is.
+    #[inline(always)]
+    pub fn take_due(&mut self, due: &mut ToWake)
+        ensures { self.new ≡ self.old }
+    {
+        self.core.take_due(due);
     }
 
     /// A task was queued for which no worker may be awake.

@@ -25,6 +25,11 @@ impl<B: Body, N: Naming> Pool<B, N> {
     pub fn front<R: Wait>(&self, rt: &R) -> Front<B, N> {
         let mut guard = self.lock(rt);
         let core = &mut *guard;
+        self.front_of(core)
+    }
+
+    /// The same, under the lock.
+    fn front_of(&self, core: &mut Locked<B, N>) -> Front<B, N> {
         core.front(&self.log)
     }
 
@@ -39,7 +44,7 @@ impl<B: Body, N: Naming> Pool<B, N> {
     pub fn await_done<R: Wait>(&self, rt: &R, ticket: Ticket) -> Result<Outcome<B>, Refusal> {
         let mut guard = self.lock(rt);
         let core = &mut *guard;
-        let mut front = core.front(&self.log);
+        let mut front = self.front_of(core);
         self.await_with(rt, guard, &mut front, ticket)
     }
 
@@ -103,7 +108,7 @@ impl<B: Body, N: Naming> Pool<B, N> {
     pub fn try_done<R: Wait>(&self, rt: &R, ticket: Ticket) -> Option<Result<Outcome<B>, Refusal>> {
         let mut guard = self.lock(rt);
         let core = &mut *guard;
-        let mut front = core.front(&self.log);
+        let mut front = self.front_of(core);
         self.try_with(guard, &mut front, ticket)
     }
 
@@ -153,7 +158,7 @@ impl<B: Body, N: Naming> Pool<B, N> {
     {
         let mut guard = self.lock(rt);
         let core = &mut *guard;
-        let mut front = core.front(&self.log);
+        let mut front = self.front_of(core);
         self.await_any_with(rt, guard, &mut front, tickets)
     }
 
@@ -211,7 +216,7 @@ impl<B: Body, N: Naming> Pool<B, N> {
     pub fn cancel<R: Wait>(&self, rt: &R, ticket: Ticket) -> Result<bool, Refusal> {
         let mut guard = self.lock(rt);
         let core = &mut *guard;
-        let mut front = core.front(&self.log);
+        let mut front = self.front_of(core);
         self.cancel_with(guard, &mut front, ticket)
     }
 
@@ -299,7 +304,7 @@ impl<B: Body, N: Naming> Pool<B, N> {
     pub fn is_quiescent<R: Wait>(&self, rt: &R) -> bool {
         let mut guard = self.core.lock(rt);
         let core = &mut *guard;
-        let mut front = core.front(&self.log);
+        let mut front = self.front_of(core);
         self.ask_quiet(guard, &mut front)
     }
 
@@ -326,7 +331,7 @@ impl<B: Body, N: Naming> Pool<B, N> {
     pub fn is_terminated<R: Wait>(&self, rt: &R) -> bool {
         let mut guard = self.core.lock(rt);
         let core = &mut *guard;
-        let mut front = core.front(&self.log);
+        let mut front = self.front_of(core);
         core.tell_terminated(&self.log, &mut front)
     }
 

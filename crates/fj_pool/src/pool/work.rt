@@ -11,7 +11,7 @@ use crate::types::Locked;
 use fj_body::{Ask, Body, Turnstile};
 use fj_calls::ToWake;
 use fj_guarded::{Front, Naming, Next};
-use fj_parts::Hand;
+use fj_parts::{Hand, Waking};
 use fj_rules::{Refusal, WorkerId};
 use fj_sleep::{Contention, Idle};
 use fj_wake::place_of;
@@ -27,10 +27,7 @@ pub(crate) const LONGEST_WAIT: u64 = 1;
 struct Pace {
     idle: Idle,
     contention: Contention,
-    /// Whether it has rested, or waited in a join, since it last had the lock.
-    slept: bool,
-    /// The threads that it notifies once the lock is free.
-    due: ToWake,
+    waking: Waking,
 }
 
 /// A thread that works: its runtime, its observer and its worker.
@@ -76,8 +73,10 @@ impl<B: Body, N: Naming> Pool<B, N> {
         let mut pace = Pace {
             idle: Idle::new(),
             contention: Contention::new(),
-            slept: false,
-            due: ToWake::nobody(),
+            waking: Waking {
+                slept: false,
+                due: ToWake::nobody(),
+            },
         };
         for _ in rt.forever() {
             let next = self.serve(&working, hand, ask, &mut pace, front);
@@ -107,29 +106,15 @@ impl<B: Body, N: Naming> Pool<B, N> {
     {
         let mut guard = self.lock_for_work(working.rt, &mut pace.contention);
         let core = &mut *guard;
-        if pace.slept {
-            core.come_back(working.worker);
-        }
-        let next = core.serve_seen(self.alloc, &self.log, hand, ask, front);
-        if pace.slept && !matches!(next, Next::Rest) {
-            core.begin(working.worker);
-        }
-        core.take_due(&mut pace.due);
-        pace.slept = false;
+        let next = core.serve_seen(self.alloc, &self.log, hand, ask, front, &mut pace.waking);
         match next {
-            Next::Wait => {
-                pace.slept = true;
-                self.wait_in_join(working, guard, &mut pace.due, hand);
-            }
-            Next::Rest => {
-                pace.slept = true;
-                self.rest(working, guard, pace, hand);
-            }
+            Next::Wait => self.wait_in_join(working, guard, &mut pace.waking.due, hand),
+            Next::Rest => self.rest(working, guard, pace, hand),
             Next::Begin(_) => {
                 pace.idle = Idle::new();
-                self.let_go(guard, &mut pace.due, hand);
+                self.let_go(guard, &mut pace.waking.due, hand);
             }
-            _ => self.let_go(guard, &mut pace.due, hand),
+            _ => self.let_go(guard, &mut pace.waking.due, hand),
         }
         next
     }
@@ -174,7 +159,7 @@ impl<B: Body, N: Naming> Pool<B, N> {
         let seen = place.notifications();
         let core = &*guard;
         let looks = core.is_lookout(working.worker);
-        self.let_go(guard, &mut pace.due, hand);
+        self.let_go(guard, &mut pace.waking.due, hand);
         working.turnstile.idle(working.worker);
         match pace.idle.next_sleep() {
             Some(sleep) if looks => place.sleep(working.rt, seen, sleep),

@@ -1,4 +1,4 @@
-use Rattle.fj_wake.proofs.waking_core.WakingCoreCoreSleep.wake_workers.Goals as goal
+use Rattle.fj_wake.proofs.waking_core.WakingCoreCoreWaking.wake_workers.Goals as goal
 
 pub invariant_of-self : goal.invariant_of-self
 invariant_of-self g c = c.wake_workers.ensures _ _ c.self.invariant
