@@ -26,7 +26,7 @@ pub struct Guarded<B: Body, N: Naming, C: CoreView<B>> {
 }
 
 // By hand: a derived one is proved in each crate that drops such a value.
-impl<B: Body, N: Naming, C: CoreView<B>> Drop for Guarded<B, N, C> {
+impl<B: Body, N: Naming, C: CoreView<B> + Drop> Drop for Guarded<B, N, C> {
     fn drop(self) {
         let Guarded {
             core: _,

@@ -45,7 +45,7 @@ pub struct Locked<B: Body, N: Naming, C: CoreView<B>> {
 }
 
 // By hand: a derived one is proved in each crate that drops such a value.
-impl<B: Body, N: Naming, C: CoreView<B>> Drop for Locked<B, N, C> {
+impl<B: Body, N: Naming, C: CoreView<B> + Drop> Drop for Locked<B, N, C> {
     fn drop(self) {
         let Locked {
             guarded: _,

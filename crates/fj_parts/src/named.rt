@@ -31,7 +31,7 @@ pub struct Named<B: Body, N: Naming, C: CoreView<B>> {
     pub closer: Closer<N>,
 }
 
-impl<B: Body, C: CoreQueries<B>> Parts<B, C> {
+impl<B: Body, C: CoreQueries<B> + Drop> Parts<B, C> {
     /// Puts the parts under a name.
     ///
     /// `OutOfMemory` if an allocation fails. Precondition: the name is that of these parts.

@@ -45,7 +45,7 @@ impl<B: Body, C: CoreView<B>> Model for Parts<B, C> {
     } };
 }
 
-impl<B: Body, C: CoreMaking<B>> Parts<B, C> {
+impl<B: Body, C: CoreMaking<B> + Drop> Parts<B, C> {
     /// The parts of a new pool. Allocates all memory, except that for seals and that which is allocated as the pool is opened: for the lock, for
     /// the lists of hands and submitters, and for winding up.
     ///
@@ -72,7 +72,7 @@ impl<B: Body, C: CoreMaking<B>> Parts<B, C> {
 }
 
 /// The same, within its range.
-fn make<B: Body, C: CoreMaking<B>>(
+fn make<B: Body, C: CoreMaking<B> + Drop>(
     alloc: Global,
     mode: Mode,
     limits: Limits,

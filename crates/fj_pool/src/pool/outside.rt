@@ -332,7 +332,7 @@ impl<B: Body, N: Naming> Pool<B, N> {
         let mut guard = self.core.lock(rt);
         let core = &mut *guard;
         let mut front = self.front_of(core);
-        core.tell_terminated(&self.log, &mut front)
+        self.ask_terminated(guard, &mut front)
     }
 
     /// The same, as the caller sees it: of the last moment that it has seen then.
@@ -340,7 +340,18 @@ impl<B: Body, N: Naming> Pool<B, N> {
         ensures goes_on { IsPrefix front.old front.new }
         ensures now { (core : CoreState B B.Key B.Out) × IsNow front.new core × (result ≡ is_finished core) }
     {
-        let mut guard = self.core.lock(rt);
+        self.ask_terminated(self.core.lock(rt), front)
+    }
+
+    /// The same, by a caller that has the lock.
+    fn ask_terminated(
+        &self,
+        mut guard: MutexGuard<'_, Locked<B, N>>,
+        front: &mut Front<B, N>,
+    ) -> bool
+        ensures goes_on { IsPrefix front.old front.new }
+        ensures now { (core : CoreState B B.Key B.Out) × IsNow front.new core × (result ≡ is_finished core) }
+    {
         let core = &mut *guard;
         core.tell_terminated(&self.log, front)
     }
