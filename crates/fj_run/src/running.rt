@@ -1,8 +1,9 @@
 ghost use Rattle.std.specs.Prelude.{◌≡◌, ◌<◌, [], IfErr, IfNone, IfOk, IfSome, Some, length};
 ghost use mathlib.Core.List.{IsPrefix};
 ghost use Rattle.fj_calls.specs.Cores.{CollectsTicket};
-ghost use Rattle.fj_guarded.specs.Asked.{CollectsAt};
+ghost use Rattle.fj_guarded.specs.Asked.{CancelsBehind, CollectsAt};
 ghost use Rattle.fj_guarded.specs.Continuing.{EndsWith, IsToldNow};
+ghost use Rattle.fj_guarded.specs.Looking.{IsQuietBehind};
 ghost use Rattle.fj_pool.specs.Telling.{IsToldAt};
 ghost use Rattle.fj_run.specs.Playing.{SubmitsBy};
 
@@ -140,14 +141,22 @@ impl<'p, 'r, B: Body, N: Naming, R: Wait> Running<'p, 'r, B, N, R> {
         told
     }
 
-    /// Cancels a submission: `Pool::cancel`.
-    pub fn cancel(&self, ticket: Ticket) -> Result<bool, Refusal> {
-        self.pool.cancel(self.rt, ticket)
+    /// Cancels a submission: `Pool::cancel_seen`.
+    pub fn cancel(&mut self, ticket: Ticket) -> Result<bool, Refusal>
+        ensures goes_on { IsPrefix self.old.seen self.new.seen }
+        ensures seen { EndsWith self.new.seen (λ old new. CancelsBehind B.rooted_as old ticket result new) }
+        ensures seats { self.new.seats ≡ self.old.seats }
+    {
+        self.pool.cancel_seen(self.rt, &mut self.front, ticket)
     }
 
-    /// Whether nothing is queued or running, after at most one parcel of each lane is taken in: `Pool::is_quiescent`.
-    pub fn is_quiescent(&self) -> bool {
-        self.pool.is_quiescent(self.rt)
+    /// Whether nothing is queued or running, after at most one parcel of each lane is taken in: `Pool::is_quiescent_seen`.
+    pub fn is_quiescent(&mut self) -> bool
+        ensures goes_on { IsPrefix self.old.seen self.new.seen }
+        ensures seen { EndsWith self.new.seen (λ old new. IsQuietBehind B.rooted_as old result new) }
+        ensures seats { self.new.seats ≡ self.old.seats }
+    {
+        self.pool.is_quiescent_seen(self.rt, &mut self.front)
     }
 
     /// A snapshot of what the pool does: `Pool::glance`.
