@@ -1,5 +1,4 @@
 ghost use Rattle.std.specs.Prelude.{◌≡◌, IfOk, [], true, false};
-ghost use Rattle.fj_rules.specs.Bounds.{IsWithin};
 ghost use Rattle.fj_rules.specs.Epochs.{IsPast};
 ghost use Rattle.fj_rules.specs.Pasts.{fresh};
 ghost use Rattle.fj_slots.specs.Shelves.{entries, no_entries};
@@ -93,18 +92,10 @@ impl<B: Body> Store<B> {
         })
     }
 
-    /// How large the pool may grow.
-    pub fn limits(&self) -> Limits
-        ensures limits { result ≡ self.now.past.pool.limits }
-        ensures within { IsWithin result.workers result.submitters result.tasks result.events }
-        ensures run { IsPast self.now.past }
-    {
-        self.machine.limits()
-    }
-
     /// The machine, with its history. No taken task can be released, unless the store is stuck.
     pub fn machine(&self) -> &Machine
         ensures is { result.now ≡ self.now.past }
+        ensures run { IsPast self.now.past }
         ensures rests { self.now.stuck ≡ false → NoneGoes self.now.past.events self.now.taken }
     {
         &self.machine

@@ -1,7 +1,9 @@
 //! The calls of a core, as traits.
+mod closing;
 mod lanes;
 mod making;
 mod outside;
+mod parts;
 mod queries;
 mod seats;
 mod sleep;
@@ -9,9 +11,11 @@ pub mod view;
 mod waking;
 mod workers;
 
+pub use closing::CoreClosing;
 pub use lanes::CoreLanes;
 pub use making::CoreMaking;
 pub use outside::CoreOutside;
+pub use parts::CoreParts;
 pub use queries::CoreQueries;
 pub use seats::CoreSeats;
 pub use sleep::CoreSleep;

@@ -14,8 +14,8 @@ pub use archive::Archive;
 pub use booking::Booking;
 pub use bookings::Bookings;
 pub use calls::{
-    CoreLanes, CoreMaking, CoreOutside, CoreQueries, CoreSeats, CoreSleep, CoreView, CoreWaking,
-    CoreWorkers,
+    CoreClosing, CoreLanes, CoreMaking, CoreOutside, CoreParts, CoreQueries, CoreSeats, CoreSleep,
+    CoreView, CoreWaking, CoreWorkers,
 };
 pub use cutoff::Cutoff;
 pub use remains::Remains;

@@ -1,6 +1,5 @@
 ghost use Rattle.std.specs.Prelude.{◌≡◌, ◌≤◌, ◌&&◌, [], None, true, All, IfOk, vec_len};
 ghost use Rattle.fj_lane.specs.declared.new_lane.TheConstants.{MAX_CAPACITY};
-ghost use Rattle.fj_rules.specs.Bounds.{IsWithin};
 ghost use Rattle.fj_rules.specs.Epochs.{IsPast};
 ghost use Rattle.fj_rules.specs.Statuses.{status, is_undone};
 ghost use Rattle.fj_rules.specs.Tasks.{is_kept};
@@ -101,18 +100,10 @@ impl<B: Body> Core<B> {
         Ok((core, hands))
     }
 
-    /// How large the pool may grow. There is at least one worker and one submitter.
-    pub fn limits(&self) -> Limits
-        ensures limits { result ≡ self.now.store.past.pool.limits }
-        ensures within { IsWithin result.workers result.submitters result.tasks result.events }
-        ensures run { IsPast self.now.store.past }
-    {
-        self.store.limits()
-    }
-
     /// The machine, with its history.
     pub fn machine(&self) -> &Machine
-        ensures { result.now ≡ self.now.store.past }
+        ensures is { result.now ≡ self.now.store.past }
+        ensures run { IsPast self.now.store.past }
     {
         self.store.machine()
     }

@@ -68,7 +68,7 @@ impl<B: Body, N: Naming, C: CoreQueries<B>> Guarded<B, N, C> {
         ensures { result ≡ C.state core }
     {
         // For the proof: there is a first submitter.
-        let _limits = core.limits();
+        let _limits = core.machine().limits();
         Guarded {
             core,
             entrants: room.entrants,

@@ -20,8 +20,8 @@ use crate::still::Still;
 use fj_agreement::End;
 use fj_body::{Ask, Body, Outcome};
 use fj_calls::{
-    CoreLanes, CoreOutside, CoreQueries, CoreSeats, CoreSleep, CoreView, CoreWaking, CoreWorkers,
-    ToWake,
+    CoreClosing, CoreLanes, CoreOutside, CoreParts, CoreQueries, CoreSeats, CoreSleep, CoreView,
+    CoreWaking, CoreWorkers, ToWake,
 };
 use fj_gate::Ticket;
 use fj_guarded::{Front, Guarded, Keeper, Log, Naming, Next};
@@ -289,7 +289,7 @@ impl<B: Body, N: Naming, C: CoreLanes<B> + CoreOutside<B> + CoreQueries<B> + Cor
     }
 }
 
-impl<B: Body, N: Naming, C: CoreOutside<B>> Locked<B, N, C> {
+impl<B: Body, N: Naming, C: CoreParts<B>> Locked<B, N, C> {
     /// Hands out the sealed parts that are kept.
     pub fn take_parts(&mut self, alloc: Global) -> Vec<Sealed>
         ensures parts { result.items ≡ self.old.parts }
@@ -297,7 +297,9 @@ impl<B: Body, N: Naming, C: CoreOutside<B>> Locked<B, N, C> {
     {
         self.guarded.take_parts(alloc)
     }
+}
 
+impl<B: Body, N: Naming, C: CoreClosing<B>> Locked<B, N, C> {
     /// Sets the closing number, at which the Shutdown is made.
     pub fn close_at(&mut self, number: u64)
         ensures { ShutsAt self.old (closed_at self.old.closing number) self.new }

@@ -56,8 +56,8 @@ impl<B: Body, N: Naming, C: CoreMaking<B> + CoreQueries<B>> Still<B, N, C> {
     {
         let Still { guarded } = self;
         let (core, entrants, rests) = guarded.into_parts();
-        let shut = core.is_shut();
-        let quiet = core.is_quiescent();
+        let shut = core.machine().is_shut();
+        let quiet = core.machine().is_quiescent();
         let Remains {
             machine,
             results,

@@ -11,8 +11,8 @@ use crate::news::takes;
 use crate::waits::Waits;
 use fj_body::{Ask, Body, Outcome, Told};
 use fj_calls::{
-    CoreLanes, CoreMaking, CoreOutside, CoreQueries, CoreSeats, CoreSleep, CoreView, CoreWaking,
-    CoreWorkers, Intake, Remains, ToWake,
+    CoreClosing, CoreLanes, CoreMaking, CoreOutside, CoreParts, CoreQueries, CoreSeats, CoreSleep,
+    CoreView, CoreWaking, CoreWorkers, Intake, Remains, ToWake,
 };
 use fj_core::Core;
 use fj_gate::Ticket;
@@ -82,24 +82,12 @@ impl<B: Body> CoreMaking<B> for WakingCore<B> {
 }
 
 impl<B: Body> CoreQueries<B> for WakingCore<B> {
-    fn limits(&self) -> Limits {
-        self.core.limits()
-    }
-
     fn machine(&self) -> &Machine {
         self.core.machine()
     }
 
     fn is_closing(&self) -> bool {
         self.core.is_closing()
-    }
-
-    fn is_shut(&self) -> bool {
-        self.core.is_shut()
-    }
-
-    fn is_quiescent(&self) -> bool {
-        self.core.is_quiescent()
     }
 
     fn is_terminated(&self) -> bool {
@@ -114,7 +102,7 @@ impl<B: Body> CoreOutside<B> for WakingCore<B> {
         let place = self.core.machine().history().len();
         let answer = self.core.collect(ticket);
         self.waits.tell_ended(&self.core, place);
-        let room = answer.is_some() && self.core.is_closing() && !self.core.is_shut();
+        let room = answer.is_some() && self.core.is_closing() && !self.core.machine().is_shut();
         self.waits.wake_joining_if(room);
         answer
     }
@@ -125,7 +113,9 @@ impl<B: Body> CoreOutside<B> for WakingCore<B> {
         self.waits.tell_ended(&self.core, place);
         answer
     }
+}
 
+impl<B: Body> CoreClosing<B> for WakingCore<B> {
     fn close_at(&mut self, number: u64) {
         self.core.close_at(number);
         self.waits.wake_all();
@@ -135,7 +125,9 @@ impl<B: Body> CoreOutside<B> for WakingCore<B> {
         self.core.stop_at(number);
         self.waits.wake_all();
     }
+}
 
+impl<B: Body> CoreParts<B> for WakingCore<B> {
     fn take_parts(&mut self, alloc: Global) -> Vec<Sealed> {
         self.core.take_parts(alloc)
     }
@@ -216,10 +208,6 @@ impl<B: Body> CoreSleep<B> for WakingCore<B> {
 }
 
 impl<B: Body> CoreSeats<B> for WakingCore<B> {
-    fn is_awaited(&self, ticket: Ticket) -> bool {
-        self.core.is_awaited(ticket)
-    }
-
     fn sit(&mut self, ticket: Ticket) -> Option<usize> {
         self.waits.sit(ticket)
     }

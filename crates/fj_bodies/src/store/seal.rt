@@ -30,7 +30,7 @@ impl<B: Body> Store<B> {
     pub fn is_half_full(&self) -> bool
         ensures { result ≡ is_half_full self.now.past }
     {
-        let events = self.limits().events() as usize;
+        let events = self.machine.limits().events() as usize;
         self.machine.history().len() > events / 2
     }
 

@@ -7,10 +7,6 @@ use fj_gate::Ticket;
 
 /// Which callers wait at a core.
 pub trait CoreSeats<B: Body>: CoreView<B> {
-    /// Whether the outcome under a ticket is still to come.
-    fn is_awaited(&self, ticket: Ticket) -> bool
-        ensures { result ≡ is_awaited (Self.state self.now) ticket };
-
     /// A caller awaits this outcome: at which seat, or at none where all are taken. Precondition: it is still to come.
     fn sit(&mut self, ticket: Ticket) -> Option<usize>
         requires { is_awaited (Self.state self.old) ticket ≡ true }

@@ -1,7 +1,5 @@
 ghost use Rattle.std.specs.Prelude.{◌≡◌, is_some};
-ghost use Rattle.fj_rules.specs.Answers.{is_quiet};
 ghost use Rattle.fj_calls.specs.Closes.{ShutsAt, closed_at, is_finished, stopped_at};
-ghost use Rattle.fj_calls.specs.Closings.{is_over};
 
 use crate::due::make_due;
 use crate::pool_core::Core;
@@ -39,20 +37,6 @@ impl<B: Body> Core<B> {
         ensures { result ≡ is_some self.now.closing.number }
     {
         self.closing.number.is_some()
-    }
-
-    /// Whether all queues, stacks and hands of the machine are empty: `ForkJoinPool.isQuiescent`. Parcels in the lanes do not count.
-    pub fn is_quiescent(&self) -> bool
-        ensures { result ≡ is_quiet self.now.store.past.pool.limits self.now.store.past.events }
-    {
-        self.store.is_quiescent()
-    }
-
-    /// Whether the Shutdown or the Stop was made: `ForkJoinPool.isShutdown`. A closing number that is not reached does not count.
-    pub fn is_shut(&self) -> bool
-        ensures { result ≡ is_over self.now.store.past.events }
-    {
-        self.store.is_shut()
     }
 
     /// Whether the Shutdown or the Stop was made, the closing number is the number of submissions taken in, and the machine is quiescent:

@@ -9,7 +9,7 @@ ghost use Rattle.fj_guarded.specs.Looking.{IsQuietBehind, LooksAtLanes, SealsWhe
 
 use crate::guarded::Guarded;
 use fj_body::{Body, Outcome};
-use fj_calls::{CoreLanes, CoreOutside, CoreQueries, CoreWaking, Intake};
+use fj_calls::{CoreClosing, CoreLanes, CoreOutside, CoreParts, CoreQueries, CoreWaking, Intake};
 use fj_gate::Ticket;
 use fj_rules::{Refusal, Sealed, SubId};
 use fj_submitter::Naming;
@@ -101,7 +101,7 @@ impl<B: Body, N: Naming, C: CoreLanes<B> + CoreOutside<B> + CoreQueries<B> + Cor
     }
 }
 
-impl<B: Body, N: Naming, C: CoreOutside<B>> Guarded<B, N, C> {
+impl<B: Body, N: Naming, C: CoreParts<B>> Guarded<B, N, C> {
     /// Hands out the sealed parts that are kept.
     pub fn take_parts(&mut self, alloc: Global) -> Vec<Sealed>
         ensures parts { result.items ≡ self.old.parts }
@@ -109,7 +109,9 @@ impl<B: Body, N: Naming, C: CoreOutside<B>> Guarded<B, N, C> {
     {
         self.core.take_parts(alloc)
     }
+}
 
+impl<B: Body, N: Naming, C: CoreClosing<B>> Guarded<B, N, C> {
     /// Sets the closing number, at which the Shutdown is made.
     pub fn close_at(&mut self, number: u64)
         ensures { ShutsAt self.old (closed_at self.old.closing number) self.new }
@@ -134,7 +136,7 @@ impl<B: Body, N: Naming, C: CoreLanes<B> + CoreQueries<B> + CoreWaking<B>> Guard
         if let TakenIn::One = self.take_in() {
             self.task_queued();
         }
-        self.core.is_quiescent()
+        self.core.machine().is_quiescent()
     }
 }
 
@@ -158,7 +160,7 @@ fn take_each<B: Body, C: CoreLanes<B> + CoreQueries<B>>(
     ensures lanes { KeepsLanes (C.state core.old) (C.state core.new) }
     ensures pool { (C.state core.new).store.past.pool ≡ (C.state core.old).store.past.pool }
 {
-    let submitters = core.limits().submitters();
+    let submitters = core.machine().limits().submitters();
     let mut taken = TakenIn::Nothing;
     let mut s = first;
     let mut waits = None;

@@ -100,7 +100,7 @@ impl<
         ensures worker { hand.new.worker ≡ hand.old.worker }
     {
         // For the proof: the past is that of a run.
-        let _run = self.core.limits();
+        let _run = self.core.machine();
         self.core.act(hand, ask)
     }
 
@@ -299,7 +299,7 @@ impl<
         ensures right { NextRight B.right result }
         ensures leaves { LeavesWell self.new result }
     {
-        if self.core.is_closing() && !self.core.is_shut() {
+        if self.core.is_closing() && !self.core.machine().is_shut() {
             return self.look_and_wait(alloc, worker, t);
         }
         self.sleep_until(worker, t)

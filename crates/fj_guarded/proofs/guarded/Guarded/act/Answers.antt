@@ -7,7 +7,7 @@ use Rattle.fj_guarded.proofs.guarded.Guarded.act.Goals as goal
 pub returns-clause-keeps : goal.returns-clause-keeps
 returns-clause-keeps g c =
     subst (λ s. KeepsOthers c.args.hand.now.worker s.store.past (g.C.CoreView.state c.act.new.self).store.past) c.self.view_is
-    (record { pool = c.act.ensures.stays.past.pool; hands = acts_others g.B.Body.key_of _ _ _ _ c.args.ask c.act.result c.limits-run.ensures.run c.act.ensures.acts })
+    (record { pool = c.act.ensures.stays.past.pool; hands = acts_others g.B.Body.key_of _ _ _ _ c.args.ask c.act.result c.machine-run.ensures.run c.act.ensures.acts })
 
 pub returns-clause-worker : goal.returns-clause-worker
 returns-clause-worker g c = acts_at g.B.Body.key_of _ _ _ _ c.args.ask c.act.result c.act.ensures.acts

@@ -1,5 +1,6 @@
 use Rattle.std.proofs.Common.{◌≡◌, ◌<◌, refl, sym, ap, ◌∙◌, subst, arith}
 use Rattle.fj_rules.specs.Bounds.{Bounds, Pool}
+use Rattle.fj_rules.specs.Pasts.{Past}
 use Rattle.fj_guarded.specs.Looking.{TakesFrom, behind}
 use Rattle.fj_guarded.proofs.Looking.{one_behind, takes_keep, takes_next, takes_none, takes_same, waits_or, waits_or_first}
 use Rattle.fj_guarded.proofs.guarded.outside.take_each.Goals as goal
@@ -20,13 +21,13 @@ intake-answer-requires g c =
 
 pub next_behind-s-requires : goal.next_behind-s-requires
 next_behind-s-requires g c =
-    let count = c.submitters-submitters.ensures.number ∙ ap (λ (b : Bounds). b.submitters) c.limits.ensures.limits in
+    let count = c.submitters-submitters.ensures.number ∙ ap (λ (b : Bounds). b.submitters) c.limits.ensures.limits ∙ ap (λ (p : Past). p.pool.limits.submitters) c.machine.ensures.is in
     subst (λ n. c.loop-look.s < n) (sym count) c.loop-look.invariant.within
 
 pub loop-look-preserved : goal.loop-look-preserved
 loop-look-preserved g c =
     let submitters = (g.C.CoreView.state c.args.core.now).store.past.pool.limits.submitters in
-    let count = c.submitters-submitters.ensures.number ∙ ap (λ (b : Bounds). b.submitters) c.limits.ensures.limits in
+    let count = c.submitters-submitters.ensures.number ∙ ap (λ (b : Bounds). b.submitters) c.limits.ensures.limits ∙ ap (λ (p : Past). p.pool.limits.submitters) c.machine.ensures.is in
     let before = c.loop-look.invariant in record {
       taken = takes_next g.B.Body.rooted_as submitters c.args.first c.loop-look._look c.loop-look.s (g.C.CoreView.state c.args.core.now) (g.C.CoreView.state c.loop-look.core) (g.C.CoreView.state c.intake-answer.new.self) c.loop-look.taken c.count-taken.result c.intake-answer.result
           before.taken before.at c.intake-answer.ensures.intakes c.count-taken.ensures;
@@ -40,7 +41,7 @@ returns-clause-takes g c =
     let submitters = (g.C.CoreView.state c.args.core.now).store.past.pool.limits.submitters in
     let all : c.loop-look._look ≡ c.submitters-submitters.result = omega (arith, c.loop-look-test.false, c.loop-look.auto._look-end) in
     subst (λ n. TakesFrom g.B.Body.rooted_as submitters c.args.first n (g.C.CoreView.state c.args.core.now) c.loop-look.taken (g.C.CoreView.state c.loop-look.core))
-    (all ∙ c.submitters-submitters.ensures.number ∙ ap (λ (b : Bounds). b.submitters) c.limits.ensures.limits)
+    (all ∙ c.submitters-submitters.ensures.number ∙ ap (λ (b : Bounds). b.submitters) c.limits.ensures.limits ∙ ap (λ (p : Past). p.pool.limits.submitters) c.machine.ensures.is)
     c.loop-look.invariant.taken
 
 pub returns-clause-next : goal.returns-clause-next

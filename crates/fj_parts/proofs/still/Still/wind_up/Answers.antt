@@ -96,8 +96,8 @@ returns-clause-terminated g c =
     let closed : c.meet-tickets.result.closed ≡ c.args.closer.closed = returns-clause-closed g c in
     let number : is_number c.meet-tickets.result.closed c.len.result ≡ is_number c.args.closer.closed (submissions machine) =
     (λ i. is_number (closed i) (c.len.ensures i)) ∙ ap (λ (n : ℕ). is_number c.args.closer.closed n) (returns-clause-taken_in g c) in
-    let shut : c.is_shut-shut.result ≡ is_over machine.events = c.is_shut-shut.ensures ∙ ap (λ p. is_over p.events) past in
-    let quiet : c.is_quiescent-quiet.result ≡ is_quiet machine.pool.limits machine.events = c.is_quiescent-quiet.ensures ∙ ap (λ p. is_quiet p.pool.limits p.events) past in
+    let shut : c.is_shut-shut.result ≡ is_over machine.events = c.is_shut-shut.ensures ∙ ap (λ (p : Past). is_over p.events) (c.machine.ensures.is ∙ past) in
+    let quiet : c.is_quiescent-quiet.result ≡ is_quiet machine.pool.limits machine.events = c.is_quiescent-quiet.ensures ∙ ap (λ (p : Past). is_quiet p.pool.limits p.events) (c.machine-2.ensures.is ∙ past) in
     c.has_ended-terminated.ensures ∙ (λ i. number i && shut i && quiet i)
 
 pub returns-clause-emptied : goal.returns-clause-emptied

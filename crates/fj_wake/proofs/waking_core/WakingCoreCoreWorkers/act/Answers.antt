@@ -3,5 +3,5 @@ use Rattle.fj_wake.proofs.Lasting.{call_to_come}
 use Rattle.fj_wake.proofs.waking_core.WakingCoreCoreWorkers.act.Goals as goal
 
 pub invariant_of-self : goal.invariant_of-self
-invariant_of-self g c = c.tell.ensures _ _ c.self.invariant (call_to_come c.self.inside.core c.act-told.new.self c.machine.result.now c.history-place.result.now (length c.history-place.result.now) c.machine.ensures c.history-place.ensures.events c.history-place.ensures.run refl
+invariant_of-self g c = c.tell.ensures _ _ c.self.invariant (call_to_come c.self.inside.core c.act-told.new.self c.machine.result.now c.history-place.result.now (length c.history-place.result.now) c.machine.ensures.is c.history-place.ensures.events c.history-place.ensures.run refl
     c.act-told.ensures.stays c.act-told.ensures.others)
