@@ -36,6 +36,12 @@ impl<B: Body, N: Naming> Pool<B, N> {
     }
 }
 
+/// Lets the lock go: a drop of a guard is expensive to verify, so there is only this one.
+#[inline(always)]
+pub(crate) fn unlock<B: Body, N: Naming>(guard: MutexGuard<'_, Locked<B, N>>) {
+    drop(guard);
+}
+
 /// Waits for `pauses` pauses of the processor.
 fn wait_for(pauses: u32) {
     for _pause in 0..pauses {

@@ -9,6 +9,7 @@ ghost use Rattle.fj_pool.specs.Telling.{IsToldAt};
 ghost use Rattle.fj_guarded.specs.Looking.{IsQuietBehind};
 
 use crate::pool::Pool;
+use crate::pool::lock::unlock;
 use crate::pool::work::LONGEST_WAIT;
 use crate::types::Locked;
 use fj_body::{Body, Outcome};
@@ -25,7 +26,9 @@ impl<B: Body, N: Naming> Pool<B, N> {
     pub fn front<R: Wait>(&self, rt: &R) -> Front<B, N> {
         let mut guard = self.lock(rt);
         let core = &mut *guard;
-        self.front_of(core)
+        let front = self.front_of(core);
+        unlock(guard);
+        front
     }
 
     /// The same, under the lock.
@@ -98,7 +101,7 @@ impl<B: Body, N: Naming> Pool<B, N> {
     ) -> MutexGuard<'p, Locked<B, N>> {
         let condvar = self.condvars.seat(seat);
         let seen = condvar.notifications();
-        drop(guard);
+        unlock(guard);
         condvar.sleep(rt, seen, Duration::from_secs(LONGEST_WAIT));
         self.lock(rt)
     }
@@ -256,7 +259,9 @@ impl<B: Body, N: Naming> Pool<B, N> {
     pub fn take_parts<R: Wait>(&self, rt: &R) -> Vec<Sealed> {
         let mut guard = self.core.lock(rt);
         let core = &mut *guard;
-        core.take_parts(self.alloc)
+        let parts = core.take_parts(self.alloc);
+        unlock(guard);
+        parts
     }
 
     /// Admits nothing more; what was admitted is run, and then the workers leave: `ForkJoinPool.shutdown`. A repeat has no effect.
@@ -285,7 +290,7 @@ impl<B: Body, N: Naming> Pool<B, N> {
         let mut due = ToWake::nobody();
         let core = &mut *guard;
         core.take_due(&mut due);
-        drop(guard);
+        unlock(guard);
         self.wake_due(&mut due);
     }
 
@@ -293,7 +298,9 @@ impl<B: Body, N: Naming> Pool<B, N> {
     pub fn glance<R: Wait>(&self, rt: &R) -> Glance {
         let mut guard = self.core.lock(rt);
         let core = &mut *guard;
-        core.glance()
+        let glance = core.glance();
+        unlock(guard);
+        glance
     }
 
     /// Whether all queues are empty and no worker runs anything, after at most one parcel of each lane is taken in:
@@ -353,7 +360,9 @@ impl<B: Body, N: Naming> Pool<B, N> {
         ensures now { (core : CoreState B B.Key B.Out) × IsNow front.new core × (result ≡ is_finished core) }
     {
         let core = &mut *guard;
-        core.tell_terminated(&self.log, front)
+        let terminated = core.tell_terminated(&self.log, front);
+        unlock(guard);
+        terminated
     }
 }
 

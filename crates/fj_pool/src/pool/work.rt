@@ -6,6 +6,7 @@ ghost use Rattle.fj_guarded.specs.Continuing.{IsNow};
 ghost use Rattle.fj_guarded.specs.Turning.{IsSeenLeaving, MayAsk, MayLeave, NextRight};
 
 use crate::pool::Pool;
+use crate::pool::lock::unlock;
 use crate::turns::follow;
 use crate::types::Locked;
 use fj_body::{Ask, Body, Turnstile};
@@ -122,7 +123,7 @@ impl<B: Body, N: Naming> Pool<B, N> {
     /// Releases the lock, notifies the threads that are due, and drops what is not needed any more.
     #[inline(always)]
     fn let_go(&self, guard: MutexGuard<'_, Locked<B, N>>, due: &mut ToWake, hand: &mut Hand<B, N>) {
-        drop(guard);
+        unlock(guard);
         self.wake_due(due);
         hand.clear();
     }
