@@ -57,11 +57,20 @@ fn answer<H: Threads + Wait + Sync + Files + Clock>(
     args: &[String],
 ) -> io::Result<u8> {
     let words = words_of(rt.alloc(), args)?;
+    run_command(rt, threads, words.as_slice())
+}
+
+/// The same with the words of the command line.
+fn run_command<H: Threads + Wait + Sync + Files + Clock>(
+    rt: &HostRuntime,
+    threads: &H,
+    words: &[&str],
+) -> io::Result<u8> {
     let out = BufWriter::new(rt.alloc(), io::writer(rt))?;
     Ok(fj(
         threads,
         rt.alloc(),
-        words.as_slice(),
+        words,
         &mut Watched::new(rt.reader()),
         &mut Watched::new(out),
         &mut Watched::new(rt.stderr()),
