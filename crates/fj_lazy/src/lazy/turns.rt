@@ -37,24 +37,25 @@ fn half_of<J: Divide>(body: Lazy<'_, J>, refusal: Refusal, key: J::Key) -> Optio
     ensures value { IfSome result (λ j. J.value (J.key_of j) ≡ J.value key) }
     ensures room { IfSome result (λ j. is_want_of_room refusal ≡ true) }
 {
-    if !is_want_of_room(refusal) {
-        return None;
-    }
     let Lazy {
         key: _,
-        parts: _,
+        parts,
         stage,
-        descent: _,
+        descent,
         span: _,
         forks: _,
     } = body;
+    // Explicit drops are proved faster.
+    drop(parts);
+    drop(descent);
     let LazyStage::Going(half) = stage else {
         return None;
     };
-    if half.key() != key {
-        return None;
+    if is_want_of_room(refusal) && half.key() == key {
+        Some(half)
+    } else {
+        None
     }
-    Some(half)
 }
 
 impl<'s, J: Divide> Lazy<'s, J> {
