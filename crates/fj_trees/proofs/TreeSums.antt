@@ -1,11 +1,11 @@
 -- The sums over the children of each node, the last node first.
 use Rattle.std.specs.Prelude.{Some, None, slice_set}
-use Rattle.std.proofs.Common.{ℕ, ◌≡◌, ◌≢◌, ◌+◌, ◌*◌, ◌%◌, ◌<◌, ◌≤◌, ◌∙◌, inl, inr, List, [], ◌∷◌, length, map, slice_index, refl, sym, ap, arith}
+use Rattle.std.proofs.Common.{ℕ, ◌≡◌, ◌≢◌, ◌+◌, ◌-◌, ◌*◌, ◌%◌, ◌<◌, ◌≤◌, ◌∙◌, inl, inr, List, [], ◌∷◌, length, map, slice_index, refl, sym, ap, arith}
 use Rattle.std.proofs.Math.Nat.{add-mul}
 use Rattle.std.proofs.lemmas.Bool.{cases_eq, eq-eqb, ne_eqb}
 use Rattle.std.proofs.lemmas.List.{get_or-set_same, get_or-set_other, length-set}
 use Rattle.fj_trees.specs.declared.node.Node.{Node}
-use Rattle.fj_trees.specs.Trees.{AreNodes}
+use Rattle.fj_trees.specs.Trees.{AreNodes, IsNodeAt}
 use Rattle.fj_trees.specs.TreeValues.{AreValues, node_at, children_from, children, weighted, node_value}
 use Rattle.fj_trees.specs.TreeSums.{IsSummed, total}
 use Rattle.fj_trees.proofs.TreeValues.{children_step, children_later, good_at, value_combined}
@@ -75,6 +75,12 @@ summed_all nodes i vs ps ws good first at = record {
 
 parent_at : (nodes : List Node) (i q : ℕ) → AreNodes 0 nodes → i < length nodes → (node_at nodes i).parent ≡ Some q → q < i
 parent_at nodes i q good lt named = rw named at (good_at nodes i good lt).1
+
+-- the sums of the parent of a node are among the others
+pub parent_inside : (node : Node) (count done n q : ℕ) (sums lent : List ℕ) → IsNodeAt (count - 1 - done) node → node.parent ≡ Some q → done < count → count ≡ n → length sums ≡ n → lent ≡ sums → q < length lent
+parent_inside node count done n q sums lent at child more same all is =
+    let earlier : q < count - 1 - done = rw child at at.1 in
+    rw is (omega arith)
 
 -- the same, as the code computes it
 pub step_root : (nodes : List Node) (node : Node) (i j v a b : ℕ) (vs ps ws : List ℕ) → AreNodes 0 nodes → i < length nodes → j ≡ i → node ≡ node_at nodes i → node.parent ≡ None

@@ -3,9 +3,15 @@ use Rattle.std.proofs.lemmas.Grind.{get_or_default_zero}
 use Rattle.std.proofs.lemmas.List.{with_items_is, length-set}
 use Rattle.fj_trees.specs.TreeSums.{IsSummed}
 use Rattle.fj_trees.specs.TreeValues.{node_at}
-use Rattle.fj_trees.proofs.TreeSums.{summed_all, step_child, step_root}
+use Rattle.fj_trees.proofs.TreeSums.{parent_inside, summed_all, step_child, step_root}
 use Rattle.fj_trees.proofs.node_values.tree_values.Goals as goal
 use Rattle.fj_trees.proofs.node_values.tree_values.Goals.{in-Some, in_default}
+
+pub add_child-requires-clause-plain : goal.add_child-requires-clause-plain
+add_child-requires-clause-plain c = parent_inside c.node-node.result _ _ _ _ _ _ c.node-node.ensures.good c.in-Some.is c.loop-done-test.true (ap length c.as_slice-count.ensures.nodes) c.loop-done.invariant.all.1 c.deref_mut.ensures.value
+
+pub add_child-requires-clause-weighted : goal.add_child-requires-clause-weighted
+add_child-requires-clause-weighted c = parent_inside c.node-node.result _ _ _ _ _ _ c.node-node.ensures.good c.in-Some.is c.loop-done-test.true (ap length c.as_slice-count.ensures.nodes) c.loop-done.invariant.all.2 c.deref_mut-in-Some.ensures.value
 
 pub loop-done-preserved : goal.loop-done-preserved
 loop-done-preserved c =
