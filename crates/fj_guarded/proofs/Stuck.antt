@@ -1,10 +1,11 @@
--- An action, and a poll, answers that the store is stuck only where it is.
-use Rattle.std.proofs.Common.{◌≡◌, Bool, true, false, Option, Some, None, inl, inr, refl, ap, ◌∙◌}
+-- An action, and a poll, answers that the store is stuck only where it is; and which answers a poll and a join have.
+use Rattle.std.proofs.Common.{ℕ, ◌≡◌, Bool, true, false, Option, Some, None, inl, inr, refl, ap, ◌∙◌}
 use Rattle.std.specs.Prelude.{◌⊎◌, is_some}
 use Rattle.fj_rules.specs.declared.step.Step.{Step}
 use Rattle.fj_slots.specs.Hands.{HandState}
 use Rattle.fj_body.specs.declared.body.Ask.{Ask}
 use Rattle.fj_body.specs.declared.body.Ask.TheVariants as asks
+use Rattle.fj_body.specs.declared.body.Heard.{Heard}
 use Rattle.fj_body.specs.declared.body.Told.{Told}
 use Rattle.fj_body.specs.declared.body.Told.TheVariants as told
 use Rattle.fj_body.specs.Acting.{Acts, ActsInBody, ActsInHook, ActsWhere, body_with, unserved}
@@ -80,3 +81,34 @@ module _ {B K O : Type 0} where
   polls_stuck old new hand hand' None (inl is) = was old new is.0.0 is.0.1
   polls_stuck old new hand hand' None (inr is) = gets old new _ (inr is.0)
   polls_stuck old new hand hand' (Some x) is = absurd is
+
+  -- these are all answers that a poll has
+  pub polls_only : (old new : StoreState B K O) (hand hand' : HandState B) (answer : Told B K O) → ((t : ℕ) → answer ≡ told.Run t → ⊥) → ((t : ℕ) (body : B) → answer ≡ told.Skip t body → ⊥)
+      → (answer ≡ told.None → ⊥) → ((body : Option B) → answer ≡ told.Stuck body → ⊥) → Polls old hand answer new hand' → ⊥
+  polls_only old new hand hand' (told.Run t) run skip none stuck is = run t refl
+  polls_only old new hand hand' (told.Skip t body) run skip none stuck is = skip t body refl
+  polls_only old new hand hand' told.None run skip none stuck is = none refl
+  polls_only old new hand hand' (told.Stuck body) run skip none stuck is = stuck body refl
+  polls_only old new hand hand' _ run skip none stuck is = is
+
+  -- and a join
+  pub joins_only : (key_of : B → K) (old new : StoreState B K O) (hand hand' : HandState B) (t : ℕ) (answer : Told B K O) → ((heard : Heard B K O) → answer ≡ told.Hear heard → ⊥)
+      → ((u : ℕ) → answer ≡ told.Run u → ⊥) → ((u : ℕ) (body : B) → answer ≡ told.Skip u body → ⊥) → (answer ≡ told.None → ⊥) → ((body : Option B) → answer ≡ told.Stuck body → ⊥)
+      → Acts key_of old hand (asks.Join t) answer new hand' → ⊥
+  joins_only key_of old new hand hand' t (told.Hear heard) hear run skip none stuck is = hear heard refl
+  joins_only key_of old new hand hand' t (told.Run u) hear run skip none stuck is = run u refl
+  joins_only key_of old new hand hand' t (told.Skip u body) hear run skip none stuck is = skip u body refl
+  joins_only key_of old new hand hand' t told.None hear run skip none stuck is = none refl
+  joins_only key_of old new hand hand' t (told.Stuck body) hear run skip none stuck is = stuck body refl
+  joins_only key_of old new hand hand' t (told.Over body) hear run skip none stuck is = go (is_some hand.hook) old.stuck is
+    where
+      go : (hooked stuck : Bool) → ActsWhere hooked key_of (record old { stuck = stuck }) hand (asks.Join t) (told.Over body) new hand' → ⊥
+      go true true (is, same, held) = cc
+      go true false (is, same, held) = cc
+      go false stuck is = is
+  joins_only key_of old new hand hand' t (told.Hook c caller) hear run skip none stuck is = go (is_some hand.hook) old.stuck is
+    where
+      go : (hooked stuck : Bool) → ActsWhere hooked key_of (record old { stuck = stuck }) hand (asks.Join t) (told.Hook c caller) new hand' → ⊥
+      go true true (is, same, held) = cc
+      go true false (is, same, held) = cc
+      go false stuck is = is

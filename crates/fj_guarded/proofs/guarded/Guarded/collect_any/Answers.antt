@@ -1,6 +1,6 @@
-use Rattle.std.proofs.Common.{ℕ, ◌≡◌, ◌+◌, Bool, true, false, List, get_or, Option, Some, None, ap, ◌∙◌, subst, arith}
+use Rattle.std.proofs.Common.{ℕ, ◌≡◌, ◌+◌, Bool, true, false, List, get_or, Option, Some, None, ap, sym, ◌∙◌, subst, arith}
 use Rattle.std.specs.Prelude.{slice_get}
-use Rattle.std.proofs.lemmas.Option.{get_or_from_slice_get, slice_get_within}
+use Rattle.std.proofs.lemmas.Option.{get_or_from_slice_get, slice_get-get_or, slice_get_within}
 use borrow.Author.Count.{below_more}
 use Rattle.fj_body.specs.Stores.{StoreState}
 use Rattle.fj_calls.specs.Booked.{booked_under}
@@ -37,6 +37,14 @@ pub loop-place-preserved : goal.loop-place-preserved
 loop-place-preserved g c =
     one_more c.args.tickets.now c.loop-place.place c.index-tickets-place.result c.args.self.now c.loop-place.self c.collect.new.self c.loop-place.invariant.1 c.loop-place.invariant.0 c.index-tickets-place.is
     c.in_default.ensures.collects
+
+pub returns-in-Some : goal.returns-in-Some
+returns-in-Some g c = record {
+  ticket = c.index-tickets-place.result;
+  at = slice_get-get_or c.args.tickets.now c.loop-place.place c.index-tickets-place.result c.loop-place-test.true ∙ ap Some (sym c.index-tickets-place.is);
+  collects = subst (λ core. CollectsTicket core c.index-tickets-place.result (Some c.in-Some.answer) c.collect.new.self) c.loop-place.invariant.0 c.in-Some.ensures.collects;
+  before = c.loop-place.invariant.1;
+}
 
 pub returns : goal.returns
 returns g c =
