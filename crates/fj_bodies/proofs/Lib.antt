@@ -30,6 +30,8 @@ pub mod Shutting
 pub mod Normals
 -- Which completion actions a step ends.
 pub mod HooksEnded
+-- A completion action ends, and that of the parent begins or does not.
+pub mod HookDone
 -- No result is lost.
 pub mod NoneLost
 -- What has happened is handed out in parts.

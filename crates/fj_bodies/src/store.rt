@@ -79,10 +79,11 @@ impl<B: Body> Store<B> {
         // For the proof: the limits are in range.
         let _workers = limits.workers();
         let maps = both(SerialMap::new(alloc, room), SerialMap::new(alloc, room));
-        let ((bodies, results), taken) = both(maps, SerialSet::new(alloc, room))?;
-        let Ok(machine) = Machine::new(alloc, mode, limits) else {
-            return Err(OutOfMemory);
-        };
+        let rest = both(
+            SerialSet::new(alloc, room),
+            Machine::new(alloc, mode, limits),
+        );
+        let ((bodies, results), (taken, machine)) = both(maps, rest)?;
         Ok(Store {
             machine,
             bodies,

@@ -6,7 +6,7 @@ ghost use Rattle.fj_body.specs.HookEndings.{EndsHook};
 
 use crate::due::Due;
 use crate::keep::keep_unless_taken;
-use crate::moves::{make, sweep_since};
+use crate::moves::{make, sweep_since, take_begun};
 use crate::places::is_gone_now;
 use crate::release::release_due;
 use crate::store::Store;
@@ -95,30 +95,23 @@ impl<B: Body> Store<B> {
         // For the proof: no hand has two hooks.
         let _hook = self.machine.hook(w);
         let before = self.machine.gone().len();
-        match self.machine.step(&Step::HookDone { w }) {
-            Said::Hook(p) => match self.bodies.take(p) {
-                Some(above) => {
-                    let (c, body) = hand.take_hook();
-                    sweep_since(&mut self.bodies, &self.machine, before);
-                    hand.give_hook(p, above);
-                    let kept = KeptResult::new(body.into_key(), out);
-                    keep_unless_taken(&mut self.results, &self.taken, c, kept);
-                    let due = Due::One(c);
-                    release_due(&mut self.machine, &mut self.taken, &mut self.stuck, due);
-                    Told::Hook(p, c)
-                }
-                None => unreachable!(),
-            },
-            Said::Refused(refusal) => self.refused(refusal),
-            _ => {
-                let (c, body) = hand.take_hook();
-                sweep_since(&mut self.bodies, &self.machine, before);
-                let kept = KeptResult::new(body.into_key(), out);
-                keep_unless_taken(&mut self.results, &self.taken, c, kept);
-                let due = Due::One(c);
-                release_due(&mut self.machine, &mut self.taken, &mut self.stuck, due);
-                Told::Over(None)
+        let said = self.machine.step(&Step::HookDone { w });
+        if let Said::Refused(refusal) = said {
+            return self.refused(refusal);
+        }
+        let begun = take_begun(&mut self.bodies, said);
+        sweep_since(&mut self.bodies, &self.machine, before);
+        let (c, body) = hand.take_hook();
+        let kept = KeptResult::new(body.into_key(), out);
+        keep_unless_taken(&mut self.results, &self.taken, c, kept);
+        let due = Due::One(c);
+        release_due(&mut self.machine, &mut self.taken, &mut self.stuck, due);
+        match begun {
+            Some((p, above)) => {
+                hand.give_hook(p, above);
+                Told::Hook(p, c)
             }
+            None => Told::Over(None),
         }
     }
 }

@@ -9,7 +9,8 @@ pub invariant_of-result : goal.invariant_of-result
 invariant_of-result g c =
     let all = c.in_ok-bodies.ensures in
     let maps = made _ all.0 c.both-maps.ensures in
-    rw (c.in-Ok.ensures.ok, made _ all.1 c.new-3.ensures) (record {
+    let rest = made _ all.1 c.both-rest.ensures in
+    rw (made _ rest.1 c.new-4.ensures.ok, made _ rest.0 c.new-3.ensures) (record {
       stored = fresh_stored c.args.mode c.args.limits _ _ (made _ maps.0 c.new.ensures.entries) (made _ maps.1 c.new-2.ensures.entries);
       complete = fresh_results c.args.mode c.args.limits _;
       room = record {
@@ -21,6 +22,9 @@ invariant_of-result g c =
       rests = λ free u there. absurd cc;
     })
 
+pub returns-clause-past : goal.returns-clause-past
+returns-clause-past g c = made _ (made _ c.in_ok-bodies.ensures.1 c.both-rest.ensures).1 c.new-4.ensures.ok
+
 pub returns-clause-bodies : goal.returns-clause-bodies
 returns-clause-bodies g c = made _ (made _ c.in_ok-bodies.ensures.0 c.both-maps.ensures).0 c.new.ensures.entries
 
@@ -28,4 +32,4 @@ pub returns-clause-results : goal.returns-clause-results
 returns-clause-results g c = made _ (made _ c.in_ok-bodies.ensures.0 c.both-maps.ensures).1 c.new-2.ensures.entries
 
 pub returns-clause-taken : goal.returns-clause-taken
-returns-clause-taken g c = ap (λ (l : SerialList). l.items) (made _ c.in_ok-bodies.ensures.1 c.new-3.ensures)
+returns-clause-taken g c = ap (λ (l : SerialList). l.items) (made _ (made _ c.in_ok-bodies.ensures.1 c.both-rest.ensures).0 c.new-3.ensures)
