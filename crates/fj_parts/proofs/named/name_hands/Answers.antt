@@ -1,9 +1,21 @@
-use Rattle.std.proofs.Common.{length, sym, ap, ◌∙◌, subst}
+use Rattle.std.proofs.Common.{[], ◌∷◌, ◌++◌, length, sym, ap, ◌∙◌, subst}
+use Rattle.std.proofs.lemmas.List.{map-append}
 use Rattle.std.proofs.lemmas.Iterator.Adapters.{YieldsList-from_vec}
 use Rattle.std.proofs.lemmas.Iterator.Consumers.{YieldsList-end, YieldsList-turn}
-use Rattle.fj_parts.specs.Holdings.{IsTied, hands_of}
+use Rattle.fj_parts.specs.Holdings.{IsTied, TiedState, hands_of}
 use Rattle.fj_parts.proofs.Holdings.{at_turn, same_items}
 use Rattle.fj_parts.proofs.named.name_hands.Goals as goal
+
+pub loop-hand-init : goal.loop-hand-init
+loop-hand-init g c = record { next = tt; finite = tt; same = c.in_ok-hands.ensures.items }
+
+pub loop-hand-preserved : goal.loop-hand-preserved
+loop-hand-preserved g c = record {
+  next = tt;
+  finite = tt;
+  same = c.in_ok-push.ensures.items ∙ ap (λ hands. hands ++ c.hand.inside.held ∷ []) c.loop-hand.invariant.same ∙ ap (λ t. hands_of c.loop-hand.yielded ++ t.hand ∷ []) c.hand.view_is
+      ∙ sym (map-append (λ (t : TiedState g.row.B.Denot). t.hand) c.loop-hand.yielded (c.in-Some.hand ∷ []));
+}
 
 pub invariant_of-push : goal.invariant_of-push
 invariant_of-push g c =

@@ -1,11 +1,16 @@
-use Rattle.std.proofs.Common.{◌≡◌, [], All, refl, sym, ◌∙◌, subst, arith}
+use Rattle.std.proofs.Common.{◌≡◌, [], All, refl, sym, ap, ◌∙◌, subst, arith}
 use Rattle.fj_rules.proofs.Making.{made}
-use Rattle.fj_gate.specs.Ends.{new_closer}
+use Rattle.fj_gate.specs.Ends.{EntrantState, new_closer, new_entrant}
 use Rattle.fj_calls.specs.Cores.{IsNew}
 use Rattle.fj_parts.specs.Holdings.{holding_of, nothing}
 use Rattle.fj_parts.proofs.Holdings.{first_nothing, tied_have_ends}
 use Rattle.fj_parts.proofs.Seating.{all_drains, all_new, paired}
 use Rattle.fj_parts.proofs.parts.make.Goals as goal
+
+pub seat_all-requires-clause-new : goal.seat_all-requires-clause-new
+seat_all-requires-clause-new g c = λ k d within.
+    let is = c.in_ok-entrants.ensures.entrants.1 k d within in
+    is ∙ ap (λ n. new_entrant n c.args.lane_capacity) (sym (ap (λ (e : EntrantState). e.gate) is))
 
 pub new-requires-clause-capacities : goal.new-requires-clause-capacities
 new-requires-clause-capacities g c = all_drains (λ d. d.capacity ≡ c.args.lane_capacity) c.args.lane_capacity c.in_ok-entrants.entrants.items c.in_ok-seats.seats.items c.in_ok-seats.drains.items c.in_ok-seats.ensures (λ l. refl)

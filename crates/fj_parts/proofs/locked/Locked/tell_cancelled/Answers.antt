@@ -1,4 +1,4 @@
-use Rattle.std.proofs.Common.{sym, ◌∙◌, subst}
+use Rattle.std.proofs.Common.{[], ◌∷◌, ◌++◌, append_assoc, ap, sym, ◌∙◌, subst}
 use Rattle.fj_guarded.specs.Continuing.{ContinuesAll}
 use Rattle.fj_guarded.proofs.GoesOn.{all_after, all_with, behind_on}
 use Rattle.fj_guarded.proofs.Keeping.{behind_keeps}
@@ -19,3 +19,20 @@ invariant_of-self g c = record {
       (all_with _ _ (subst (λ log. ContinuesAll log c.cancel-cancelled.new.self) (sym c.append.ensures)
       (all_after _ _ _ c.self.invariant.log (behind_on g.B.Body.rooted_as _ _ c.args.ticket c.cancel-cancelled.result c.cancel-cancelled.ensures))));
 }
+
+pub returns-clause-cancels : goal.returns-clause-cancels
+returns-clause-cancels g c = rw (← c.self.view_is) c.cancel-cancelled.ensures
+
+pub returns-clause-goes_on : goal.returns-clause-goes_on
+returns-clause-goes_on g c = c.learn.ensures.goes_on
+
+pub returns-clause-seen : goal.returns-clause-seen
+returns-clause-seen g c =
+    let log = c.self.inside.keeper in
+    let new = c.cancel-cancelled.new.self in (
+      log,
+      c.self.inside.guarded,
+      new,
+      c.learn.ensures.whole ∙ c.append-2.ensures ∙ ap (λ all. all ++ new ∷ []) c.append.ensures ∙ append_assoc log (c.self.inside.guarded ∷ []) (new ∷ []),
+      c.cancel-cancelled.ensures,
+    )

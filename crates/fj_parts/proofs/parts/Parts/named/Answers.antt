@@ -30,6 +30,15 @@ new-requires-clause-named g c =
     all_named inside.closer g.N.Naming.gate (lanes_of (g.C.CoreView.state inside.core).lanes) g.N.Naming.lanes inside.seats.items c.self.invariant.paired
     (c.requires.gate ∙ sym (ap (λ (p : PartsState g.row.B.Denot g.row.B-Key.Denot g.row.B-Out.Denot). p.closer.gate) c.self.view_is)) (lanes_named g.N.Naming.lanes _ c.args.self c.requires.lanes c.self.view_is)
 
+pub new-requires-2-clause-lanes : goal.new-requires-2-clause-lanes
+new-requires-2-clause-lanes g c = sym (lanes_named g.N.Naming.lanes _ c.args.self c.requires.lanes c.self.view_is)
+
+pub new-requires-2-clause-pool : goal.new-requires-2-clause-pool
+new-requires-2-clause-pool g c = ap (λ (p : PartsState g.row.B.Denot g.row.B-Key.Denot g.row.B-Out.Denot). p.core.store.past.pool) c.self.view_is ∙ sym c.requires.pool
+
+pub new-requires-4-clause-submitters : goal.new-requires-4-clause-submitters
+new-requires-4-clause-submitters g c = c.self.invariant.paired.all ∙ ap length (sym (lanes_named g.N.Naming.lanes _ c.args.self c.requires.lanes c.self.view_is))
+
 pub new-requires-3-clause-ends : goal.new-requires-3-clause-ends
 new-requires-3-clause-ends g c =
     let inside = c.self.inside in

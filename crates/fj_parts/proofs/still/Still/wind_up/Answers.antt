@@ -1,4 +1,5 @@
-use Rattle.std.proofs.Common.{ℕ, ◌≡◌, ◌&&◌, true, List, length, map, sym, ap, ◌∙◌, subst}
+use Rattle.std.proofs.Common.{ℕ, ◌≡◌, ◌&&◌, true, List, length, map, sym, ap, ◌∙◌, subst, arith}
+use Rattle.std.proofs.lemmas.List.{length-map, length-reverse}
 use Rattle.std.specs.Prelude.{IfSome, slice_get}
 use Rattle.std.specs.List.{sum_by}
 use Rattle.fj_rules.specs.Answers.{is_quiet}
@@ -26,6 +27,17 @@ use Rattle.fj_parts.proofs.still.Still.wind_up.Goals as goal
 pub settle-entrants-requires-clause-lanes : goal.settle-entrants-requires-clause-lanes
 settle-entrants-requires-clause-lanes g c =
     ap (λ (ds : List (DrainState g.row.B.Denot)). lanes_of ds) c.into_remains-machine.ensures.drains ∙ c.into_parts-core.ensures.lanes
+
+pub settle-entrants-requires-clause-room : goal.settle-entrants-requires-clause-room
+settle-entrants-requires-clause-room g c =
+    let apart = c.into_parts-core.ensures in
+    (omega (arith, c.args.submitters.ok.0, c.requires.0, apart.entrants.1), omega (arith, c.args.submitters.ok.0, c.requires.0, apart.rests.1))
+
+pub meet-tickets-requires-clause-all : goal.meet-tickets-requires-clause-all
+meet-tickets-requires-clause-all g c =
+    let drawers : List (SeatState g.row.B.Denot) = c.args.submitters.items in
+    c.settle-entrants.result.0.ok.0 ∙ ap (λ (es : List EntrantState). length es) c.settle-entrants.ensures.entrants ∙ length-reverse (map (λ (s : SeatState g.row.B.Denot). s.entrant) drawers) ∙ length-map drawers (λ (s : SeatState g.row.B.Denot). s.entrant)
+    ∙ c.requires.0 ∙ sym c.into_end.ensures.submitters
 
 pub meet-tickets-requires-clause-same : goal.meet-tickets-requires-clause-same
 meet-tickets-requires-clause-same g c = λ k e low. c.settle-entrants.ensures.gates k e low ∙ sym c.into_end.ensures.gate
