@@ -1,5 +1,6 @@
-ghost use Rattle.std.specs.Prelude.{◌≡◌, [], ◌++◌, IfErr, IfOk, IfSome, length, true};
-ghost use Rattle.fj_calls.specs.Cores.{AreParts};
+ghost use Rattle.std.specs.Prelude.{◌≡◌, [], ◌++◌, IfErr, IfOk, IfSome, List, Some, length, true};
+ghost use mathlib.Core.List.{IsPrefix};
+ghost use Rattle.fj_calls.specs.Cores.{AreParts, CoreState};
 ghost use Rattle.fj_rules.specs.Epochs.{IsPast};
 ghost use Rattle.fj_submitter.specs.Lanes.{lanes_of};
 ghost use Rattle.fj_parts.specs.Parts.{AreNew};
@@ -10,7 +11,7 @@ use crate::crew::{Crew, Ran, run_all};
 use crate::play::Play;
 use crate::settings::Settings;
 use crate::submitters::{Submitters, Unused};
-use fj_pool::{Body, Naming, Parts, Pool, Record, Turnstile};
+use fj_pool::{Body, Front, History, Naming, Parts, Pool, Record, Turnstile};
 use fj_rules::Refusal;
 use std::alloc::Global;
 use std::marker::Brand;
@@ -132,22 +133,16 @@ where
                 submitters,
                 closer,
             } = run_all(alloc, &crew, hands, unused, closer, player);
-            let (still, mut history) = pool.stand_still();
+            let (still, history) = pool.stand_still();
             let record = still.wind_up(submitters.into_all(), closer);
-            match played {
-                Some((out, mut front)) => {
-                    history.begins_with(&mut front);
-                    // Explicit drops are proved faster.
-                    drop(front);
-                    drop(history);
-                    Ok(Played {
-                        player,
-                        out,
-                        record,
-                    })
-                }
+            match out_of(history, played) {
+                Some(out) => Ok(Played {
+                    player,
+                    out,
+                    record,
+                }),
                 None => {
-                    drop(history);
+                    // An explicit drop is proved faster.
                     drop(record);
                     Err((Refusal::OutOfMemory, player))
                 }
@@ -155,4 +150,16 @@ where
         }
         Err(_) => Err((Refusal::OutOfMemory, player)),
     }
+}
+
+/// What the player returned, if it played. Proves that what it had seen begins the history.
+fn out_of<B: Body, N: Naming, O>(
+    mut history: History<B, N>,
+    played: Option<(O, Front<B, N>)>,
+) -> Option<O>
+    ensures { IfSome result (λ out. (seen : List (CoreState B B.Key B.Out)) × (played ≡ Some (out, seen)) × IsPrefix seen history) }
+{
+    let (out, mut front) = played?;
+    history.begins_with(&mut front);
+    Some(out)
 }

@@ -7,7 +7,8 @@ use Rattle.fj_run.proofs.playing.open_and_play.Goals as goal
 
 pub returns-in-Some-clause-told : goal.returns-in-Some-clause-told
 returns-in-Some-clause-told g c =
-    let last : RunningState g.row.B.Denot g.row.B-Key.Denot g.row.B-Out.Denot = record { seen = c.in-Some.front; seats = c.player.inside.submitters.all.items } in
+    let seen = c.in-Some.ensures in
+    let last : RunningState g.row.B.Denot g.row.B-Key.Denot g.row.B-Out.Denot = record { seen = seen.0; seats = c.player.inside.submitters.all.items } in
     let left = c.wind_up-record.result in
     let ends = c.wind_up-record.ensures in
     let seats = ap (λ v. v.items) c.into_all.ensures.these in (
@@ -16,7 +17,7 @@ returns-in-Some-clause-told g c =
       record {
         log = c.stand_still-still.result.1;
         core = c.stand_still-still.result.0;
-        begins = c.begins_with.ensures.begins;
+        begins = seen.2;
         ends = c.stand_still-still.ensures;
         past = ends.machine;
         bookings = ends.bookings;
