@@ -1,5 +1,5 @@
 -- Where memory ran out, behind good bytes.
-use Rattle.std.proofs.Common.{ℕ, ◌≡◌, ◌+◌, List, [], ◌∷◌, ◌++◌, refl, ◌∙◌, sym, ap, take, drop, length, append_assoc, inr, Option}
+use Rattle.std.proofs.Common.{ℕ, ◌≡◌, ◌+◌, ◌≤◌, List, [], ◌∷◌, ◌++◌, refl, ◌∙◌, sym, ap, take, drop, length, append_assoc, inr, Option}
 use Rattle.std.proofs.lemmas.List.{append-nil}
 use Rattle.std.specs.Io.KnownBytes.{Appends, Consumes}
 use Rattle.fj_streams.proofs.Bytes.{appends_twice}
@@ -11,9 +11,17 @@ use Rattle.fj_filter.specs.Cuts.{cut, lines, rest}
 use Rattle.fj_filter.specs.Rules.{Rules, text_from}
 use Rattle.fj_filter.specs.Kept.{Kept}
 use Rattle.fj_filter.specs.Starving.{IsStarved, Starves, StarvesFrom}
-use Rattle.fj_filter.specs.Buffers.{IsAt, IsTooLong, StarvesInLine, continued}
+use Rattle.fj_filter.specs.Buffers.{IsAt, IsTooLong, StarvesAt, StarvesInLine, continued}
 use Rattle.fj_filter.proofs.Lines.{before_end, cut-append, three_parts}
 use Rattle.fj_filter.proofs.Steps.{at_run}
+
+-- at a line that ends behind these bytes, and is not too long
+pub starves_behind : {A S : Type 0} (Needs : A → List ℕ → Type 0) (f : FilterFault S) (v : Kept) (a : A) (xs line : List ℕ) (n m : Option (List ℕ)) → line ≡ v.line ++ xs → length v.line + length xs ≤ v.longest → StarvesAt Needs a line f n m → StarvesInLine Needs v a xs f n m
+starves_behind Needs (Stop k stop) v a xs line n m e few p = tt
+starves_behind Needs (Line k) v a xs line n m e few p = tt
+starves_behind Needs Memory v a xs line n m e few p = (few, rw e at p.0, p.1)
+starves_behind Needs Read v a xs line n m e few p = tt
+starves_behind Needs Write v a xs line n m e few p = tt
 
 module _ {A S : Type 0} (rules : Rules A S) (Needs : A → List ℕ → Type 0) where
   -- at a line that ends here
