@@ -154,16 +154,13 @@ impl<'a, F: NamedTree> FoldState<'a, F> {
         ensures next { AsksNext F.nodes (λ b. b.inside.value.course) (λ b. b.inside.value.forked.items) self.old.course self.old.forked.items (Heard.Got key value) self.new.course result }
         ensures tasks { self.new.forked.items ≡ self.old.forked.items }
     {
-        let FoldStage::Taking = self.course.stage else {
-            return self.go_on_without();
-        };
-        let Some(child) = self.course.tally.child else {
-            return self.go_on_without();
-        };
-        if key != child {
-            return self.go_on_without();
+        if let FoldStage::Taking = self.course.stage
+            && self.course.tally.child == Some(key)
+        {
+            self.add(key, value)
+        } else {
+            self.go_on_without()
         }
-        self.add(child, value)
     }
 
     /// A turn after a refusal, or anything unexpected. In its completion action the body computes the value of the child in place; before
@@ -193,11 +190,10 @@ impl<'a, F: NamedTree> FoldState<'a, F> {
         ensures forks { ForksNext F.nodes (λ b. b.inside.value.course) (λ b. b.inside.value.forked.items) me self.old.course.next self.old.course self.new.course result }
         ensures tasks { self.new.forked.items ≡ self.old.forked.items }
     {
+        self.course.stage = FoldStage::Ended;
         let Some(child) = self.course.next else {
-            self.course.stage = FoldStage::Ended;
             return Ask::Try;
         };
-        self.course.stage = FoldStage::Ended;
         if self.forked.reserve(1).is_err() {
             return self.fail();
         }
