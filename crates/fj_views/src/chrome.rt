@@ -6,7 +6,7 @@ mod marks;
 mod threads;
 mod times;
 
-use fj_story::{Story, Work};
+use fj_story::Story;
 use std::alloc::Global;
 use std::fmt;
 use times::Times;
@@ -31,21 +31,9 @@ fn write_all<W: fmt::Write>(
     out: &mut W,
 ) -> fmt::Result {
     out.write_str("{\"displayTimeUnit\":\"ns\",\"traceEvents\":[\n")?;
-    threads::write_process(alloc, out)?;
-    threads::write_workers(alloc, story, out)?;
-    threads::write_submitters(alloc, story, out)?;
-    for stretch in story.stretches().iter() {
-        match stretch.work {
-            Work::Body(t) => bodies::write_body(alloc, story, times, stretch, t, out)?,
-            Work::Hook(c) => bodies::write_hook(alloc, story, times, stretch, c, out)?,
-        }
-    }
-    for (n, task) in story.tasks().iter().enumerate() {
-        flows::write_acceptance(alloc, times, n as u64, task, out)?;
-        flows::write_way(alloc, times, n as u64, task, out)?;
-    }
-    for mark in story.marks().iter() {
-        marks::write_mark(alloc, times, mark, out)?;
-    }
+    threads::write_threads(alloc, story, out)?;
+    bodies::write_stretches(alloc, story, times, out)?;
+    flows::write_tasks(alloc, story, times, out)?;
+    marks::write_marks(alloc, story, times, out)?;
     out.write_str("\n]}\n")
 }

@@ -3,15 +3,17 @@ use fj_rules::{How, Status};
 use fj_story::{Story, TaskRow};
 use std::fmt;
 
+/// How the graph begins: how boxes and edges look.
+const HEAD: &str = "digraph completers {
+  graph [rankdir=TB, nodesep=0.2, ranksep=0.35];
+  node [shape=box, style=\"rounded,filled\", fontname=\"Helvetica\", fontsize=10, color=\"#5b6675\"];
+  edge [color=\"#8a94a3\", arrowsize=0.6];
+";
+
 /// Writes the completers as a graph in the language DOT, each below its parent: a box with its number, its pending count, and how it went. A
 /// trigger is a diamond, and a double border stands for `stop`. An error where the writer fails.
 pub fn write_dot<W: fmt::Write>(story: &Story, out: &mut W) -> fmt::Result {
-    out.write_str("digraph completers {\n")?;
-    out.write_str("  graph [rankdir=TB, nodesep=0.2, ranksep=0.35];\n")?;
-    out.write_str(
-        "  node [shape=box, style=\"rounded,filled\", fontname=\"Helvetica\", fontsize=10, color=\"#5b6675\"];\n",
-    )?;
-    out.write_str("  edge [color=\"#8a94a3\", arrowsize=0.6];\n")?;
+    out.write_str(HEAD)?;
     for (n, row) in story.rows().iter().enumerate() {
         if row.kind.is_completer() {
             write_node(story, n as u64, row, out)?;
@@ -24,7 +26,6 @@ pub fn write_dot<W: fmt::Write>(story: &Story, out: &mut W) -> fmt::Result {
 fn write_node<W: fmt::Write>(story: &Story, n: u64, row: &TaskRow, out: &mut W) -> fmt::Result {
     write!(out, "  t{n} [label=\"{n}")?;
     if let Some(label) = story.label_of(n) {
-        out.write_str(" ")?;
         write_quoted(label, out)?;
     }
     write_look(row, went(story, n, row), out)?;
@@ -39,21 +40,25 @@ fn write_look<W: fmt::Write>(row: &TaskRow, went: &str, out: &mut W) -> fmt::Res
     let pending = row.pending;
     let status = row.status;
     let fill = fill(row);
-    write!(
+    let shape = if row.queue.is_none() {
+        ", shape=diamond, style=filled"
+    } else {
+        ""
+    };
+    let border = if row.kind.relays() {
+        ""
+    } else {
+        ", peripheries=2"
+    };
+    writeln!(
         out,
-        "\\ncount {pending}, {went}\\n{status}\", fillcolor=\"{fill}\""
-    )?;
-    if row.queue.is_none() {
-        out.write_str(", shape=diamond, style=filled")?;
-    }
-    if !row.kind.relays() {
-        out.write_str(", peripheries=2")?;
-    }
-    out.write_str("];\n")
+        "\\ncount {pending}, {went}\\n{status}\", fillcolor=\"{fill}\"{shape}{border}];"
+    )
 }
 
-/// A text within quotes.
+/// A text within quotes, behind a space.
 fn write_quoted<W: fmt::Write>(text: &str, out: &mut W) -> fmt::Result {
+    out.write_str(" ")?;
     for c in text.chars() {
         if c == '"' || c == '\\' {
             out.write_char('\\')?;

@@ -42,8 +42,9 @@ fn write_sums<W: fmt::Write>(links: &[Link], out: &mut W) -> fmt::Result {
             LinkKind::Climbs(_) | LinkKind::Takes(_) => others = others.saturating_add(events),
         }
     }
-    writeln!(out, "links {}", links.len())?;
-    writeln!(out, "runs {runs}")?;
-    writeln!(out, "waits {waits}")?;
-    writeln!(out, "others {others}")
+    writeln!(
+        out,
+        "links {}\nruns {runs}\nwaits {waits}\nothers {others}",
+        links.len()
+    )
 }

@@ -1,6 +1,6 @@
 //! Counts: one fact a line, a word and its numbers.
 use fj_rules::{Owner, Status};
-use fj_story::{Story, share};
+use fj_story::{Moment, Story, WorkerStory, share};
 use std::fmt;
 
 /// A number of hundredths, written with a point.
@@ -28,10 +28,14 @@ pub fn write_stats<W: fmt::Write>(story: &Story, out: &mut W) -> fmt::Result {
 
 /// The mode and the size.
 fn write_pool<W: fmt::Write>(story: &Story, out: &mut W) -> fmt::Result {
-    writeln!(out, "mode {}", story.mode_word())?;
-    writeln!(out, "workers {}", story.workers().len())?;
-    writeln!(out, "events {}", story.now())?;
-    writeln!(out, "tasks {}", story.tasks().len())
+    writeln!(
+        out,
+        "mode {}\nworkers {}\nevents {}\ntasks {}",
+        story.mode_word(),
+        story.workers().len(),
+        story.now(),
+        story.tasks().len()
+    )
 }
 
 /// Where tasks came from, and how many are completers.
@@ -50,10 +54,10 @@ fn write_tasks_by_origin<W: fmt::Write>(story: &Story, out: &mut W) -> fmt::Resu
             completers = completers.saturating_add(1);
         }
     }
-    writeln!(out, "submitted {submitted}")?;
-    writeln!(out, "forked {forked}")?;
-    writeln!(out, "triggers {triggers}")?;
-    writeln!(out, "completers {completers}")
+    writeln!(
+        out,
+        "submitted {submitted}\nforked {forked}\ntriggers {triggers}\ncompleters {completers}"
+    )
 }
 
 /// How far tasks have come.
@@ -70,10 +74,10 @@ fn write_tasks_by_status<W: fmt::Write>(story: &Story, out: &mut W) -> fmt::Resu
             Status::Cancelled => cancelled = cancelled.saturating_add(1),
         }
     }
-    writeln!(out, "undone {undone}")?;
-    writeln!(out, "normal {normal}")?;
-    writeln!(out, "exceptional {exceptional}")?;
-    writeln!(out, "cancelled {cancelled}")
+    writeln!(
+        out,
+        "undone {undone}\nnormal {normal}\nexceptional {exceptional}\ncancelled {cancelled}"
+    )
 }
 
 /// Bodies, those inside another one, the deepest nesting, and completion actions.
@@ -93,47 +97,58 @@ fn write_stretches<W: fmt::Write>(story: &Story, out: &mut W) -> fmt::Result {
             nested = nested.saturating_add(1);
         }
     }
-    writeln!(out, "bodies {bodies}")?;
-    writeln!(out, "nested {nested}")?;
-    writeln!(out, "deepest {deepest}")?;
-    writeln!(out, "hooks {hooks}")
+    writeln!(
+        out,
+        "bodies {bodies}\nnested {nested}\ndeepest {deepest}\nhooks {hooks}"
+    )
 }
 
 /// How many waited at most, and after which event first.
 fn write_queues<W: fmt::Write>(story: &Story, out: &mut W) -> fmt::Result {
     let longest = story.longest_queue();
     let most = story.most_queued();
-    writeln!(out, "longest-queue {} at {}", longest.tasks, longest.at)?;
-    writeln!(out, "queued {} at {}", most.tasks, most.at)
+    writeln!(
+        out,
+        "longest-queue {} at {}\nqueued {} at {}",
+        longest.tasks, longest.at, most.tasks, most.at
+    )
 }
 
 /// What was stolen, and what was not run.
 fn write_steals<W: fmt::Write>(story: &Story, out: &mut W) -> fmt::Result {
     let steals = story.steals();
-    let skipped = story
-        .tasks()
-        .iter()
-        .filter(|task| task.is_skipped())
-        .count();
-    writeln!(out, "steals {steals}")?;
-    writeln!(out, "skipped {skipped}")
+    let mut skipped = 0u64;
+    for task in story.tasks().iter() {
+        if task.is_skipped() {
+            skipped = skipped.saturating_add(1);
+        }
+    }
+    writeln!(out, "steals {steals}\nskipped {skipped}")
 }
 
 /// How many workers were busy on average, and what each did.
 fn write_workers<W: fmt::Write>(story: &Story, out: &mut W) -> fmt::Result {
-    let events = story.now().0;
     let busy = Hundredths(story.busy_share(100));
     writeln!(out, "busy-workers {busy}")?;
     for (w, worker) in story.workers().iter().enumerate() {
-        let busy = worker.busy_at(story.now().next());
-        let percent = share(busy, 100, events);
-        let ran = worker.ran;
-        let stole = worker.stole;
-        let lost = worker.lost;
-        writeln!(
-            out,
-            "worker {w} ran {ran} stole {stole} lost {lost} busy {percent}%"
-        )?;
+        write_worker(w, worker, story.now(), out)?;
     }
     Ok(())
+}
+
+/// What a worker did up to this event, the newest one.
+fn write_worker<W: fmt::Write>(
+    w: usize,
+    worker: &WorkerStory,
+    now: Moment,
+    out: &mut W,
+) -> fmt::Result {
+    let ran = worker.ran;
+    let stole = worker.stole;
+    let lost = worker.lost;
+    let percent = share(worker.busy_at(now.next()), 100, now.0);
+    writeln!(
+        out,
+        "worker {w} ran {ran} stole {stole} lost {lost} busy {percent}%"
+    )
 }

@@ -59,11 +59,10 @@ fn write_what<W: fmt::Write>(f: &mut fmt::Formatter<W>, n: u64, row: &TaskRow) -
     ensures { WritesOnOk W.write_str_gives f.old result (what_text n row.now) f.new }
 {
     let kind = kind_cell(row);
-    write!(f, "{n:>6}  {kind}")?;
-    write_cell(f, number_of(row.kind.parent()))?;
+    let parent = Cell(number_of(row.kind.parent()));
     let pending = row.pending;
     let place = place_cell(&row.place);
-    write!(f, "  {pending:>5}  {place}  ")?;
+    write!(f, "{n:>6}  {kind}{parent}  {pending:>5}  {place}  ")?;
     write_status(f, &row.status)
 }
 
@@ -118,7 +117,7 @@ fn write_who<W: fmt::Write>(f: &mut fmt::Formatter<W>, row: &TaskRow) -> fmt::Re
     ensures { WritesOnOk W.write_str_gives f.old result (who_text row.now) f.new }
 {
     write_queue(f, &row.queue)?;
-    write_cell(f, number_of_worker(row.worker))
+    write!(f, "{}", Cell(number_of_worker(row.worker)))
 }
 
 fn write_queue<W: fmt::Write>(f: &mut fmt::Formatter<W>, queue: &Option<Owner>) -> fmt::Result
@@ -144,27 +143,40 @@ fn number_of_worker(worker: Option<WorkerId>) -> Option<u64>
 fn write_begin<W: fmt::Write>(f: &mut fmt::Formatter<W>, at: &TaskMoments) -> fmt::Result
     ensures { WritesOnOk W.write_str_gives f.old result (begin_text at.now) f.new }
 {
-    write_cell(f, at.accepted)?;
-    write_cell(f, at.taken)?;
-    write_cell(f, at.ended)
+    write!(
+        f,
+        "{}{}{}",
+        Cell(at.accepted),
+        Cell(at.taken),
+        Cell(at.ended)
+    )
 }
 
 /// When it was fired or passed, its action ended, and it was released.
 fn write_end<W: fmt::Write>(f: &mut fmt::Formatter<W>, at: &TaskMoments) -> fmt::Result
     ensures { WritesOnOk W.write_str_gives f.old result (end_text at.now) f.new }
 {
-    write_cell(f, at.fired)?;
-    write_cell(f, at.passed)?;
-    write_cell(f, at.hooked)?;
-    write_cell(f, at.released)
+    write!(
+        f,
+        "{}{}{}{}",
+        Cell(at.fired),
+        Cell(at.passed),
+        Cell(at.hooked),
+        Cell(at.released)
+    )
 }
 
 /// A number, or a dash.
-fn write_cell<W: fmt::Write>(f: &mut fmt::Formatter<W>, n: Option<u64>) -> fmt::Result
-    ensures { WritesOnOk W.write_str_gives f.old result (cell n) f.new }
-{
-    match n {
-        Some(n) => write!(f, "  {n:>6}"),
-        None => f.write_str("       -"),
+#[derive(Clone, Copy)]
+struct Cell(Option<u64>);
+
+impl fmt::Display for Cell {
+    ghost output = { λ c. Some (cell c.0) };
+
+    fn fmt<W: fmt::Write>(&self, f: &mut fmt::Formatter<W>) -> fmt::Result {
+        match self.0 {
+            Some(n) => write!(f, "  {n:>6}"),
+            None => f.write_str("       -"),
+        }
     }
 }

@@ -1,21 +1,21 @@
 //! Bodies and completion actions, as slices of their workers.
-use crate::chrome::event::{POOL, Slice, push_event};
+use crate::chrome::event::{POOL, Slice, Text, push_event};
 use crate::chrome::times::Times;
 use crate::label::Named;
-use fj_rules::How;
-use fj_story::{Story, Stretch};
+use fj_rules::{How, Status};
+use fj_story::{Story, Stretch, Work};
 use serde::Serialize;
 use std::alloc::Global;
 use std::fmt;
 
 /// What is shown of a task.
 #[derive(Drop, Serialize)]
-struct TaskArgs<'a> {
+struct TaskArgs {
     kind: &'static str,
     #[serde(skip_serializing_if = "Option::is_none")]
     parent: Option<u64>,
     count: u32,
-    status: &'a str,
+    status: Text<Status>,
     accepted: u64,
     stolen: bool,
 }
@@ -26,8 +26,24 @@ struct HookArgs {
     how: &'static str,
 }
 
+/// The bodies and the actions, in the order in which they began.
+pub fn write_stretches<W: fmt::Write>(
+    alloc: Global,
+    story: &Story,
+    times: &Times,
+    out: &mut W,
+) -> fmt::Result {
+    for stretch in story.stretches().iter() {
+        match stretch.work {
+            Work::Body(t) => write_body(alloc, story, times, stretch, t, out)?,
+            Work::Hook(c) => write_hook(alloc, story, times, stretch, c, out)?,
+        }
+    }
+    Ok(())
+}
+
 /// The body of a task.
-pub fn write_body<W: fmt::Write>(
+fn write_body<W: fmt::Write>(
     alloc: Global,
     story: &Story,
     times: &Times,
@@ -38,12 +54,11 @@ pub fn write_body<W: fmt::Write>(
     let Some(task) = story.task(t) else {
         return Ok(());
     };
-    let name = format!(in alloc; "task {}", Named { story, t })?;
-    let status = format!(in alloc; "{}", task.status)?;
+    let named = Named { story, t };
     let stolen = task.is_stolen();
     let body = Slice {
         ph: "X",
-        name: name.as_str(),
+        name: Text(format_args!("task {named}")),
         cat: if stolen { "task,stolen" } else { "task" },
         pid: POOL,
         tid: stretch.worker as u64,
@@ -53,7 +68,7 @@ pub fn write_body<W: fmt::Write>(
             kind: task.kind_word(),
             parent: task.kind.parent().map(|p| p.0),
             count: task.kind.count(),
-            status: status.as_str(),
+            status: Text(task.status),
             accepted: task.accepted.0,
             stolen,
         },
@@ -62,7 +77,7 @@ pub fn write_body<W: fmt::Write>(
 }
 
 /// The completion action of a completer.
-pub fn write_hook<W: fmt::Write>(
+fn write_hook<W: fmt::Write>(
     alloc: Global,
     story: &Story,
     times: &Times,
@@ -70,10 +85,10 @@ pub fn write_hook<W: fmt::Write>(
     c: u64,
     out: &mut W,
 ) -> fmt::Result {
-    let name = format!(in alloc; "hook {}", Named { story, t: c })?;
+    let named = Named { story, t: c };
     let hook = Slice {
         ph: "X",
-        name: name.as_str(),
+        name: Text(format_args!("hook {named}")),
         cat: "hook",
         pid: POOL,
         tid: stretch.worker as u64,

@@ -1,6 +1,6 @@
 //! The events of a trace, by the letters of their phases.
 use crate::chrome::times::Micros;
-use serde::Serialize;
+use serde::{Described, Serialize, Serializer};
 use std::alloc::Global;
 use std::fmt;
 
@@ -15,6 +15,18 @@ pub fn submitter_thread(s: u32) -> u64 {
     SUBMITTERS.saturating_add(u64::from(s))
 }
 
+/// What is displayed, as a text.
+#[derive(Drop)]
+pub struct Text<D>(pub D);
+
+impl<D> Described for Text<D> {}
+
+impl<D: fmt::Display> Serialize for Text<D> {
+    fn serialize<S: Serializer>(&self, out: &mut S) -> Result<(), S::Error> {
+        out.collect_str(&self.0)
+    }
+}
+
 /// A piece of text about the process or a thread: phase `M`.
 #[derive(Drop, Serialize)]
 pub struct Metadata<A> {
@@ -27,8 +39,8 @@ pub struct Metadata<A> {
 
 /// The name of a process or a thread.
 #[derive(Drop, Serialize)]
-pub struct NameArgs<'a> {
-    pub name: &'a str,
+pub struct NameArgs<N> {
+    pub name: N,
 }
 
 /// The place of a thread among the others.
@@ -39,9 +51,9 @@ pub struct SortArgs {
 
 /// Something with a length: phase `X`.
 #[derive(Drop, Serialize)]
-pub struct Slice<'a, A> {
+pub struct Slice<N, A> {
     pub ph: &'static str,
-    pub name: &'a str,
+    pub name: N,
     pub cat: &'static str,
     pub pid: u64,
     pub tid: u64,
@@ -52,9 +64,9 @@ pub struct Slice<'a, A> {
 
 /// Something without a length: phase `i`, of a thread, the process or all.
 #[derive(Drop, Serialize)]
-pub struct Instant<'a> {
+pub struct Instant<N> {
     pub ph: &'static str,
-    pub name: &'a str,
+    pub name: N,
     pub cat: &'static str,
     pub s: &'static str,
     pub pid: u64,

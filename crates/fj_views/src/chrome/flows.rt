@@ -1,8 +1,8 @@
 //! Submissions, triggers, skips, and the arrows from where a task was accepted to where it runs.
-use crate::chrome::event::{Flow, Instant, POOL, Slice, push_event, submitter_thread};
+use crate::chrome::event::{Flow, Instant, POOL, Slice, Text, push_event, submitter_thread};
 use crate::chrome::times::{Micros, Times};
 use fj_rules::Owner;
-use fj_story::{Taken, TaskStory};
+use fj_story::{Story, TaskStory};
 use serde::Serialize;
 use std::alloc::Global;
 use std::fmt;
@@ -13,8 +13,22 @@ struct SubmissionArgs {
     task: u64,
 }
 
-/// The submission of a task, or that a trigger was made. A fork is within a body.
-pub fn write_acceptance<W: fmt::Write>(
+/// How each task was accepted, and its way to its worker.
+pub fn write_tasks<W: fmt::Write>(
+    alloc: Global,
+    story: &Story,
+    times: &Times,
+    out: &mut W,
+) -> fmt::Result {
+    for (n, task) in story.tasks().iter().enumerate() {
+        write_acceptance(alloc, times, n as u64, task, out)?;
+        write_way(alloc, times, n as u64, task, out)?;
+    }
+    Ok(())
+}
+
+/// The submission of a task, or that a trigger was made, by nobody that a history names. A fork is within a body.
+fn write_acceptance<W: fmt::Write>(
     alloc: Global,
     times: &Times,
     n: u64,
@@ -24,7 +38,7 @@ pub fn write_acceptance<W: fmt::Write>(
     match &task.queue {
         Some(Owner::Sub(s)) => write_submission(alloc, times, n, task, submitter_thread(s.0), out),
         Some(Owner::Work(_)) => Ok(()),
-        None => write_trigger(alloc, times, n, task, out),
+        None => write_instant(alloc, "trigger", n, "p", 0, times.at(task.accepted), out),
     }
 }
 
@@ -37,10 +51,9 @@ fn write_submission<W: fmt::Write>(
     tid: u64,
     out: &mut W,
 ) -> fmt::Result {
-    let name = format!(in alloc; "submit {n}")?;
     let submission = Slice {
         ph: "X",
-        name: name.as_str(),
+        name: Text(format_args!("submit {n}")),
         cat: "submit",
         pid: POOL,
         tid,
@@ -51,29 +64,8 @@ fn write_submission<W: fmt::Write>(
     push_event(alloc, &submission, out)
 }
 
-/// A trigger was made, by nobody that a history names.
-fn write_trigger<W: fmt::Write>(
-    alloc: Global,
-    times: &Times,
-    n: u64,
-    task: &TaskStory,
-    out: &mut W,
-) -> fmt::Result {
-    let name = format!(in alloc; "trigger {n}")?;
-    let trigger = Instant {
-        ph: "i",
-        name: name.as_str(),
-        cat: "trigger",
-        s: "p",
-        pid: POOL,
-        tid: 0,
-        ts: times.at(task.accepted),
-    };
-    push_event(alloc, &trigger, out)
-}
-
 /// The way of a task to its worker, if one took it: an arrow to its body, or that it was skipped.
-pub fn write_way<W: fmt::Write>(
+fn write_way<W: fmt::Write>(
     alloc: Global,
     times: &Times,
     n: u64,
@@ -84,7 +76,8 @@ pub fn write_way<W: fmt::Write>(
         return Ok(());
     };
     if taken.stretch.is_none() {
-        return write_skip(alloc, times, n, &taken, out);
+        let tid = taken.worker as u64;
+        return write_instant(alloc, "skip", n, "t", tid, times.at(taken.at), out);
     }
     let from = match &task.queue {
         Some(Owner::Sub(s)) => submitter_thread(s.0),
@@ -117,23 +110,24 @@ fn flow(ph: &'static str, bp: Option<&'static str>, id: u64, tid: u64, ts: Micro
     }
 }
 
-/// The task was taken and not run.
-fn write_skip<W: fmt::Write>(
+/// Something of a task that has no length, in a scope.
+fn write_instant<W: fmt::Write>(
     alloc: Global,
-    times: &Times,
+    cat: &'static str,
     n: u64,
-    taken: &Taken,
+    s: &'static str,
+    tid: u64,
+    ts: Micros,
     out: &mut W,
 ) -> fmt::Result {
-    let name = format!(in alloc; "skip {n}")?;
-    let skip = Instant {
+    let instant = Instant {
         ph: "i",
-        name: name.as_str(),
-        cat: "skip",
-        s: "t",
+        name: Text(format_args!("{cat} {n}")),
+        cat,
+        s,
         pid: POOL,
-        tid: taken.worker as u64,
-        ts: times.at(taken.at),
+        tid,
+        ts,
     };
-    push_event(alloc, &skip, out)
+    push_event(alloc, &instant, out)
 }

@@ -1,13 +1,20 @@
 //! The names of the process and its threads.
 use crate::chrome::event::{
-    Metadata, NameArgs, POOL, SortArgs, push_event, push_first, submitter_thread,
+    Metadata, NameArgs, POOL, SortArgs, Text, push_event, push_first, submitter_thread,
 };
 use fj_story::Story;
 use std::alloc::Global;
 use std::fmt;
 
+/// The process, its workers, and its submitters.
+pub fn write_threads<W: fmt::Write>(alloc: Global, story: &Story, out: &mut W) -> fmt::Result {
+    write_process(alloc, out)?;
+    write_workers(alloc, story, out)?;
+    write_submitters(alloc, story, out)
+}
+
 /// The name of the process.
-pub fn write_process<W: fmt::Write>(alloc: Global, out: &mut W) -> fmt::Result {
+fn write_process<W: fmt::Write>(alloc: Global, out: &mut W) -> fmt::Result {
     let name = Metadata {
         ph: "M",
         name: "process_name",
@@ -21,31 +28,37 @@ pub fn write_process<W: fmt::Write>(alloc: Global, out: &mut W) -> fmt::Result {
 }
 
 /// The workers, in order.
-pub fn write_workers<W: fmt::Write>(alloc: Global, story: &Story, out: &mut W) -> fmt::Result {
+fn write_workers<W: fmt::Write>(alloc: Global, story: &Story, out: &mut W) -> fmt::Result {
     for w in 0..story.limits().workers() {
-        let name = format!(in alloc; "worker {w}")?;
-        write_thread(alloc, u64::from(w), name.as_str(), out)?;
+        write_thread(alloc, u64::from(w), "worker", w, out)?;
     }
     Ok(())
 }
 
 /// The submitters, behind the workers.
-pub fn write_submitters<W: fmt::Write>(alloc: Global, story: &Story, out: &mut W) -> fmt::Result {
+fn write_submitters<W: fmt::Write>(alloc: Global, story: &Story, out: &mut W) -> fmt::Result {
     for s in 0..story.limits().submitters() {
-        let name = format!(in alloc; "submitter {s}")?;
-        write_thread(alloc, submitter_thread(s), name.as_str(), out)?;
+        write_thread(alloc, submitter_thread(s), "submitter", s, out)?;
     }
     Ok(())
 }
 
-/// A thread of this number and name.
-fn write_thread<W: fmt::Write>(alloc: Global, tid: u64, name: &str, out: &mut W) -> fmt::Result {
+/// The thread of this number, of a worker or a submitter with its own number.
+fn write_thread<W: fmt::Write>(
+    alloc: Global,
+    tid: u64,
+    whose: &str,
+    n: u32,
+    out: &mut W,
+) -> fmt::Result {
     let named = Metadata {
         ph: "M",
         name: "thread_name",
         pid: POOL,
         tid,
-        args: NameArgs { name },
+        args: NameArgs {
+            name: Text(format_args!("{whose} {n}")),
+        },
     };
     push_event(alloc, &named, out)?;
     let sorted = Metadata {

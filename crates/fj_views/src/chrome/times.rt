@@ -75,10 +75,12 @@ impl Times {
 
 /// Whether the beginning of some body or action has a time.
 fn has_times(story: &Story) -> bool {
-    story
-        .stretches()
-        .iter()
-        .any(|stretch| noted(story, stretch).0.is_some())
+    for stretch in story.stretches().iter() {
+        if noted(story, stretch).0.is_some() {
+            return true;
+        }
+    }
+    false
 }
 
 /// When a stretch began and ended, as far as that is noted.

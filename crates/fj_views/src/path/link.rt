@@ -3,7 +3,7 @@ use fj_story::{Moment, Story, Work};
 use std::fmt;
 
 /// What a link is.
-#[derive(Clone, Copy, Debug)]
+#[derive(Clone, Copy)]
 pub enum LinkKind {
     /// The task is in a queue.
     Waits(u64),
@@ -16,7 +16,7 @@ pub enum LinkKind {
 }
 
 /// How a link leads to the next one.
-#[derive(Clone, Copy, Debug)]
+#[derive(Clone, Copy)]
 pub enum Then {
     /// The body or the action ends.
     Ends,
@@ -29,7 +29,7 @@ pub enum Then {
 }
 
 /// A link of the path, from one event to another.
-#[derive(Clone, Copy, Debug)]
+#[derive(Clone, Copy)]
 pub struct Link {
     pub from: Moment,
     pub to: Moment,
@@ -53,15 +53,14 @@ pub fn write_link<W: fmt::Write>(story: &Story, link: &Link, out: &mut W) -> fmt
 fn write_kind<W: fmt::Write>(story: &Story, kind: LinkKind, out: &mut W) -> fmt::Result {
     match kind {
         LinkKind::Waits(t) => write!(out, "task {} waits in a queue", Named { story, t }),
-        LinkKind::Runs(w, Work::Body(t)) => {
-            write!(out, "task {} runs on worker {w}", Named { story, t })
-        }
-        LinkKind::Runs(w, Work::Hook(t)) => {
-            write!(
-                out,
-                "the action of {} runs on worker {w}",
-                Named { story, t }
-            )
+        LinkKind::Runs(w, work) => {
+            let what = if work.is_body() {
+                "task"
+            } else {
+                "the action of"
+            };
+            let t = work.task();
+            write!(out, "{what} {} runs on worker {w}", Named { story, t })
         }
         LinkKind::Climbs(t) => write!(out, "the last arrival at {}", Named { story, t }),
         LinkKind::Takes(w) => write!(out, "worker {w} is free"),
