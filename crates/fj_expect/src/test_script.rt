@@ -18,15 +18,24 @@ pub fn test(alloc: Global, text: &str) -> Result<Option<Mismatch>, TestFault> {
     let mut rest = InMemory::new(annotated.script.as_bytes());
     let mut replies = Vec::new(alloc);
     let ended = replay(alloc, &mut rest, &mut replies);
-    let refused = ended == Err(ReplayFault::Limits);
-    let answers = answers(alloc, annotated.is_titled(), refused, replies.as_slice())?;
-    let mismatch = first_mismatch(alloc, annotated.lines.as_slice(), &answers)?;
+    let refused = matches!(ended, Err(ReplayFault::Limits));
+    let mismatch = mismatch_in(alloc, &annotated, refused, replies.as_slice())?;
+    let foreseen = refused && annotated.foresees_refusal();
     match ended {
-        _ if mismatch.is_some() => Ok(mismatch),
-        Err(ReplayFault::Limits) if annotated.foresees_refusal() => Ok(None),
-        Err(fault) => Err(annotated.fault(fault)),
-        Ok(()) => Ok(None),
+        Err(fault) if mismatch.is_none() && !foreseen => Err(annotated.fault(fault)),
+        _ => Ok(mismatch),
     }
+}
+
+/// The first line of a script with another reply than the one behind it.
+fn mismatch_in(
+    alloc: Global,
+    script: &Annotated<'_>,
+    refused: bool,
+    replies: &[u8],
+) -> Result<Option<Mismatch>, AllocError> {
+    let answers = answers(alloc, script.is_titled(), refused, replies)?;
+    first_mismatch(alloc, script.lines.as_slice(), &answers)
 }
 
 /// A line for each line of a script, as far as it was replied to.
