@@ -63,19 +63,12 @@ fn line_of(story: &Story, page: &Page, band: &Band, stretch: &Stretch) -> Option
     let top = thief.top.plus(ROW.times(stretch.depth));
     let (above, below) = edges(story, page.lane(band, home)?, t, stretch);
     let x = page.x(band, stretch.begun).plus(Px(6));
-    if home < stretch.worker {
-        Some(StealLine {
-            x,
-            from: below,
-            to: top,
-        })
+    let (from, to) = if home < stretch.worker {
+        (below, top)
     } else {
-        Some(StealLine {
-            x,
-            from: above,
-            to: top.plus(BOX),
-        })
-    }
+        (above, top.plus(BOX))
+    };
+    Some(StealLine { x, from, to })
 }
 
 /// The upper and the lower edge of where a stolen task comes from: the box of the body that forked it if that runs still, otherwise the lane.

@@ -17,15 +17,14 @@ pub fn write_box_title<W: fmt::Write>(
     match stretch.work {
         Work::Body(t) => {
             write_task(story, t, out)?;
-            write!(out, ", ran on worker {worker} from {from} to {to}")?;
+            write!(out, ", ran on worker {worker} from {from} to {to}</title>")
         }
-        Work::Hook(c) => {
-            write!(out, "completion action of {c}")?;
-            write_label(story, c, out)?;
-            write!(out, ", on worker {worker} from {from} to {to}")?;
-        }
+        Work::Hook(c) => write!(
+            out,
+            "completion action of {}, on worker {worker} from {from} to {to}</title>",
+            Named { story, t: c }
+        ),
     }
-    out.write_str("</title>")
 }
 
 /// A task, where it came from, and how it went.
@@ -39,9 +38,7 @@ fn write_task<W: fmt::Write>(story: &Story, t: u64, out: &mut W) -> fmt::Result 
         "task"
     };
     let status = task.status;
-    write!(out, "{kind} {t}")?;
-    write_label(story, t, out)?;
-    write!(out, ": {status}, ")?;
+    write!(out, "{kind} {}: {status}, ", Named { story, t })?;
     write_origin(story, task, out)?;
     if let Some(home) = task.stolen_from() {
         write!(out, ", stolen from worker {home}")?;
@@ -52,22 +49,32 @@ fn write_task<W: fmt::Write>(story: &Story, t: u64, out: &mut W) -> fmt::Result 
     }
 }
 
-/// How a task is called, behind its number.
-fn write_label<W: fmt::Write>(story: &Story, t: u64, out: &mut W) -> fmt::Result {
-    match story.label_of(t) {
-        Some(label) => write!(out, " {}", Escaped(label)),
-        None => Ok(()),
+/// The number of a task, and how it is called.
+#[derive(Clone, Copy)]
+struct Named<'a> {
+    story: &'a Story,
+    t: u64,
+}
+
+impl fmt::Display for Named<'_> {
+    fn fmt<W: fmt::Write>(&self, f: &mut fmt::Formatter<W>) -> fmt::Result {
+        let t = self.t;
+        match self.story.label_of(t) {
+            Some(label) => write!(f, "{t} {}", Escaped(label)),
+            None => write!(f, "{t}"),
+        }
     }
 }
 
 /// Where a task came from.
 fn write_origin<W: fmt::Write>(story: &Story, task: &TaskStory, out: &mut W) -> fmt::Result {
     let at = task.accepted;
-    match &task.queue {
-        Some(Owner::Sub(s)) => write!(out, "submitted by {} at {at}", s.0),
-        Some(Owner::Work(_)) | None => match story.forker(task) {
-            Some(by) => write!(out, "forked by {by} at {at}"),
-            None => write!(out, "accepted at {at}"),
-        },
+    let (how, by) = match &task.queue {
+        Some(Owner::Sub(s)) => ("submitted", Some(u64::from(s.0))),
+        Some(Owner::Work(_)) | None => ("forked", story.forker(task)),
+    };
+    match by {
+        Some(by) => write!(out, "{how} by {by} at {at}"),
+        None => write!(out, "accepted at {at}"),
     }
 }
