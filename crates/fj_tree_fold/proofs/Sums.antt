@@ -25,6 +25,13 @@ tally_new nodes p v first tree lt e own = record {
   value = rw (from_first nodes 0 p first (omega arith) e, own) (sym (value_combined nodes p tree.0 lt));
 }
 
+-- no child left
+pub tally_done : (nodes : List Node) (t : ChildSum) → IsTally nodes t → t.child ≡ None → t.sum ≡ node_value nodes t.node
+tally_done nodes t tally is =
+    let all : (t.sum + 0) % 1000000007 ≡ node_value nodes t.node = rw is at tally.value in
+    let small = tally.small in
+    omega arith
+
 one_more : (a k v r whole : ℕ) → (a + (k * v + r)) % 1000000007 ≡ whole → ((a + k * v) % 1000000007 + r) % 1000000007 ≡ whole
 one_more a k v r whole e = mod-add-mod (a + k * v) 1000000007 r ∙ ap (λ n. n % 1000000007) (add_assoc a (k * v) r) ∙ e
 
