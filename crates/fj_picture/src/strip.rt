@@ -74,7 +74,7 @@ fn write_busy<W: fmt::Write>(story: &Story, w: usize, top: Px, out: &mut W) -> f
     write_run(run, top, out)
 }
 
-/// A box of the path, from its begin to its end.
+/// A box of the path, if there is one.
 fn write_run<W: fmt::Write>(run: Option<(Px, Px)>, top: Px, out: &mut W) -> fmt::Result {
     let Some((begin, end)) = run else {
         return Ok(());

@@ -110,7 +110,7 @@ fn flow(ph: &'static str, bp: Option<&'static str>, id: u64, tid: u64, ts: Micro
     }
 }
 
-/// Something of a task that has no length, in a scope.
+/// An instant of a task, called by its category and the number of the task.
 fn write_instant<W: fmt::Write>(
     alloc: Global,
     cat: &'static str,
