@@ -126,6 +126,15 @@ end_unfired past w ending reply is no_hook no_refusal = go (end_gives past w end
     go (EndIsOver t rest runs over still made) = (t, record { rest = rest; runs = runs; still = still; made = made })
     go (EndRefused r refused none) = absurd (no_refusal r (is ∙ refused))
 
+-- it was not refused: a task ran
+pub end_runs : (past : Past) (w : ℕ) (ending : Ending) (reply : Said) → reply ≡ (answer past (End w ending)).0 → ((r : Refusal) → reply ≡ says.Refused r → ⊥) → (t : ℕ) × (running past.events w ≡ Some t)
+end_runs past w ending reply is no_refusal = go (end_gives past w ending)
+  where
+    go : EndGives past.events w (answer past (End w ending)).0 (answer past (End w ending)).1 → (t : ℕ) × (running past.events w ≡ Some t)
+    go (EndFires t how runs free fires made) = (t, runs)
+    go (EndIsOver t rest runs over still made) = (t, runs)
+    go (EndRefused r refused none) = absurd (no_refusal r (is ∙ refused))
+
 -- ---- the hand
 
 -- the task that runs is on top of the hand

@@ -57,27 +57,23 @@ impl<B: Body> Store<B> {
             w: hand.worker(),
             ending: as_ending(bare),
         };
-        match make(&mut self.machine, &mut self.bodies, &asked) {
-            Said::Hook(c) => {
-                let (t, body) = hand.pop();
-                hand.give_hook(t, body);
-                let due = Due::One(t);
-                release_due(&mut self.machine, &mut self.taken, &mut self.stuck, due);
-                Told::Hook(c, c)
-            }
-            Said::Refused(refusal) => self.refused(refusal),
-            _ => {
-                let (t, body) = hand.pop();
-                let due = Due::One(t);
-                if is_gone_now(&self.machine, t) {
-                    release_due(&mut self.machine, &mut self.taken, &mut self.stuck, due);
-                    return Told::Over(Some(body));
-                }
-                self.bodies.put(t, body);
-                release_due(&mut self.machine, &mut self.taken, &mut self.stuck, due);
-                Told::Over(None)
-            }
+        let said = make(&mut self.machine, &mut self.bodies, &asked);
+        if let Said::Refused(refusal) = said {
+            return self.refused(refusal);
         }
+        let (t, body) = hand.pop();
+        let told = if let Said::Hook(c) = said {
+            hand.give_hook(t, body);
+            Told::Hook(c, c)
+        } else if is_gone_now(&self.machine, t) {
+            Told::Over(Some(body))
+        } else {
+            self.bodies.put(t, body);
+            Told::Over(None)
+        };
+        let due = Due::One(t);
+        release_due(&mut self.machine, &mut self.taken, &mut self.stuck, due);
+        told
     }
 
     /// The hook in the hand ends, with its result: `CountedCompleter.onCompletion` has returned. Preconditions: the hand fits, and the result
