@@ -24,7 +24,7 @@ cd "$(dirname "${BASH_SOURCE[0]}")/.."
 
 runs=${RUNS:-5}
 limit=60
-crates=(fj_rules fj_lines fj_streams fj_queues fj_tree fj_ledger fj_machine fj_gate fj_lane fj_submitter fj_slots fj_body fj_bodies fj_calls fj_core fj_sleep fj_wake fj_fronts fj_guarded fj_agreement fj_parts fj_pool fj_jobs ex_primes fj_results fj_run fj_lazy fj_recursive fj_invoke fj_trees fj_tree_fold fj_fold)
+crates=(fj_rules fj_lines fj_streams fj_queues fj_tree fj_ledger fj_machine fj_gate fj_lane fj_submitter fj_slots fj_body fj_bodies fj_calls fj_core fj_sleep fj_wake fj_fronts fj_guarded fj_agreement fj_parts fj_pool fj_jobs ex_primes fj_results fj_run fj_lazy fj_recursive fj_invoke fj_trees fj_fold)
 # The compilers of C and C++: clang, if it is there, since ours and rayon come from LLVM too.
 cc=$(command -v clang || command -v cc || true)
 cxx=$(command -v clang++ || command -v c++ || true)

@@ -5,7 +5,7 @@
 set -euo pipefail
 cd "$(dirname "${BASH_SOURCE[0]}")/../.."
 . tests/lay_out.bash
-crates='serde_json fj_rules fj_lines fj_history fj_checker fj_machine fj_streams fj_filter fj_notes fj_check fj_replay fj_expect fj_explain fj_trace fj_story fj_picture fj_views fj_record fj_commands fj_cli'
+crates='serde_json fj_rules fj_lines fj_history fj_checker fj_machine fj_streams fj_notes fj_check fj_replay fj_expect fj_explain fj_story fj_picture fj_views fj_record fj_commands fj_cli'
 
 folder=$(mktemp -d)
 trap 'rm -rf "$folder"' EXIT

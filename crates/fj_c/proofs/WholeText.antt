@@ -3,8 +3,8 @@ use Rattle.std.proofs.Common.{ℕ, ◌≡◌, ◌<◌, ◌≤◌, List, [], ◌�
 use Rattle.std.specs.Prelude.{◌==◌}
 use Rattle.std.proofs.lemmas.List.{append-nil, length-append}
 use Rattle.fj_history.specs.declared.read.TheConstants.{MAX_ENTRY}
-use Rattle.fj_filter.specs.Cuts.{cut, lines, rest}
-use Rattle.fj_filter.proofs.Lines.{cut-append, left-append, left-uncut, yes_or_no}
+use Rattle.fj_streams.specs.Cuts.{cut, lines, rest}
+use Rattle.fj_streams.proofs.Lines.{cut-append, left-append, left-uncut, yes_or_no}
 use Rattle.fj_check.specs.declared.fault.CheckFault.{CheckFault}
 use Rattle.fj_check.specs.declared.fault.CheckFault.TheVariants.{Objection, Line, Limits, Memory, Read}
 use Rattle.fj_check.specs.Checks.{FaultMeans, IsBarred, IsChecked, IsFaulty, IsOpenedWrong, IsWrong, StopsCheck}

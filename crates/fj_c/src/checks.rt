@@ -4,8 +4,8 @@ ghost use Rattle.fj_c.specs.Checks.{Checks, refused_by};
 
 use fj_check::{CheckFault, check};
 use fj_codes::{BAD_EVENT, BAD_LINE, COUNT, Reply};
-use fj_filter::InMemory;
 use fj_rules::Refusal;
+use fj_streams::InMemory;
 use std::alloc::Global;
 
 /// Whether a text is a history, a heading within its limits and lines that may each follow those before it. `COUNT` of its events.

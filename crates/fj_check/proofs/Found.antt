@@ -8,15 +8,15 @@ use Rattle.fj_rules.specs.Pasts.{Past}
 use Rattle.fj_lines.specs.Headings.{start}
 use Rattle.fj_history.specs.declared.entry.Entry.{Entry}
 use Rattle.fj_history.specs.Entries.{entry_in}
-use Rattle.fj_filter.specs.declared.fault.FilterFault.{FilterFault}
-use Rattle.fj_filter.specs.declared.fault.FilterFault.TheVariants as filter
-use Rattle.fj_filter.specs.Cuts.{lines}
-use Rattle.fj_filter.specs.Rules.{Rules, state_from, is_good}
-use Rattle.fj_filter.specs.Tells.{FaultTells}
+use Rattle.fj_streams.specs.declared.fault.FilterFault.{FilterFault}
+use Rattle.fj_streams.specs.declared.fault.FilterFault.TheVariants as filter
+use Rattle.fj_streams.specs.Cuts.{lines}
+use Rattle.fj_streams.specs.Rules.{Rules, state_from, is_good}
+use Rattle.fj_streams.specs.Tells.{FaultTells}
 use Rattle.fj_streams.specs.Calls.{Calls}
 use Rattle.fj_check.specs.declared.fault.CheckFault.TheVariants as check
-use Rattle.fj_filter.specs.Faults.{StopsAtLine, EndsFrom, Finishes, FaultOf, Stands, IsNoLine}
-use Rattle.fj_filter.specs.Starving.{StarvesAtLine}
+use Rattle.fj_streams.specs.Faults.{StopsAtLine, EndsFrom, Finishes, FaultOf, Stands, IsNoLine}
+use Rattle.fj_streams.specs.Starving.{StarvesAtLine}
 use Rattle.fj_check.specs.declared.history_check.HistoryCheck.{HistoryCheck}
 use Rattle.fj_check.specs.declared.history_check.HistoryCheck.TheVariants.{Start, Going}
 use Rattle.fj_check.specs.declared.history_stop.HistoryStop.{HistoryStop}
@@ -24,10 +24,10 @@ use Rattle.fj_check.specs.declared.history_stop.HistoryStop.TheVariants as stop
 use Rattle.fj_check.specs.Entries.{past_from, event_count}
 use Rattle.fj_check.specs.Histories.{AreHistory}
 use Rattle.fj_check.specs.Checks.{FailsToRead, IsChecked, IsReadAs, AreGood, IsNoEntry, IsFaulty, FaultMeans, StopsCheck}
-use Rattle.fj_filter.specs.declared.fault.LineStop.{LineStop}
-use Rattle.fj_filter.specs.declared.fault.LineStop.TheVariants as fails
+use Rattle.fj_streams.specs.declared.fault.LineStop.{LineStop}
+use Rattle.fj_streams.specs.declared.fault.LineStop.TheVariants as fails
 use Rattle.fj_check.specs.Rules.{check_rules, has_heading, StopsHere, IsStopAt, IsEntryStop, check_fault, events_in}
-use Rattle.fj_filter.proofs.Begun.{appends_nothing}
+use Rattle.fj_streams.proofs.Begun.{appends_nothing}
 use Rattle.fj_check.proofs.Tested.{come_barred}
 use Rattle.fj_check.proofs.Leading.{Leads, leads}
 

@@ -10,7 +10,7 @@ use Rattle.fj_history.specs.declared.entry.Entry.{Entry}
 use Rattle.fj_history.specs.declared.entry.Entry.TheVariants as entry
 use Rattle.fj_history.specs.Entries.{entry_in, entry_line, HasEntryLine}
 use Rattle.fj_history.proofs.Entries.EntryLaws.{entry_found}
-use Rattle.fj_filter.specs.Rules.{state_from}
+use Rattle.fj_streams.specs.Rules.{state_from}
 use Rattle.fj_check.specs.declared.history_check.HistoryCheck.{HistoryCheck}
 use Rattle.fj_check.specs.declared.history_check.HistoryCheck.TheVariants.{Start, Going}
 use Rattle.fj_check.specs.Entries.{MayCome, AllMayCome, past_after, past_from, event_count}

@@ -9,9 +9,9 @@ use Rattle.fj_history.specs.Entries.{entry_in}
 use Rattle.fj_lines.specs.Lines.{head_in}
 use Rattle.fj_lines.specs.Headings.{start, IsOutOfLimits}
 use Rattle.fj_streams.specs.Calls.{HasFailed}
-use Rattle.fj_filter.specs.declared.read_loop.TheConstants.{CHUNK}
-use Rattle.fj_filter.specs.Cuts.{lines, rest}
-use Rattle.fj_filter.specs.Tells.{Seen}
+use Rattle.fj_streams.specs.declared.read_loop.TheConstants.{CHUNK}
+use Rattle.fj_streams.specs.Cuts.{lines, rest}
+use Rattle.fj_streams.specs.Tells.{Seen}
 use Rattle.fj_check.specs.declared.fault.CheckFault.{CheckFault}
 use Rattle.fj_check.specs.declared.fault.CheckFault.TheVariants.{Objection, Line, Limits, Memory, Read}
 use Rattle.fj_check.specs.Entries.{MayCome, past_from}

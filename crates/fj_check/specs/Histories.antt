@@ -4,7 +4,7 @@ use Rattle.fj_rules.specs.Bounds.{Pool}
 use Rattle.fj_lines.specs.Headings.{pool_in, start}
 use Rattle.fj_history.specs.declared.entry.Entry.{Entry}
 use Rattle.fj_history.specs.Entries.{HasEntryLine, entry_line}
-use Rattle.fj_filter.specs.Cuts.{lines, rest}
+use Rattle.fj_streams.specs.Cuts.{lines, rest}
 use Rattle.fj_check.specs.Entries.{AllMayCome, event_count}
 
 -- each of these has a line

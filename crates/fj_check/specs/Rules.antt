@@ -17,16 +17,16 @@ use Rattle.fj_history.specs.declared.entry.Entry.{Entry}
 use Rattle.fj_history.specs.declared.entry.Entry.TheVariants as entry
 use Rattle.fj_history.specs.Entries.{entry_in}
 use Rattle.fj_history.specs.declared.read.TheConstants.{MAX_ENTRY}
-use Rattle.fj_filter.specs.Rules.{Rules}
-use Rattle.fj_filter.specs.declared.fault.LineStop.{LineStop}
-use Rattle.fj_filter.specs.declared.fault.LineStop.TheVariants as fails
+use Rattle.fj_streams.specs.Rules.{Rules}
+use Rattle.fj_streams.specs.declared.fault.LineStop.{LineStop}
+use Rattle.fj_streams.specs.declared.fault.LineStop.TheVariants as fails
 use Rattle.fj_check.specs.declared.history_check.HistoryCheck.{HistoryCheck}
 use Rattle.fj_check.specs.declared.history_check.HistoryCheck.TheVariants.{Start, Going}
 use Rattle.fj_check.specs.declared.history_stop.HistoryStop.{HistoryStop}
 use Rattle.fj_check.specs.declared.history_stop.HistoryStop.TheVariants as stop
 use Rattle.fj_check.specs.Entries.{MayCome, past_after}
-use Rattle.fj_filter.specs.declared.fault.FilterFault.{FilterFault}
-use Rattle.fj_filter.specs.declared.fault.FilterFault.TheVariants as filter
+use Rattle.fj_streams.specs.declared.fault.FilterFault.{FilterFault}
+use Rattle.fj_streams.specs.declared.fault.FilterFault.TheVariants as filter
 use Rattle.fj_check.specs.declared.fault.CheckFault.{CheckFault}
 use Rattle.fj_check.specs.declared.fault.CheckFault.TheVariants as check
 

@@ -1,14 +1,13 @@
 ghost use Rattle.std.specs.Prelude.{◌≡◌, IfOk, IfErr, OnOk};
 ghost use Rattle.fj_streams.specs.Calls.{IsFine};
-ghost use Rattle.fj_filter.specs.Tells.{seen};
+ghost use Rattle.fj_streams.specs.Tells.{seen};
 ghost use Rattle.fj_check.specs.Checks.{FailsToRead, IsChecked, StopsCheck};
 ghost use Rattle.fj_check.specs.Rules.{check_fault, events_in};
 
 use crate::fault::CheckFault;
 use crate::history_check::HistoryCheck;
 use crate::history_stop::HistoryStop;
-use fj_filter::{FilterFault, filter};
-use fj_streams::Source;
+use fj_streams::{FilterFault, Source, filter};
 use std::alloc::Global;
 
 /// Reads a history, and tells how many events it has: exactly where each of its lines may stand where it does.

@@ -8,11 +8,10 @@ ghost use Rattle.fj_check.specs.LongLines.{too_long};
 
 use crate::history_stop::HistoryStop;
 use fj_checker::Checker;
-use fj_filter::{LineFilter, LineStop};
 use fj_history::{Entry, MAX_ENTRY, read_entry};
 use fj_lines::read_head;
 use fj_rules::{Event, Limits, Mode};
-use fj_streams::Sink;
+use fj_streams::{LineFilter, LineStop, Sink};
 use std::alloc::Global;
 use std::mem;
 

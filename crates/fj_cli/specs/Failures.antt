@@ -2,7 +2,7 @@
 use Rattle.std.specs.Prelude.{◌≡◌, ◌⊎◌, true, List, Option, is_some}
 use Rattle.clap.specs.Words.{Text}
 use Rattle.fj_streams.specs.Calls.{Calls, HasFailed}
-use Rattle.fj_filter.specs.Tells.{Seen}
+use Rattle.fj_streams.specs.Tells.{Seen}
 use Rattle.fj_arguments.specs.declared.command_line.Subcommand.{Subcommand}
 use Rattle.fj_arguments.specs.declared.command_line.Subcommand.TheVariants.{Compute, Record, View}
 use Rattle.fj_arguments.specs.Commands.{Asks, AsksNothing, IsAtFault}

@@ -21,7 +21,7 @@ pub use fj_invoke::{
     BlockedRange, Divide, FirstHit, Interval, Limits, LinearMod, Mode, Open, RangeMin, RangeSum,
     Recursive, Refusal, Serial, Settings, Turnstile, WorkerId, compute, invoke, invoke_lazily,
 };
+pub use fj_record::trace;
 pub use fj_replay::{ReplayFault, replay, replayed, upgrade, upgraded};
 pub use fj_streams::{Sink, Source, Watched};
-pub use fj_trace::trace;
 pub use program::{fj, without_words};

@@ -3,7 +3,7 @@ ghost use Rattle.clap.specs.Walk.{texts};
 ghost use Rattle.clap.specs.Words.{kind_of};
 ghost use Rattle.std.specs.IoError.{error_kind};
 ghost use Rattle.fj_streams.specs.Calls.{HasFailed};
-ghost use Rattle.fj_filter.specs.Tells.{seen};
+ghost use Rattle.fj_streams.specs.Tells.{seen};
 ghost use Rattle.fj_arguments.specs.Commands.{IsForScript, TellsOfFault};
 ghost use Rattle.fj_commands.specs.Failures.{FailsToCopy};
 ghost use Rattle.fj_cli.specs.Failures.{FailsProgram, IsMisused, NamesFile};

@@ -4,10 +4,10 @@ use Rattle.std.specs.Prelude.{Result, Ok, Err, OnOk, OnErr, IfErr}
 use Rattle.std.specs.Io.KnownBytes.{Consumes}
 use Rattle.fj_streams.specs.Calls.{Calls, HasFailed, IsFine}
 use Rattle.fj_streams.proofs.CallsMade.{fine_failed}
-use Rattle.fj_filter.specs.Tells.{Seen}
-use Rattle.fj_filter.specs.Tells as filter_tells
-use Rattle.fj_filter.specs.declared.fault.FilterFault.{FilterFault}
-use Rattle.fj_filter.specs.declared.fault.FilterFault.TheVariants as filter
+use Rattle.fj_streams.specs.Tells.{Seen}
+use Rattle.fj_streams.specs.Tells as filter_tells
+use Rattle.fj_streams.specs.declared.fault.FilterFault.{FilterFault}
+use Rattle.fj_streams.specs.declared.fault.FilterFault.TheVariants as filter
 use Rattle.fj_check.specs.Checks.{FailsToRead}
 use Rattle.fj_replay.specs.declared.fault.ReplayFault.{ReplayFault}
 use Rattle.fj_replay.specs.declared.fault.ReplayFault.TheVariants.{Line, Limits, Memory, Read, Write}
@@ -16,7 +16,7 @@ use Rattle.fj_replay.specs.declared.script_stop.ScriptStop.TheVariants as stop
 use Rattle.fj_replay.specs.Stops.{replay_fault}
 use Rattle.fj_replay.specs.declared.script_stage.ScriptStage.{ScriptStage}
 use Rattle.fj_replay.specs.Tells.{FaultTells, StopsFrom}
-use Rattle.fj_trace.specs.Traced.{StopsTrace}
+use Rattle.fj_record.specs.Traced.{StopsTrace}
 use Rattle.fj_commands.specs.Failures.{FailsToCopy, FailsToFlush, HasBroken}
 
 -- what holds, at an error

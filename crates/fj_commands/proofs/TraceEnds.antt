@@ -3,16 +3,16 @@ use Rattle.std.proofs.Common.{ℕ, ◌≡◌, ◌⊎◌, ◌∙◌, ⊎_elim, in
 use Rattle.std.specs.Prelude.{Result, Ok, Err, OnOk, IfErr, ◌<◌}
 use Rattle.std.specs.Io.KnownBytes.{Keeps}
 use Rattle.fj_streams.proofs.Bytes.{appends_keeps}
-use Rattle.fj_filter.specs.declared.fault.FilterFault.{FilterFault}
-use Rattle.fj_filter.specs.declared.fault.FilterFault.TheVariants as filter
-use Rattle.fj_filter.specs.Faults.{EndsFrom, FaultOf}
-use Rattle.fj_filter.specs.Tells.{Seen}
+use Rattle.fj_streams.specs.declared.fault.FilterFault.{FilterFault}
+use Rattle.fj_streams.specs.declared.fault.FilterFault.TheVariants as filter
+use Rattle.fj_streams.specs.Faults.{EndsFrom, FaultOf}
+use Rattle.fj_streams.specs.Tells.{Seen}
 use Rattle.fj_replay.specs.declared.fault.ReplayFault.{ReplayFault}
 use Rattle.fj_replay.specs.declared.script_stop.ScriptStop.{ScriptStop}
 use Rattle.fj_replay.specs.Stops.{replay_fault}
-use Rattle.fj_trace.specs.declared.trace_stage.TraceStage.TheVariants.{Start}
-use Rattle.fj_trace.specs.Traces.{trace_rules}
-use Rattle.fj_trace.specs.Traced.{StopsTrace, Traces}
+use Rattle.fj_record.specs.declared.trace_stage.TraceStage.TheVariants.{Start}
+use Rattle.fj_record.specs.Traces.{trace_rules}
+use Rattle.fj_record.specs.Traced.{StopsTrace, Traces}
 use Rattle.fj_commands.specs.Statuses.{EndsTrace, EndsTraceBy, IsEndOf, status_of}
 use Rattle.fj_commands.proofs.ScriptEnds.{IsOfScript, no_fault_is_well, of_fault}
 

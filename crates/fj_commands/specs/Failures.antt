@@ -1,7 +1,7 @@
 -- Why the exit status is 5: a call failed.
 use Rattle.std.specs.Prelude.{◌-◌, ◌^◌, ◌<◌, ◌≤◌, ◌⊎◌, ⊤, Option, Some, None, Result, Err}
 use Rattle.fj_streams.specs.Calls.{Calls, HasFailed, IsFine}
-use Rattle.fj_filter.specs.Tells.{Seen}
+use Rattle.fj_streams.specs.Tells.{Seen}
 use Rattle.fj_check.specs.Checks.{FailsToRead}
 use Rattle.fj_replay.specs.declared.fault.ReplayFault.{ReplayFault}
 use Rattle.fj_replay.specs.declared.fault.ReplayFault.TheVariants.{Read, Write}

@@ -3,16 +3,16 @@ use Rattle.std.specs.Prelude.{ℕ, ◌≡◌, ◌≢◌, ◌⊎◌, ◌++◌, Li
 use Rattle.fj_replay.specs.declared.fault.ReplayFault.{ReplayFault}
 use Rattle.fj_replay.specs.declared.fault.ReplayFault.TheVariants.{Line, Limits, Memory, Read, Write}
 use Rattle.std.specs.Io.KnownBytes.{Appends, Consumes}
-use Rattle.fj_filter.specs.declared.fault.FilterFault.{FilterFault}
-use Rattle.fj_filter.specs.Faults as filter
+use Rattle.fj_streams.specs.declared.fault.FilterFault.{FilterFault}
+use Rattle.fj_streams.specs.Faults as filter
 use Rattle.fj_check.specs.declared.fault.CheckFault.{CheckFault}
 use Rattle.fj_check.specs.declared.fault.CheckFault.TheVariants as check
 use Rattle.fj_check.specs.Checks.{IsChecked, IsReadAs, IsBarred, IsFaulty, IsOpenedWrong}
 use Rattle.fj_replay.specs.declared.script_stop.ScriptStop.{ScriptStop}
 use Rattle.fj_replay.specs.Stops.{replay_fault}
-use Rattle.fj_trace.specs.declared.trace_stage.TraceStage.TheVariants as trace
-use Rattle.fj_trace.specs.Traces.{trace_rules}
-use Rattle.fj_trace.specs.Traced.{Traces}
+use Rattle.fj_record.specs.declared.trace_stage.TraceStage.TheVariants as trace
+use Rattle.fj_record.specs.Traces.{trace_rules}
+use Rattle.fj_record.specs.Traced.{Traces}
 use Rattle.fj_rules.specs.Pasts.{Past}
 use Rattle.fj_views.specs.Tables.{table_text}
 use Rattle.fj_arguments.specs.declared.options.ViewName.TheVariants as view

@@ -43,7 +43,7 @@ pub fn told_line<E: Sink, D: Display + Drop>(err: &mut E, head: &str, text: D, s
 }
 
 /// Writes a line, and flushes it. On an error a part of it, or nothing, was written.
-#[tactic(auto, using(fj_filter::proofs::Begun::all_some, fj_streams::proofs::Bytes::appends_keeps))]
+#[tactic(auto, using(fj_streams::proofs::Begun::all_some, fj_streams::proofs::Bytes::appends_keeps))]
 pub fn written<W: Sink>(out: &mut W, line: &str) -> io::Result<()>
     ensures ok { OnOk result (Appends (W.contents out.old) (W.contents out.new) line.now) }
     ensures err { OnErr result (AppendsSome (W.contents out.old) (W.contents out.new) line.now) }

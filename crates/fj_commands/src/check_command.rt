@@ -1,7 +1,7 @@
 //! The command that checks a history.
 ghost use Rattle.std.specs.Prelude.{◌≡◌, ◌⊎◌};
 ghost use Rattle.fj_streams.specs.Calls.{HasFailed};
-ghost use Rattle.fj_filter.specs.Tells.{seen};
+ghost use Rattle.fj_streams.specs.Tells.{seen};
 ghost use Rattle.fj_check.specs.Checks.{FailsToRead};
 ghost use Rattle.fj_commands.specs.Statuses.{EndsCheck, IsEndOfCheck};
 

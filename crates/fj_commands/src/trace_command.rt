@@ -1,12 +1,12 @@
 //! The command that writes the history of a script's run.
 ghost use Rattle.std.specs.Prelude.{◌≡◌};
-ghost use Rattle.fj_filter.specs.Tells.{seen};
+ghost use Rattle.fj_streams.specs.Tells.{seen};
 ghost use Rattle.fj_commands.specs.Failures.{FailsToCopy};
 ghost use Rattle.fj_commands.specs.Statuses.{EndsTrace};
 
 use crate::script_end::end_script;
+use fj_record::trace;
 use fj_streams::{Sink, Source};
-use fj_trace::trace;
 use std::alloc::Global;
 
 /// Runs a script, writes the history of its run, and answers the exit status.

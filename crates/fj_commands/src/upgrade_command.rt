@@ -1,5 +1,5 @@
 ghost use Rattle.std.specs.Prelude.{◌≡◌};
-ghost use Rattle.fj_filter.specs.Tells.{seen};
+ghost use Rattle.fj_streams.specs.Tells.{seen};
 ghost use Rattle.fj_commands.specs.Failures.{FailsToCopy};
 ghost use Rattle.fj_commands.specs.Statuses.{EndsUpgrade};
 

@@ -2,7 +2,7 @@
 ghost use Rattle.std.specs.Prelude.{◌≡◌, ◌⊎◌, ℕ, List, Some, IfOk, IfSome, OnErr, string_bytes};
 ghost use Rattle.std.specs.Io.KnownBytes.{Appends};
 ghost use Rattle.fj_streams.specs.Calls.{HasFailed};
-ghost use Rattle.fj_filter.specs.Tells.{seen};
+ghost use Rattle.fj_streams.specs.Tells.{seen};
 ghost use Rattle.fj_check.specs.Checks.{FailsToRead};
 ghost use Rattle.fj_views.specs.Tables.{table_text};
 ghost use Rattle.fj_commands.specs.Statuses.{EndsView, HasNotes, HasWindow, IsUnviewed, IsWritten};

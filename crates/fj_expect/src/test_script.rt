@@ -1,8 +1,8 @@
 use crate::annotated::{Annotated, Written};
 use crate::fault::TestFault;
 use crate::mismatch::Mismatch;
-use fj_filter::InMemory;
 use fj_replay::{ReplayFault, replay};
+use fj_streams::InMemory;
 use std::alloc::{AllocError, Global};
 use std::str;
 

@@ -2,9 +2,9 @@ use crate::explainer::Explainer;
 use crate::fault::ExplainFault;
 use crate::flaw::{Flaw, of_heading, of_step};
 use crate::heading::limit_flaw;
-use fj_filter::LineStop;
 use fj_lines::MAX_LINE2;
 use fj_replay::{Names, Player, ScriptStop, TaskNaming, is_title};
+use fj_streams::LineStop;
 use std::alloc::Global;
 use std::fmt::Write;
 

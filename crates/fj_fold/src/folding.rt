@@ -8,8 +8,7 @@ ghost use Rattle.fj_results.specs.Results.{RefusesRun};
 
 use fj_rules::{Limits, MAX_EVENTS, MAX_TASKS, Mode, Refusal};
 use fj_run::{Record, Recorded, RecordedValue, Settings, Turnstile, record_alone};
-use fj_tree_fold::{Family, NamedTree, TreeFold};
-use fj_trees::Nodes;
+use fj_trees::{Family, NamedTree, Nodes, TreeFold};
 use std::alloc::{AllocError, Global};
 use std::marker::Brand;
 use std::sync::Wait;

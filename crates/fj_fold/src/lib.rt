@@ -12,6 +12,5 @@ mod folding;
 pub use fj_body::{Ask, Body, Heard};
 pub use fj_rules::Refusal;
 pub use fj_run::{Open, RecordedValue, Turnstile};
-pub use fj_tree_fold::{Family, NamedTree, TreeFold};
-pub use fj_trees::{Node, Nodes, TreeFault, read_tree};
+pub use fj_trees::{Family, NamedTree, Node, Nodes, TreeFault, TreeFold, read_tree};
 pub use folding::{fold_tree, record_fold};

@@ -5,11 +5,11 @@ use Rattle.std.specs.Option.{option_and_then}
 use Rattle.std.proofs.lemmas.Bool.{true≢false}
 use Rattle.std.proofs.lemmas.List.{append-nil}
 use Rattle.fj_lines.specs.declared.read.fault.LineFault.{LineFault}
-use Rattle.fj_filter.specs.declared.fault.FilterFault.{FilterFault}
-use Rattle.fj_filter.specs.declared.fault.FilterFault.TheVariants as filter
-use Rattle.fj_filter.specs.Cuts.{lines}
-use Rattle.fj_filter.specs.Rules.{state_from, is_good}
-use Rattle.fj_filter.specs.Faults.{EndsFrom, Finishes, FaultOf, Stands, IsNoLine}
+use Rattle.fj_streams.specs.declared.fault.FilterFault.{FilterFault}
+use Rattle.fj_streams.specs.declared.fault.FilterFault.TheVariants as filter
+use Rattle.fj_streams.specs.Cuts.{lines}
+use Rattle.fj_streams.specs.Rules.{state_from, is_good}
+use Rattle.fj_streams.specs.Faults.{EndsFrom, Finishes, FaultOf, Stands, IsNoLine}
 use Rattle.fj_notes.specs.declared.note.Note.{Note}
 use Rattle.fj_notes.specs.declared.read.TheConstants.{MAX_NOTE}
 use Rattle.fj_notes.specs.Notes.{note_in}

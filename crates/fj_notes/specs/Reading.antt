@@ -2,10 +2,10 @@
 use Rattle.std.specs.Prelude.{ℕ, ◌≡◌, ◌≢◌, ◌+◌, ◌<◌, ◌⊎◌, ⊤, ◌&&◌, nat_le, true, is_some, if◌then◌else◌, List, [], ◌∷◌, ◌++◌, Option, Some, None, length, map}
 use Rattle.std.specs.Io.KnownBytes.{Consumes, IsAtEnd}
 use Rattle.fj_lines.specs.declared.read.fault.LineFault.{LineFault}
-use Rattle.fj_filter.specs.Cuts.{lines, rest}
-use Rattle.fj_filter.specs.Rules.{Rules}
-use Rattle.fj_filter.specs.declared.fault.FilterFault.{FilterFault}
-use Rattle.fj_filter.specs.declared.fault.FilterFault.TheVariants as filter
+use Rattle.fj_streams.specs.Cuts.{lines, rest}
+use Rattle.fj_streams.specs.Rules.{Rules}
+use Rattle.fj_streams.specs.declared.fault.FilterFault.{FilterFault}
+use Rattle.fj_streams.specs.declared.fault.FilterFault.TheVariants as filter
 use Rattle.fj_notes.specs.declared.note.Note.{Note}
 use Rattle.fj_notes.specs.declared.fault.NotesFault.{NotesFault}
 use Rattle.fj_notes.specs.declared.fault.NotesFault.TheVariants.{Line, Memory, Read}

@@ -1,8 +1,8 @@
 ghost use Rattle.std.specs.Prelude.{◌≡◌};
 ghost use Rattle.fj_notes.specs.Reading.{notes_fault};
 
-use fj_filter::FilterFault;
 use fj_lines::LineFault;
+use fj_streams::FilterFault;
 use thiserror::Error;
 
 /// Why an input is not one of notes, or was not read to its end.

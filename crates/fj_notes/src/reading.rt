@@ -7,9 +7,8 @@ ghost use Rattle.fj_notes.specs.Reading.{AreNotesOf, StopsNotes, note_rules};
 use crate::fault::{NotesFault, notes_fault};
 use crate::notes::Notes;
 use crate::read::{MAX_NOTE, read_note};
-use fj_filter::{LineFilter, LineStop, filter};
 use fj_lines::LineFault;
-use fj_streams::{Sink, Source};
+use fj_streams::{LineFilter, LineStop, Sink, Source, filter};
 use std::alloc::Global;
 use std::marker::Model;
 

@@ -19,9 +19,9 @@ use Rattle.fj_history.specs.Headings.{heading, heading_line}
 use Rattle.fj_check.specs.Entries.{event_count}
 use Rattle.fj_check.specs.Histories.{IsHistory}
 use Rattle.fj_replay.proofs.Version2.Accepted.{few_tasks}
-use Rattle.fj_trace.proofs.Printed.{heading_narrow}
-use Rattle.fj_trace.proofs.Traced.{events_small, follow_come}
-use Rattle.fj_trace.proofs.Whole.{history_of}
+use Rattle.fj_record.proofs.Printed.{heading_narrow}
+use Rattle.fj_record.proofs.Traced.{events_small, follow_come}
+use Rattle.fj_record.proofs.Whole.{history_of}
 use Rattle.fj_record.specs.declared.fault.WriteFault.{WriteFault}
 use Rattle.fj_record.specs.Texts.{history_text}
 use Rattle.fj_record.proofs.Unsealed.{past_grown}

@@ -6,10 +6,10 @@ use Rattle.fj_replay.specs.declared.fault.ReplayFault.TheVariants.{Line, Limits,
 use Rattle.fj_streams.specs.Beginnings.{AppendsSome}
 use Rattle.fj_replay.specs.declared.script_stage.ScriptStage.{ScriptStage}
 use Rattle.fj_replay.specs.declared.script_stage.ScriptStage.TheVariants.{Start, Old}
-use Rattle.fj_filter.specs.Cuts.{lines}
+use Rattle.fj_streams.specs.Cuts.{lines}
 use Rattle.fj_replay.specs.Scripts.{text, text_from, up}
 use Rattle.fj_replay.specs.Faults.{Ends, EndsUpgrade, FaultOf, IsBegun, IsReplayed, IsUpgradeBegun, IsUpgraded}
-use Rattle.fj_filter.proofs.Begun.{all_some, some_keeps}
+use Rattle.fj_streams.proofs.Begun.{all_some, some_keeps}
 
 fault_some : (first : ScriptStage) (fault : ReplayFault) (b : List ℕ) (ahead start now : Option (List ℕ)) → FaultOf first fault b ahead start now → AppendsSome start now (text_from first (lines b))
 fault_some first (Line n) b ahead start now f = all_some start now (text_from first (lines b)) f.1

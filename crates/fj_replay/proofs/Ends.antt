@@ -2,12 +2,12 @@
 use Rattle.std.proofs.Common.{ℕ, ◌≡◌, refl, ◌∙◌, List, [], ◌∷◌, inl, inr, Option, Some}
 use Rattle.std.specs.Io.KnownBytes.{Appends}
 use Rattle.fj_streams.specs.Calls.{Calls}
-use Rattle.fj_filter.specs.declared.fault.FilterFault.{FilterFault}
-use Rattle.fj_filter.specs.declared.fault.FilterFault.TheVariants as filter
-use Rattle.fj_filter.specs.Cuts.{lines}
-use Rattle.fj_filter.specs.Faults.{Stands, FaultOf as FilterFaultOf}
-use Rattle.fj_filter.specs.Tells.{Seen, FaultTells as FilterTells, StopsFrom as FilterStops}
-use Rattle.fj_filter.proofs.States.{text-append, text-stops}
+use Rattle.fj_streams.specs.declared.fault.FilterFault.{FilterFault}
+use Rattle.fj_streams.specs.declared.fault.FilterFault.TheVariants as filter
+use Rattle.fj_streams.specs.Cuts.{lines}
+use Rattle.fj_streams.specs.Faults.{Stands, FaultOf as FilterFaultOf}
+use Rattle.fj_streams.specs.Tells.{Seen, FaultTells as FilterTells, StopsFrom as FilterStops}
+use Rattle.fj_streams.proofs.States.{text-append, text-stops}
 use Rattle.fj_replay.specs.declared.fault.ReplayFault.{ReplayFault}
 use Rattle.fj_replay.specs.declared.fault.ReplayFault.TheVariants.{Limits, Memory, Write}
 use Rattle.fj_replay.specs.declared.script_stage.ScriptStage.{ScriptStage}

@@ -34,7 +34,7 @@ use Rattle.fj_replay.specs.declared.asked.Asked.{Asked}
 use Rattle.fj_replay.specs.declared.asked.Asked.TheVariants as ask
 use Rattle.fj_replay.specs.declared.replied.Replied.TheVariants.{Said as Says, NameTaken}
 use Rattle.fj_replay.specs.declared.script_stage.ScriptStage.TheVariants.{Start, Plays}
-use Rattle.fj_filter.specs.Cuts.{lines}
+use Rattle.fj_streams.specs.Cuts.{lines}
 use Rattle.fj_replay.specs.Namings.{number_of, is_taken, is_named, with_name, name_of, AreNamesOf, StandsFor}
 use Rattle.fj_replay.specs.Plays.{Play, asked_by, asked_in, play_after, accepting, replied, sealing, is_task}
 use Rattle.fj_replay.specs.Scripts.{stage_from, LeadsBy, GivesName}

@@ -17,7 +17,7 @@ use Rattle.fj_rules.specs.Tasks.{accepted}
 use Rattle.fj_rules.proofs.Places.OnePlace.{never}
 use Rattle.fj_lines.specs.Lines.{Line2, line2_in}
 use Rattle.fj_lines.specs.Headings.{pool_in, start}
-use Rattle.fj_filter.specs.Cuts.{lines}
+use Rattle.fj_streams.specs.Cuts.{lines}
 use Rattle.fj_replay.specs.declared.asked.Asked.{Asked}
 use Rattle.fj_replay.specs.declared.asked.Asked.TheVariants as ask
 use Rattle.fj_replay.specs.declared.replied.Replied.TheVariants.{Said as Says, NameTaken}

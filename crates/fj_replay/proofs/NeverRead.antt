@@ -2,7 +2,7 @@
 use Rattle.std.specs.Io.KnownBytes.{Consumes}
 use Rattle.std.proofs.Common.{ℕ, ◌≢◌, subst, ◌+◌, ◌^◌, ◌≤◌, List, length, Option, Some}
 use Rattle.fj_streams.specs.Calls.{Calls}
-use Rattle.fj_filter.proofs.CallsTold.{never_failed}
+use Rattle.fj_streams.proofs.CallsTold.{never_failed}
 use Rattle.fj_replay.specs.declared.fault.ReplayFault.{ReplayFault}
 use Rattle.fj_replay.specs.declared.fault.ReplayFault.TheVariants.{Read}
 use Rattle.fj_replay.specs.Tells.{FaultTells}

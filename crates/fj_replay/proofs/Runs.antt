@@ -13,7 +13,7 @@ use Rattle.fj_replay.specs.declared.asked.Asked.{Asked}
 use Rattle.fj_replay.specs.declared.asked.Asked.TheVariants as ask
 use Rattle.fj_replay.specs.declared.script_stage.ScriptStage.{ScriptStage}
 use Rattle.fj_replay.specs.declared.script_stage.ScriptStage.TheVariants.{Start, Titled, Plays, Old, Rewrites}
-use Rattle.fj_filter.specs.Cuts.{lines}
+use Rattle.fj_streams.specs.Cuts.{lines}
 use Rattle.fj_replay.specs.Plays.{Play, play_after, accepting, sealing}
 use Rattle.fj_replay.specs.Scripts.{stage_from, IsRun}
 use Rattle.fj_replay.proofs.Kept.{IsKept, Holds, holds_of}

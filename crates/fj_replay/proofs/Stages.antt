@@ -9,7 +9,7 @@ use Rattle.fj_rules.specs.Pasts.{Past, grown}
 use Rattle.fj_lines.specs.Lines.{step_in}
 use Rattle.fj_lines.specs.Headings.{pool_in, start}
 use Rattle.fj_lines.proofs.Reading.PartLaws.{some_is}
-use Rattle.fj_filter.proofs.States.{state-append, text-line as text-by-line}
+use Rattle.fj_streams.proofs.States.{state-append, text-line as text-by-line}
 use Rattle.fj_replay.specs.declared.task_naming.TaskNaming.{TaskNaming}
 use Rattle.fj_replay.specs.declared.task_naming.TaskNaming.TheVariants.{Numbers, Names}
 use Rattle.fj_replay.specs.declared.asked.Asked.{Asked}

@@ -10,10 +10,10 @@ use Rattle.fj_rules.specs.Pasts.{Past}
 use Rattle.fj_lines.specs.Lines.{step_in}
 use Rattle.fj_lines.specs.Headings.{pool_in}
 use Rattle.fj_lines.proofs.Reading.PartLaws.{some_is}
-use Rattle.fj_filter.specs.declared.fault.FilterFault.{FilterFault}
-use Rattle.fj_filter.specs.declared.fault.FilterFault.TheVariants as filter
-use Rattle.fj_filter.specs.Cuts.{lines}
-use Rattle.fj_filter.specs.Starving.{IsStarved as IsStarvedAt, StarvesFrom}
+use Rattle.fj_streams.specs.declared.fault.FilterFault.{FilterFault}
+use Rattle.fj_streams.specs.declared.fault.FilterFault.TheVariants as filter
+use Rattle.fj_streams.specs.Cuts.{lines}
+use Rattle.fj_streams.specs.Starving.{IsStarved as IsStarvedAt, StarvesFrom}
 use Rattle.fj_replay.specs.declared.task_naming.TaskNaming.TheVariants.{Numbers}
 use Rattle.fj_replay.specs.declared.asked.Asked.{Asked}
 use Rattle.fj_replay.specs.declared.asked.Asked.TheVariants as ask

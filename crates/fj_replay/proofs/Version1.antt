@@ -14,7 +14,7 @@ use Rattle.fj_replay.specs.declared.task_naming.TaskNaming.TheVariants.{Numbers}
 use Rattle.fj_replay.specs.declared.replied.Replied.TheVariants.{Said as Says}
 use Rattle.fj_replay.specs.declared.asked.Asked.TheVariants as ask
 use Rattle.fj_replay.specs.declared.script_stage.ScriptStage.TheVariants.{Start, Plays}
-use Rattle.fj_filter.specs.Cuts.{lines}
+use Rattle.fj_streams.specs.Cuts.{lines}
 use Rattle.fj_replay.specs.Namings.{replied_line}
 use Rattle.fj_replay.specs.Plays.{Play, play_after, reply_text}
 use Rattle.fj_replay.specs.Scripts.{text_from, text, before_those, steps_of, replies, joined, said, after, numbered_text, AreRun, is_titled}

@@ -1,9 +1,9 @@
 -- A script that is whole, as a replay and as an upgrade tell it.
 use Rattle.std.specs.Prelude.{true, false}
 use Rattle.std.proofs.Common.{ℕ, ◌≡◌, refl, ◌∙◌, ap, subst, List, Option, Some}
-use Rattle.fj_filter.specs.Cuts.{lines}
-use Rattle.fj_filter.specs.Faults.{Finishes}
-use Rattle.fj_filter.proofs.States.{some_state}
+use Rattle.fj_streams.specs.Cuts.{lines}
+use Rattle.fj_streams.specs.Faults.{Finishes}
+use Rattle.fj_streams.proofs.States.{some_state}
 use Rattle.fj_replay.specs.declared.script_stage.ScriptStage.{ScriptStage}
 use Rattle.fj_replay.specs.declared.script_stage.ScriptStage.TheVariants.{Start, Titled, Old}
 use Rattle.fj_replay.specs.Stages.{has_heading, script_rules}

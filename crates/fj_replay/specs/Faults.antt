@@ -4,8 +4,8 @@ use Rattle.std.specs.Io.KnownBytes.{Appends, Consumes, IsAtEnd}
 use Rattle.fj_rules.specs.Pasts.{Past}
 use Rattle.fj_lines.specs.Headings.{IsOutOfLimits}
 use Rattle.fj_streams.specs.Beginnings.{AppendsSome}
-use Rattle.fj_filter.specs.Cuts.{lines, rest}
-use Rattle.fj_filter.specs.Faults.{Stands, IsNoLine, IsGoodSoFar}
+use Rattle.fj_streams.specs.Cuts.{lines, rest}
+use Rattle.fj_streams.specs.Faults.{Stands, IsNoLine, IsGoodSoFar}
 use Rattle.fj_replay.specs.declared.fault.ReplayFault.{ReplayFault}
 use Rattle.fj_replay.specs.declared.fault.ReplayFault.TheVariants.{Line, Limits, Memory, Read, Write}
 use Rattle.fj_replay.specs.declared.script_stage.ScriptStage.{ScriptStage}

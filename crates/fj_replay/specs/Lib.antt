@@ -1,4 +1,4 @@
-pub use Rattle.fj_filter.specs.Cuts
+pub use Rattle.fj_streams.specs.Cuts
 pub mod Counted
 pub mod Namings
 pub mod Plays

@@ -20,8 +20,8 @@ use Rattle.fj_replay.specs.declared.asked.Asked.TheVariants.{Accept}
 use Rattle.fj_replay.specs.declared.replied.Replied.TheVariants.{Said as Says}
 use Rattle.fj_replay.specs.declared.script_stage.ScriptStage.{ScriptStage}
 use Rattle.fj_replay.specs.declared.script_stage.ScriptStage.TheVariants.{Start, Plays, Old}
-use Rattle.fj_filter.specs.Cuts.{lines}
-use Rattle.fj_filter.specs.Rules.{state_from, text_from as written_from, is_good as is_allowed}
+use Rattle.fj_streams.specs.Cuts.{lines}
+use Rattle.fj_streams.specs.Rules.{state_from, text_from as written_from, is_good as is_allowed}
 use Rattle.fj_replay.specs.Stages.{script_rules}
 use Rattle.fj_replay.specs.Namings.{AreNamesOf, StandsFor}
 use Rattle.fj_replay.specs.Plays.{Play, asked_in, replied, moves_told, AreMoves, is_title}

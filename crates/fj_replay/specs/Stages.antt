@@ -8,7 +8,7 @@ use Rattle.fj_rules.specs.Pasts.{Past, grown}
 use Rattle.fj_lines.specs.declared.read.line2.TheConstants.{MAX_LINE2}
 use Rattle.fj_lines.specs.Headings.{IsOutOfLimits, pool_in, start}
 use Rattle.fj_lines.specs.Lines.{head_in, step_in}
-use Rattle.fj_filter.specs.Rules.{Rules}
+use Rattle.fj_streams.specs.Rules.{Rules}
 use Rattle.fj_replay.specs.declared.task_naming.TaskNaming.{TaskNaming}
 use Rattle.fj_replay.specs.declared.task_naming.TaskNaming.TheVariants.{Numbers, Names}
 use Rattle.fj_replay.specs.declared.script_stage.ScriptStage.{ScriptStage}

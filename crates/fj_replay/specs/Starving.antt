@@ -2,9 +2,9 @@
 use Rattle.std.specs.Prelude.{ℕ, ⊤, ◌≡◌, ◌⊎◌, false, List, [], ◌∷◌, ◌++◌, Option, Some, None}
 use Rattle.std.specs.Io.KnownBytes.{Appends, Consumes}
 use Rattle.fj_rules.specs.Epochs.{seal_refusal}
-use Rattle.fj_filter.specs.Cuts.{lines}
-use Rattle.fj_filter.specs.declared.fault.LineStop.{LineStop}
-use Rattle.fj_filter.specs.declared.fault.LineStop.TheVariants.{Stop, Memory, Write}
+use Rattle.fj_streams.specs.Cuts.{lines}
+use Rattle.fj_streams.specs.declared.fault.LineStop.{LineStop}
+use Rattle.fj_streams.specs.declared.fault.LineStop.TheVariants.{Stop, Memory, Write}
 use Rattle.fj_replay.specs.declared.script_stop.ScriptStop.{ScriptStop}
 use Rattle.fj_replay.specs.declared.asked.Asked.{Asked}
 use Rattle.fj_replay.specs.declared.asked.Asked.TheVariants as ask

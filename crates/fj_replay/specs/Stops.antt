@@ -2,10 +2,10 @@
 use Rattle.std.specs.Prelude.{ℕ, ⊤, ◌≡◌, List, None, true, is_some}
 use Rattle.fj_lines.specs.Lines.{head_in}
 use Rattle.fj_lines.specs.Headings.{IsOutOfLimits, pool_in}
-use Rattle.fj_filter.specs.declared.fault.LineStop.{LineStop}
-use Rattle.fj_filter.specs.declared.fault.LineStop.TheVariants.{Stop, Memory, Write}
-use Rattle.fj_filter.specs.declared.fault.FilterFault.{FilterFault}
-use Rattle.fj_filter.specs.declared.fault.FilterFault.TheVariants as filter
+use Rattle.fj_streams.specs.declared.fault.LineStop.{LineStop}
+use Rattle.fj_streams.specs.declared.fault.LineStop.TheVariants.{Stop, Memory, Write}
+use Rattle.fj_streams.specs.declared.fault.FilterFault.{FilterFault}
+use Rattle.fj_streams.specs.declared.fault.FilterFault.TheVariants as filter
 use Rattle.fj_replay.specs.declared.fault.ReplayFault.{ReplayFault}
 use Rattle.fj_replay.specs.declared.fault.ReplayFault.TheVariants as replay
 use Rattle.fj_replay.specs.declared.script_stop.ScriptStop.{ScriptStop}

@@ -1,9 +1,9 @@
 -- What a fault says of the calls of the reader and of the writer.
-pub use Rattle.fj_filter.specs.Tells.{Seen, seen}
+pub use Rattle.fj_streams.specs.Tells.{Seen, seen}
 use Rattle.std.specs.Prelude.{ℕ, ◌-◌, ◌^◌, ◌≤◌, ◌⊎◌, List, Option, length}
 use Rattle.fj_streams.specs.Calls.{Calls, HasFailed, IsFine}
-use Rattle.fj_filter.specs.declared.read_loop.TheConstants.{CHUNK}
-use Rattle.fj_filter.specs.Cuts.{lines}
+use Rattle.fj_streams.specs.declared.read_loop.TheConstants.{CHUNK}
+use Rattle.fj_streams.specs.Cuts.{lines}
 use Rattle.fj_replay.specs.declared.fault.ReplayFault.{ReplayFault}
 use Rattle.fj_replay.specs.declared.fault.ReplayFault.TheVariants.{Line, Limits, Memory, Read, Write}
 use Rattle.fj_replay.specs.declared.script_stage.ScriptStage.{ScriptStage}

@@ -10,7 +10,7 @@ use Rattle.fj_lines.specs.Headings.{pool_in, start}
 use Rattle.fj_rules.specs.Tasks.{accepted}
 use Rattle.fj_rules.specs.Pasts.{Past, grown}
 use Rattle.fj_rules.specs.Answers.{answer}
-use Rattle.fj_filter.specs.Cuts.{lines}
+use Rattle.fj_streams.specs.Cuts.{lines}
 use Rattle.fj_replay.specs.Namings.{task_told, words_by}
 use Rattle.fj_replay.specs.TaskNames.{task_name, named_line, titled_head}
 use Rattle.fj_replay.specs.Scripts.{steps_of, replies, text, up}

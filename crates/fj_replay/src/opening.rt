@@ -3,10 +3,10 @@ ghost use Rattle.fj_lines.specs.Headings.{pool_in, start};
 ghost use Rattle.fj_replay.specs.Stops.{IsHeadStop};
 
 use crate::script_stop::ScriptStop;
-use fj_filter::LineStop;
 use fj_lines::read_head;
 use fj_machine::Machine;
 use fj_rules::Limits;
+use fj_streams::LineStop;
 use std::alloc::Global;
 
 /// A new machine by the heading. `Faulty` where it is no heading, `Limits` where a limit is out of its range, `Memory` where out of

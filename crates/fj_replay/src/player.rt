@@ -13,10 +13,10 @@ use crate::replied::Replied;
 use crate::script_stop::ScriptStop;
 use crate::task_naming::TaskNaming;
 use crate::task_told::is_task;
-use fj_filter::LineStop;
 use fj_lines::{LineFault, Name};
 use fj_machine::Machine;
 use fj_rules::{Event, Limits, OutOfMemory, Refusal, Said, Step};
+use fj_streams::LineStop;
 use std::alloc::Global;
 use std::marker::Model;
 

@@ -3,7 +3,7 @@ ghost use Rattle.std.specs.Prelude.{◌≡◌, ◌≢◌, ℕ, OnOk, IfOk, IfErr
 ghost use Rattle.fj_streams.specs.Calls.{IsFine};
 ghost use Rattle.fj_replay.specs.Starving.{Starves};
 ghost use Rattle.fj_replay.specs.Tells.{Stops, seen};
-ghost use Rattle.fj_filter.specs.Cuts.{lines};
+ghost use Rattle.fj_streams.specs.Cuts.{lines};
 ghost use Rattle.fj_replay.specs.Scripts.{AreRun, KeepsNames, MakesMoves, NamesTasks, is_titled, numbered_text, text};
 ghost use Rattle.fj_replay.specs.NamedText.{named_text};
 ghost use Rattle.fj_replay.specs.Faults.{IsScript, Replays, Ends};
@@ -13,8 +13,7 @@ ghost use Rattle.fj_rules.specs.declared.step.Step.{Step};
 use crate::fault::ReplayFault;
 use crate::script_run::run;
 use crate::script_stage::ScriptStage;
-use fj_filter::InMemory;
-use fj_streams::{Sink, Source};
+use fj_streams::{InMemory, Sink, Source};
 use std::alloc::Global;
 
 /// Reads a script, makes its steps and writes the replies.

@@ -13,10 +13,9 @@ use crate::named_step::{STEP_ROOM, push_named};
 use crate::opening::open;
 use crate::script_stop::ScriptStop;
 use crate::task_told::is_task;
-use fj_filter::{LineStop, write_all};
 use fj_machine::Machine;
 use fj_rules::Step;
-use fj_streams::Sink;
+use fj_streams::{LineStop, Sink, write_all};
 use std::alloc::Global;
 use std::marker::Model;
 

@@ -1,9 +1,9 @@
 //! The run of a script through its stages.
 ghost use Rattle.std.specs.Prelude.{◌≡◌, OnOk, IfErr};
 ghost use Rattle.fj_streams.specs.Calls.{IsFine};
-ghost use Rattle.fj_filter.specs.declared.fault.FilterFault.{FilterFault};
-ghost use Rattle.fj_filter.specs.Faults.{Finishes};
-ghost use Rattle.fj_filter.specs.Starving.{StarvesFrom};
+ghost use Rattle.fj_streams.specs.declared.fault.FilterFault.{FilterFault};
+ghost use Rattle.fj_streams.specs.Faults.{Finishes};
+ghost use Rattle.fj_streams.specs.Starving.{StarvesFrom};
 ghost use Rattle.fj_replay.specs.declared.script_stage.ScriptStage.{ScriptStage};
 ghost use Rattle.fj_replay.specs.Stages.{script_rules};
 ghost use Rattle.fj_replay.specs.Starving.{NeedsMemory};
@@ -13,8 +13,7 @@ ghost use Rattle.fj_replay.specs.Tells.{StopsFrom, seen};
 use crate::fault::ReplayFault;
 use crate::script_stage::ScriptStage;
 use crate::script_stop::ScriptStop;
-use fj_filter::{FilterFault, filter};
-use fj_streams::{Sink, Source};
+use fj_streams::{FilterFault, Sink, Source, filter};
 use std::alloc::Global;
 
 /// The fault of a replay, or of what reads a script like one, by that of its filter.

@@ -1,8 +1,8 @@
 ghost use Rattle.std.specs.Prelude.{◌≡◌, [], Some, OnOk, IfErr, false};
 ghost use Rattle.std.specs.Io.KnownBytes.{Appends};
 ghost use Rattle.fj_streams.specs.Calls.{IsFine};
-ghost use Rattle.fj_filter.specs.Faults.{StopsAtLine};
-ghost use Rattle.fj_filter.specs.Tells.{WriterTells};
+ghost use Rattle.fj_streams.specs.Faults.{StopsAtLine};
+ghost use Rattle.fj_streams.specs.Tells.{WriterTells};
 ghost use Rattle.fj_replay.specs.Plays.{is_title};
 ghost use Rattle.fj_replay.specs.Stages.{stage_after, line_text, script_rules};
 ghost use Rattle.fj_replay.specs.Starving.{NeedsMemory};
@@ -15,9 +15,8 @@ use crate::rewriter::Rewriter;
 use crate::script_stop::ScriptStop;
 use crate::task_naming::TaskNaming;
 use crate::title::{is_title, write_head};
-use fj_filter::{LineFilter, LineStop};
 use fj_lines::{MAX_LINE2, read_step};
-use fj_streams::Sink;
+use fj_streams::{LineFilter, LineStop, Sink};
 use std::alloc::Global;
 use std::mem;
 

@@ -4,13 +4,12 @@ ghost use Rattle.fj_streams.specs.Calls.{IsFine};
 ghost use Rattle.fj_streams.specs.Beginnings.{AppendsSome};
 ghost use Rattle.fj_replay.specs.Stops.{IsCutOff};
 ghost use Rattle.fj_replay.specs.TaskNames.{titled_head};
-ghost use Rattle.fj_filter.specs.Tells.{WriterTells};
+ghost use Rattle.fj_streams.specs.Tells.{WriterTells};
 ghost use Rattle.fj_replay.specs.Plays.{is_title};
 
 use crate::script_stop::ScriptStop;
-use fj_filter::{LineStop, write_all};
 use fj_lines::LINE_FEED;
-use fj_streams::Sink;
+use fj_streams::{LineStop, Sink, write_all};
 use std::alloc::{AllocError, Global};
 
 /// Whether a first line says that its script is of version 2.

@@ -2,7 +2,7 @@
 ghost use Rattle.std.specs.Prelude.{◌≡◌, ◌≢◌, ℕ, OnOk, IfOk, IfErr, List, [], Option, Some, true, false};
 ghost use Rattle.std.specs.Io.KnownBytes.{Appends};
 ghost use Rattle.fj_streams.specs.Calls.{IsFine};
-ghost use Rattle.fj_filter.specs.Cuts.{lines};
+ghost use Rattle.fj_streams.specs.Cuts.{lines};
 ghost use Rattle.fj_replay.specs.Tells.{StopsUpgrade, seen};
 ghost use Rattle.fj_replay.specs.Scripts.{is_titled, up};
 ghost use Rattle.fj_replay.specs.Faults.{EndsUpgrade, IsOldScript, Upgrades};
@@ -11,8 +11,7 @@ ghost use Rattle.fj_replay.specs.Upgrades.{KeepsReplies, up_text, IsNotUpgraded}
 use crate::fault::ReplayFault;
 use crate::script_run::run;
 use crate::script_stage::ScriptStage;
-use fj_filter::InMemory;
-use fj_streams::{Sink, Source};
+use fj_streams::{InMemory, Sink, Source};
 use std::alloc::Global;
 
 /// Reads a script of version 1 and writes it as version 2: `fj 2`, the heading, and each step with names for its tasks.

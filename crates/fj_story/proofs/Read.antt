@@ -2,8 +2,8 @@
 use Rattle.std.proofs.Common.{ℕ, ◌≡◌, List, Option, refl, sym, subst}
 use Rattle.std.proofs.lemmas.Bool.{false≢true}
 use Rattle.fj_rules.specs.Pasts.{Past}
-use Rattle.fj_filter.specs.declared.fault.FilterFault.{FilterFault}
-use Rattle.fj_filter.specs.Faults.{EndsFrom, Finishes}
+use Rattle.fj_streams.specs.declared.fault.FilterFault.{FilterFault}
+use Rattle.fj_streams.specs.Faults.{EndsFrom, Finishes}
 use Rattle.fj_check.specs.declared.history_check.HistoryCheck.{HistoryCheck}
 use Rattle.fj_check.specs.declared.history_check.HistoryCheck.TheVariants.{Start, Going}
 use Rattle.fj_check.specs.declared.history_stop.HistoryStop.{HistoryStop}

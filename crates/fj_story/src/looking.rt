@@ -8,9 +8,8 @@ ghost use Rattle.fj_check.specs.Rules.{IsEntryStop, IsHeadStop, after, check_rul
 use crate::story::Story;
 use fj_check::{HistoryStop, check_line, read_heading};
 use fj_checker::Checker;
-use fj_filter::{LineFilter, LineStop};
 use fj_history::MAX_ENTRY;
-use fj_streams::Sink;
+use fj_streams::{LineFilter, LineStop, Sink};
 use std::alloc::Global;
 use std::marker::Model;
 use std::mem;

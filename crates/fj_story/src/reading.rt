@@ -1,13 +1,12 @@
 ghost use Rattle.std.specs.Prelude.{◌≡◌, IfOk, IfErr, OnOk};
-ghost use Rattle.fj_filter.specs.Tells.{seen};
+ghost use Rattle.fj_streams.specs.Tells.{seen};
 ghost use Rattle.fj_streams.specs.Calls.{IsFine};
 ghost use Rattle.fj_check.specs.Checks.{FailsToRead, IsReadAs, StopsCheck};
 
 use crate::looking::Looking;
 use crate::story::Story;
 use fj_check::{CheckFault, check_fault};
-use fj_filter::filter;
-use fj_streams::Source;
+use fj_streams::{Source, filter};
 use std::alloc::Global;
 
 /// Reads a history to its end and answers its story; the fault of a check where the input is none.

@@ -16,9 +16,9 @@ use Rattle.fj_rules.specs.declared.step.Step.TheVariants as step
 use Rattle.fj_lines.specs.Tasks.{IsSmall, names}
 use Rattle.fj_lines.specs.Lines.{submitted_words, ending_words, HasLine, HasSmallSubmitted, HasSmallForked, HasSmallEnding, forked_of, word_or_dash, named_kind_words, line2_words, line2_text}
 use Rattle.fj_lines.proofs.Reading.FeedLaws.{is_free, joined_free, number_free, relay_free}
-use Rattle.fj_filter.specs.Cuts.{cut}
+use Rattle.fj_streams.specs.Cuts.{cut}
 use Rattle.fj_replay.specs.TaskNames.{task_name, named_kind, named_step}
-use Rattle.fj_filter.proofs.Lines.{yes_or_no}
+use Rattle.fj_streams.proofs.Lines.{yes_or_no}
 
 no_feed : (b : ℕ) → not (b == 10) ≡ true → (b == 10) ≡ false
 no_feed b is = go (b == 10) is

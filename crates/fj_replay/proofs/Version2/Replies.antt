@@ -25,7 +25,7 @@ use Rattle.fj_replay.specs.declared.asked.Asked.TheVariants as ask
 use Rattle.fj_replay.specs.declared.replied.Replied.TheVariants.{Said as Says}
 use Rattle.fj_replay.specs.declared.script_stage.ScriptStage.{ScriptStage}
 use Rattle.fj_replay.specs.declared.script_stage.ScriptStage.TheVariants.{Start, Titled, Plays, Old, Rewrites}
-use Rattle.fj_filter.specs.Cuts.{cut, lines}
+use Rattle.fj_streams.specs.Cuts.{cut, lines}
 use Rattle.fj_replay.specs.Namings.{name_of, replied_line, task_told, words_by}
 use Rattle.fj_replay.specs.Plays.{Play, asked_in, asked_by, play_after, replied, reply_text, named_if, is_task}
 use Rattle.fj_replay.specs.TaskNames.{task_name, named_step, named_line, titled_head}

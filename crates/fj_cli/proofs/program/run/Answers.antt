@@ -1,5 +1,5 @@
 use Rattle.std.proofs.Common.{⊎_elim, inl, inr, sym, subst}
-use Rattle.fj_filter.specs.Tells.{seen}
+use Rattle.fj_streams.specs.Tells.{seen}
 use Rattle.fj_cli.specs.Failures.{NamesFile}
 use Rattle.fj_cli.specs.Statuses.{EndsCommand}
 use Rattle.fj_commands.proofs.Failed.{copy_failed, either_call}

@@ -1,6 +1,6 @@
 use Rattle.fj_streams.proofs.Bytes.{appends_keeps}
 use Rattle.fj_streams.proofs.CallsMade.{fine_failed}
-use Rattle.fj_filter.proofs.Begun.{all_some}
+use Rattle.fj_streams.proofs.Begun.{all_some}
 use Rattle.fj_commands.proofs.Failed.{at_err, on_err}
 use Rattle.fj_commands.proofs.answer.written.Goals as goal
 

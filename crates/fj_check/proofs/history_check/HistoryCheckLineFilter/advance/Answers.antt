@@ -1,7 +1,7 @@
 use Rattle.std.proofs.Common.{sym, subst}
 use Rattle.std.specs.Prelude.{IfErr}
 use Rattle.std.proofs.lemmas.Result.{MatchResult-weaker}
-use Rattle.fj_filter.specs.Faults.{StopsAtLine}
+use Rattle.fj_streams.specs.Faults.{StopsAtLine}
 use Rattle.fj_check.specs.declared.history_check.HistoryCheck.{HistoryCheck}
 use Rattle.fj_check.specs.Rules.{check_rules}
 use Rattle.fj_check.proofs.Found.{entry_stops, silent}
