@@ -55,11 +55,11 @@ impl Explainer {
         self.note(&deed, &reply, name)?;
         let line_of_reply = self.line_of(alloc, &reply)?;
         let said = line_of_reply.as_str().trim_end();
-        let written = match self.reason(&deed, &reply) {
-            Some(reason) => writeln!(w, "{line} > {said}\n  # {said}: {reason}"),
-            None => writeln!(w, "{line} > {said}"),
-        };
-        Ok(written?)
+        writeln!(w, "{line} > {said}")?;
+        if let Some(reason) = self.reason(&deed, &reply) {
+            writeln!(w, "  # {said}: {reason}")?;
+        }
+        Ok(())
     }
 
     /// The line of a reply.
@@ -98,7 +98,7 @@ impl Explainer {
             is_stopped: self.is_stopped,
         };
         match (deed, reply) {
-            (_, Replied::NameTaken) => Some(Reason::Text("the name belongs to a task already")),
+            (_, Replied::NameTaken) => Some(Reason::NameTaken),
             (Deed::Step(step), Replied::Said(said)) => facts.of_reply(step, said),
             (Deed::Seal, Replied::Said(Said::Refused(refusal))) => facts.of_seal(*refusal),
             _ => None,

@@ -4,9 +4,6 @@ use crate::tasks::{QueueOf, Tasks};
 use fj_machine::Machine;
 use fj_rules::{Ending, InnerTypes, Owner, Place, Refusal, Said, Serial, Step, SubId, WorkerId};
 
-/// What follows of the status of a task that was to get one.
-const ALREADY: &str = " already";
-
 /// What the reason of a reply is found in: the machine behind the step, and what was accepted.
 #[derive(Clone, Copy)]
 pub struct Facts<'a> {
@@ -28,12 +25,9 @@ impl<'a> Facts<'a> {
             )),
             Said::Skip(t) => Some(Reason::Task(
                 self.tasks.name(*t),
-                TaskReason::Is(
-                    self.machine.status(*t)?,
-                    ": it became so while it waited, and is not run",
-                ),
+                TaskReason::NotRun(self.machine.status(*t)?),
             )),
-            Said::None => Some(Reason::Text("all queues are empty")),
+            Said::None => Some(Reason::NothingQueued),
             Said::No => self.of_no(step),
             _ => None,
         }
@@ -50,9 +44,7 @@ impl<'a> Facts<'a> {
             Refusal::NotDone => self.of_not_done(step),
             Refusal::OwnStack => self.of_own_stack(step),
             Refusal::Closed => Some(self.of_closed()),
-            Refusal::CountTooLarge => {
-                Some(Reason::Text("the pending count would be above 65535"))
-            }
+            Refusal::CountTooLarge => Some(Reason::CountTooLarge),
             Refusal::TooManyTasks => Some(Reason::NoRoom(self.machine.live())),
             Refusal::LogFull => Some(Reason::Full(
                 self.machine.history().len(),
@@ -74,12 +66,8 @@ impl<'a> Facts<'a> {
     fn of_no_such(self, step: &Step) -> Reason<'a> {
         let limits = self.machine.limits();
         match step {
-            Step::Submit { s, .. } => Reason::NoSuch("submitter", s.0, limits.submitters()),
-            _ => Reason::NoSuch(
-                "worker",
-                worker_of(step).unwrap_or(WorkerId(0)).0,
-                limits.workers(),
-            ),
+            Step::Submit { s, .. } => Reason::NoSubmitter(*s, limits.submitters()),
+            _ => Reason::NoWorker(worker_of(step).unwrap_or(WorkerId(0)), limits.workers()),
         }
     }
 
@@ -87,13 +75,7 @@ impl<'a> Facts<'a> {
         let w = worker_of(step)?;
         match self.hook(w) {
             Some(c) => Some(Reason::Worker(w, WorkerReason::HasHook(self.tasks.name(c)))),
-            None => Some(Reason::Worker(
-                w,
-                WorkerReason::Runs(
-                    self.tasks.name(self.running(w)?),
-                    ", and only a worker that holds nothing polls: help is for a running task",
-                ),
-            )),
+            None => Some(Reason::Worker(w, WorkerReason::Polls(self.tasks.name(self.running(w)?)))),
         }
     }
 
@@ -101,11 +83,11 @@ impl<'a> Facts<'a> {
         let t = named_by(step)?;
         let task = self.tasks.name(t);
         Some(if t.0 < self.tasks.accepted {
-            Reason::Task(task, TaskReason::Text("was released"))
+            Reason::Task(task, TaskReason::Released)
         } else if self.tasks.names.is_empty() {
             Reason::Task(task, TaskReason::NeverAccepted(self.tasks.accepted))
         } else {
-            Reason::Text("the name belongs to no task")
+            Reason::Unnamed
         })
     }
 
@@ -119,16 +101,12 @@ impl<'a> Facts<'a> {
         match step {
             Step::End { w, ending } => {
                 let task = self.tasks.name(self.running(*w)?);
-                let text = match ending {
-                    Ending::Ok => "is a completer, and ok is for plain tasks",
-                    _ => "is plain: it ends by ok or fail",
-                };
-                Some(Reason::Task(task, TaskReason::Text(text)))
+                Some(match ending {
+                    Ending::Ok => Reason::Task(task, TaskReason::IsCompleter),
+                    _ => Reason::Task(task, TaskReason::IsPlain),
+                })
             }
-            _ => Some(Reason::Task(
-                self.tasks.name(named_by(step)?),
-                TaskReason::Text("is plain, and no completer"),
-            )),
+            _ => Some(Reason::Task(self.tasks.name(named_by(step)?), TaskReason::NoCompleter)),
         }
     }
 
@@ -143,21 +121,19 @@ impl<'a> Facts<'a> {
     }
 
     fn of_closed(self) -> Reason<'a> {
-        Reason::Text(if self.is_stopped {
-            "a stop came before: nothing more is accepted"
+        if self.is_stopped {
+            Reason::Stopped
         } else {
-            "a shutdown came before: nothing more is accepted from submitters"
-        })
+            Reason::Closed
+        }
     }
 
     fn of_spent(self, c: Serial) -> Reason<'a> {
         let task = self.tasks.name(c);
         match self.machine.status(c) {
-            None => Reason::Task(task, TaskReason::Text("was released, and so is spent")),
-            Some(status) if status.is_undone() => {
-                Reason::Task(task, TaskReason::Text("fired, or was passed, before"))
-            }
-            Some(status) => Reason::Task(task, TaskReason::Is(status, ALREADY)),
+            None => Reason::Task(task, TaskReason::SpentAsReleased),
+            Some(status) if status.is_undone() => Reason::Task(task, TaskReason::Fired),
+            Some(status) => Reason::Task(task, TaskReason::IsDone(status)),
         }
     }
 
@@ -168,7 +144,7 @@ impl<'a> Facts<'a> {
                 let t = named_by(step)?;
                 Some(Reason::Task(
                     self.tasks.name(t),
-                    TaskReason::Is(self.machine.status(t)?, ALREADY),
+                    TaskReason::IsDone(self.machine.status(t)?),
                 ))
             }
         }
@@ -221,10 +197,7 @@ impl<'a> Facts<'a> {
 
     fn of_busy_worker(self, w: WorkerId) -> Option<Reason<'a>> {
         match (self.running(w), self.hook(w)) {
-            (Some(t), _) => Some(Reason::Worker(
-                w,
-                WorkerReason::Runs(self.tasks.name(t), ": the pool is not quiescent"),
-            )),
+            (Some(t), _) => Some(Reason::Worker(w, WorkerReason::Runs(self.tasks.name(t)))),
             (None, Some(c)) => Some(Reason::Worker(w, WorkerReason::Acts(self.tasks.name(c)))),
             (None, None) => None,
         }
@@ -239,11 +212,10 @@ impl<'a> Facts<'a> {
 
 fn of_not_running<'a>(step: &Step) -> Option<Reason<'a>> {
     let w = worker_of(step)?;
-    let text = match step {
-        Step::HookDone { .. } => "has no hook in its hand",
-        _ => "runs no task",
-    };
-    Some(Reason::Worker(w, WorkerReason::Text(text)))
+    Some(match step {
+        Step::HookDone { .. } => Reason::Worker(w, WorkerReason::NoHook),
+        _ => Reason::Worker(w, WorkerReason::RunsNothing),
+    })
 }
 
 /// The worker of a step.
