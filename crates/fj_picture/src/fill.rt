@@ -2,7 +2,7 @@ use fj_rules::{Owner, Status};
 use fj_story::{Story, Stretch, TaskStory, Work};
 
 /// Why a box has its colour.
-#[derive(Clone, Copy, PartialEq)]
+#[derive(Clone, Copy, Debug, PartialEq)]
 pub enum Fill {
     /// The body of a submitted task.
     Submitted,

@@ -29,11 +29,15 @@ fn write_lane<W: fmt::Write>(lane: Lane, w: usize, right: Px, out: &mut W) -> fm
     let y = lane.top.minus(Px(35));
     let width = right.minus(x).plus(Px(60));
     let height = ROW.times(lane.rows).plus(Px(40));
-    let end = MARGIN;
-    let base = lane.top.plus(Px(120));
+    write!(
+        out,
+        "<rect x=\"{x}\" y=\"{y}\" width=\"{width}\" height=\"{height}\" rx=\"3\" class=\"lane\"/>"
+    )?;
+    let x = MARGIN;
+    let y = lane.top.plus(Px(120));
     writeln!(
         out,
-        "<rect x=\"{x}\" y=\"{y}\" width=\"{width}\" height=\"{height}\" rx=\"3\" class=\"lane\"/><text x=\"{end}\" y=\"{base}\" class=\"w\">worker {w}</text>"
+        "<text x=\"{x}\" y=\"{y}\" class=\"w\">worker {w}</text>"
     )
 }
 
@@ -68,8 +72,6 @@ fn write_tick<W: fmt::Write>(page: &Page, band: &Band, at: Moment, out: &mut W) 
     let top = band.top.plus(AXIS).minus(Px(45));
     let bottom = band.bottom;
     let y = band.top.plus(Px(100));
-    writeln!(
-        out,
-        "<path d=\"M{x} {top}V{bottom}\" class=\"g\"/><text x=\"{x}\" y=\"{y}\" class=\"a\">{at}</text>"
-    )
+    write!(out, "<path d=\"M{x} {top}V{bottom}\" class=\"g\"/>")?;
+    writeln!(out, "<text x=\"{x}\" y=\"{y}\" class=\"a\">{at}</text>")
 }

@@ -41,9 +41,10 @@ pub fn write_marks<W: fmt::Write>(
     for mark in story.marks().iter().rev() {
         if band.has(mark.at) {
             let x = page.x(band, mark.at);
+            write_line(band, mark.what, x, out)?;
             let width = width(mark.what);
             let end = x.plus(width.half()).min(free);
-            write_mark(band, mark.what, x, end, out)?;
+            write_word(band, mark.what, end, out)?;
             free = end.minus(width).minus(Px(60));
         }
     }
@@ -59,15 +60,17 @@ fn width(what: What) -> Px {
     }
 }
 
-/// The line of a moment, and its word, which ends there.
-fn write_mark<W: fmt::Write>(band: &Band, what: What, x: Px, end: Px, out: &mut W) -> fmt::Result {
+/// The line of a moment.
+fn write_line<W: fmt::Write>(band: &Band, what: What, x: Px, out: &mut W) -> fmt::Result {
     let top = band.top.plus(AXIS).minus(Px(50));
     let bottom = band.bottom.plus(Px(60));
     let class = if what == What::Stopped { "p q" } else { "p" };
+    write!(out, "<path d=\"M{x} {top}V{bottom}\" class=\"{class}\"/>")
+}
+
+/// The word of a moment, which ends there.
+fn write_word<W: fmt::Write>(band: &Band, what: What, end: Px, out: &mut W) -> fmt::Result {
     let y = band.bottom.plus(Px(160));
     let word = what.word();
-    writeln!(
-        out,
-        "<path d=\"M{x} {top}V{bottom}\" class=\"{class}\"/><text x=\"{end}\" y=\"{y}\" class=\"e\">{word}</text>"
-    )
+    writeln!(out, "<text x=\"{end}\" y=\"{y}\" class=\"e\">{word}</text>")
 }

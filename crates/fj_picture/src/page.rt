@@ -8,14 +8,14 @@ use std::alloc::{AllocError, Global};
 const MOST_DRAWN: u64 = 20_000;
 
 /// The lane of a worker in a band.
-#[derive(Clone, Copy)]
+#[derive(Clone, Copy, Debug)]
 pub struct Lane {
     pub top: Px,
     pub rows: u64,
 }
 
 /// A part of the history, drawn from the left to the right.
-#[derive(Clone, Copy)]
+#[derive(Clone, Copy, Debug)]
 pub struct Band {
     pub start: Moment,
     /// The first event behind it.

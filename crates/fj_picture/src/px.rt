@@ -1,7 +1,7 @@
 use std::fmt;
 
 /// A length in tenths of a pixel, displayed in pixels.
-#[derive(Clone, Copy, PartialEq, Eq, PartialOrd, Ord)]
+#[derive(Clone, Copy, Debug, PartialEq, Eq, PartialOrd, Ord)]
 pub struct Px(pub u64);
 
 impl Px {

@@ -11,7 +11,7 @@ const MOST_BANDS: u64 = 24;
 const WIDEST: Px = Px(400);
 
 /// How the events lie on the page.
-#[derive(Clone, Copy)]
+#[derive(Clone, Copy, Debug)]
 pub struct Scale {
     /// The width of a band.
     width: Px,

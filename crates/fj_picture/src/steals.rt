@@ -63,12 +63,19 @@ fn line_of(story: &Story, page: &Page, band: &Band, stretch: &Stretch) -> Option
     let top = thief.top.plus(ROW.times(stretch.depth));
     let (above, below) = edges(story, page.lane(band, home)?, t, stretch);
     let x = page.x(band, stretch.begun).plus(Px(6));
-    let (from, to) = if home < stretch.worker {
-        (below, top)
+    if home < stretch.worker {
+        Some(StealLine {
+            x,
+            from: below,
+            to: top,
+        })
     } else {
-        (above, top.plus(BOX))
-    };
-    Some(StealLine { x, from, to })
+        Some(StealLine {
+            x,
+            from: above,
+            to: top.plus(BOX),
+        })
+    }
 }
 
 /// The upper and the lower edge of where a stolen task comes from: the box of the body that forked it if that runs still, otherwise the lane.

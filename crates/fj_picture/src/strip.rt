@@ -12,7 +12,15 @@ pub static BUSY: &str = "#a9bbd3";
 /// The strip, a row for each worker.
 pub fn write_strip<W: fmt::Write>(story: &Story, page: &Page, out: &mut W) -> fmt::Result {
     for w in 0..page.workers {
-        write_row(story, w, out)?;
+        let top = HEADER.plus(Px(40)).plus(STRIP_ROW.times(w as u64));
+        let x = LEFT;
+        let width = ROOM;
+        writeln!(
+            out,
+            "<rect x=\"{x}\" y=\"{top}\" width=\"{width}\" height=\"7\" class=\"lane\"/>"
+        )?;
+        write_busy(story, w, top, out)?;
+        write_events(story, w, top, out)?;
     }
     write_edges(story, page, out)?;
     let x = MARGIN;
@@ -23,29 +31,15 @@ pub fn write_strip<W: fmt::Write>(story: &Story, page: &Page, out: &mut W) -> fm
         out,
         "<text x=\"{x}\" y=\"{y}\" class=\"w\">all of it</text>"
     )?;
-    if !page.bands.is_empty() {
-        return Ok(());
+    if page.bands.is_empty() {
+        let x = LEFT;
+        let y = page.height.minus(Px(50));
+        writeln!(
+            out,
+            "<text x=\"{x}\" y=\"{y}\" class=\"s\">too many events to be drawn: draw a window of them</text>"
+        )?;
     }
-    let x = LEFT;
-    let y = page.height.minus(Px(50));
-    writeln!(
-        out,
-        "<text x=\"{x}\" y=\"{y}\" class=\"s\">too many events to be drawn: draw a window of them</text>"
-    )
-}
-
-/// The row of a worker.
-fn write_row<W: fmt::Write>(story: &Story, w: usize, out: &mut W) -> fmt::Result {
-    let top = HEADER.plus(Px(40)).plus(STRIP_ROW.times(w as u64));
-    let x = LEFT;
-    let width = ROOM;
-    write!(
-        out,
-        "<rect x=\"{x}\" y=\"{top}\" width=\"{width}\" height=\"7\" class=\"lane\"/>\n<path fill=\"{BUSY}\" d=\""
-    )?;
-    write_busy(story, w, top, out)?;
-    out.write_str("\"/>\n")?;
-    write_events(story, w, top, out)
+    Ok(())
 }
 
 /// Where an event is in the strip.
@@ -53,8 +47,9 @@ fn x_of(story: &Story, at: Moment) -> Px {
     LEFT.plus(Px(share(at.0, ROOM.0, story.now().next().0)))
 }
 
-/// When a worker was busy, as a path. Stretches that follow each other closely are one.
+/// When a worker was busy. Stretches that follow each other closely are one.
 fn write_busy<W: fmt::Write>(story: &Story, w: usize, top: Px, out: &mut W) -> fmt::Result {
+    write!(out, "<path fill=\"{BUSY}\" d=\"")?;
     let mut run: Option<(Px, Px)> = None;
     for stretch in story.stretches().iter() {
         if stretch.worker != w || stretch.depth > 0 {
@@ -62,23 +57,23 @@ fn write_busy<W: fmt::Write>(story: &Story, w: usize, top: Px, out: &mut W) -> f
         }
         let from = x_of(story, stretch.begun);
         let to = x_of(story, story.end_of(stretch));
-        if let Some((begin, end)) = run
-            && from <= end.plus(Px(7))
-        {
-            run = Some((begin, to.max(end)));
-        } else {
-            write_run(run, top, out)?;
-            run = Some((from, to));
+        match run {
+            Some((begin, end)) if from <= end.plus(Px(7)) => run = Some((begin, to.max(end))),
+            Some((begin, end)) => {
+                write_run(begin, end, top, out)?;
+                run = Some((from, to));
+            }
+            None => run = Some((from, to)),
         }
     }
-    write_run(run, top, out)
+    if let Some((begin, end)) = run {
+        write_run(begin, end, top, out)?;
+    }
+    out.write_str("\"/>\n")
 }
 
-/// A box of the path, if there is one.
-fn write_run<W: fmt::Write>(run: Option<(Px, Px)>, top: Px, out: &mut W) -> fmt::Result {
-    let Some((begin, end)) = run else {
-        return Ok(());
-    };
+/// A box of the path.
+fn write_run<W: fmt::Write>(begin: Px, end: Px, top: Px, out: &mut W) -> fmt::Result {
     let width = end.minus(begin).max(Px(3));
     write!(out, "M{begin} {top}h{width}v7h-{width}z")
 }

@@ -17,14 +17,15 @@ pub fn write_box_title<W: fmt::Write>(
     match stretch.work {
         Work::Body(t) => {
             write_task(story, t, out)?;
-            write!(out, ", ran on worker {worker} from {from} to {to}</title>")
+            write!(out, ", ran on worker {worker} from {from} to {to}")?;
         }
-        Work::Hook(c) => write!(
-            out,
-            "completion action of {}, on worker {worker} from {from} to {to}</title>",
-            Named { story, t: c }
-        ),
+        Work::Hook(c) => {
+            write!(out, "completion action of {c}")?;
+            write_label(story, c, out)?;
+            write!(out, ", on worker {worker} from {from} to {to}")?;
+        }
     }
+    out.write_str("</title>")
 }
 
 /// A task, where it came from, and how it went.
@@ -38,7 +39,9 @@ fn write_task<W: fmt::Write>(story: &Story, t: u64, out: &mut W) -> fmt::Result 
         "task"
     };
     let status = task.status;
-    write!(out, "{kind} {}: {status}, ", Named { story, t })?;
+    write!(out, "{kind} {t}")?;
+    write_label(story, t, out)?;
+    write!(out, ": {status}, ")?;
     write_origin(story, task, out)?;
     if let Some(home) = task.stolen_from() {
         write!(out, ", stolen from worker {home}")?;
@@ -49,32 +52,22 @@ fn write_task<W: fmt::Write>(story: &Story, t: u64, out: &mut W) -> fmt::Result 
     }
 }
 
-/// The number of a task, and how it is called.
-#[derive(Clone, Copy)]
-struct Named<'a> {
-    story: &'a Story,
-    t: u64,
-}
-
-impl fmt::Display for Named<'_> {
-    fn fmt<W: fmt::Write>(&self, f: &mut fmt::Formatter<W>) -> fmt::Result {
-        let t = self.t;
-        match self.story.label_of(t) {
-            Some(label) => write!(f, "{t} {}", Escaped(label)),
-            None => write!(f, "{t}"),
-        }
+/// How a task is called, behind its number.
+fn write_label<W: fmt::Write>(story: &Story, t: u64, out: &mut W) -> fmt::Result {
+    match story.label_of(t) {
+        Some(label) => write!(out, " {}", Escaped(label)),
+        None => Ok(()),
     }
 }
 
 /// Where a task came from.
 fn write_origin<W: fmt::Write>(story: &Story, task: &TaskStory, out: &mut W) -> fmt::Result {
     let at = task.accepted;
-    let (how, by) = match &task.queue {
-        Some(Owner::Sub(s)) => ("submitted", Some(u64::from(s.0))),
-        Some(Owner::Work(_)) | None => ("forked", story.forker(task)),
-    };
-    match by {
-        Some(by) => write!(out, "{how} by {by} at {at}"),
-        None => write!(out, "accepted at {at}"),
+    match &task.queue {
+        Some(Owner::Sub(s)) => write!(out, "submitted by {} at {at}", s.0),
+        Some(Owner::Work(_)) | None => match story.forker(task) {
+            Some(by) => write!(out, "forked by {by} at {at}"),
+            None => write!(out, "accepted at {at}"),
+        },
     }
 }
