@@ -13,7 +13,7 @@ if [[ ${#counts[@]} -eq 0 ]]; then
 fi
 
 . bench/loader.sh
-build_loader admissions fj_rules fj_gate
+build_loader admissions fj_gate
 for threads in "${counts[@]}"; do
     time_loader admissions "$threads" "$gates"
 done

@@ -9,7 +9,7 @@ cd "$(dirname "${BASH_SOURCE[0]}")/.."
 runs=${RUNS:-9}
 
 . bench/loader.sh
-build_loader cores fj_rules fj_queues fj_tree fj_ledger fj_machine fj_gate fj_lane fj_sleep fj_slots fj_body fj_bodies fj_calls fj_core
+build_loader cores fj_core
 
 # least FILE: the least time in a file of lines with the rounds and the nanoseconds, and the rounds before it.
 least() { sort -n -k 2 "$1" | head -n 1; }

@@ -10,8 +10,7 @@ cd "$(dirname "${BASH_SOURCE[0]}")/.."
 runs=${RUNS:-21}
 . bench/loader.sh
 . bench/unproved.sh
-lay_out_loader each fj_rules fj_queues fj_tree fj_ledger fj_machine fj_gate fj_lane fj_submitter fj_slots fj_body fj_bodies fj_calls fj_core fj_sleep fj_wake fj_fronts fj_guarded fj_agreement \
-    fj_parts fj_pool fj_jobs fj_results fj_run fj_lazy fj_recursive fj_invoke fj_try fj_each
+lay_out_loader each fj_each
 folder=$(dirname "$(dirname "$loader")")
 optimise_loader
 

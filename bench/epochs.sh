@@ -12,7 +12,7 @@ events=${3:-1048576}
 keep=${4:-0}
 
 . bench/loader.sh
-build_loader epochs fj_rules fj_queues fj_tree fj_ledger fj_machine
+build_loader epochs fj_machine
 measured=$loader.measured
 /usr/bin/time -o "$measured" -f '%M %R' "$loader" "$tasks" "$every" "$events" "$keep" > "$loader.times"
 read -r count all seals sealing longest < "$loader.times"

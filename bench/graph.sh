@@ -10,8 +10,7 @@ cd "$(dirname "${BASH_SOURCE[0]}")/.."
 runs=${RUNS:-5}
 . bench/loader.sh
 . bench/unproved.sh
-lay_out_loader graph fj_rules fj_queues fj_tree fj_ledger fj_machine fj_gate fj_lane fj_submitter fj_slots fj_body fj_bodies fj_calls fj_core fj_sleep fj_wake fj_fronts fj_guarded fj_agreement fj_parts fj_pool \
-    fj_results fj_run fj_nodes fj_graph
+lay_out_loader graph fj_graph
 optimise_loader
 
 while read -r layers wide rounds; do

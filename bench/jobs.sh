@@ -24,7 +24,6 @@ cd "$(dirname "${BASH_SOURCE[0]}")/.."
 
 runs=${RUNS:-5}
 limit=60
-crates=(fj_rules fj_lines fj_streams fj_queues fj_tree fj_ledger fj_machine fj_gate fj_lane fj_submitter fj_slots fj_body fj_bodies fj_calls fj_core fj_sleep fj_wake fj_fronts fj_guarded fj_agreement fj_parts fj_pool fj_jobs ex_primes fj_results fj_run fj_lazy fj_recursive fj_invoke fj_trees fj_fold)
 # The compilers of C and C++: clang, if it is there, since ours and rayon come from LLVM too.
 cc=$(command -v clang || command -v cc || true)
 cxx=$(command -v clang++ || command -v c++ || true)
@@ -32,7 +31,7 @@ declare -A program_of
 
 . bench/loader.sh
 . bench/unproved.sh
-lay_out_loader jobs "${crates[@]}"
+lay_out_loader jobs ex_primes fj_invoke fj_fold
 folder=$(dirname "$(dirname "$loader")")
 tree=$folder/tree
 awk 'BEGIN { print "- 1"; for (i = 1; i < 4000; i++) print int((i - 1) / 3), i * 7919 % 1000000007 }' > "$tree"

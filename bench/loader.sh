@@ -1,12 +1,14 @@
 # Sourced by the scripts beside it, at the top of the repository. A loader is no crate of the repository: it is built in a folder of its own,
 # beside copies of the crates that it uses, and where nothing else is said proved there.
 
-# lay_out_loader NAME CRATE..: lays out the loader of bench/NAME/ beside CRATE.., which it stands on, in a folder that is removed at the end, and
-# names the loader's own folder there in `loader`. `NAME.antt.in` in bench/NAME/ has the invariants of the loop in a function NAME; `proofs/` has
+# lay_out_loader NAME CRATE..: lays out the loader of bench/NAME/ beside CRATE.. and the crates below them, in a folder that is removed at the end,
+# and names the loader's own folder there in `loader`. `NAME.antt.in` in bench/NAME/ has the invariants of the loop in a function NAME; `proofs/` has
 # whole files of proofs.
 lay_out_loader() {
     local name=$1 folder source invariants
     shift
+    # shellcheck disable=SC2046
+    set -- $(tools/crates_below "$@")
     folder=$(mktemp -d)
     # The folder's name is put in now: it is gone when the trap is run.
     trap "rm -rf '$folder'" EXIT

@@ -8,7 +8,7 @@ cd "$(dirname "${BASH_SOURCE[0]}")/.."
 lanes=${1:-200}
 
 . bench/loader.sh
-build_loader pairs fj_rules fj_gate fj_lane
+build_loader pairs fj_lane
 for threads in 1 2; do
     time_loader pairs "$threads" "$lanes"
 done

@@ -26,7 +26,7 @@ roots=${roots:-64}
 
 . bench/loader.sh
 . bench/unproved.sh
-lay_out_loader pool fj_rules fj_queues fj_tree fj_ledger fj_machine fj_gate fj_lane fj_submitter fj_slots fj_body fj_bodies fj_calls fj_core fj_sleep fj_wake fj_fronts fj_guarded fj_agreement fj_parts fj_pool
+lay_out_loader pool fj_pool
 patch -s -p1 -d "$loader/.." < bench/pool/count.patch
 cases=$loader/cases
 mkdir "$cases"

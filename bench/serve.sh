@@ -11,8 +11,7 @@ runs=${RUNS:-5}
 
 . bench/loader.sh
 . bench/unproved.sh
-lay_out_loader serve fj_rules fj_queues fj_tree fj_ledger fj_machine fj_gate fj_lane fj_submitter fj_slots fj_body fj_bodies fj_calls fj_core fj_sleep fj_wake fj_fronts fj_guarded fj_agreement fj_parts fj_pool \
-    fj_results fj_run fj_serve
+lay_out_loader serve fj_serve
 optimise_loader
 java=
 if command -v javac > /dev/null; then

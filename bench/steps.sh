@@ -18,7 +18,7 @@ runs=${RUNS:-5}
 workers=${WORKERS:-4}
 
 . bench/loader.sh
-build_loader steps fj_rules fj_queues fj_tree fj_ledger fj_machine
+build_loader steps fj_machine
 sketch= interface=
 if command -v cc > /dev/null; then
     sketch=$loader.sketch interface=$loader.interface

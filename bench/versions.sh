@@ -5,7 +5,7 @@ set -euo pipefail
 cd "$(dirname "${BASH_SOURCE[0]}")/.."
 
 . bench/loader.sh
-build_loader versions fj_rules fj_lines fj_queues fj_tree fj_ledger fj_machine fj_streams fj_replay
+build_loader versions fj_replay
 python3 bench/generate.py "${1:-plain}" "${@:2}" > "$loader.script"
 steps=$(($(wc -l < "$loader.script") - 1))
 "$loader" "$loader.script" | awk -v steps="$steps" '{

@@ -4,19 +4,8 @@
 lay_out() {
     local folder=$1 line=$2 crate=${2%%:*} below file name
     shift 2
-    below=$(awk -v line="$line" '
-        function need(name,   words, count, i) {
-            if (!(name in uses) || name in needed) return
-            needed[name]
-            count = split(uses[name], words)
-            for (i = 2; i <= count; i++) need(words[i])
-        }
-        { name = $1; sub(":$", "", name); uses[name] = $0 }
-        END {
-            count = split(line, words)
-            for (i = 2; i <= count; i++) need(words[i])
-            for (name in needed) print name
-        }' crates.txt)
+    # shellcheck disable=SC2086
+    below=$(tools/crates_below ${line#*:})
     mkdir -p "$folder/crates/$crate/src"
     cp HANDLES "$folder"
     # shellcheck disable=SC2086

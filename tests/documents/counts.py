@@ -1,6 +1,6 @@
 #!/usr/bin/env python3
 """Counts what the documents and the help count: samples, scripts, limits; the folders of tests by threads beside their table, the crates of others beside what is
-trusted, our own in the table of all and where some are copied. Tells what differs; the exit status is 1 if anything does. Usage: tests/documents/counts.py
+trusted, our own in the table of all. Tells what differs; the exit status is 1 if anything does. Usage: tests/documents/counts.py
 """
 import glob
 import os
@@ -70,19 +70,8 @@ def missing_names():
             yield f"crates/{crate}/must-fail: more than 30"
 
 
-def missing_crates():
-    """What a script, or the README, does not copy of the crates on which those stand that it copies."""
-    below = {it: rest.split() for it, rest in re.findall(r"^(\w+): ?(.*)$", text_of("crates.txt"), flags=re.M)}
-    for script in ["README.md", *glob.glob("bench/*.sh"), *glob.glob("tests/*/*.sh")]:
-        text = re.sub(r"^for crate in fj_\{(.*)\}; do$", lambda it: "crates=(fj_" + it[1].replace(",", " fj_") + ")", text_of(script), flags=re.M)
-        for listed in re.findall(r"^(?:crates=\(|(?:build|lay_out)_loader \w+ )((?:(?:fj|ex)_\w+ ?)+)\)?$", text, flags=re.M):
-            copied = listed.split()
-            needed = {it for crate in copied for it in below[crate] if it in below}
-            yield from (f"{script}: {it}" for it in sorted(needed - {*copied}))
-
-
 def main():
-    told = [*differing_numbers(), *missing_names(), *missing_crates()]
+    told = [*differing_numbers(), *missing_names()]
     print("\n".join(told) or "each number in the documents is right")
     sys.exit(1 if told else 0)
 

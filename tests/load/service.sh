@@ -6,8 +6,7 @@ cd "$(dirname "${BASH_SOURCE[0]}")/../.."
 
 . bench/loader.sh
 . bench/unproved.sh
-lay_out_loader serve fj_rules fj_queues fj_tree fj_ledger fj_machine fj_gate fj_lane fj_submitter fj_slots fj_body fj_bodies fj_calls fj_core fj_sleep fj_wake fj_fronts fj_guarded fj_agreement fj_parts fj_pool \
-    fj_run fj_serve
+lay_out_loader serve fj_serve
 optimise_loader
 
 # peak_of COUNT: the peak memory in KiB. The program fails where an outcome is wrong.

@@ -4,7 +4,7 @@
 # that is nowhere must be told. Usage: tests/quick/run.sh
 set -euo pipefail
 cd "$(dirname "${BASH_SOURCE[0]}")/../.."
-crates=(fj_rules fj_queues fj_tree fj_ledger fj_machine fj_gate fj_lane fj_submitter fj_slots fj_body fj_bodies fj_calls fj_core fj_sleep fj_wake fj_fronts fj_guarded fj_agreement fj_parts fj_pool fj_results fj_run fj_free ex_body)
+mapfile -t crates < <(tools/crates_below ex_body)
 wanted=$(cat crates/ex_body/stdout)
 
 folder=$(mktemp -d)
