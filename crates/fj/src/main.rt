@@ -36,6 +36,8 @@ use std::sync::Wait;
 use std::thread::Threads;
 use std::{env, io};
 
+/// Runs the command that the arguments name, with a clock, files and threads, and exits with its status. Where the arguments cannot be
+/// read, it says why.
 fn main(rt: HostRuntime) -> ExitCode {
     let status = match run(&rt, &rt) {
         Ok(status) => status,

@@ -20,4 +20,4 @@ pub use calls::{
 pub use cutoff::Cutoff;
 pub use remains::Remains;
 pub use taken_in::Intake;
-pub use to_wake::ToWake;
+pub use to_wake::{ToWake, place_of};

@@ -1,3 +1,6 @@
+ghost use Rattle.std.specs.Prelude.{◌≡◌};
+
+use fj_rules::WorkerId;
 use fj_sleep::Places;
 
 /// Who is to be woken once the lock is free. Java has no counterpart: there each waiting thread is signalled where its task ends.
@@ -26,4 +29,12 @@ impl ToWake {
     pub fn is_nobody(&self) -> bool {
         self.workers.is_none() && self.seats.is_none() && !self.crowd
     }
+}
+
+/// The place of a worker.
+#[inline(always)]
+pub fn place_of(worker: WorkerId) -> usize
+    ensures { result ≡ worker }
+{
+    worker.0 as usize
 }

@@ -11,9 +11,6 @@
 //! ```
 #![tactic(auto)]
 
-mod condvars;
-mod pool;
-mod turns;
 mod types;
 
 pub use fj_body::{Ask, Body, Heard, KeptResult, Open, Outcome, Told, Turnstile};
@@ -26,5 +23,4 @@ pub use fj_machine::Machine;
 pub use fj_parts::{Closer, Glance, Hand, History, Record, Submitter};
 pub use fj_rules::{Kind, Limits, Mode, Refusal, Sealed, Serial, SubId, WorkerId};
 pub use fj_slots::SerialMap;
-pub use pool::{Opened, Pool};
-pub use types::{Parts, Still};
+pub use types::{Opened, Parts, Pool, Still};

@@ -11,9 +11,9 @@ use Rattle.fj_calls.specs.declared.booking.Booking.{Booking}
 use Rattle.fj_guarded.specs.Continuing.{IsToldIn, IsToldNow}
 use Rattle.fj_guarded.proofs.GoesOn.{told_at_last}
 use Rattle.fj_parts.specs.declared.record.Record.{Record}
-use Rattle.fj_submitter.specs.Seats.{SeatState}
+use Rattle.fj_submitter.specs.Seats.{SeatState, SubmitsBy}
 use Rattle.fj_parts.specs.Winding.{tickets_of}
-use Rattle.fj_run.specs.Playing.{IsLeftOf, IsOutcomeOf, RunningState, SawOne, SubmitsBy}
+use Rattle.fj_run.specs.Playing.{IsLeftOf, IsOutcomeOf, RunningState, SawOne}
 use Rattle.fj_run.specs.Runs.{told_of}
 use Rattle.fj_run.proofs.Tickets.{first_is_zero, one_drawn}
 

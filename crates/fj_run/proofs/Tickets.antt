@@ -5,11 +5,10 @@ use Rattle.std.proofs.lemmas.Bool.{eqb-true}
 use Rattle.fj_gate.specs.Numbers.{IsNumbersBelow}
 use Rattle.fj_lane.specs.Ends.{LaneId}
 use Rattle.fj_gate.specs.Ends.{CloserState}
-use Rattle.fj_submitter.specs.Seats.{SeatState, seats_from}
+use Rattle.fj_submitter.specs.Seats.{SeatState, SubmitsBy, seats_from}
 use Rattle.fj_parts.specs.Winding.{tickets_of}
 use Rattle.fj_rules.specs.Lists.{times_in}
 use Rattle.fj_rules.proofs.Lists.Members.{times_in_cons}
-use Rattle.fj_run.specs.Playing.{SubmitsBy}
 
 -- where two lists are joined to nothing both are empty
 nothing_first : (first second : List ℕ) → first ++ second ≡ [] → first ≡ []

@@ -1,26 +1,18 @@
 -- What a player sees of its pool, and what is left of the pool then.
-use Rattle.std.specs.Prelude.{ℕ, ◌≡◌, List, [], ◌∷◌, IfSome, Option, Some, slice_get, slice_set}
+use Rattle.std.specs.Prelude.{ℕ, ◌≡◌, List, [], ◌∷◌, IfSome, Option, Some}
 use mathlib.Core.List.{IsPrefix}
 use Rattle.fj_body.specs.declared.outcomes.Outcome.{Outcome}
 use Rattle.fj_gate.specs.Numbers.{IsNumbersBelow}
 use Rattle.fj_calls.specs.Cores.{CoreState}
 use Rattle.fj_guarded.specs.Continuing.{EndsIn, IsNow, IsTold, IsToldIn}
 use Rattle.fj_parts.specs.declared.record.Record.{Record}
-use Rattle.fj_submitter.specs.Seats.{SeatState, Submits}
+use Rattle.fj_submitter.specs.Seats.{SeatState}
 use Rattle.fj_parts.specs.Winding.{AreSettled, tickets_of}
 
 -- the history of the pool that the player has seen, and what each submitter has submitted
 pub record RunningState (B K O : Type 0) : Type 0 where
   pub seen : List (CoreState B K O)
   pub seats : List (SeatState B)
-
--- this submitter submits a body, the others nothing
-pub record SubmitsBy {B : Type 0} (submitter : ℕ) (old : List (SeatState B)) (ticket : ℕ) (body : B) (new : List (SeatState B)) : Type 0 where
-  pub before : SeatState B
-  pub after : SeatState B
-  pub had : slice_get old submitter ≡ Some before
-  pub submits : Submits before ticket body after
-  pub has : new ≡ slice_set old submitter after
 
 module _ {B K O : Type 0} where
   -- if it played, the player tells this of what it has seen and submitted

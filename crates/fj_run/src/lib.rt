@@ -12,13 +12,16 @@ mod playing;
 mod recorded;
 mod running;
 mod settings;
-mod submitters;
+mod types;
+mod unused;
 
 pub use alone::{record_alone, run_alone};
-pub use fj_pool::{
-    Archive, Ask, Body, Glance, Heard, KeptResult, Machine, Naming, Open, Outcome, Record, Ticket,
-    Turnstile,
-};
+pub use fj_body::{Ask, Body, Heard, KeptResult, Open, Outcome, Turnstile};
+pub use fj_calls::Archive;
+pub use fj_gate::Ticket;
+pub use fj_guarded::Naming;
+pub use fj_machine::Machine;
+pub use fj_parts::{Glance, Record};
 pub use fj_results::{NoResult, result_in, result_under};
 pub use fj_rules::{Kind, Limits, Mode, Refusal, Sealed, Serial, SubId, WorkerId};
 pub use play::Play;

@@ -2,7 +2,8 @@ ghost use Rattle.std.specs.Prelude.{◌≡◌, []};
 ghost use Rattle.fj_parts.specs.Winding.{tickets_of};
 
 use crate::running::Running;
-use fj_pool::{Body, Naming};
+use fj_body::Body;
+use fj_guarded::Naming;
 use std::sync::Wait;
 
 /// A player: the code to which a pool is lent while its workers work, as the block of `try (ForkJoinPool pool = ..)`.

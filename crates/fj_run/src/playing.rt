@@ -7,12 +7,17 @@ ghost use Rattle.fj_parts.specs.Parts.{AreNew};
 ghost use Rattle.fj_parts.specs.Winding.{AreEmpty, has_terminated, submissions, tickets_of};
 ghost use Rattle.fj_run.specs.Playing.{IsLeftOf, RunningState};
 
-use crate::crew::{Crew, Ran, run_all};
+use crate::crew::{Lead, PoolCrew, Ran};
 use crate::play::Play;
 use crate::settings::Settings;
-use crate::submitters::{Submitters, Unused};
-use fj_pool::{Body, Front, History, Naming, Parts, Pool, Record, Turnstile};
+use crate::types::{Parts, Pool};
+use crate::unused::Unused;
+use fj_body::{Body, Turnstile};
+use fj_crew::{Shared, run_all};
+use fj_guarded::{Front, Naming};
+use fj_parts::{History, Record};
 use fj_rules::Refusal;
+use fj_submitter::Submitters;
 use std::alloc::Global;
 use std::marker::Brand;
 use std::sync::Wait;
@@ -118,21 +123,26 @@ where
 {
     match Pool::<B, N>::open(alloc, parts) {
         Ok((pool, hands, submitters, closer)) => {
-            let crew = Crew {
+            let crew = PoolCrew {
                 pool: &pool,
                 rt,
                 turnstile,
                 places,
             };
-            let unused = Unused {
-                submitters: Submitters::new(submitters),
+            let lead = Lead {
+                crew: &crew,
+                unused: Unused {
+                    submitters: Submitters::new(submitters),
+                },
+                closer,
+                player,
             };
             let Ran {
                 player,
                 played,
                 submitters,
                 closer,
-            } = run_all(alloc, &crew, hands, unused, closer, player);
+            } = run_all(alloc, &Shared { crew: &crew, rt }, hands, lead);
             let (still, history) = pool.stand_still();
             let record = still.wind_up(submitters.into_all(), closer);
             match out_of(history, played) {

@@ -1,5 +1,8 @@
 //! Runs with their histories.
-use fj_pool::{Archive, Body, Machine, Outcome, Record};
+use fj_body::{Body, Outcome};
+use fj_calls::Archive;
+use fj_machine::Machine;
+use fj_parts::Record;
 use fj_rules::Refusal;
 
 /// A run of one body, with what is left of its pool.

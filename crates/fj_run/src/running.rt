@@ -4,12 +4,16 @@ ghost use Rattle.fj_calls.specs.Cores.{CollectsTicket};
 ghost use Rattle.fj_guarded.specs.Asked.{CancelsBehind, CollectsAt};
 ghost use Rattle.fj_guarded.specs.Continuing.{EndsWith, IsToldNow};
 ghost use Rattle.fj_guarded.specs.Looking.{IsQuietBehind};
-ghost use Rattle.fj_pool.specs.Telling.{IsToldAt};
-ghost use Rattle.fj_run.specs.Playing.{SubmitsBy};
+ghost use Rattle.fj_monitor.specs.Telling.{IsToldAt};
+ghost use Rattle.fj_submitter.specs.Seats.{SubmitsBy};
 
-use crate::submitters::Submitters;
-use fj_pool::{Body, Front, Glance, Naming, Outcome, Pool, Ticket};
+use crate::types::Pool;
+use fj_body::{Body, Outcome};
+use fj_gate::Ticket;
+use fj_guarded::{Front, Naming};
+use fj_parts::Glance;
 use fj_rules::{Refusal, Sealed, SubId};
+use fj_submitter::Submitters;
 use std::marker::Model;
 use std::sync::Wait;
 

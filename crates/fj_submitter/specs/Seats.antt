@@ -1,5 +1,5 @@
 -- A submitter's ends: of the gate, and of its lane.
-use Rattle.std.specs.Prelude.{ℕ, ◌≡◌, ◌+◌, ◌<◌, true, List, [], ◌∷◌, ◌++◌, Some, length, map, slice_get}
+use Rattle.std.specs.Prelude.{ℕ, ◌≡◌, ◌+◌, ◌<◌, true, List, [], ◌∷◌, ◌++◌, Some, length, map, slice_get, slice_set}
 use Rattle.atomic_table.specs.Seated.{TableId}
 use Rattle.fj_rules.specs.declared.refusal.Refusal.{Refusal}
 use Rattle.fj_rules.specs.declared.refusal.Refusal.TheVariants.{Closed, LaneSpent}
@@ -52,6 +52,14 @@ module _ {B : Type 0} where
   RefusesSubmission old LaneSpent new = (length old.feed.fed ≡ old.feed.capacity) × (new ≡ old)
   RefusesSubmission old Closed new = (length old.feed.fed < old.feed.capacity) × (new ≡ record old { entrant = record old.entrant { told = true } })
   RefusesSubmission old _ new = ⊥
+
+  -- this submitter submits a body, the others nothing
+  pub record SubmitsBy (submitter : ℕ) (old : List (SeatState B)) (ticket : ℕ) (body : B) (new : List (SeatState B)) : Type 0 where
+    pub before : SeatState B
+    pub after : SeatState B
+    pub had : slice_get old submitter ≡ Some before
+    pub submits : Submits before ticket body after
+    pub has : new ≡ slice_set old submitter after
 
   -- a seat for each entrant, with a lane of its own
   pub record AreSeated (capacity : ℕ) (entrants : List EntrantState) (seats : List (SeatState B)) (drains : List (DrainState B)) : Type 0 where

@@ -14,6 +14,7 @@ mod seat;
 mod seats;
 mod settling;
 mod submitter;
+mod submitters;
 
 pub use closer::Closer;
 pub use naming::Naming;
@@ -21,3 +22,4 @@ pub use seat::Seat;
 pub use seats::{name_all, seat_all};
 pub use settling::settle;
 pub use submitter::Submitter;
+pub use submitters::Submitters;

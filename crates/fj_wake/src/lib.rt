@@ -12,5 +12,5 @@ mod waits;
 mod waking_core;
 
 pub use fj_calls::ToWake;
-pub use waits::{Waits, place_of};
+pub use waits::Waits;
 pub use waking_core::WakingCore;

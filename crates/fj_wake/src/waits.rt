@@ -4,7 +4,7 @@ ghost use Rattle.fj_wake.specs.Waiting.{NobodyWaits, WaitForNothingNew, WaitOnly
 
 mod looking;
 
-use fj_calls::ToWake;
+use fj_calls::{ToWake, place_of};
 use fj_gate::Ticket;
 use fj_rules::{Serial, WorkerId};
 use fj_sleep::{MAX_PLACES, Sleepers, Wanted};
@@ -175,12 +175,4 @@ impl Waits {
         self.crowd = Wanted::Nothing;
         self.crowd_due = true;
     }
-}
-
-/// The place of a worker.
-#[inline(always)]
-pub fn place_of(worker: WorkerId) -> usize
-    ensures { result ≡ worker }
-{
-    worker.0 as usize
 }

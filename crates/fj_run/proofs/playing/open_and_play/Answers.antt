@@ -1,9 +1,23 @@
+use denote.Exit.{no}
+use denote.Param.{param}
+use denote.Param.Send.{arg_sync, param_sync}
+use mir.Syntax.{named}
 use Rattle.std.proofs.Common.{ℕ, rules, List, Option, sym, ap, ◌∙◌, subst}
 use Rattle.fj_gate.specs.Numbers.{IsNumbersBelow}
 use Rattle.fj_submitter.specs.Seats.{SeatState}
 use Rattle.fj_parts.specs.Winding.{AreSettled, has_terminated, tickets_of}
 use Rattle.fj_run.specs.Playing.{RunningState}
+use Rattle.fj_run.proofs.Crossing.{crew_sync}
 use Rattle.fj_run.proofs.playing.open_and_play.Goals as goal
+
+-- what the threads share may be lent to them
+pub run_all-requires-sync-C : goal.run_all-requires-sync-C
+run_all-requires-sync-C g c κs _ =
+    let bounds = c.type_bounds in
+    let crew = crew_sync (record { mir = named 8; lft = κs.1.1.1.1.1.1.1.1.0 }) (record { mir = named 9; lft = κs.1.1.1.1.1.1.1.1.1.0 }) (record { mir = named 10; lft = κs.1.1.1.1.1.1.1.1.1.1.0 })
+    (param 0 g.row.B) (param 1 g.row.N) (param 3 g.row.T) (param 4 g.row.R) (param 5 g.row.B-Key) (param 6 g.row.B-Out) g.B.Body g.B.Key.PartialEq g.B.Key.Eq g.N.Naming
+    bounds.send-B bounds.send-B-Key bounds.send-B-Out bounds.send-N bounds.sync-T bounds.sync-R in
+    param_sync 1 _ (arg_sync _ no _ crew)
 
 pub returns-in-Some-clause-told : goal.returns-in-Some-clause-told
 returns-in-Some-clause-told g c =

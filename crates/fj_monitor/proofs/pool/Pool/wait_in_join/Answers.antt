@@ -1,0 +1,4 @@
+use Rattle.fj_monitor.proofs.pool.Pool.wait_in_join.Goals as goal
+
+pub index-place-requires : goal.index-place-requires
+index-place-requires g c = rw (c.place_of.ensures, c.args.self.now.shell.as_many) c.requires

@@ -1,4 +1,0 @@
-use Rattle.fj_pool.proofs.pool.Pool.wait_in_join.Goals as goal
-
-pub index-place-requires : goal.index-place-requires
-index-place-requires g c = rw (c.place_of.ensures, c.args.self.now.as_many) c.requires
