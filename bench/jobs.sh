@@ -31,7 +31,7 @@ declare -A program_of
 
 . bench/loader.sh
 . bench/unproved.sh
-lay_out_loader jobs ex_primes fj_invoke fj_fold
+lay_out_loader jobs ex_primes fj_pool fj_invoke fj_fold
 folder=$(dirname "$(dirname "$loader")")
 tree=$folder/tree
 awk 'BEGIN { print "- 1"; for (i = 1; i < 4000; i++) print int((i - 1) / 3), i * 7919 % 1000000007 }' > "$tree"
