@@ -121,45 +121,41 @@ where
     ensures told { IfOk result (λ r. (last : RunningState B B.Key B.Out) × P.told last r.out × IsLeftOf last r.record) }
     ensures err { IfErr result (λ e. e.0 ≡ Refusal.OutOfMemory) }
 {
-    match Pool::<B, N>::open(alloc, parts) {
-        Ok((pool, hands, submitters, closer)) => {
-            let crew = PoolCrew {
-                pool: &pool,
-                rt,
-                turnstile,
-                places,
-            };
-            let lead = Lead {
-                crew: &crew,
-                unused: Unused {
-                    submitters: Submitters::new(submitters),
-                },
-                closer,
-                player,
-            };
-            let Ran {
-                player,
-                played,
-                submitters,
-                closer,
-            } = run_all(alloc, &Shared { crew: &crew, rt }, hands, lead);
-            let (still, history) = pool.stand_still();
-            let record = still.wind_up(submitters.into_all(), closer);
-            match out_of(history, played) {
-                Some(out) => Ok(Played {
-                    player,
-                    out,
-                    record,
-                }),
-                None => {
-                    // An explicit drop is proved faster.
-                    drop(record);
-                    Err((Refusal::OutOfMemory, player))
-                }
-            }
-        }
-        Err(_) => Err((Refusal::OutOfMemory, player)),
-    }
+    let Ok((pool, hands, submitters, closer)) = Pool::<B, N>::open(alloc, parts) else {
+        return Err((Refusal::OutOfMemory, player));
+    };
+    let crew = PoolCrew {
+        pool: &pool,
+        rt,
+        turnstile,
+        places,
+    };
+    let lead = Lead {
+        crew: &crew,
+        unused: Unused {
+            submitters: Submitters::new(submitters),
+        },
+        closer,
+        player,
+    };
+    let Ran {
+        player,
+        played,
+        submitters,
+        closer,
+    } = run_all(alloc, &Shared { crew: &crew, rt }, hands, lead);
+    let (still, history) = pool.stand_still();
+    let record = still.wind_up(submitters.into_all(), closer);
+    let Some(out) = out_of(history, played) else {
+        // An explicit drop is proved faster.
+        drop(record);
+        return Err((Refusal::OutOfMemory, player));
+    };
+    Ok(Played {
+        player,
+        out,
+        record,
+    })
 }
 
 /// What the player returned, if it played. Proves that what it had seen begins the history.

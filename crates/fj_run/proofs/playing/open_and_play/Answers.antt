@@ -19,8 +19,8 @@ run_all-requires-sync-C g c κs _ =
     bounds.send-B bounds.send-B-Key bounds.send-B-Out bounds.send-N bounds.sync-T bounds.sync-R in
     param_sync 1 _ (arg_sync _ no _ crew)
 
-pub returns-in-Some-clause-told : goal.returns-in-Some-clause-told
-returns-in-Some-clause-told g c =
+pub returns-clause-told : goal.returns-clause-told
+returns-clause-told g c =
     let seen = c.in-Some.ensures in
     let last : RunningState g.row.B.Denot g.row.B-Key.Denot g.row.B-Out.Denot = record { seen = seen.0; seats = c.player.inside.submitters.all.items } in
     let left = c.wind_up-record.result in
@@ -40,25 +40,25 @@ returns-in-Some-clause-told g c =
       },
     )
 
-pub returns-in-Some-clause-run : goal.returns-in-Some-clause-run
-returns-in-Some-clause-run g c = c.wind_up-record.ensures.run
+pub returns-clause-run : goal.returns-clause-run
+returns-clause-run g c = c.wind_up-record.ensures.run
 
-pub returns-in-Some-clause-pool : goal.returns-in-Some-clause-pool
-returns-in-Some-clause-pool g c = c.wind_up-record.ensures.pool
+pub returns-clause-pool : goal.returns-clause-pool
+returns-clause-pool g c = c.wind_up-record.ensures.pool
 
-pub returns-in-Some-clause-history : goal.returns-in-Some-clause-history
-returns-in-Some-clause-history g c = c.wind_up-record.ensures.history
+pub returns-clause-history : goal.returns-clause-history
+returns-clause-history g c = c.wind_up-record.ensures.history
 
-pub returns-in-Some-clause-at_close : goal.returns-in-Some-clause-at_close
-returns-in-Some-clause-at_close g c = c.wind_up-record.ensures.at_close
+pub returns-clause-at_close : goal.returns-clause-at_close
+returns-clause-at_close g c = c.wind_up-record.ensures.at_close
 
-pub returns-in-Some-clause-taken_in : goal.returns-in-Some-clause-taken_in
-returns-in-Some-clause-taken_in g c = c.wind_up-record.ensures.taken_in
+pub returns-clause-taken_in : goal.returns-clause-taken_in
+returns-clause-taken_in g c = c.wind_up-record.ensures.taken_in
 
-pub returns-in-Some-clause-emptied : goal.returns-in-Some-clause-emptied
-returns-in-Some-clause-emptied g c = c.wind_up-record.ensures.emptied
+pub returns-clause-emptied : goal.returns-clause-emptied
+returns-clause-emptied g c = c.wind_up-record.ensures.emptied
 
-pub returns-in-Some-clause-terminated : goal.returns-in-Some-clause-terminated
-returns-in-Some-clause-terminated g c =
+pub returns-clause-terminated : goal.returns-clause-terminated
+returns-clause-terminated g c =
     let ends = c.wind_up-record.ensures in
     ends.terminated ∙ ap (λ (closed : Option ℕ). has_terminated closed c.wind_up-record.result.machine) (sym ends.closed)
