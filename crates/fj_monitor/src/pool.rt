@@ -4,6 +4,7 @@ ghost use Rattle.fj_submitter.specs.Seats.{AreAll};
 
 mod ending;
 mod lock;
+mod outcomes;
 mod outside;
 mod work;
 

@@ -1,7 +1,7 @@
-//! How the lock is taken.
+//! How the lock is taken and released.
 use crate::pool::Pool;
 use fj_body::Body;
-use fj_calls::CoreView;
+use fj_calls::{CoreView, CoreWaking, ToWake};
 use fj_guarded::Naming;
 use fj_parts::Locked;
 use fj_sleep::Contention;
@@ -34,6 +34,17 @@ impl<B: Body, N: Naming, C: CoreView<B>> Pool<B, N, C> {
     /// Takes the lock for a caller from outside, without a memory of contention.
     pub(crate) fn lock<R: Wait>(&self, rt: &R) -> MutexGuard<'_, Locked<B, N, C>> {
         self.lock_for_work(rt, &mut Contention::new())
+    }
+}
+
+impl<B: Body, N: Naming, C: CoreWaking<B>> Pool<B, N, C> {
+    /// Releases the lock, and notifies the threads that are due.
+    pub(crate) fn release(&self, mut guard: MutexGuard<'_, Locked<B, N, C>>) {
+        let mut due = ToWake::nobody();
+        let core = &mut *guard;
+        core.take_due(&mut due);
+        unlock(guard);
+        self.wake_due(&mut due);
     }
 }
 
